@@ -1,0 +1,8 @@
+-- The answer of a call that takes memory: the one that its definition gives, or want of memory.
+use Rattle.std.specs.Prelude.{◌≡◌, ◌⊎◌, Result, Ok, Err}
+
+-- The call returned what was expected, or `memory`, the one answer that no definition gives. What a
+-- contract sees of the value in an `Ok` is `view` of it.
+abbrev pub GivesUnless : {T V E : Type 0} → E → (T → V) → Result T E → Result V E → Type 0
+GivesUnless memory view (Ok value) expected = expected ≡ Ok (view value)
+GivesUnless memory view (Err error) expected = (error ≡ memory) ⊎ (expected ≡ Err error)
