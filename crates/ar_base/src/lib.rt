@@ -8,5 +8,6 @@
 pub use items::Items;
 
 mod items;
+pub mod laws;
 #[cfg(test)]
 mod tests;

@@ -1,0 +1,36 @@
+//! Where bytes come from and where they go: the traits `Source` and `Sink`, with a count of faults
+//! each, so that no answer of a layer above can blame a fault that did not happen.
+//!
+//! `read_all` and `write_all` are generic over every source and sink. `MemSource` and `MemSink` are
+//! lists in memory whose calls give little and fail on demand, `QuietSource` and `QuietSink` never
+//! fail, and `StdSource` and `StdSink` stand over std's readers and writers.
+#![tactic(auto)]
+
+pub use faults::{Failed, ReadFault};
+pub use mem_sink::MemSink;
+pub use mem_source::MemSource;
+pub use quiet_sink::QuietSink;
+pub use quiet_source::QuietSource;
+pub use reading::read_all;
+pub use sink::Sink;
+pub use source::Source;
+pub use std_sink::StdSink;
+pub use std_source::StdSource;
+pub use writing::write_all;
+
+mod calls;
+mod faults;
+pub mod laws;
+mod mem_sink;
+mod mem_source;
+mod quiet_sink;
+mod quiet_source;
+mod reading;
+mod sink;
+mod source;
+mod std_sink;
+mod std_source;
+#[cfg(test)]
+mod tests;
+mod unread;
+mod writing;
