@@ -1,0 +1,4 @@
+pub mod Candidate
+pub mod Chain
+pub mod Digits
+pub mod OtsKind

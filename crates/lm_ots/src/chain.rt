@@ -1,0 +1,70 @@
+ghost use Rattle.std.specs.Prelude.{◌≡◌, ◌≤◌, ◌∷◌, ◌++◌, take, drop};
+ghost use Rattle.std.specs.Int.{w16, w32, to_be_bytes};
+ghost use Rattle.sha2.specs.Hashers.{Holds256};
+ghost use Rattle.sha2.specs.Sha256.{sha256};
+ghost use Rattle.lm_ots.specs.Chain.{chain, domain_text, step_text};
+
+use crate::bytes::join;
+use sha2::{Digest, Sha256};
+
+// Where the number of the step stands in what a step hashes, and where the value begins.
+const STEP_PLACE: usize = 22;
+
+const VALUE_PLACE: usize = 23;
+
+// What step `step` of a chain hashes.
+fn step_text(id: &[u8; 16], leaf: u32, index: u16, step: u8, value: &[u8; 32]) -> [u8; 55]
+    ensures { result ≡ step_text id.now leaf index step value.now }
+{
+    let place: [u8; 6] = join(&leaf.to_be_bytes(), &index.to_be_bytes());
+    let head: [u8; 22] = join(id, &place);
+    let tail: [u8; 33] = join(&[step], value);
+    join(&head, &tail)
+}
+
+// One step: the value becomes the hash of the text, in which the number of the step is written.
+fn advance(text: &mut [u8; 55], step: u8)
+    ensures head { take 22 text.new ≡ take 22 text.old }
+    ensures value { drop 23 text.new ≡ sha256 (take 22 text.old ++ step ∷ drop 23 text.old) }
+{
+    text[STEP_PLACE] = step;
+    let next = Sha256::digest(text.as_slice());
+    text[VALUE_PLACE..].copy_from_slice(&next);
+}
+
+/// A value after the steps `from` to `to - 1` of chain `index` at a leaf (RFC 8554, section 4.3).
+pub(crate) fn chain(
+    id: &[u8; 16],
+    leaf: u32,
+    index: u16,
+    from: u8,
+    to: u8,
+    value: &[u8; 32],
+) -> [u8; 32]
+    ensures { result ≡ chain id.now leaf index from to value.now }
+{
+    let mut text = step_text(id, leaf, index, from, value);
+    for step in from..to {
+        advance(&mut text, step);
+    }
+    value_of(&text)
+}
+
+fn value_of(text: &[u8; 55]) -> [u8; 32]
+    ensures { result ≡ drop 23 text.now }
+{
+    let mut value = [0u8; 32];
+    value.copy_from_slice(&text[VALUE_PLACE..]);
+    value
+}
+
+/// A hasher that holds what all strings of a leaf or a node under a domain begin with.
+pub(crate) fn begin(id: &[u8; 16], number: u32, domain: u16) -> Sha256
+    ensures { Holds256 result (id.now ++ (to_be_bytes w32 number ++ to_be_bytes w16 domain)) }
+{
+    let mut hasher = Sha256::new();
+    hasher.update(id);
+    hasher.update(&number.to_be_bytes());
+    hasher.update(&domain.to_be_bytes());
+    hasher
+}

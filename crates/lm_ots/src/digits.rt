@@ -1,0 +1,35 @@
+ghost use Rattle.std.specs.Prelude.{◌≡◌, ◌*◌, ◌/◌, ◌<◌, length};
+ghost use Rattle.lm_ots.specs.OtsKind.{width_of};
+ghost use Rattle.lm_ots.specs.Digits.{checksum, coef, with_checksum};
+
+use crate::OtsType;
+use crate::bytes::join;
+
+// Digit `i` of `bytes`, cut into numbers of the type's width (RFC 8554, section 3.1.3).
+pub(crate) fn coef(kind: OtsType, bytes: &[u8], i: usize) -> u8
+    requires { i / (8 / width_of kind) < length bytes.now }
+    ensures { result ≡ coef bytes.now i (width_of kind) }
+{
+    let w = kind.w() as usize;
+    let per_byte = 8 / w;
+    let shift = 8 - (w * (i % per_byte) + w);
+    kind.last() & (bytes[i / per_byte] >> shift)
+}
+
+// The checksum of a hash (RFC 8554, section 4.4).
+fn checksum(kind: OtsType, hash: &[u8; 32]) -> u16
+    ensures { result ≡ checksum kind hash.now }
+{
+    let mut sum = 0u16;
+    for i in 0..256 / kind.w() as usize {
+        sum += u16::from(kind.last() - coef(kind, hash, i));
+    }
+    sum << kind.ls()
+}
+
+// A hash with its checksum behind it, which the digits are read from (RFC 8554, section 4.5).
+pub(crate) fn with_checksum(kind: OtsType, hash: &[u8; 32]) -> [u8; 34]
+    ensures { result ≡ with_checksum kind hash.now }
+{
+    join(hash, &checksum(kind, hash).to_be_bytes())
+}

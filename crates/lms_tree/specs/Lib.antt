@@ -1,0 +1,5 @@
+pub mod LmsKind
+pub mod PublicKey
+pub mod Tests
+pub mod Tree
+pub mod Validity

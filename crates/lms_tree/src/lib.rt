@@ -1,0 +1,20 @@
+//! Signatures of many leaves: LMS of RFC 8554, section 5, with SHA-256 and m = 32.
+//!
+//! `specs/` states the scheme on lists of bytes: `LmsKind` the table of types, `PublicKey` the text of
+//! a key, `Tree` the nodes and the way up, and `Validity` the five conditions and the verdict, which
+//! is the first that fails (`Tests`).
+#![tactic(auto)]
+
+pub use lms_type::LmsType;
+pub use public_key::LmsPublic;
+pub use validity::{Verdict, valid};
+
+mod bytes;
+pub mod laws;
+mod lms_type;
+mod numbers;
+mod public_key;
+#[cfg(test)]
+mod tests;
+mod tree;
+mod validity;
