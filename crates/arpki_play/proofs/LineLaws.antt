@@ -1,0 +1,76 @@
+-- The first line of an input, by where its first newline stands.
+use Rattle.std.proofs.Common.{◌≡◌, ℕ, ◌+◌, ◌-◌, ◌<◌, ◌≤◌, Bool, true, false, cond, List, [], ◌∷◌, length, take, drop, Some, None, refl, sym, ap, ◌∙◌, arith, length-drop}
+use Rattle.std.specs.Prelude.{position, nat_lt}
+use Rattle.std.specs.List.{slice_split, onto_first, position_or_len}
+use Rattle.std.proofs.lemmas.List.{take_all}
+use Rattle.std.proofs.lemmas.List.Elements.{All-from_get_or}
+use Rattle.std.proofs.lemmas.List.Splits.{slice_split_first, slice_split_none}
+use Rattle.std.proofs.lemmas.List.Sums.{fails_before_first}
+use borrow.Author.Tests.{ltb-true, ltb-false}
+use Rattle.arpki_play.specs.Lines.{is_newline, lines_of, lines_of_pieces}
+
+-- a cut gives at least one piece
+AtLeastOne : List (List ℕ) → Type 0
+AtLeastOne pieces = (piece : List ℕ) × (more : List (List ℕ)) × (pieces ≡ piece ∷ more)
+
+onto_some : (byte : ℕ) (pieces : List (List ℕ)) → AtLeastOne (onto_first byte pieces)
+unfolding AtLeastOne
+onto_some byte [] = (byte ∷ [], [], refl)
+onto_some byte (piece ∷ more) = (byte ∷ piece, more, refl)
+
+cut_some : (b : Bool) (byte : ℕ) (pieces : List (List ℕ)) → AtLeastOne (cond b ([] ∷ pieces) (onto_first byte pieces))
+unfolding AtLeastOne
+cut_some true byte pieces = ([], pieces, refl)
+cut_some false byte pieces = onto_some byte pieces
+
+pieces_are_some : (input : List ℕ) → AtLeastOne (slice_split is_newline input)
+unfolding AtLeastOne
+pieces_are_some [] = ([], [], refl)
+pieces_are_some (byte ∷ input) = cut_some (is_newline byte) byte (slice_split is_newline input)
+
+-- a piece that another follows is a line
+line_before : (line : List ℕ) (pieces : List (List ℕ)) → AtLeastOne pieces → lines_of_pieces (line ∷ pieces) ≡ line ∷ lines_of_pieces pieces
+unfolding AtLeastOne
+line_before line pieces some = rw some.2 refl
+
+-- what a test chose
+found_at : (b : Bool) (n end : ℕ) → cond b (Some n) None ≡ Some end → (b ≡ true) × (n ≡ end)
+found_at true n end h = (refl, cc)
+found_at false n end h = cc
+
+found_not : (b : Bool) (n : ℕ) → cond b (Some n) None ≡ None → b ≡ false
+found_not true n h = cc
+found_not false n h = refl
+
+pub lines_of-empty : (input : List ℕ) → length input ≡ 0 → lines_of input ≡ []
+unfolding lines_of
+lines_of-empty [] h = refl
+lines_of-empty (byte ∷ input) h = absurd (omega arith)
+
+pub lines_of-newline : (input : List ℕ) (end : ℕ) → position is_newline input ≡ Some end → lines_of input ≡ take end input ∷ lines_of (take (length input - (end + 1)) (drop (end + 1) input))
+unfolding lines_of
+lines_of-newline input end h =
+    let at = position_or_len is_newline input in
+    let found = found_at (nat_lt at (length input)) at end h in
+    let within : at < length input = ltb-true at (length input) found.0 in
+    let rest : take (length input - (end + 1)) (drop (end + 1) input) ≡ drop (at + 1) input =
+    take_all (length input - (end + 1)) (drop (end + 1) input) (omega (arith, length-drop (end + 1) input)) ∙ ap (λ n. drop (n + 1) input) (sym found.1) in
+    ap lines_of_pieces (slice_split_first is_newline input 0 within)
+    ∙ line_before (take at input) (slice_split is_newline (drop (at + 1) input)) (pieces_are_some (drop (at + 1) input))
+    ∙ ap (λ n. take n input ∷ lines_of_pieces (slice_split is_newline (drop (at + 1) input))) found.1
+    ∙ ap (λ more. take end input ∷ lines_of_pieces (slice_split is_newline more)) (sym rest)
+
+-- an input with no newline is its one line, where it is not empty
+one_line : (input : List ℕ) → 0 < length input → lines_of_pieces (input ∷ []) ≡ input ∷ []
+one_line [] some = absurd (omega arith)
+one_line (byte ∷ input) some = refl
+
+pub lines_of-one : (input : List ℕ) → position is_newline input ≡ None → (length input ≡ 0 → ⊥) → lines_of input ≡ input ∷ lines_of []
+unfolding lines_of
+lines_of-one input h some =
+    let at = position_or_len is_newline input in
+    let none : length input ≤ at = ltb-false at (length input) (found_not (nat_lt at (length input)) at h) in
+    let fails = All-from_get_or (λ byte. is_newline byte ≡ false) input 0 (λ k lt. fails_before_first is_newline input k 0 (omega arith)) in
+    ap lines_of_pieces (slice_split_none is_newline input fails) ∙ one_line input (omega arith)
+
+pub ruleset first_line_laws = (lines_of-empty, lines_of-newline, lines_of-one)

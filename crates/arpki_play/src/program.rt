@@ -1,0 +1,67 @@
+ghost use Rattle.std.specs.Prelude.{◌≡◌, ◌<◌, ◌≤◌, ◌⊎◌, None, IsOkAnd};
+ghost use Rattle.ar_base.specs.Faults.{HasRisen};
+ghost use Rattle.ar_io.specs.Wrote.{Unchanged};
+ghost use Rattle.arpki_play.specs.Answers.{status_of};
+ghost use Rattle.arpki_play.specs.Runs.{Answers, BreaksOff};
+ghost use Rattle.arpki_play.specs.Words.{command_of, texts};
+
+use crate::answer::Answer;
+use crate::fault::Fault;
+use crate::run::{run_sig, show_usage};
+use crate::words::Command;
+use ar_io::{Sink, Source};
+use std::alloc::Global;
+
+/// The program `arpki`: it answers the words that follow its name, reads its input from `source` and
+/// writes its output to `sink`. It returns the exit status.
+///
+/// | status | comes |
+/// |---|---|
+/// | 0 | `sig` finds the signature valid |
+/// | 1 | exactly where `sig` finds it not valid |
+/// | 2 | exactly where the words are of no form: the usage line |
+/// | 3 | exactly where a line of the input is refused, or the input is too long |
+/// | 4 | only where a read failed |
+/// | 5 | only where a write failed |
+/// | 6 | memory ran out |
+pub fn arpki_main<S: Source, K: Sink>(
+    alloc: Global,
+    words: &[String],
+    source: &mut S,
+    sink: &mut K,
+) -> u8
+    ensures statuses { result ≤ 6 }
+
+    // At 0 to 3 the whole answer to the input was written, and the status is the answer's.
+    ensures answered { result < 4 → Answers (command_of (texts words.now)) (S.left source.old) (S.left source.new) K.wrote sink.old sink.new result }
+
+    // Words of no form are answered by the usage line, and nothing is read.
+    ensures usage { result ≡ 2 → command_of (texts words.now) ≡ None }
+    ensures no_form { command_of (texts words.now) ≡ None → (source.new ≡ source.old) × ((result ≡ 2) ⊎ (result ≡ 5)) }
+
+    // A fault has its cause in a count of faults. Before it no more than a front of the answer was written.
+    ensures source_fault { result ≡ 4 → HasRisen (S.faults source.old) (S.faults source.new) × Unchanged K.wrote sink.old sink.new }
+    ensures sink_fault { result ≡ 5 → HasRisen (K.faults sink.old) (K.faults sink.new) × BreaksOff (command_of (texts words.now)) (S.left source.old) (S.left source.new) K.wrote sink.old sink.new }
+    ensures memory { result ≡ 6 → Unchanged K.wrote sink.old sink.new }
+    ensures source_faults { S.faults source.old ≤ S.faults source.new }
+    ensures sink_faults { K.faults sink.old ≤ K.faults sink.new }
+{
+    match Command::read(words) {
+        Some(Command::Sig) => status(run_sig(alloc, source, sink)),
+        None => status(show_usage(sink)),
+    }
+}
+
+/// The status of an ending, which tells whether it is a fault and which.
+fn status(ending: Result<Answer, Fault>) -> u8
+    ensures bound { result ≤ 6 }
+    ensures answered { result < 4 → IsOkAnd ending (λ answer. result ≡ status_of answer) }
+    ensures source { result ≡ 4 → ending ≡ Err Fault.Source }
+    ensures sink { result ≡ 5 → ending ≡ Err Fault.Sink }
+    ensures memory { result ≡ 6 → ending ≡ Err Fault.Memory }
+{
+    match ending {
+        Ok(answer) => answer.status(),
+        Err(fault) => fault.status(),
+    }
+}

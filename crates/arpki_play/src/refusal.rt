@@ -1,0 +1,52 @@
+ghost use Rattle.std.specs.Prelude.{◌≡◌, Some};
+ghost use Rattle.arpki_play.specs.Refusals.{reason_text, refusal_text};
+
+use std::fmt;
+
+/// Why a line is refused.
+#[derive(Clone, Copy, Debug, PartialEq, Eq)]
+pub enum Reason {
+    /// The input is longer than it may be.
+    Limit,
+    /// A line is missing, or there is one too many.
+    Words,
+    /// The word of this number, from 0, is not of its form or range.
+    Field(usize),
+}
+
+impl fmt::Display for Reason {
+    ghost output = { λ reason. Some (reason_text reason) };
+
+    fn fmt<W: fmt::Write>(&self, f: &mut fmt::Formatter<W>) -> fmt::Result {
+        match self {
+            Reason::Limit => write!(f, "limit"),
+            Reason::Words => write!(f, "words"),
+            Reason::Field(k) => write!(f, "field {k}"),
+        }
+    }
+}
+
+/// A line that is refused.
+#[derive(Clone, Copy, Debug, PartialEq, Eq)]
+pub struct Refusal {
+    /// Its number, from 1; 0 stands for the whole input.
+    pub line: u64,
+    pub reason: Reason,
+}
+
+impl fmt::Display for Refusal {
+    ghost output = { λ refusal. Some (refusal_text refusal) };
+
+    fn fmt<W: fmt::Write>(&self, f: &mut fmt::Formatter<W>) -> fmt::Result {
+        write!(f, "line {}: {}", self.line, self.reason)
+    }
+}
+
+/// Why an input is not read.
+#[derive(Debug, Drop)]
+pub enum LineFault {
+    /// A line is refused, the first one that is.
+    Refused(Refusal),
+    /// Memory ran out.
+    Memory,
+}
