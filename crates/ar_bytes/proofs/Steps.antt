@@ -1,0 +1,55 @@
+-- Steps of a reading that did not fail, and what a cursor passed.
+use Rattle.std.proofs.Common.{◌≡◌, ℕ, ◌+◌, Bool, true, false, cond, eqb, List, [], ◌++◌, length, Result, Ok, Err, refl, sym, ap, ◌∙◌, append_assoc, arith}
+use Rattle.std.proofs.lemmas.Bool.{eqb-true}
+use Rattle.std.proofs.lemmas.List.{length-append, get_or-append-add, nil_from_length}
+use Rattle.ar_bytes.specs.Reading.{Cursor, ◌>>=◌, all_of}
+use Rattle.ar_bytes.specs.RoundTrip.{AreBytes, Passes}
+
+-- the step before one that did not fail did not fail
+pub bind_ok : {A B : Type 0} (r : Result A ℕ) (f : A → Result B ℕ) (y : B) → (r >>= f) ≡ Ok y → (x : A) × (r ≡ Ok x) × (f x ≡ Ok y)
+bind_ok (Ok x) f y e = (x, refl, e)
+bind_ok (Err place) f y e = absurd cc
+
+-- a test of what fails that did not fail
+pub guard_ok : {A : Type 0} (b : Bool) (place : ℕ) (x y : A) → cond b (Err place) (Ok x) ≡ Ok y → (b ≡ false) × (x ≡ y)
+guard_ok true place x y e = absurd cc
+guard_ok false place x y e = (refl, cc)
+
+-- a test of what is wanted that did not fail
+pub test_ok : {A : Type 0} (b : Bool) (place : ℕ) (x y : A) → cond b (Ok x) (Err place) ≡ Ok y → (b ≡ true) × (x ≡ y)
+test_ok true place x y e = (refl, cc)
+test_ok false place x y e = absurd cc
+
+abbrev done : {A : Type 0} → A → Result A ℕ
+done x = Ok x
+
+pub ok_is : {A : Type 0} (x y : A) → done x ≡ done y → x ≡ y
+ok_is x y e = cc
+
+-- a reading that took all there was
+pub all_ok : {A : Type 0} (x : A × Cursor) (y : A) → all_of x ≡ Ok y → (x.0 ≡ y) × (x.1.ahead ≡ [])
+all_ok x y e =
+    let t = test_ok (eqb (length x.1.ahead) 0) x.1.place x.0 y e in
+    (t.1, nil_from_length x.1.ahead (eqb-true _ _ t.0))
+
+-- a text behind a text
+pub Passes-then : (a b c : Cursor) (x y : List ℕ) → Passes a x b → Passes b y c → Passes a (x ++ y) c
+Passes-then a b c x y p q = record {
+  bytes = p.bytes ∙ ap (λ (t : List ℕ). x ++ t) q.bytes ∙ sym (append_assoc x y c.ahead);
+  place = omega (arith, p.place, q.place, length-append x y);
+}
+
+-- the cursor between two texts
+abbrev pub between : Cursor → List ℕ → List ℕ → Cursor
+between at x rest = record { ahead = rest; place = at.place + length x }
+
+-- two texts that were passed were passed one behind the other
+pub Passes-first : (a c : Cursor) (x y : List ℕ) → Passes a (x ++ y) c → Passes a x (between a x (y ++ c.ahead))
+Passes-first a c x y p = record { bytes = p.bytes ∙ append_assoc x y c.ahead; place = refl }
+
+pub Passes-second : (a c : Cursor) (x y : List ℕ) → Passes a (x ++ y) c → Passes (between a x (y ++ c.ahead)) y c
+Passes-second a c x y p = record { bytes = refl; place = omega (arith, p.place, length-append x y) }
+
+-- what is left of bytes is bytes
+pub AreBytes-behind : (at new : Cursor) (text : List ℕ) → Passes at text new → AreBytes at.ahead → AreBytes new.ahead
+AreBytes-behind at new text p fits i = rw (← get_or-append-add text new.ahead i 0, ← p.bytes) (fits (length text + i))

@@ -1,0 +1,58 @@
+ghost use Rattle.std.specs.Prelude.{◌≡◌};
+ghost use Rattle.ar_base.specs.Gives.{GivesUnless};
+ghost use Rattle.ar_names.specs.Names.{IsName, name_digest_of};
+ghost use Rattle.ar_names.specs.NameReading.{name_in};
+ghost use Rattle.ar_names.specs.declared.fault.NameFault.TheVariants as faults;
+
+use crate::fault::NameFault;
+use crate::key::name_digest;
+use crate::rule::first_fault;
+use std::alloc::Global;
+use std::marker::Model;
+
+/// A name, 1 to 253 bytes: labels of `a` to `z`, `0` to `9` and `-` with dots between them.
+#[derive(Debug, Drop)]
+pub struct Name {
+    text: Vec<u8>,
+}
+
+// Clauses see the bytes of the name.
+impl Model for Name {
+    ghost use Rattle.std.specs.Prelude.{List, ℕ};
+    ghost use Rattle.ar_names.specs.Names.{IsName};
+
+    ghost Value = { List ℕ };
+
+    ghost view = { λ name. name.text.items };
+
+    ghost invariant = { λ name. IsName name.text.items };
+}
+
+impl Name {
+    /// The name with this text, or the place of its first fault.
+    pub fn read(alloc: Global, text: &[u8]) -> Result<Name, NameFault>
+        ensures { GivesUnless faults.Memory (λ name. name) result (name_in text.now) }
+    {
+        if let Some(place) = first_fault(text) {
+            return Err(NameFault::Refused(place));
+        }
+        Ok(Name {
+            text: Vec::from_slice(alloc, text)?,
+        })
+    }
+
+    /// The bytes of the name.
+    pub fn text(&self) -> &[u8]
+        ensures text { result.now ≡ self.now }
+        ensures name { IsName self.now }
+    {
+        self.text.as_slice()
+    }
+
+    /// The key of the name in the integrity tree, as `name_digest` gives it.
+    pub fn digest(&self) -> [u8; 32]
+        ensures { result ≡ name_digest_of self.now }
+    {
+        name_digest(&self.text)
+    }
+}

@@ -1,0 +1,16 @@
+//! What the parties sign: the statements, and the one text of each.
+//!
+//! `specs/Claims.antt` has the texts as a table by kind.
+#![tactic(auto)]
+
+pub mod fields;
+pub mod laws;
+mod party;
+mod reading;
+mod statement;
+#[cfg(test)]
+mod tests;
+mod writing;
+
+pub use party::{Party, Role};
+pub use statement::{Statement, TEXT_LEN};

@@ -1,0 +1,40 @@
+-- What follows where no two strings of a list collide.
+use Rattle.std.proofs.Common.{◌≡◌, ℕ, List, [], ◌∷◌, ◌++◌, Bool, true, false, refl, sym, ap, ◌∙◌, subst, ◌⊎◌, inl, inr}
+use Rattle.std.specs.Prelude.{IsTrue, not, ◌&&◌, ◌||◌}
+use Rattle.std.specs.List.{list_all}
+use Rattle.std.specs.Str.{bytes_eq}
+use Rattle.sha2.specs.Sha256.{sha256}
+use Rattle.std.proofs.lemmas.Slice.Eq.{bytes_eq-Decides}
+use Rattle.hash_tree.specs.Collision.{are_apart, none_collide}
+use Rattle.hash_tree.proofs.Maps.{both-first, both-second}
+
+-- x stands in the list
+abbrev pub IsIn : List (List ℕ) → List ℕ → Type 0
+IsIn [] x = ⊥
+IsIn (y ∷ ys) x = (x ≡ y) ⊎ IsIn ys x
+
+pub in_front : (xs ys : List (List ℕ)) (x : List ℕ) → IsIn xs x → IsIn (xs ++ ys) x
+in_front [] ys x h = absurd h
+in_front (z ∷ xs) ys x (inl e) = inl e
+in_front (z ∷ xs) ys x (inr h) = inr (in_front xs ys x h)
+
+pub in_rest : (xs ys : List (List ℕ)) (x : List ℕ) → IsIn ys x → IsIn (xs ++ ys) x
+in_rest [] ys x h = h
+in_rest (z ∷ xs) ys x h = inr (in_rest xs ys x h)
+
+-- of two strings of the list with one digest, both are one
+abbrev pub Apart : List (List ℕ) → Type 0
+Apart strings = (x y : List ℕ) → IsIn strings x → IsIn strings y → sha256 x ≡ sha256 y → x ≡ y
+
+all_in : (p : List ℕ → Bool) (xs : List (List ℕ)) (x : List ℕ) → list_all p xs ≡ true → IsIn xs x → p x ≡ true
+all_in p [] x h i = absurd i
+all_in p (y ∷ ys) x h (inl e) = ap p e ∙ both-first _ _ h
+all_in p (y ∷ ys) x h (inr i) = all_in p ys x (both-second _ _ h) i
+
+apart_strings : (x y : List ℕ) → are_apart x y ≡ true → sha256 x ≡ sha256 y → x ≡ y
+apart_strings x y h e =
+    let same : bytes_eq (sha256 x) (sha256 y) ≡ true = (bytes_eq-Decides (sha256 x) (sha256 y)).1 e in
+    (bytes_eq-Decides x y).0 (rw same at h)
+
+pub apart : (strings : List (List ℕ)) → IsTrue (none_collide strings) → Apart strings
+apart strings h x y ix iy e = apart_strings x y (all_in _ strings y (all_in _ strings x h ix) iy) e

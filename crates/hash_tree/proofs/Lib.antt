@@ -1,0 +1,4 @@
+pub mod KeyBits
+pub mod Maps
+pub mod ByCount
+pub mod Apart

@@ -1,0 +1,4 @@
+pub mod Strings
+pub mod Entries
+pub mod Root
+pub mod Collision

@@ -1,0 +1,33 @@
+-- The strings that the integrity tree hashes, and their digests under SHA-256 (FIPS 180-4, section
+-- 6.2). The first byte of each says what it is of, so strings of two kinds are never equal.
+use Rattle.std.specs.Prelude.{ℕ, List, [], ◌∷◌, ◌++◌}
+use Rattle.std.specs.Int.{w64, to_be_bytes}
+use Rattle.sha2.specs.Sha256.{sha256}
+
+-- of no entry at all
+abbrev pub empty_string : List ℕ
+empty_string = 0x00 ∷ []
+
+-- of one entry
+abbrev pub entry_string : List ℕ → List ℕ → List ℕ
+entry_string key value = 0x01 ∷ key ++ value
+
+-- of two halves, by their digests: the left one holds the keys whose bit is 0
+abbrev pub node_string : List ℕ → List ℕ → List ℕ
+node_string left right = 0x02 ∷ left ++ right
+
+-- of a domain's newest certificate: its serial as 8 bytes, the highest first, and its digest
+abbrev pub value_string : ℕ → List ℕ → List ℕ
+value_string serial certificate = 0x03 ∷ to_be_bytes w64 serial ++ certificate
+
+abbrev pub empty_digest : List ℕ
+empty_digest = sha256 empty_string
+
+abbrev pub entry_digest : List ℕ → List ℕ → List ℕ
+entry_digest key value = sha256 (entry_string key value)
+
+abbrev pub node_digest : List ℕ → List ℕ → List ℕ
+node_digest left right = sha256 (node_string left right)
+
+abbrev pub value_digest : ℕ → List ℕ → List ℕ
+value_digest serial certificate = sha256 (value_string serial certificate)

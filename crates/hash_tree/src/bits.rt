@@ -1,0 +1,10 @@
+ghost use Rattle.std.specs.Prelude.{◌≡◌, ◌<◌};
+ghost use Rattle.hash_tree.specs.Entries.{bit};
+
+/// The bit of a key at a depth, 0 or 1. Bit 0 is the highest bit of byte 0.
+pub fn key_bit(key: &[u8; 32], depth: usize) -> u8
+    requires { depth < 256 }
+    ensures { result ≡ bit key.now depth }
+{
+    (key[depth / 8] >> (7 - depth % 8)) & 1
+}

@@ -1,0 +1,43 @@
+ghost use Rattle.std.specs.Prelude.{◌≡◌, ◌∷◌, ◌++◌};
+ghost use Rattle.hash_tree.specs.Strings as strings;
+
+use sha2::{Digest, Sha256};
+
+/// The digest of an empty set of entries: SHA-256 of the byte 0x00.
+pub fn empty_digest() -> [u8; 32]
+    ensures { result ≡ strings.empty_digest }
+{
+    Sha256::digest(&[0x00])
+}
+
+/// The digest of a set of one entry: SHA-256 of the byte 0x01, the key and the value.
+pub fn entry_digest(key: &[u8; 32], value: &[u8; 32]) -> [u8; 32]
+    ensures { result ≡ strings.entry_digest key.now value.now }
+{
+    let mut bytes = [0x01; 65];
+    bytes[33..].copy_from_slice(value);
+    bytes[1..33].copy_from_slice(key);
+    Sha256::digest(&bytes)
+}
+
+/// The digest of a set of more entries, from those of its halves: SHA-256 of the byte 0x02 and the
+/// two digests, first that of the entries whose bit is 0.
+pub fn node_digest(left: &[u8; 32], right: &[u8; 32]) -> [u8; 32]
+    ensures { result ≡ strings.node_digest left.now right.now }
+{
+    let mut bytes = [0x02; 65];
+    bytes[33..].copy_from_slice(right);
+    bytes[1..33].copy_from_slice(left);
+    Sha256::digest(&bytes)
+}
+
+/// The value of a domain in the tree, from its newest certificate: SHA-256 of the byte 0x03, the
+/// serial as 8 bytes, the highest first, and the certificate's digest.
+pub fn value_digest(serial: u64, certificate: &[u8; 32]) -> [u8; 32]
+    ensures { result ≡ strings.value_digest serial certificate.now }
+{
+    let mut bytes = [0x03; 41];
+    bytes[1..9].copy_from_slice(&serial.to_be_bytes());
+    bytes[9..].copy_from_slice(certificate);
+    Sha256::digest(&bytes)
+}

@@ -1,0 +1,19 @@
+//! The integrity tree: one digest, the root, stands for a finite map from keys to values.
+//!
+//! The digest of a set of entries at a depth is that of no entry where there is none, that of the
+//! entry where there is one, and else that of the two halves of the set, by the key's bit at that
+//! depth. The root is the digest at depth 0. `specs/Root.antt` says this over finite maps: no tree is
+//! kept, and the order of the entries does not matter.
+//!
+//! No function here takes memory.
+#![tactic(auto)]
+
+pub use bits::key_bit;
+pub use digests::{empty_digest, entry_digest, node_digest, value_digest};
+pub use roots::{digest_at, halves, root_of};
+
+mod bits;
+mod digests;
+mod roots;
+#[cfg(test)]
+mod tests;

@@ -1,0 +1,7 @@
+pub mod Walk
+pub mod Down
+pub mod Lands
+pub mod Few
+pub mod Bind
+pub mod Accepted
+pub mod TestTables

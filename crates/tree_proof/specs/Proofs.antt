@@ -1,0 +1,40 @@
+-- When steps show that a key has a value under a root, and when they show that it has none.
+use Rattle.std.specs.Prelude.{◌≡◌, ◌≢◌, ℕ, ◌≤◌, List, ◌∷◌, length, ⊤}
+use Rattle.sha2.specs.Sha256.{sha256}
+use Rattle.hash_tree.specs.Strings.{empty_string, entry_string}
+use Rattle.hash_tree.specs.Entries.{Agree, IsDigest}
+use Rattle.tree_proof.specs.declared.path.Bottom.{Bottom}
+use Rattle.tree_proof.specs.declared.path.Bottom.TheVariants.{Empty, Other}
+use Rattle.tree_proof.specs.Fold.{path_value, strings_above}
+
+-- the string that stands at the foot of a path that shows absence
+abbrev pub bottom_string : Bottom → List ℕ
+bottom_string Empty = empty_string
+bottom_string (Other other value) = entry_string other value
+
+-- the bottom speaks of this key's absence: it is empty, or an entry of another key that agrees with
+-- this one in as many first bits as there are steps
+abbrev pub SpeaksOf : Bottom → List ℕ → ℕ → Type 0
+SpeaksOf Empty key count = ⊤
+SpeaksOf (Other other value) key count = (other ≢ key) × Agree count other key
+
+-- the steps lead from this string's digest to the root
+abbrev pub LeadsTo : List ℕ → List ℕ → List (List ℕ) → List ℕ → Type 0
+LeadsTo key foot steps root = (length steps ≤ 256) × (path_value key (sha256 foot) steps ≡ root)
+
+-- the steps show that the key has the value
+abbrev pub On : List ℕ → List ℕ → List (List ℕ) → List ℕ → Type 0
+On key value steps root = LeadsTo key (entry_string key value) steps root
+
+-- the steps show that the key has no value
+abbrev pub Off : List ℕ → Bottom → List (List ℕ) → List ℕ → Type 0
+Off key bottom steps root = LeadsTo key (bottom_string bottom) steps root × SpeaksOf bottom key (length steps)
+
+-- all strings that are hashed to follow a path from its foot
+abbrev pub path_strings : List ℕ → List ℕ → List (List ℕ) → List (List ℕ)
+path_strings key foot steps = foot ∷ strings_above key (sha256 foot) steps
+
+-- a bottom's key is of 32 bytes
+abbrev pub HasDigestKey : Bottom → Type 0
+HasDigestKey Empty = ⊤
+HasDigestKey (Other other value) = IsDigest other
