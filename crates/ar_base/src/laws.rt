@@ -1,5 +1,5 @@
 //! Laws on the definitions of `specs/`: each is the contract of a function with an empty body.
-ghost use Rattle.std.specs.Prelude.{◌≡◌, ◌<◌, ◌≤◌, ℕ};
+ghost use Rattle.std.specs.Prelude.{◌≡◌, ◌≤◌, ℕ};
 ghost use Rattle.ar_base.specs.Faults.{HasRisen, most_faults, one_more};
 
 /// A count after one more has risen.
@@ -15,6 +15,5 @@ pub fn a_count_that_stays_has_not_risen()
 /// What rose in a part of a run rose in the whole of it, where counts never fall.
 pub fn a_rise_lasts()
     ensures before { (start old new : ℕ) → start ≤ old → HasRisen old new → HasRisen start new }
-    ensures behind { (old new end : ℕ) → new ≤ end → end ≤ most_faults → HasRisen old new
-        → HasRisen old end }
+    ensures behind { (old new end : ℕ) → old ≤ new → new ≤ end → HasRisen old new → HasRisen old end }
 {}

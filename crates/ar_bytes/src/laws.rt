@@ -1,8 +1,10 @@
 //! Laws on fields, over the definitions alone: each is the contract of a function without a body.
 
-ghost use Rattle.std.specs.Prelude.{◌≡◌, ◌^◌, ◌<◌, Bool, true, List, ℕ, length};
+ghost use Rattle.std.specs.Prelude.{◌≡◌, ◌^◌, ◌<◌, Bool, true, Option, None, List, ℕ, length};
+ghost use Rattle.std.specs.List.{flat_map};
 ghost use Rattle.std.specs.Int.{w8, w16, w32, w64};
 ghost use Rattle.ar_bytes.specs.Reading.{Cursor, Reading, number_at, bytes_at, counted_at, such_that, within, whole};
+ghost use Rattle.ar_bytes.specs.Entries.{entries_at, Follow};
 ghost use Rattle.ar_bytes.specs.RoundTrip.{ReadsBack, NumbersReadBack, IsSpelledBy, number_text, counted_text};
 
 /// A number that was put is read again, wherever it stands and whatever follows it.
@@ -42,4 +44,12 @@ pub fn parts_read_back<T>()
         → ReadsBack field value text → ReadsBack (within (length text) field) value text }
     ensures input { (field : Cursor → Reading T) (value : T) (text : List ℕ)
         → ReadsBack field value text → whole field text ≡ Ok value }
+{}
+
+/// The entries of a list are read back, where each is read back behind one that it may follow.
+pub fn entries_read_back<T>()
+    ensures { (entry : Option T → Cursor → Reading T) (text : T → List ℕ) (may_follow : Option T → T → Bool)
+        → ((before : Option T) (x : T) → may_follow before x ≡ true → ReadsBack (entry before) x (text x))
+        → (xs : List T) → Follow (λ before x. may_follow before x ≡ true) None xs
+        → ReadsBack (entries_at entry (length xs) None) xs (flat_map text xs) }
 {}

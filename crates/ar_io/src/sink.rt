@@ -11,7 +11,7 @@ pub trait Sink {
     /// a sink which keeps only a digest of the bytes can meet it.
     ghost wrote: { Self → List ℕ → Type 0 };
 
-    /// How many faults the sink has had. The count is kept in 64 bits and stays at 2^64 - 1.
+    /// How many faults the sink has had, in a count that may stay at 2^64 - 1 once it is there.
     ghost faults: { Self → ℕ };
 
     /// Writes some bytes of the front of `piece`, and answers how many they are: at least one where

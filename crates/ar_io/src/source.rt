@@ -10,7 +10,7 @@ pub trait Source {
     /// The bytes that are left to be read, where the source tells them.
     ghost left: { Self → Option (List ℕ) };
 
-    /// How many faults the source has had. The count is kept in 64 bits and stays at 2^64 - 1.
+    /// How many faults the source has had, in a count that may stay at 2^64 - 1 once it is there.
     ghost faults: { Self → ℕ };
 
     /// Reads some of the next bytes into the front of `buf`, and answers how many they are, which is

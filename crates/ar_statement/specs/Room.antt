@@ -1,4 +1,4 @@
--- A text in the front of a room of bytes.
+-- A text in the front of a room of 330 bytes.
 use Rattle.std.specs.Prelude.{◌≡◌, ℕ, List, ◌++◌, length, drop}
 
 -- `out` begins with the text, of `len` bytes, and behind it is as `base`

@@ -10,7 +10,9 @@ mod reading;
 mod statement;
 #[cfg(test)]
 mod tests;
+mod text;
 mod writing;
 
 pub use party::{Party, Role};
 pub use statement::{Statement, TEXT_LEN};
+pub use text::{SeenText, Text};

@@ -1,6 +1,6 @@
 ghost use Rattle.ar_statement.specs.Claims.{claim_of, NameFits};
 
-use crate::{Role, Statement, TEXT_LEN};
+use crate::{Role, Statement, TEXT_LEN, Text};
 use std::process::Abort;
 
 fn expect(rt: &impl Abort, statement: Statement, text: &[u8])

@@ -116,6 +116,7 @@ impl Statement<'_> {
         requires { NameFits (claim_of self.now) }
         ensures len { result ≡ length (text_of (claim_of self.now)) }
         ensures text { out.new ≡ text_of (claim_of self.now) ++ drop result out.old }
+        ensures within { result ≤ 330 }
     {
         use Role::{Authority, LogServer, Owner};
         use Statement::*;

@@ -43,7 +43,7 @@ field_at number k (Some value) = Ok value
 field_at number k None = refused number (Field k)
 
 -- A call gave what the definition of a reading gives, or memory ran out.
-abbrev pub Reads : {T V : Type 0} → (T → V) → Result T LineFault → Result V Refusal → Type 0
-Reads view (Ok value) reading = reading ≡ Ok (view value)
-Reads view (Err (Refused refusal)) reading = reading ≡ Err refusal
-Reads view (Err Memory) reading = Unit {0}
+abbrev pub ReadsLines : {T V : Type 0} → (T → V) → Result T LineFault → Result V Refusal → Type 0
+ReadsLines view (Ok value) reading = reading ≡ Ok (view value)
+ReadsLines view (Err (Refused refusal)) reading = reading ≡ Err refusal
+ReadsLines view (Err Memory) reading = Unit {0}

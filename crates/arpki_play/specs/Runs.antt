@@ -15,6 +15,10 @@ pub record TakesAll (old new : Option (List ℕ)) (input : List ℕ) : Type 0 wh
   pub ended : length input ≤ most_bytes → IsAtEnd new
   pub bounded : length input ≤ most_bytes + 1
 
+-- some bytes were taken of a source, at most so many
+abbrev pub TakesAtMost : ℕ → Option (List ℕ) → Option (List ℕ) → Type 0
+TakesAtMost most old new = (bytes : List ℕ) × Consumes old new bytes × (length bytes ≤ most)
+
 -- what a command takes of its source as its input, and nothing for words of no form
 abbrev pub TakesInput : Option Command → Option (List ℕ) → Option (List ℕ) → List ℕ → Type 0
 TakesInput (Some Sig) old new input = TakesAll old new input

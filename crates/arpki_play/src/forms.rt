@@ -5,7 +5,7 @@ use crate::refusal::{LineFault, Reason, Refusal};
 use hex::FromHexError;
 
 /// Why a word is not read.
-#[derive(Debug, Drop)]
+#[derive(Clone, Copy, Debug, PartialEq, Eq)]
 pub enum WordFault {
     /// It is not of its form, or not in its range.
     Form,

@@ -1,6 +1,6 @@
-ghost use Rattle.std.specs.Prelude.{◌≡◌, [], ◌∷◌, MatchOption, position, ℕ};
+ghost use Rattle.std.specs.Prelude.{◌≡◌, [], ◌∷◌, MatchOption, position};
 ghost use Rattle.arpki_play.specs.Lines.{is_newline, lines_of};
-ghost use Rattle.arpki_play.specs.Refusals.{Reads, line_at, end_at};
+ghost use Rattle.arpki_play.specs.Refusals.{ReadsLines, line_at, end_at};
 
 use crate::refusal::{LineFault, Reason, Refusal};
 
@@ -29,7 +29,7 @@ fn first_line(input: &[u8]) -> Option<(&[u8], &[u8])>
 /// The line of this number, at which the input begins, and the input after it. It is refused as
 /// `words` where there is none.
 pub fn next_line(number: u64, input: &[u8]) -> Result<(&[u8], &[u8]), LineFault>
-    ensures { Reads (λ cut. (cut.0.now, lines_of cut.1.now)) result (line_at number (lines_of input.now)) }
+    ensures { ReadsLines (λ cut. (cut.0.now, lines_of cut.1.now)) result (line_at number (lines_of input.now)) }
 {
     match first_line(input) {
         Some(cut) => Ok(cut),
@@ -43,7 +43,7 @@ pub fn next_line(number: u64, input: &[u8]) -> Result<(&[u8], &[u8]), LineFault>
 /// Nothing, where the input has no line left. The next line, which has this number, is refused as
 /// `words`.
 pub fn no_line(number: u64, input: &[u8]) -> Result<(), LineFault>
-    ensures { Reads (λ done. done) result (end_at number (lines_of input.now)) }
+    ensures { ReadsLines (λ done. done) result (end_at number (lines_of input.now)) }
 {
     match first_line(input) {
         None => Ok(()),

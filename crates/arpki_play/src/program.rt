@@ -1,8 +1,8 @@
-ghost use Rattle.std.specs.Prelude.{◌≡◌, ◌<◌, ◌≤◌, ◌⊎◌, None, IsOkAnd};
+ghost use Rattle.std.specs.Prelude.{◌≡◌, ◌+◌, ◌<◌, ◌≤◌, ◌⊎◌, None, IsOkAnd};
 ghost use Rattle.ar_base.specs.Faults.{HasRisen};
 ghost use Rattle.ar_io.specs.Wrote.{Unchanged};
-ghost use Rattle.arpki_play.specs.Answers.{status_of};
-ghost use Rattle.arpki_play.specs.Runs.{Answers, BreaksOff};
+ghost use Rattle.arpki_play.specs.Answers.{most_bytes, status_of};
+ghost use Rattle.arpki_play.specs.Runs.{Answers, BreaksOff, TakesAtMost};
 ghost use Rattle.arpki_play.specs.Words.{command_of, texts};
 
 use crate::answer::Answer;
@@ -18,12 +18,14 @@ use std::alloc::Global;
 /// | status | comes |
 /// |---|---|
 /// | 0 | `sig` finds the signature valid |
-/// | 1 | exactly where `sig` finds it not valid |
-/// | 2 | exactly where the words are of no form: the usage line |
-/// | 3 | exactly where a line of the input is refused, or the input is too long |
-/// | 4 | only where a read failed |
-/// | 5 | only where a write failed |
+/// | 1 | `sig` finds it not valid |
+/// | 2 | the words are of no form: the usage line |
+/// | 3 | a line of the input is refused, or the input is too long |
+/// | 4 | a read failed |
+/// | 5 | a write failed |
 /// | 6 | memory ran out |
+///
+/// Each of 1 to 3 comes exactly where its row says, unless one of 4 to 6 comes first.
 pub fn arpki_main<S: Source, K: Sink>(
     alloc: Global,
     words: &[String],
@@ -33,16 +35,25 @@ pub fn arpki_main<S: Source, K: Sink>(
     ensures statuses { result ≤ 6 }
 
     // At 0 to 3 the whole answer to the input was written, and the status is the answer's.
-    ensures answered { result < 4 → Answers (command_of (texts words.now)) (S.left source.old) (S.left source.new) K.wrote sink.old sink.new result }
+    ensures answered { result < 4 → Answers (command_of (texts words.now)) (S.left source.old) (S.left source.new)
+        K.wrote sink.old sink.new result }
 
     // Words of no form are answered by the usage line, and nothing is read.
     ensures usage { result ≡ 2 → command_of (texts words.now) ≡ None }
     ensures no_form { command_of (texts words.now) ≡ None → (source.new ≡ source.old) × ((result ≡ 2) ⊎ (result ≡ 5)) }
 
     // A fault has its cause in a count of faults. Before it no more than a front of the answer was written.
-    ensures source_fault { result ≡ 4 → HasRisen (S.faults source.old) (S.faults source.new) × Unchanged K.wrote sink.old sink.new }
-    ensures sink_fault { result ≡ 5 → HasRisen (K.faults sink.old) (K.faults sink.new) × BreaksOff (command_of (texts words.now)) (S.left source.old) (S.left source.new) K.wrote sink.old sink.new }
+    ensures source_fault { result ≡ 4 → HasRisen (S.faults source.old) (S.faults source.new)
+        × Unchanged K.wrote sink.old sink.new }
+    ensures sink_fault { result ≡ 5 → HasRisen (K.faults sink.old) (K.faults sink.new)
+        × BreaksOff (command_of (texts words.now)) (S.left source.old) (S.left source.new) K.wrote sink.old sink.new }
     ensures memory { result ≡ 6 → Unchanged K.wrote sink.old sink.new }
+
+    // What was taken before a fault: no more than an input may have, and than one byte more for want of memory.
+    ensures source_taken { result ≡ 4 → TakesAtMost most_bytes (S.left source.old) (S.left source.new) }
+    ensures memory_taken { result ≡ 6 → TakesAtMost (most_bytes + 1) (S.left source.old) (S.left source.new) }
+
+    // The counts of faults never fall.
     ensures source_faults { S.faults source.old ≤ S.faults source.new }
     ensures sink_faults { K.faults sink.old ≤ K.faults sink.new }
 {

@@ -1,4 +1,4 @@
-ghost use Rattle.std.specs.Prelude.{◌≡◌, Some};
+ghost use Rattle.std.specs.Prelude.{Some};
 ghost use Rattle.arpki_play.specs.Refusals.{reason_text, refusal_text};
 
 use std::fmt;
@@ -43,7 +43,7 @@ impl fmt::Display for Refusal {
 }
 
 /// Why an input is not read.
-#[derive(Debug, Drop)]
+#[derive(Clone, Copy, Debug, PartialEq, Eq)]
 pub enum LineFault {
     /// A line is refused, the first one that is.
     Refused(Refusal),

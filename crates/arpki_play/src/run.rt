@@ -1,8 +1,8 @@
-ghost use Rattle.std.specs.Prelude.{◌≡◌, ◌≢◌, ◌≤◌, ℕ, List, IfOk, IfErr, OnOk, OnErr};
+ghost use Rattle.std.specs.Prelude.{◌≡◌, ◌≢◌, ◌+◌, ◌≤◌, ℕ, List, IfOk, IfErr, OnOk, OnErr};
 ghost use Rattle.ar_base.specs.Faults.{HasRisen};
 ghost use Rattle.ar_io.specs.Wrote.{Appended, AppendedFront, Unchanged};
-ghost use Rattle.arpki_play.specs.Answers.{output_of, sig_answer, status_of};
-ghost use Rattle.arpki_play.specs.Runs.{Answers, BreaksOff, TakesAll};
+ghost use Rattle.arpki_play.specs.Answers.{most_bytes, output_of, sig_answer, status_of};
+ghost use Rattle.arpki_play.specs.Runs.{Answers, BreaksOff, TakesAll, TakesAtMost};
 ghost use Rattle.arpki_play.specs.declared.words.Command.TheVariants.{Sig};
 
 use crate::answer::Answer;
@@ -23,9 +23,11 @@ const TOO_LONG: Refusal = Refusal {
 
 /// The answer of `sig` to all that the source has left.
 fn sig_answer<S: Source>(alloc: Global, source: &mut S) -> Result<Answer, Fault>
-    ensures ok { IfOk result (λ answer. (input : List ℕ) × TakesAll (S.left source.old) (S.left source.new) input × (answer ≡ sig_answer input)) }
+    ensures ok { IfOk result (λ answer. (input : List ℕ) × TakesAll (S.left source.old) (S.left source.new) input
+        × (answer ≡ sig_answer input)) }
     ensures source { result ≡ Err Fault.Source → HasRisen (S.faults source.old) (S.faults source.new) }
     ensures sink { result ≢ Err Fault.Sink }
+    ensures taken { OnErr result (TakesAtMost most_bytes (S.left source.old) (S.left source.new)) }
     ensures faults { S.faults source.old ≤ S.faults source.new }
 {
     match read_all(alloc, source, MOST_BYTES) {
@@ -40,7 +42,8 @@ fn sig_answer<S: Source>(alloc: Global, source: &mut S) -> Result<Answer, Fault>
 fn write_answer<K: Sink>(alloc: Global, sink: &mut K, answer: &Answer) -> Result<(), Fault>
     ensures ok { OnOk result (Appended K.wrote sink.old sink.new (output_of answer.now)) }
     ensures source { result ≢ Err Fault.Source }
-    ensures sink { result ≡ Err Fault.Sink → HasRisen (K.faults sink.old) (K.faults sink.new) × AppendedFront K.wrote sink.old sink.new (output_of answer.now) }
+    ensures sink { result ≡ Err Fault.Sink → HasRisen (K.faults sink.old) (K.faults sink.new)
+        × AppendedFront K.wrote sink.old sink.new (output_of answer.now) }
     ensures memory { result ≡ Err Fault.Memory → Unchanged K.wrote sink.old sink.new }
     ensures faults { K.faults sink.old ≤ K.faults sink.new }
 {
@@ -54,11 +57,15 @@ pub fn run_sig<S: Source, K: Sink>(
     source: &mut S,
     sink: &mut K,
 ) -> Result<Answer, Fault>
-    ensures ok { IfOk result (λ answer. Answers (Some Sig) (S.left source.old) (S.left source.new) K.wrote sink.old sink.new (status_of answer)) }
-    ensures source { result ≡ Err Fault.Source → HasRisen (S.faults source.old) (S.faults source.new) × Unchanged K.wrote sink.old sink.new }
+    ensures ok { IfOk result (λ answer. Answers (Some Sig) (S.left source.old) (S.left source.new)
+        K.wrote sink.old sink.new (status_of answer)) }
+    ensures source { result ≡ Err Fault.Source → HasRisen (S.faults source.old) (S.faults source.new)
+        × Unchanged K.wrote sink.old sink.new }
     ensures sink { result ≡ Err Fault.Sink → HasRisen (K.faults sink.old) (K.faults sink.new)
         × BreaksOff (Some Sig) (S.left source.old) (S.left source.new) K.wrote sink.old sink.new }
     ensures memory { result ≡ Err Fault.Memory → Unchanged K.wrote sink.old sink.new }
+    ensures source_taken { result ≡ Err Fault.Source → TakesAtMost most_bytes (S.left source.old) (S.left source.new) }
+    ensures memory_taken { result ≡ Err Fault.Memory → TakesAtMost (most_bytes + 1) (S.left source.old) (S.left source.new) }
     ensures source_faults { S.faults source.old ≤ S.faults source.new }
     ensures sink_faults { K.faults sink.old ≤ K.faults sink.new }
 {
@@ -71,8 +78,10 @@ pub fn run_sig<S: Source, K: Sink>(
 
 /// Writes the usage line. It takes no memory.
 pub fn show_usage<K: Sink>(sink: &mut K) -> Result<Answer, Fault>
-    ensures ok { IfOk result (λ answer. (answer ≡ Answer.Usage) × Appended K.wrote sink.old sink.new (output_of answer)) }
-    ensures sink { OnErr result (HasRisen (K.faults sink.old) (K.faults sink.new) × AppendedFront K.wrote sink.old sink.new (output_of Answer.Usage)) }
+    ensures ok { IfOk result (λ answer. (answer ≡ Answer.Usage)
+        × Appended K.wrote sink.old sink.new (output_of answer)) }
+    ensures sink { OnErr result (HasRisen (K.faults sink.old) (K.faults sink.new)
+        × AppendedFront K.wrote sink.old sink.new (output_of Answer.Usage)) }
     ensures only_sink { IfErr result (λ fault. fault ≡ Fault.Sink) }
     ensures faults { K.faults sink.old ≤ K.faults sink.new }
 {

@@ -2,7 +2,7 @@ ghost use Rattle.std.specs.Prelude.{◌≡◌, IfOk, IfErr};
 ghost use Rattle.arpki_play.specs.Answers.{judged};
 ghost use Rattle.arpki_play.specs.Forms.{Spells};
 ghost use Rattle.arpki_play.specs.Lines.{lines_of};
-ghost use Rattle.arpki_play.specs.Refusals.{Reads};
+ghost use Rattle.arpki_play.specs.Refusals.{ReadsLines};
 ghost use Rattle.arpki_play.specs.Sig.{key_of_hex, question_in, question_of};
 
 use crate::answer::Answer;
@@ -32,7 +32,7 @@ fn key_of(alloc: Global, word: &[u8]) -> Result<LmsPublic, WordFault>
 
 /// The three lines of an input.
 fn read(alloc: Global, input: &[u8]) -> Result<SigInput, LineFault>
-    ensures { Reads question_in result (question_of (lines_of input.now)) }
+    ensures { ReadsLines question_in result (question_of (lines_of input.now)) }
 {
     let (line, rest) = next_line(1, input)?;
     let key = key_of(alloc, line).map_err(|fault| fault.at(1, 0))?;

@@ -1,6 +1,6 @@
 -- What follows where no two strings of a list collide.
-use Rattle.std.proofs.Common.{◌≡◌, ℕ, List, [], ◌∷◌, ◌++◌, Bool, true, false, refl, sym, ap, ◌∙◌, subst, ◌⊎◌, inl, inr}
-use Rattle.std.specs.Prelude.{IsTrue, not, ◌&&◌, ◌||◌}
+use Rattle.std.proofs.Common.{◌≡◌, ℕ, List, [], ◌∷◌, ◌++◌, Bool, true, refl, ap, ◌∙◌, ◌⊎◌, inl, inr}
+use Rattle.std.specs.Prelude.{IsTrue}
 use Rattle.std.specs.List.{list_all}
 use Rattle.std.specs.Str.{bytes_eq}
 use Rattle.sha2.specs.Sha256.{sha256}
@@ -38,3 +38,12 @@ apart_strings x y h e =
 
 pub apart : (strings : List (List ℕ)) → IsTrue (none_collide strings) → Apart strings
 apart strings h x y ix iy e = apart_strings x y (all_in _ strings y (all_in _ strings x h ix) iy) e
+
+all_from : (p : List ℕ → Bool) (xs : List (List ℕ)) → ((x : List ℕ) → IsIn xs x → p x ≡ true) → list_all p xs ≡ true
+all_from p [] h = refl
+all_from p (x ∷ xs) h = rw (h x (inl refl)) (all_from p xs (λ y i. h y (inr i)))
+
+-- nor do two strings of a part of the list
+pub none_collide-part : (part strings : List (List ℕ)) → ((x : List ℕ) → IsIn part x → IsIn strings x) → IsTrue (none_collide strings) → IsTrue (none_collide part)
+none_collide-part part strings within h =
+    all_from _ part (λ x ix. all_from _ part (λ y iy. all_in _ strings y (all_in _ strings x h (within x ix)) (within y iy)))

@@ -2,3 +2,4 @@ pub mod KeyBits
 pub mod Maps
 pub mod ByCount
 pub mod Apart
+pub mod DigestBytes

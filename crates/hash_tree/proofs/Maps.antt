@@ -1,14 +1,12 @@
 -- The map that a list of entries makes, and its halves.
-use Rattle.std.proofs.Common.{◌≡◌, ◌≢◌, ℕ, zero, suc, ◌+◌, ◌-◌, ◌<◌, ◌≤◌, List, [], ◌∷◌, ◌++◌, length, get_or, eq-eqb, take, drop, refl, sym, ap, ◌∙◌, subst, ◌⊎◌, inl, inr, ⊎_elim, arith, Bool, true, false, cond, eqb, ltb, ◌&&◌, Option, Some, None}
+use Rattle.std.proofs.Common.{◌≡◌, ℕ, zero, suc, ◌+◌, ◌<◌, ◌≤◌, List, [], ◌∷◌, length, get_or, eq-eqb, take, drop, refl, sym, ap, ◌∙◌, subst, ⊎_elim, arith, Bool, true, false, cond, eqb, ◌&&◌, Some, None}
 use Rattle.std.specs.Prelude.{IsTrue, is_some, filter, All}
-use Rattle.std.specs.List.{AllByRecursion}
 use Rattle.std.specs.declared.cmp.Ordering.{Ordering}
 use Rattle.std.specs.declared.cmp.Ordering.TheVariants.{Less, Equal, Greater}
-use Rattle.std.specs.Ordering.{nat_cmp, eq_by_cmp, is_eq, is_lt}
+use Rattle.std.specs.Ordering.{eq_by_cmp, is_eq, is_lt}
 use Rattle.std.specs.Cmp.{IsTotalOrder, tied_itself}
-use Rattle.std.specs.Cmp.Lexicographic.{slice_cmp}
-use Rattle.std.specs.FinMap.{FinMap, get, contains_key, retain_keys, from_entries, from_sorted, empty, entries, is_sorted, find, IsAntisymmetric, slice_cmp-IsAntisymmetric, nat_cmp-IsAntisymmetric, same_map, get-from_entries, get-from_sorted, entries-from_sorted, get-retain_keys}
-use Rattle.std.specs.FinMap.Entries.{find-where_key, is_sorted-where_key, is_some-find, below_all}
+use Rattle.std.specs.FinMap.{get, contains_key, from_sorted, entries, is_sorted, find, IsAntisymmetric, slice_cmp-IsAntisymmetric, nat_cmp-IsAntisymmetric, same_map, get-from_entries, get-from_sorted, entries-from_sorted, get-retain_keys}
+use Rattle.std.specs.FinMap.Entries.{find-where_key, is_sorted-where_key, below_all}
 use Rattle.std.proofs.lemmas.Cmp.{nat_list_cmp_total}
 use Rattle.std.proofs.lemmas.Nat.Bits.{bit_at-lt}
 use Rattle.std.proofs.lemmas.Bool.{cases_lt, eqb-true}

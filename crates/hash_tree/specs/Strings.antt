@@ -20,14 +20,18 @@ node_string left right = 0x02 ∷ left ++ right
 abbrev pub value_string : ℕ → List ℕ → List ℕ
 value_string serial certificate = 0x03 ∷ to_be_bytes w64 serial ++ certificate
 
+-- the digest of a set with no entry
 abbrev pub empty_digest : List ℕ
 empty_digest = sha256 empty_string
 
+-- the digest of a set of one entry
 abbrev pub entry_digest : List ℕ → List ℕ → List ℕ
 entry_digest key value = sha256 (entry_string key value)
 
+-- the digest of a set of more entries, by those of its halves
 abbrev pub node_digest : List ℕ → List ℕ → List ℕ
 node_digest left right = sha256 (node_string left right)
 
+-- the value of a domain, by its newest certificate
 abbrev pub value_digest : ℕ → List ℕ → List ℕ
 value_digest serial certificate = sha256 (value_string serial certificate)

@@ -1,4 +1,5 @@
 ghost use Rattle.std.specs.Prelude.{◌≡◌, ◌∷◌, ◌++◌};
+ghost use Rattle.sha2.specs.Sha256.{sha256};
 ghost use Rattle.hash_tree.specs.Strings as strings;
 
 use sha2::{Digest, Sha256};
@@ -17,7 +18,7 @@ pub fn entry_digest(key: &[u8; 32], value: &[u8; 32]) -> [u8; 32]
     let mut bytes = [0x01; 65];
     bytes[33..].copy_from_slice(value);
     bytes[1..33].copy_from_slice(key);
-    Sha256::digest(&bytes)
+    hash(&bytes)
 }
 
 /// The digest of a set of more entries, from those of its halves: SHA-256 of the byte 0x02 and the
@@ -28,7 +29,7 @@ pub fn node_digest(left: &[u8; 32], right: &[u8; 32]) -> [u8; 32]
     let mut bytes = [0x02; 65];
     bytes[33..].copy_from_slice(right);
     bytes[1..33].copy_from_slice(left);
-    Sha256::digest(&bytes)
+    hash(&bytes)
 }
 
 /// The value of a domain in the tree, from its newest certificate: SHA-256 of the byte 0x03, the
@@ -40,4 +41,14 @@ pub fn value_digest(serial: u64, certificate: &[u8; 32]) -> [u8; 32]
     bytes[1..9].copy_from_slice(&serial.to_be_bytes());
     bytes[9..].copy_from_slice(certificate);
     Sha256::digest(&bytes)
+}
+
+// SHA-256 of a tag byte and two digests.
+#[inline(always)]
+fn hash(bytes: &[u8; 65]) -> [u8; 32]
+    ensures { result ≡ sha256 bytes.now }
+{
+    let mut hasher = Sha256::new();
+    hasher.update(bytes);
+    hasher.finalize()
 }

@@ -1,22 +1,21 @@
 -- The path of a key leads from its bottom to the root, and its bottom says what the set has at the key.
-use Rattle.std.proofs.Common.{◌≡◌, ◌≢◌, ℕ, zero, suc, ◌+◌, ◌-◌, ◌<◌, ◌≤◌, List, [], ◌∷◌, ◌++◌, length, length-append, get_or, refl, sym, ap, ◌∙◌, subst, ◌⊎◌, ⊎_elim, arith, Bool, true, false, cond, eqb, zero-add, Some, None}
+use Rattle.std.proofs.Common.{◌≡◌, ◌≢◌, ℕ, zero, suc, ◌+◌, ◌-◌, ◌<◌, ◌≤◌, List, [], ◌∷◌, ◌++◌, length, length-append, refl, sym, ap, ◌∙◌, subst, ⊎_elim, arith, Bool, true, false, eqb, zero-add, Some, None}
 use Rattle.std.specs.Prelude.{IsTrue, is_some}
 use Rattle.std.specs.FinMap.{get, contains_key, entries}
 use Rattle.std.proofs.lemmas.Bool.{cases_lt, eqb-true}
 use Rattle.sha2.specs.Sha256.{sha256}
 use Rattle.hash_tree.specs.Strings.{node_string}
-use Rattle.hash_tree.specs.Entries.{Entry, Entries, bit, Agree, half, IsDigest, HoldsDigests, AgreeAmong}
-use Rattle.hash_tree.specs.Root.{string_below, digest_below, root}
+use Rattle.hash_tree.specs.Entries.{Entry, Entries, bit, Agree, half, HoldsDigests, AgreeAmong}
+use Rattle.hash_tree.specs.Root.{digest_below, root}
 use Rattle.hash_tree.proofs.Maps.{one_at, agree-half, key-half}
 use Rattle.hash_tree.proofs.ByCount.{string-none, string-one, string-more}
-use Rattle.tree_proof.specs.declared.path.Bottom.{Bottom}
 use Rattle.tree_proof.specs.declared.path.Bottom.TheVariants.{Empty, Other}
 use Rattle.tree_proof.specs.Fold.{joined}
-use Rattle.tree_proof.specs.Path.{same_half, other_half, steps_below, bottom_below, steps_of, bottom_of}
+use Rattle.tree_proof.specs.Path.{steps_below, bottom_below, steps_of, bottom_of}
 use Rattle.tree_proof.specs.Proofs.{On, Off, LeadsTo, SpeaksOf, bottom_string}
 use Rattle.tree_proof.proofs.Down.{turned, turned-push, value_down, path_value-down}
 use Rattle.tree_proof.proofs.Few.{get-none, get-one, get-one_inverse, few_left}
-use Rattle.tree_proof.proofs.Lands.{Count, none, one, more, count_of, same-half, within-half}
+use Rattle.tree_proof.proofs.Lands.{Count, none, one, more, count_of, same-half}
 use Rattle.tree_proof.proofs.Bind.{digests-half}
 use Rattle.tree_proof.proofs.Walk.{steps-few, bottom-none, bottom-one, steps-end, steps-more, bottom-more}
 

@@ -1,11 +1,11 @@
 -- An accepted path tells the truth, and equal roots bind, where no strings collide.
-use Rattle.std.proofs.Common.{◌≡◌, ◌≢◌, ℕ, zero, suc, ◌+◌, ◌<◌, ◌≤◌, List, [], ◌∷◌, ◌++◌, length, get_or, drop, refl, sym, ap, ◌∙◌, subst, inl, inr, arith, Bool, true, false, eqb, Some, None}
+use Rattle.std.proofs.Common.{◌≡◌, ℕ, zero, suc, ◌+◌, List, [], ◌∷◌, ◌++◌, length, get_or, drop, refl, sym, ap, ◌∙◌, subst, inl, inr, arith, Bool, true, false, eqb, Some, None}
 use Rattle.std.specs.Prelude.{IsTrue}
 use Rattle.std.specs.FinMap.{get, entries, same_entries_map, same_map}
 use Rattle.std.proofs.lemmas.Bool.{eqb-true}
 use Rattle.sha2.specs.Sha256.{sha256}
 use Rattle.sha2.proofs.Facts256.{length-sha256}
-use Rattle.hash_tree.specs.Strings.{empty_string, entry_string, node_string}
+use Rattle.hash_tree.specs.Strings.{empty_string, entry_string}
 use Rattle.hash_tree.specs.Entries.{Entry, Entries, bit, half, IsDigest, HoldsDigests, AgreeAmong}
 use Rattle.hash_tree.specs.Root.{string_below, digest_below, strings_below, root, strings_of}
 use Rattle.hash_tree.specs.Collision.{none_collide}
@@ -14,7 +14,7 @@ use Rattle.hash_tree.proofs.ByCount.{string-none, string-one, string-end, string
 use Rattle.hash_tree.proofs.Apart.{IsIn, Apart, apart, in_front, in_rest}
 use Rattle.tree_proof.specs.declared.path.Bottom.{Bottom}
 use Rattle.tree_proof.specs.declared.path.Bottom.TheVariants.{Empty, Other}
-use Rattle.tree_proof.specs.Proofs.{On, Off, LeadsTo, HasDigestKey, SpeaksOf, bottom_string, path_strings}
+use Rattle.tree_proof.specs.Proofs.{On, Off, LeadsTo, HasDigestKey, bottom_string, path_strings}
 use Rattle.tree_proof.proofs.Down.{turned, path_value-down, strings_down-above}
 use Rattle.tree_proof.proofs.Few.{get-none, get-one, get-other, few_left}
 use Rattle.tree_proof.proofs.Lands.{Count, none, one, more, count_of, Foot, lands, same_parts, same-half, within-half, strings-half}

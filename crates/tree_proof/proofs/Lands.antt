@@ -1,14 +1,14 @@
 -- Where no strings collide, a path that leads to the digest of a set of entries follows the key's own
 -- halves, and its foot is the string of what is left there.
-use Rattle.std.proofs.Common.{◌≡◌, ◌≢◌, ℕ, zero, suc, ◌+◌, ◌-◌, ◌<◌, ◌≤◌, List, [], ◌∷◌, ◌++◌, length, get_or, eq-eqb, take, drop, length-append, refl, sym, ap, ◌∙◌, ◌⊎◌, inl, inr, ⊎_elim, arith, Bool, true, false, cond, eqb, Option, Some, None}
+use Rattle.std.proofs.Common.{◌≡◌, ℕ, zero, suc, ◌+◌, ◌≤◌, List, [], ◌∷◌, ◌++◌, length, get_or, eq-eqb, take, drop, length-append, refl, sym, ap, ◌∙◌, ◌⊎◌, inl, inr, arith, true, false, cond, eqb, Some, None}
 use Rattle.std.specs.FinMap.{get, entries}
 use Rattle.std.proofs.lemmas.Bool.{eqb-true}
 use Rattle.std.proofs.lemmas.List.{take_at, drop_at}
 use Rattle.sha2.specs.Sha256.{sha256}
 use Rattle.sha2.proofs.Facts256.{length-sha256}
-use Rattle.hash_tree.specs.Strings.{empty_string, entry_string, node_string}
-use Rattle.hash_tree.specs.Entries.{Entry, Entries, bit, half, IsDigest, HoldsDigests}
-use Rattle.hash_tree.specs.Root.{by_count, string_below, digest_below, strings_below, root}
+use Rattle.hash_tree.specs.Strings.{node_string}
+use Rattle.hash_tree.specs.Entries.{Entry, Entries, bit, half}
+use Rattle.hash_tree.specs.Root.{string_below, digest_below, strings_below}
 use Rattle.hash_tree.proofs.Maps.{get-half, one_at}
 use Rattle.hash_tree.proofs.ByCount.{string-none, string-one, string-end, string-more, strings-own, strings-more}
 use Rattle.hash_tree.proofs.Apart.{IsIn, Apart, in_front, in_rest}

@@ -1,12 +1,10 @@
 -- The path of a key, by how many entries there are.
 use Rattle.std.proofs.Common.{◌≡◌, ℕ, zero, suc, ◌+◌, ◌-◌, ◌<◌, ◌≤◌, List, [], ◌∷◌, ◌++◌, length, get_or, refl, sym, ap, ◌∙◌, append_assoc, arith}
 use Rattle.std.specs.FinMap.{entries}
-use Rattle.sha2.specs.Sha256.{sha256}
-use Rattle.hash_tree.specs.Entries.{Entry, Entries, entries_of, HasAscendingKeys, AgreeAmong, bit, half, of_side}
+use Rattle.hash_tree.specs.Entries.{Entry, Entries, entries_of, HasAscendingKeys, bit, of_side}
 use Rattle.hash_tree.specs.Root.{by_count, digest_below, digest_at}
 use Rattle.hash_tree.proofs.Maps.{entries-entries_of, half-entries_of}
 use Rattle.hash_tree.proofs.ByCount.{by_count-more}
-use Rattle.tree_proof.specs.declared.path.Bottom.{Bottom}
 use Rattle.tree_proof.specs.declared.path.Bottom.TheVariants.{Empty, Other}
 use Rattle.tree_proof.specs.Path.{same_half, other_half, steps_below, bottom_below}
 

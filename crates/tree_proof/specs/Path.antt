@@ -2,7 +2,7 @@
 -- agrees with the key in all bits so far.
 use Rattle.std.specs.Prelude.{ℕ, zero, suc, ◌-◌, List, [], ◌∷◌, ◌++◌}
 use Rattle.std.specs.FinMap.{entries}
-use Rattle.hash_tree.specs.Entries.{Entry, Entries, bit, half}
+use Rattle.hash_tree.specs.Entries.{Entries, bit, half}
 use Rattle.hash_tree.specs.Root.{by_count, digest_below}
 use Rattle.tree_proof.specs.declared.path.Bottom.{Bottom}
 use Rattle.tree_proof.specs.declared.path.Bottom.TheVariants.{Empty, Other}

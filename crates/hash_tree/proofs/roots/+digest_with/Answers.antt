@@ -1,7 +1,4 @@
-use Rattle.std.proofs.Common.{rules, ◌≡◌, ◌<◌, ◌≤◌, ℕ, ◌+◌, length, get_or, List, [], Bool, true, false, ap, sym, ◌∙◌, arith}
-use Rattle.hash_tree.specs.Strings.{node_digest}
-use Rattle.hash_tree.specs.Entries.{HasAscendingKeys}
-use Rattle.hash_tree.specs.Root.{digest_at}
+use Rattle.std.proofs.Common.{rules, [], sym, ◌∙◌, arith}
 use Rattle.hash_tree.proofs.Maps.{ascending-of_side}
 use Rattle.hash_tree.proofs.ByCount.{digest-none, digest-one, digest-halves, agree-of_side}
 use Rattle.hash_tree.proofs.roots.+digest_with.Goals as goal

@@ -1,4 +1,4 @@
-use Rattle.std.proofs.Common.{rules, ◌≡◌, ◌<◌, ◌≤◌, ℕ, eqb, length, get_or, Bool, true, false, ◌∙◌}
+use Rattle.std.proofs.Common.{rules, eqb}
 use Rattle.std.proofs.lemmas.List.Sorted.{IsPartitionPoint-from_clause}
 use Rattle.hash_tree.specs.Entries.{Entry, bit}
 use Rattle.hash_tree.proofs.roots.first_one.Goals as goal

@@ -1,4 +1,4 @@
-use Rattle.std.proofs.Common.{◌≡◌, ◌<◌, ◌≤◌, ℕ, ◌+◌, length, get_or, Bool, true, false, ◌∙◌, arith}
+use Rattle.std.proofs.Common.{get_or, true, false, ◌∙◌, arith}
 use Rattle.hash_tree.proofs.Maps.{depth_below, partitioned, take-filter, drop-filter, one_at}
 use Rattle.hash_tree.proofs.roots.halves.Goals as goal
 

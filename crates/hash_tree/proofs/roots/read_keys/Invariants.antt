@@ -1,4 +1,4 @@
-use Rattle.std.proofs.Common.{ℕ, ◌<◌, List, get_or}
+use Rattle.std.proofs.Common.{ℕ, ◌<◌, get_or}
 use Rattle.hash_tree.specs.Entries.{Entry, IsDigest}
 use Rattle.hash_tree.proofs.roots.read_keys.Given as goal
 

@@ -1,6 +1,5 @@
-use Rattle.std.proofs.Common.{rules, ◌≡◌, ◌<◌, ◌≤◌, ◌-◌, ℕ, ◌+◌, ◌++◌, length, get_or, List, [], ◌∷◌, Bool, true, false, append-nil, ap, sym, ◌∙◌, arith}
-use Rattle.hash_tree.specs.Entries.{HasAscendingKeys, bit}
-use Rattle.hash_tree.specs.Root.{digest_at}
+use Rattle.std.proofs.Common.{rules, ◌-◌, [], append-nil, sym, ◌∙◌, arith}
+use Rattle.hash_tree.specs.Entries.{bit}
 use Rattle.hash_tree.proofs.Maps.{ascending-of_side}
 use Rattle.hash_tree.proofs.ByCount.{agree-of_side}
 use Rattle.tree_proof.proofs.Walk.{steps-list_few, bottom-list_none, bottom-list_one, bottom-parted, steps-walked}
