@@ -1,3 +1,5 @@
 pub mod ChainLemmas
 pub mod DigitLemmas
 pub mod EndLemmas
+pub mod PieceLemmas
+pub mod SigningLemmas

@@ -2,3 +2,4 @@ pub mod Candidate
 pub mod Chain
 pub mod Digits
 pub mod OtsKind
+pub mod Signing

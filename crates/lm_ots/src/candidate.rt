@@ -1,22 +1,20 @@
 ghost use Rattle.std.specs.Prelude.{◌≡◌, ◌+◌, ◌*◌, ◌<◌, ◌≤◌, ◌++◌, length, take, drop};
 ghost use Rattle.std.specs.Int.{w32, from_be_bytes};
 ghost use Rattle.lm_ots.specs.OtsKind.{count_of, signature_len_of};
-ghost use Rattle.lm_ots.specs.Candidate.{candidate, candidate_key, element, message_hash};
+ghost use Rattle.lm_ots.specs.Candidate.{candidate, candidate_key, element};
 
 use crate::OtsType;
-use crate::chain::{begin, chain};
+use crate::chain::chain;
 use crate::digits::{coef, with_checksum};
-use sha2::{Digest, Sha256};
+use crate::hashing::{D_PBLC, begin, message_hash};
+use ar_bytes::Fields;
+use sha2::Digest;
 
-// D_PBLC and D_MESG of RFC 8554, section 7.1.
-const D_PBLC: u16 = 0x8080;
+/// Where C begins in a signature.
+pub(crate) const RANDOMIZER_PLACE: usize = 4;
 
-const D_MESG: u16 = 0x8181;
-
-// Where C and the elements begin in a signature.
-const RANDOMIZER_PLACE: usize = 4;
-
-const ELEMENTS_PLACE: usize = 36;
+/// Where the elements begin in a signature.
+pub(crate) const ELEMENTS_PLACE: usize = 36;
 
 /// The public key that a signature of `message` leads to at a leaf (RFC 8554, section 4.6,
 /// algorithm 4b). The signature is one of the leaf's key exactly where this is that key.
@@ -40,11 +38,15 @@ pub fn ots_candidate(
 }
 
 // The number in the first four bytes.
+#[tactic(auto, unfolding(ar_bytes::specs::Reading::number_at, ar_bytes::specs::Reading::bytes_at))]
 fn type_number(signature: &[u8]) -> u32
     requires { 4 ≤ length signature.now }
     ensures { result ≡ from_be_bytes w32 (take 4 signature.now) }
 {
-    u32::from_be_bytes([signature[0], signature[1], signature[2], signature[3]])
+    let Some(number) = Fields::new(signature).u32() else {
+        unreachable!()
+    };
+    number
 }
 
 fn candidate_key(
@@ -73,16 +75,6 @@ fn candidate_key(
         );
         hasher.update(&end);
     }
-    hasher.finalize()
-}
-
-// Q: the hash of a message under C.
-fn message_hash(id: &[u8; 16], leaf: u32, randomizer: &[u8], message: &[u8]) -> [u8; 32]
-    ensures { result ≡ message_hash id.now leaf randomizer.now message.now }
-{
-    let mut hasher = begin(id, leaf, D_MESG);
-    hasher.update(randomizer);
-    hasher.update(message);
     hasher.finalize()
 }
 

@@ -12,8 +12,14 @@ const STEP_PLACE: usize = 22;
 
 const VALUE_PLACE: usize = 23;
 
-// What step `step` of a chain hashes.
-fn step_text(id: &[u8; 16], leaf: u32, index: u16, step: u8, value: &[u8; 32]) -> [u8; 55]
+/// What step `step` of a chain hashes.
+pub(crate) fn step_text(
+    id: &[u8; 16],
+    leaf: u32,
+    index: u16,
+    step: u8,
+    value: &[u8; 32],
+) -> [u8; 55]
     ensures { result ≡ step_text id.now leaf index step value.now }
 {
     let place: [u8; 6] = join(&leaf.to_be_bytes(), &index.to_be_bytes());
@@ -56,15 +62,4 @@ fn value_of(text: &[u8; 55]) -> [u8; 32]
     let mut value = [0u8; 32];
     value.copy_from_slice(&text[VALUE_PLACE..]);
     value
-}
-
-/// A hasher that holds what all strings of a leaf or a node under a domain begin with.
-pub(crate) fn begin(id: &[u8; 16], number: u32, domain: u16) -> Sha256
-    ensures { Holds256 result (id.now ++ (to_be_bytes w32 number ++ to_be_bytes w16 domain)) }
-{
-    let mut hasher = Sha256::new();
-    hasher.update(id);
-    hasher.update(&number.to_be_bytes());
-    hasher.update(&domain.to_be_bytes());
-    hasher
 }

@@ -1,16 +1,23 @@
 //! One-time signatures: LM-OTS of RFC 8554, section 4, with SHA-256 and n = 32.
 //!
 //! `specs/` states the scheme on lists of bytes: `OtsKind` the table of types, `Digits` how a hash is
-//! cut into digits, `Chain` the chains, and `Candidate` the public key that a signature leads to.
+//! cut into digits, `Chain` the chains, `Candidate` the public key that a signature leads to, and
+//! `Signing` the keys and signatures that a seed gives. `laws` says that the two fit.
 #![tactic(auto)]
 
 pub use candidate::ots_candidate;
 pub use ots_type::OtsType;
+pub use secret::OtsSecret;
+pub use signing::{ots_public, ots_sign_into};
 
 mod bytes;
 mod candidate;
 mod chain;
 mod digits;
+mod hashing;
+pub mod laws;
 mod ots_type;
+mod secret;
+mod signing;
 #[cfg(test)]
 mod tests;

@@ -82,7 +82,7 @@ number-from-bytes m n p q e =
     sym (from_be_bytes-to_be_bytes_4 m p) ∙ ap (from_be_bytes w32) e ∙ from_be_bytes-to_be_bytes_4 n q
 
 -- two keys are equal where their parts are
-key-from-parts : (a b : LmsPublic) → a.lms ≡ b.lms → a.ots ≡ b.ots → a.id ≡ b.id → a.root ≡ b.root → a ≡ b
+pub key-from-parts : (a b : LmsPublic) → a.lms ≡ b.lms → a.ots ≡ b.ots → a.id ≡ b.id → a.root ≡ b.root → a ≡ b
 key-from-parts a b lms ots id root =
     ap (λ k. let key : LmsPublic = record { lms = k; ots = a.ots; id = a.id; root = a.root } in key) lms
     ∙ ap (λ k. let key : LmsPublic = record { lms = b.lms; ots = k; id = a.id; root = a.root } in key) ots

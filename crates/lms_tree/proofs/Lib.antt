@@ -1,2 +1,4 @@
 pub mod KeyLemmas
+pub mod NodeLemmas
 pub mod PathLemmas
+pub mod SigningLemmas

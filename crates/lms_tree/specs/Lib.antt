@@ -1,4 +1,7 @@
+pub mod Key
+pub mod KeyParts
 pub mod LmsKind
+pub mod Nodes
 pub mod PublicKey
 pub mod Tests
 pub mod Tree

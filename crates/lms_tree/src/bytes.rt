@@ -26,3 +26,11 @@ pub(crate) fn part<const N: usize>(bytes: &[u8], place: usize) -> [u8; N]
         .copy_from_slice(&bytes[place..place + N]);
     array
 }
+
+/// Writes an array into a slice, from a place on.
+pub(crate) fn put<const N: usize>(out: &mut [u8], place: usize, bytes: &[u8; N])
+    requires { place + N ≤ length out.old }
+    ensures { take (place + N) out.new ≡ take place out.old ++ bytes.now }
+{
+    out[place..place + N].copy_from_slice(bytes);
+}

@@ -5,14 +5,19 @@
 //! is the first that fails (`Tests`).
 #![tactic(auto)]
 
+pub use key::{KeyFault, LmsKey};
 pub use lms_type::LmsType;
 pub use public_key::LmsPublic;
 pub use validity::{Verdict, valid};
 
 mod bytes;
+mod key;
 pub mod laws;
 mod lms_type;
+mod nodes;
 mod numbers;
+mod parts;
+mod path;
 mod public_key;
 #[cfg(test)]
 mod tests;

@@ -30,8 +30,8 @@ pub(crate) fn leaf_node(id: &[u8; 16], node: u32, key: &[u8; 32]) -> [u8; 32]
     hasher.finalize()
 }
 
-// The value of an inner node, of its children's.
-fn inner_node(id: &[u8; 16], node: u32, left: &[u8], right: &[u8]) -> [u8; 32]
+/// The value of an inner node, of its children's.
+pub(crate) fn inner_node(id: &[u8; 16], node: u32, left: &[u8; 32], right: &[u8; 32]) -> [u8; 32]
     ensures { result ≡ inner_node id.now node left.now right.now }
 {
     let mut hasher = begin(id, node, D_INTR);
@@ -41,7 +41,7 @@ fn inner_node(id: &[u8; 16], node: u32, left: &[u8], right: &[u8]) -> [u8; 32]
 }
 
 /// The value of a node's parent, of the node's and its sibling's.
-pub(crate) fn parent_of(id: &[u8; 16], node: u32, value: &[u8], sibling: &[u8]) -> [u8; 32]
+pub(crate) fn parent_of(id: &[u8; 16], node: u32, value: &[u8; 32], sibling: &[u8; 32]) -> [u8; 32]
     ensures { result ≡ parent_of id.now node value.now sibling.now }
 {
     if node % 2 == 1 {

@@ -6,6 +6,7 @@ ghost use Rattle.lms_tree.specs.Tree.{go_up};
 ghost use Rattle.lms_tree.specs.Validity.{candidate_root, leaf_number, lms_signature_len_of, number_at, one_time_part, path_of, sibling, verdict_of};
 
 use crate::LmsPublic;
+use crate::bytes::part;
 use crate::numbers::number_at;
 use crate::tree::{leaf_node, parent_of};
 use lm_ots::{OtsType, ots_candidate};
@@ -76,7 +77,7 @@ fn go_up(key: &LmsPublic, node: u32, value: [u8; 32], signature: &[u8]) -> [u8; 
     let mut node = node;
     let mut value = value;
     for k in 0..key.lms.height() as usize {
-        value = parent_of(&key.id, node, &value, sibling(key.ots, signature, k));
+        value = parent_of(&key.id, node, &value, &sibling(key.ots, signature, k));
         node /= 2;
     }
     value
@@ -91,10 +92,9 @@ fn one_time_part(ots: OtsType, signature: &[u8]) -> &[u8]
 }
 
 // Element `k` of the path in a signature.
-fn sibling(ots: OtsType, signature: &[u8], k: usize) -> &[u8]
+fn sibling(ots: OtsType, signature: &[u8], k: usize) -> [u8; 32]
     requires { 8 + signature_len_of ots + 32 * k + 32 ≤ length signature.now }
-    ensures { result.now ≡ sibling ots signature.now k }
+    ensures { result ≡ sibling ots signature.now k }
 {
-    let place = 8 + ots.signature_len() + 32 * k;
-    &signature[place..place + 32]
+    part(signature, 8 + ots.signature_len() + 32 * k)
 }

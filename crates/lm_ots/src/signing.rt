@@ -1,0 +1,106 @@
+ghost use Rattle.std.specs.Prelude.{◌≡◌, ◌+◌, ◌*◌, ◌<◌, ◌≤◌, ◌∷◌, ◌++◌, length, take};
+ghost use Rattle.std.specs.List.{flat_map, range_with_len};
+ghost use Rattle.sha2.specs.Sha256.{sha256};
+ghost use Rattle.lm_ots.specs.OtsKind.{count_of, signature_len_of};
+ghost use Rattle.lm_ots.specs.Signing.{public_key_of, randomizer_of, secret_element, signature_of, signed_element, value_after};
+
+use crate::OtsSecret;
+use crate::bytes::{join, put};
+use crate::candidate::{ELEMENTS_PLACE, RANDOMIZER_PLACE};
+use crate::chain::{chain, step_text};
+use crate::digits::{coef, with_checksum};
+use crate::hashing::{D_PBLC, begin, message_hash};
+use byteorder::{ByteOrder, LittleEndian};
+use rand_chacha::ChaCha20Rng;
+use rand_core::SeedableRng;
+use rand_core::utils::NextWord;
+use sha2::{Digest, Sha256};
+
+// The number that stands for a step where a chain's beginning is made (RFC 8554, appendix A).
+const SECRET_STEP: u8 = 0xff;
+
+// What stands before the seed where the key of the generator is hashed.
+const RANDOMIZER_TAG: u8 = 0x43;
+
+/// The public key of a one-time private key (RFC 8554, section 4.3, algorithm 1).
+pub fn ots_public(secret: &OtsSecret) -> [u8; 32]
+    ensures { result ≡ public_key_of secret.now }
+{
+    let mut hasher = begin(&secret.id, secret.leaf, D_PBLC);
+    for i in 0..secret.kind.p() {
+        hasher.update(&value_after(secret, secret.kind.last(), i as u16));
+    }
+    hasher.finalize()
+}
+
+/// Writes the signature of `message` (RFC 8554, section 4.5, algorithm 3): the type, C and the
+/// elements.
+///
+/// C is the first eight words, each low byte first, of ChaCha20 with the key H(0x43 || SEED) in the
+/// stream of the leaf, so that one message has one signature.
+pub fn ots_sign_into(secret: &OtsSecret, message: &[u8], out: &mut [u8])
+    requires { length out.old ≡ signature_len_of secret.now.kind }
+    ensures { out.new ≡ signature_of secret.now message.now }
+{
+    let randomizer = randomizer(&secret.seed, secret.leaf);
+    let hash = message_hash(&secret.id, secret.leaf, &randomizer, message);
+    put(out, 0, &secret.kind.number().to_be_bytes());
+    put(out, RANDOMIZER_PLACE, &randomizer);
+    put_elements(secret, &hash, out);
+}
+
+// Writes the elements of a signature of a message with this hash.
+fn put_elements(secret: &OtsSecret, hash: &[u8; 32], out: &mut [u8])
+    requires { length out.old ≡ signature_len_of secret.now.kind }
+    ensures { out.new ≡ take 36 out.old
+        ++ flat_map (signed_element secret.now hash.now) (range_with_len 0 (count_of secret.now.kind)) }
+{
+    let digits = with_checksum(secret.kind, hash);
+    for i in 0..secret.kind.p() {
+        let digit = coef(secret.kind, &digits, i);
+        put(
+            out,
+            ELEMENTS_PLACE + 32 * i,
+            &value_after(secret, digit, i as u16),
+        );
+    }
+}
+
+// The value of chain `i` after its first `steps` steps.
+fn value_after(secret: &OtsSecret, steps: u8, i: u16) -> [u8; 32]
+    ensures { result ≡ value_after secret.now steps i }
+{
+    let start = secret_element(secret, i);
+    chain(&secret.id, secret.leaf, i, 0, steps, &start)
+}
+
+// The beginning of chain `i`.
+fn secret_element(secret: &OtsSecret, i: u16) -> [u8; 32]
+    ensures { result ≡ secret_element secret.now i }
+{
+    let text = step_text(&secret.id, secret.leaf, i, SECRET_STEP, &secret.seed);
+    Sha256::digest(text.as_slice())
+}
+
+// The key of the generator that gives C.
+fn randomizer_key(seed: &[u8; 32]) -> [u8; 32]
+    ensures { result ≡ sha256 (0x43 ∷ seed.now) }
+{
+    let text: [u8; 33] = join(&[RANDOMIZER_TAG], seed);
+    Sha256::digest(text.as_slice())
+}
+
+// C of a leaf.
+fn randomizer(seed: &[u8; 32], leaf: u32) -> [u8; 32]
+    ensures { result ≡ randomizer_of seed.now leaf }
+{
+    let mut words = ChaCha20Rng::from_seed(randomizer_key(seed));
+    words.set_stream(u64::from(leaf));
+    let mut bytes = [0u8; 32];
+    for k in 0..8 {
+        let mut word = [0u8; 4];
+        LittleEndian::write_u32(&mut word, words.next_word());
+        put(&mut bytes, 4 * k, &word);
+    }
+    bytes
+}

@@ -1,0 +1,47 @@
+ghost use Rattle.std.specs.Prelude.{◌≡◌, ◌*◌, ◌^◌, length, IfOk};
+ghost use Rattle.lms_tree.specs.LmsKind.{height_of};
+ghost use Rattle.lms_tree.specs.Nodes.{HoldsFrom};
+
+use crate::parts::Parts;
+use crate::tree::{inner_node, leaf_node};
+use lm_ots::ots_public;
+use std::alloc::{AllocError, Global};
+
+/// The nodes of a key's tree, node r at place r.
+pub(crate) fn make_nodes(alloc: Global, parts: &Parts) -> Result<Vec<[u8; 32]>, AllocError>
+    ensures len { IfOk result (λ nodes. length nodes.items ≡ 2 * 2 ^ height_of parts.now.lms) }
+    ensures nodes { IfOk result (λ nodes. HoldsFrom parts.now 1 nodes.items) }
+{
+    let mut nodes = vec![in alloc; [0u8; 32]; 2 * parts.lms().leaves() as usize]?;
+    fill_leaves(parts, &mut nodes);
+    fill_inner(parts, &mut nodes);
+    Ok(nodes)
+}
+
+// Fills in the leaves, which are the second half of the nodes.
+fn fill_leaves(parts: &Parts, nodes: &mut [[u8; 32]])
+    requires { length nodes.old ≡ 2 * 2 ^ height_of parts.now.lms }
+    ensures { HoldsFrom parts.now (2 ^ height_of parts.now.lms) nodes.new }
+{
+    let leaves = parts.lms().leaves();
+    for leaf in 0..leaves {
+        let node = leaves + leaf;
+        let key = ots_public(&parts.secret(leaf));
+        nodes[node as usize] = leaf_node(parts.id(), node, &key);
+    }
+}
+
+// Fills in the inner nodes, from the last to the root.
+fn fill_inner(parts: &Parts, nodes: &mut [[u8; 32]])
+    requires len { length nodes.old ≡ 2 * 2 ^ height_of parts.now.lms }
+    requires leaves { HoldsFrom parts.now (2 ^ height_of parts.now.lms) nodes.old }
+    ensures { HoldsFrom parts.now 1 nodes.new }
+{
+    let leaves = parts.lms().leaves();
+    for done in 1..leaves {
+        let node = leaves - done;
+        let left = nodes[2 * node as usize];
+        let right = nodes[2 * node as usize + 1];
+        nodes[node as usize] = inner_node(parts.id(), node, &left, &right);
+    }
+}
