@@ -1,0 +1,4 @@
+pub mod Clauses
+pub mod FirstFailing
+pub mod Numbers
+pub mod Terms

@@ -1,0 +1,3 @@
+pub mod Ballots
+pub mod Marks
+pub mod Numbers
