@@ -1,0 +1,142 @@
+-- A certificate: what was put is read again, and what is read is spelled so.
+use Rattle.std.proofs.Common.{◌≡◌, ℕ, ◌^◌, ◌<◌, ◌≤◌, List, ◌++◌, length, Ok, refl, sym, subst, arith, length-append}
+use Rattle.std.specs.Prelude.{Result}
+use Rattle.std.specs.Int.{w8, w16, w32, w64}
+use Rattle.ar_bytes.specs.Reading.{Cursor, Reading, ◌>>=◌, number_at, within}
+use Rattle.ar_bytes.specs.RoundTrip.{AreBytes, Passes, ReadsBack, IsSpelledBy, number_text, counted_text}
+use Rattle.ar_bytes.proofs.Steps.{bind_ok, ok_is, between, Passes-then, Passes-first, Passes-second, AreBytes-behind}
+use Rattle.ar_bytes.proofs.Passing.{number_again, number_pass, wide8, wide16, wide32, wide64}
+use Rattle.ar_bytes.proofs.Parts.{within_again, within_pass}
+use Rattle.ar_names.specs.Names.{IsName}
+use Rattle.ar_names.proofs.Least.{short}
+use Rattle.ar_statement.specs.Claims.{name_text, IsDigest}
+use Rattle.ar_statement.specs.Fields.{digest_at, name_at}
+use Rattle.ar_statement.proofs.FieldLaws.{digest_again, digest_pass, name_again, name_pass}
+use Rattle.lms_tree.specs.PublicKey.{HasWidths, key_text}
+use Rattle.lms_tree.proofs.KeyLemmas.{length-key_text}
+use Rattle.ar_cert.specs.Lists.{numbers_at, numbers_text, AreNumbers}
+use Rattle.ar_cert.specs.Certificate.{Terms, Certificate, byte_at, count_at, flag_at, flag_text, key_at, trusted_at, terms_at, terms_text, certificate_at, certificate_text, counted_certificate_at, front_text, rules_text, AreTerms, IsCertificate}
+use Rattle.ar_cert.proofs.Lists.{numbers_again, numbers_pass}
+use Rattle.ar_cert.proofs.FieldLaws.{byte_again, byte_pass, count_again, count_pass, flag_again, flag_pass, key_again, key_pass}
+use Rattle.ar_cert.proofs.Lengths.{length-front_text, length-terms_text, length-flag_text}
+
+-- ---- one field behind the other
+
+-- the cursor between two texts
+abbrev Between : Cursor → List ℕ → List ℕ → Cursor → Type 0
+Between at x y new = (mid : Cursor) × Passes at x mid × Passes mid y new
+
+pub split : (at new : Cursor) (x y : List ℕ) → Passes at (x ++ y) new → Between at x y new
+split at new x y p = (between at x (y ++ new.ahead), Passes-first at new x y p, Passes-second at new x y p)
+
+-- a field that was read passed its text, and what was read behind it began there
+pub next : {A B : Type 0} (field : Cursor → Reading A) (text : A → List ℕ) (fits : A → Type 0) → IsSpelledBy field text fits → (rest : A × Cursor → Result B ℕ) (at : Cursor) (y : B) → AreBytes at.ahead → (field at >>= rest) ≡ Ok y → (a : A) × (mid : Cursor) × Passes at (text a) mid × fits a × AreBytes mid.ahead × (rest (a, mid) ≡ Ok y)
+next field text fits spelled rest at y bytes e =
+    let b = bind_ok (field at) rest y e in
+    let p = spelled at b.0.1 b.0.0 bytes b.1 in
+    (b.0.0, b.0.1, p.0, p.1, AreBytes-behind at b.0.1 (text b.0.0) p.0 bytes, b.2)
+
+-- ---- the trusted authorities
+
+abbrev trusted_text : List ℕ → List ℕ
+trusted_text ns = number_text w8 (length ns) ++ numbers_text ns
+
+abbrev AreTrusted : List ℕ → Type 0
+AreTrusted ns = (length ns ≤ 16) × AreNumbers ns
+
+trusted_again : (ns : List ℕ) → AreTrusted ns → ReadsBack trusted_at ns (trusted_text ns)
+unfolding trusted_at
+trusted_again ns h at new p =
+    let s = split at new (number_text w8 (length ns)) (numbers_text ns) p in
+    rw (count_again 16 (length ns) h.0 (omega (arith, h.0)) at s.0 s.1) (numbers_again (length ns) 0 ns refl h.1 s.0 new s.2)
+
+trusted_pass : IsSpelledBy trusted_at trusted_text AreTrusted
+unfolding trusted_at
+trusted_pass at new ns bytes e =
+    let s = next (count_at 16) (number_text w8) (λ n. n ≤ 16) (count_pass 16) (λ count. numbers_at count.0 0 count.1) at (ns, new) bytes e in
+    let q = numbers_pass s.0 0 s.1 new ns s.4 s.5 in
+    let both = Passes-then at s.1 new (number_text w8 s.0) (numbers_text ns) s.2 q.0 in
+    (subst (λ (k : ℕ). Passes at (number_text w8 k ++ numbers_text ns) new) (sym q.1.1) both, (omega (arith, q.1.1, s.3), q.1.0))
+
+-- ---- the terms
+
+terms_again : (t : Terms) → AreTerms t → ReadsBack terms_at t (terms_text t)
+unfolding terms_at rules_text
+terms_again t h at new p =
+    let all = split at new (rules_text t.threshold t.keyed t.max_age t.until) (trusted_text t.trusted) p in
+    let version = split at all.0 (number_text w8 1) _ all.1 in
+    let threshold = split version.0 all.0 (number_text w8 t.threshold) _ version.2 in
+    let keyed = split threshold.0 all.0 (flag_text t.keyed) _ threshold.2 in
+    let max_age = split keyed.0 all.0 (number_text w32 t.max_age) (number_text w64 t.until) keyed.2 in
+    rw (byte_again 1 (omega arith) at version.0 version.1, number_again w8 (2 ^ 8) wide8 t.threshold h.threshold version.0 threshold.0 threshold.1, flag_again t.keyed threshold.0 keyed.0 keyed.1, number_again w32 (2 ^ 32) wide32 t.max_age h.max_age keyed.0 max_age.0 max_age.1, number_again w64 (2 ^ 64) wide64 t.until h.until max_age.0 all.0 max_age.2, trusted_again t.trusted (h.few, h.ascending) all.0 new all.2) refl
+
+terms_pass : IsSpelledBy terms_at terms_text AreTerms
+unfolding terms_at rules_text
+terms_pass at new t bytes e =
+    let version = next (byte_at 1) (λ _. number_text w8 1) (λ _. Unit {0}) (byte_pass 1) _ at (t, new) bytes e in
+    let threshold = next (number_at w8) (number_text w8) (λ n. n < 2 ^ 8) (number_pass w8 (2 ^ 8) wide8) _ version.1 (t, new) version.4 version.5 in
+    let keyed = next flag_at flag_text (λ _. Unit {0}) flag_pass _ threshold.1 (t, new) threshold.4 threshold.5 in
+    let max_age = next (number_at w32) (number_text w32) (λ n. n < 2 ^ 32) (number_pass w32 (2 ^ 32) wide32) _ keyed.1 (t, new) keyed.4 keyed.5 in
+    let until = next (number_at w64) (number_text w64) (λ n. n < 2 ^ 64) (number_pass w64 (2 ^ 64) wide64) _ max_age.1 (t, new) max_age.4 max_age.5 in
+    let trusted = next trusted_at trusted_text AreTrusted trusted_pass _ until.1 (t, new) until.4 until.5 in
+    let value : Terms = record { threshold = threshold.0; keyed = keyed.0; max_age = max_age.0; until = until.0; trusted = trusted.0 } in
+    let times = Passes-then keyed.1 max_age.1 until.1 (number_text w32 max_age.0) (number_text w64 until.0) max_age.2 until.2 in
+    let rules = Passes-then at version.1 until.1 (number_text w8 1) _ version.2 (Passes-then version.1 threshold.1 until.1 (number_text w8 threshold.0) _ threshold.2 (Passes-then threshold.1 keyed.1 until.1 (flag_text keyed.0) _ keyed.2 times)) in
+    let passes = Passes-then at until.1 trusted.1 (rules_text threshold.0 keyed.0 max_age.0 until.0) (trusted_text trusted.0) rules trusted.2 in
+    let fits : AreTerms value = record { threshold = threshold.3; max_age = max_age.3; until = until.3; few = trusted.3.0; ascending = trusted.3.1 } in
+    subst (λ (x : Terms × Cursor). Passes at (terms_text x.0) x.1 × AreTerms x.0) (ok_is (value, trusted.1) (t, new) trusted.5) (passes, fits)
+
+-- ---- the certificate
+
+pub certificate_again : (c : Certificate) → IsCertificate c → ReadsBack certificate_at c (certificate_text c)
+unfolding certificate_at certificate_text front_text
+certificate_again c h at new p =
+    let all = split at new (front_text c.name c.serial c.previous c.subject) (terms_text c.policy ++ flag_text c.revoked) p in
+    let tag = split at all.0 (number_text w8 1) _ all.1 in
+    let name = split tag.0 all.0 (name_text c.name) _ tag.2 in
+    let serial = split name.0 all.0 (number_text w64 c.serial) _ name.2 in
+    let previous = split serial.0 all.0 c.previous (key_text c.subject) serial.2 in
+    let policy = split all.0 new (terms_text c.policy) (flag_text c.revoked) all.2 in
+    rw (byte_again 1 (omega arith) at tag.0 tag.1, name_again c.name h.name tag.0 name.0 name.1, number_again w64 (2 ^ 64) wide64 c.serial h.serial name.0 serial.0 serial.1, digest_again c.previous h.previous serial.0 previous.0 previous.1, key_again c.subject h.subject previous.0 all.0 previous.2, terms_again c.policy h.policy all.0 policy.0 policy.1, flag_again c.revoked policy.0 new policy.2) refl
+
+pub certificate_pass : IsSpelledBy certificate_at certificate_text IsCertificate
+unfolding certificate_at certificate_text front_text
+certificate_pass at new c bytes e =
+    let tag = next (byte_at 1) (λ _. number_text w8 1) (λ _. Unit {0}) (byte_pass 1) _ at (c, new) bytes e in
+    let name = next name_at name_text IsName name_pass _ tag.1 (c, new) tag.4 tag.5 in
+    let serial = next (number_at w64) (number_text w64) (λ n. n < 2 ^ 64) (number_pass w64 (2 ^ 64) wide64) _ name.1 (c, new) name.4 name.5 in
+    let previous = next digest_at (λ d. d) IsDigest digest_pass _ serial.1 (c, new) serial.4 serial.5 in
+    let subject = next key_at key_text HasWidths key_pass _ previous.1 (c, new) previous.4 previous.5 in
+    let policy = next terms_at terms_text AreTerms terms_pass _ subject.1 (c, new) subject.4 subject.5 in
+    let revoked = next flag_at flag_text (λ _. Unit {0}) flag_pass _ policy.1 (c, new) policy.4 policy.5 in
+    let value : Certificate = record { name = name.0; serial = serial.0; previous = previous.0; subject = subject.0; policy = policy.0; revoked = revoked.0 } in
+    let keys = Passes-then serial.1 previous.1 subject.1 previous.0 (key_text subject.0) previous.2 subject.2 in
+    let front = Passes-then at tag.1 subject.1 (number_text w8 1) _ tag.2 (Passes-then tag.1 name.1 subject.1 (name_text name.0) _ name.2 (Passes-then name.1 serial.1 subject.1 (number_text w64 serial.0) _ serial.2 keys)) in
+    let back = Passes-then subject.1 policy.1 revoked.1 (terms_text policy.0) (flag_text revoked.0) policy.2 revoked.2 in
+    let passes = Passes-then at subject.1 revoked.1 (front_text name.0 serial.0 previous.0 subject.0) (terms_text policy.0 ++ flag_text revoked.0) front back in
+    let fits : IsCertificate value = record { name = name.3; serial = serial.3; previous = previous.3; subject = subject.3; policy = policy.3 } in
+    subst (λ (x : Certificate × Cursor). Passes at (certificate_text x.0) x.1 × IsCertificate x.0) (ok_is (value, revoked.1) (c, new) revoked.5) (passes, fits)
+
+-- ---- the certificate behind its length
+
+length-certificate_text : (c : Certificate) → IsCertificate c → length (certificate_text c) ≤ 400
+unfolding certificate_text
+length-certificate_text c h =
+    let front = length-front_text c.name c.serial c.previous c.subject h.previous.len (length-key_text c.subject h.subject) in
+    let named = short c.name h.name in
+    omega (arith, length-append (front_text c.name c.serial c.previous c.subject) (terms_text c.policy ++ flag_text c.revoked), front, named.1, length-append (terms_text c.policy) (flag_text c.revoked), length-terms_text c.policy, h.policy.few, length-flag_text c.revoked)
+
+pub counted_certificate_again : (c : Certificate) → IsCertificate c → ReadsBack counted_certificate_at c (counted_text (certificate_text c))
+unfolding counted_certificate_at
+counted_certificate_again c h at new p =
+    let text = certificate_text c in
+    let s = split at new (number_text w16 (length text)) text p in
+    rw (number_again w16 (2 ^ 16) wide16 (length text) (omega (arith, length-certificate_text c h)) at s.0 s.1) (within_again certificate_at c text (certificate_again c h) s.0 new s.2)
+
+pub counted_certificate_pass : IsSpelledBy counted_certificate_at (λ c. counted_text (certificate_text c)) IsCertificate
+unfolding counted_certificate_at
+counted_certificate_pass at new c bytes e =
+    let count = next (number_at w16) (number_text w16) (λ n. n < 2 ^ 16) (number_pass w16 (2 ^ 16) wide16) (λ count. within count.0 certificate_at count.1) at (c, new) bytes e in
+    let q = within_pass count.0 certificate_at certificate_text IsCertificate certificate_pass count.1 new c count.4 count.5 in
+    let both = Passes-then at count.1 new (number_text w16 count.0) (certificate_text c) count.2 q.0 in
+    (subst (λ (k : ℕ). Passes at (number_text w16 k ++ certificate_text c) new) (sym q.1.1) both, q.1.0)

@@ -1,0 +1,9 @@
+pub mod Lists
+pub mod Numbers
+pub mod Hashed
+pub mod Views
+pub mod Vouchers
+pub mod Lengths
+pub mod FieldLaws
+pub mod CertificateLaws
+pub mod ChangeLaws

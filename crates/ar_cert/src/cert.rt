@@ -1,0 +1,58 @@
+ghost use Rattle.std.specs.Prelude.{◌≡◌, ◌++◌, OnOk, OnErr, IfOk};
+
+use ar_base::Items;
+use ar_names::Name;
+use lms_tree::LmsPublic;
+use std::marker::Model;
+
+/// The rules that a domain sets for its clients and for its next certificate.
+#[derive(Debug, Drop)]
+pub struct Policy {
+    /// How many trusted authorities have to endorse the next certificate.
+    pub threshold: u8,
+    /// Whether the next certificate needs a handover by this one's key.
+    pub keyed: bool,
+    /// How many epochs old a confirmation may be.
+    pub max_age: u32,
+    /// The last epoch in which clients accept the certificate.
+    pub until: u64,
+    /// The numbers of the trusted authorities: at most 16, which ascend strictly.
+    pub trusted: Items<u16>,
+}
+
+// Clauses see the terms.
+impl Model for Policy {
+    ghost use Rattle.std.specs.Prelude.{◌≤◌, length};
+    ghost use Rattle.ar_cert.specs.Lists.{AreNumbers};
+    ghost use Rattle.ar_cert.specs.Certificate.{Terms};
+
+    ghost Value = { Terms };
+
+    ghost view = { λ p. record { threshold = p.threshold; keyed = p.keyed; max_age = p.max_age; until = p.until; trusted = p.trusted } };
+
+    ghost invariant = { λ p. (length p.trusted ≤ 16) × AreNumbers p.trusted };
+}
+
+/// The certificate of a domain.
+#[derive(Debug, Drop)]
+pub struct Cert {
+    pub name: Name,
+    /// How many certificates the domain had before.
+    pub serial: u64,
+    /// The digest of the certificate before this one; 32 zero bytes in the first.
+    pub previous: [u8; 32],
+    /// The key of the domain.
+    pub subject: LmsPublic,
+    pub policy: Policy,
+    /// Whether the domain takes no further certificates.
+    pub revoked: bool,
+}
+
+// Clauses see what the certificate says.
+impl Model for Cert {
+    ghost use Rattle.ar_cert.specs.Certificate.{Certificate};
+
+    ghost Value = { Certificate };
+
+    ghost view = { λ c. record { name = c.name; serial = c.serial; previous = c.previous; subject = c.subject; policy = c.policy; revoked = c.revoked } };
+}

@@ -1,0 +1,48 @@
+ghost use Rattle.std.specs.Prelude.{◌≡◌, ◌++◌, OnOk, OnErr, IfOk};
+
+use crate::Cert;
+use ar_base::Items;
+use std::marker::Model;
+
+/// The signature by which an authority vouches for a certificate.
+#[derive(Debug, Drop)]
+pub struct Endorsement {
+    /// The number of the authority.
+    pub authority: u16,
+    /// Its signature of the statement that endorses the certificate's digest, at most 65,535 bytes.
+    pub signature: Items<u8>,
+}
+
+// Clauses see the two fields.
+impl Model for Endorsement {
+    ghost use Rattle.ar_cert.specs.Changes.{Voucher, IsSignature};
+
+    ghost Value = { Voucher };
+
+    ghost view = { λ e. record { authority = e.authority; signature = e.signature } };
+
+    ghost invariant = { λ e. IsSignature e.signature };
+}
+
+/// A certificate with what vouches for it.
+#[derive(Debug, Drop)]
+pub struct Change {
+    pub cert: Cert,
+    /// At most 8 endorsements, by authorities whose numbers ascend strictly.
+    pub endorsements: Items<Endorsement>,
+    /// The signature by which the key of the certificate before agrees, at most 65,535 bytes.
+    pub handover: Option<Items<u8>>,
+}
+
+// Clauses see the three fields.
+impl Model for Change {
+    ghost use Rattle.std.specs.Prelude.{◌≤◌, length, IfSome};
+    ghost use Rattle.ar_cert.specs.Lists.{Ascend};
+    ghost use Rattle.ar_cert.specs.Changes.{Revision, IsSignature, IsVoucher};
+
+    ghost Value = { Revision };
+
+    ghost view = { λ c. record { cert = c.cert; endorsements = c.endorsements; handover = c.handover } };
+
+    ghost invariant = { λ c. (length c.endorsements ≤ 8) × Ascend (λ v. v.authority) IsVoucher 0 c.endorsements × IfSome c.handover IsSignature };
+}

@@ -1,0 +1,3 @@
+pub mod Confirmation
+pub mod Views
+pub mod Rule

@@ -1,0 +1,54 @@
+ghost use Rattle.std.specs.Prelude.{◌≡◌};
+ghost use Rattle.client_rule.specs.Rule.{judgement};
+
+use crate::checks::refusal;
+use crate::view::ConfView;
+use ar_cert::CertView;
+use party_keys::Directory;
+
+/// What a client answers to a confirmation.
+#[derive(Debug, Drop)]
+pub enum Judgement<'a> {
+    /// The name has the certificate, with this digest, at the end of the epoch, in the table with this
+    /// root.
+    Accepted {
+        certificate: CertView<'a>,
+        digest: [u8; 32],
+        epoch: u64,
+        root: [u8; 32],
+    },
+    /// The number of the first check that fails: 1 the bytes are no confirmation; 2 the name is not the
+    /// one that was asked for; 3 the log or an authority is not known, or the two authorities are one;
+    /// 4, 5, 6 the signature of the log, of the first, of the second authority is not valid; 7 the
+    /// certificate is of another name, or the path does not lead from it to the root; 8 the epoch is
+    /// later than `now`; 9 it is longer ago than the client or the certificate allows.
+    Refused(u8),
+}
+
+/// Judges the bytes of a confirmation of a name, in epoch `now`, for a client that accepts what is at
+/// most `age` epochs old. It takes no memory.
+#[tactic(auto, unfolding(crate::specs::Rule::judgement))]
+pub fn judge<'a>(
+    directory: &Directory,
+    name: &[u8],
+    bytes: &'a [u8],
+    now: u64,
+    age: u64,
+) -> Judgement<'a>
+    ensures { result ≡ judgement directory.now name.now bytes.now now age }
+{
+    let Some(view) = ConfView::read(bytes) else {
+        return Judgement::Refused(1);
+    };
+    let digest = view.certificate().digest();
+    if let Some(number) = refusal(directory, name, &view, &digest, now, age) {
+        return Judgement::Refused(number);
+    }
+    let (epoch, root) = (view.epoch(), view.root());
+    Judgement::Accepted {
+        certificate: view.into_cert(),
+        digest,
+        epoch,
+        root,
+    }
+}

@@ -1,0 +1,24 @@
+ghost use Rattle.std.specs.Prelude.{◌≡◌};
+ghost use Rattle.sign_book.specs.declared.fault.BookFault.TheVariants.{Memory};
+
+use std::alloc::AllocError;
+use thiserror::Error;
+
+/// Why a statement got no leaf.
+#[derive(Debug, Drop, Error)]
+pub enum BookFault {
+    /// Each leaf serves another statement.
+    #[error("no leaf is left")]
+    Spent,
+    /// Memory ran out.
+    #[error("out of memory")]
+    Memory,
+}
+
+impl From<AllocError> for BookFault {
+    ghost from_gives = { λ _ e. e ≡ Memory };
+
+    fn from(_error: AllocError) -> BookFault {
+        BookFault::Memory
+    }
+}

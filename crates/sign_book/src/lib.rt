@@ -1,0 +1,17 @@
+//! The book of a key: which leaf signs which statement, so that no leaf signs two.
+//!
+//! `specs/Book.antt` says what a book is, `specs/Entry.antt` which leaf it gives to a statement, and
+//! `laws` that no leaf serves two statements.
+#![tactic(auto)]
+
+pub use book::SignBook;
+pub use due::{Due, sign};
+pub use fault::BookFault;
+
+mod book;
+mod due;
+mod fault;
+pub mod laws;
+mod places;
+#[cfg(test)]
+mod tests;
