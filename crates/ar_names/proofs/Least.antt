@@ -1,8 +1,10 @@
 -- The first place that a test passes is the least.
-use Rattle.std.proofs.Common.{◌≡◌, ℕ, zero, suc, ◌+◌, ◌<◌, ◌≤◌, Bool, true, false, cond, List, length, Some, None, refl, ◌∙◌, ◌⊎◌, arith, inl, inr}
+use Rattle.std.proofs.Common.{◌≡◌, ℕ, zero, suc, ◌+◌, ◌<◌, ◌≤◌, Bool, true, false, cond, List, length, get_or, Some, None, refl, ◌∙◌, ◌⊎◌, arith, inl, inr}
 use Rattle.std.specs.List.{find, range_with_len}
 use Rattle.std.proofs.lemmas.Bool.{cases_lt, cases_Bool}
-use Rattle.ar_names.proofs.Places.{too_far}
+use Rattle.std.specs.Str.{IsAscii}
+use Rattle.std.proofs.lemmas.List.{get_or_past}
+use Rattle.ar_names.proofs.Places.{too_far, at_high}
 use Rattle.ar_names.specs.Names.{is_wrong_at, is_open, first_fault_of, IsName, NoneWrongBefore, IsFirstFault}
 
 -- the least number from a to a + n that passes
@@ -120,3 +122,14 @@ short text e =
       | inr le ↦ le
     ] in
     (some, few)
+
+-- each byte of a name is one of ASCII
+pub ascii : (text : List ℕ) → IsName text → IsAscii text
+ascii text e k =
+    elim (cases_lt k (length text)) [
+      | inl inside ↦ elim (cases_lt (get_or text k 0) 128) [
+        | inl low ↦ low
+        | inr high ↦ let wrong = at_high text k (omega (arith, (short text e).1)) (omega arith) in let right = (name_is_right text e).0 k inside in absurd cc
+      ]
+      | inr past ↦ let none : get_or text k 0 ≡ 0 = get_or_past text k 0 past in omega arith
+    ]

@@ -9,6 +9,7 @@ use crate::key::name_digest;
 use crate::rule::first_fault;
 use std::alloc::Global;
 use std::marker::Model;
+use std::str;
 
 /// A name, 1 to 253 bytes: labels of `a` to `z`, `0` to `9` and `-` with dots between them.
 #[derive(Debug, Drop)]
@@ -47,6 +48,17 @@ impl Name {
         ensures name { IsName self.now }
     {
         self.text.as_slice()
+    }
+
+    /// The name as text.
+    pub fn as_str(&self) -> &str
+        ensures { result.now ≡ self.now }
+    {
+        match str::from_utf8(&self.text) {
+            Ok(text) => text,
+            // Each byte of a name is ASCII.
+            Err(_) => unreachable!(),
+        }
     }
 
     /// The key of the name in the integrity tree, as `name_digest` gives it.

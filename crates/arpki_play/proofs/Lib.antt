@@ -1,1 +1,4 @@
+pub mod KeyLines
 pub mod LineLaws
+pub mod Numerals
+pub mod WordLaws

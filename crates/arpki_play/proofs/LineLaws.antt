@@ -10,35 +10,31 @@ use borrow.Author.Tests.{ltb-true, ltb-false}
 use Rattle.arpki_play.specs.Lines.{is_newline, lines_of, lines_of_pieces}
 
 -- a cut gives at least one piece
-AtLeastOne : List (List ℕ) → Type 0
+abbrev pub AtLeastOne : List (List ℕ) → Type 0
 AtLeastOne pieces = (piece : List ℕ) × (more : List (List ℕ)) × (pieces ≡ piece ∷ more)
 
 onto_some : (byte : ℕ) (pieces : List (List ℕ)) → AtLeastOne (onto_first byte pieces)
-unfolding AtLeastOne
 onto_some byte [] = (byte ∷ [], [], refl)
 onto_some byte (piece ∷ more) = (byte ∷ piece, more, refl)
 
 cut_some : (b : Bool) (byte : ℕ) (pieces : List (List ℕ)) → AtLeastOne (cond b ([] ∷ pieces) (onto_first byte pieces))
-unfolding AtLeastOne
 cut_some true byte pieces = ([], pieces, refl)
 cut_some false byte pieces = onto_some byte pieces
 
-pieces_are_some : (input : List ℕ) → AtLeastOne (slice_split is_newline input)
-unfolding AtLeastOne
-pieces_are_some [] = ([], [], refl)
-pieces_are_some (byte ∷ input) = cut_some (is_newline byte) byte (slice_split is_newline input)
+pub pieces_are_some : (ends : ℕ → Bool) (input : List ℕ) → AtLeastOne (slice_split ends input)
+pieces_are_some ends [] = ([], [], refl)
+pieces_are_some ends (byte ∷ input) = cut_some (ends byte) byte (slice_split ends input)
 
 -- a piece that another follows is a line
 line_before : (line : List ℕ) (pieces : List (List ℕ)) → AtLeastOne pieces → lines_of_pieces (line ∷ pieces) ≡ line ∷ lines_of_pieces pieces
-unfolding AtLeastOne
 line_before line pieces some = rw some.2 refl
 
 -- what a test chose
-found_at : (b : Bool) (n end : ℕ) → cond b (Some n) None ≡ Some end → (b ≡ true) × (n ≡ end)
+pub found_at : (b : Bool) (n end : ℕ) → cond b (Some n) None ≡ Some end → (b ≡ true) × (n ≡ end)
 found_at true n end h = (refl, cc)
 found_at false n end h = cc
 
-found_not : (b : Bool) (n : ℕ) → cond b (Some n) None ≡ None → b ≡ false
+pub found_not : (b : Bool) (n : ℕ) → cond b (Some n) None ≡ None → b ≡ false
 found_not true n h = cc
 found_not false n h = refl
 
@@ -56,7 +52,7 @@ lines_of-newline input end h =
     let rest : take (length input - (end + 1)) (drop (end + 1) input) ≡ drop (at + 1) input =
     take_all (length input - (end + 1)) (drop (end + 1) input) (omega (arith, length-drop (end + 1) input)) ∙ ap (λ n. drop (n + 1) input) (sym found.1) in
     ap lines_of_pieces (slice_split_first is_newline input 0 within)
-    ∙ line_before (take at input) (slice_split is_newline (drop (at + 1) input)) (pieces_are_some (drop (at + 1) input))
+    ∙ line_before (take at input) (slice_split is_newline (drop (at + 1) input)) (pieces_are_some is_newline (drop (at + 1) input))
     ∙ ap (λ n. take n input ∷ lines_of_pieces (slice_split is_newline (drop (at + 1) input))) found.1
     ∙ ap (λ more. take end input ∷ lines_of_pieces (slice_split is_newline more)) (sym rest)
 

@@ -1,28 +1,47 @@
--- Words that have to be of a form.
-use Rattle.std.specs.Prelude.{◌≡◌, ℕ, Option, Some, None, Result, Ok, Err}
-use Rattle.hex.specs.declared.error.FromHexError.{FromHexError}
-use Rattle.hex.specs.declared.error.FromHexError.TheVariants.{OutOfMemory, InvalidHexCharacter, OddLength, InvalidStringLength}
-use Rattle.arpki_play.specs.declared.refusal.Reason.TheVariants.{Field}
-use Rattle.arpki_play.specs.declared.refusal.LineFault.{LineFault}
-use Rattle.arpki_play.specs.declared.refusal.LineFault.TheVariants as line_fault
-use Rattle.arpki_play.specs.declared.refusal.LineFault.TheVariants.{Refused}
-use Rattle.arpki_play.specs.declared.forms.WordFault.{WordFault}
-use Rattle.arpki_play.specs.declared.forms.WordFault.TheVariants.{Form, Memory}
+-- The forms of words, and what a word of each spells.
+use Rattle.std.specs.Prelude.{ℕ, ◌^◌, nat_le, nat_lt, ◌==◌, Bool, not, ◌&&◌, ◌||◌, if◌then◌else◌, List, length, slice_index, Option, Some, None, option_and_then}
+use Rattle.std.specs.Char.{is_ascii_digit}
+use Rattle.std.specs.List.{list_all}
+use Rattle.std.specs.Result.{result_ok}
+use Rattle.std.specs.Str.Parse.{digits_value}
+use Rattle.hex.specs.Hex.{decode_of}
+use Rattle.ar_names.specs.Names.{is_name}
+use Rattle.lms_tree.specs.PublicKey.{key_of_text}
+use Rattle.lms_tree.specs.declared.public_key.LmsPublic.{LmsPublic}
 
--- A call gave what a word spells, or that the word is not of its form, or memory ran out.
-abbrev pub Spells : {T V : Type 0} → (T → V) → Result T WordFault → Option V → Type 0
-Spells view (Ok value) spelled = spelled ≡ Some (view value)
-Spells view (Err Form) spelled = spelled ≡ None
-Spells view (Err Memory) spelled = Unit {0}
+-- the value, where it passes the test
+abbrev pub such_that : {T : Type 0} → (T → Bool) → Option T → Option T
+such_that test None = None
+such_that test (Some value) = if test value then Some value else None
 
--- what it means for a word that its digits were refused
-abbrev pub fault_of : FromHexError → WordFault
-fault_of OutOfMemory = Memory
-fault_of (InvalidHexCharacter character index) = Form
-fault_of OddLength = Form
-fault_of InvalidStringLength = Form
+-- ---- hex: two lower-case digits for each byte
 
--- the fault of word k of a line
-abbrev pub fault_at : ℕ → ℕ → WordFault → LineFault
-fault_at line k Form = Refused (record { line = line; reason = Field k })
-fault_at line k Memory = line_fault.Memory
+-- `0` to `9` or `a` to `f`
+abbrev pub is_lower_hex_digit : ℕ → Bool
+is_lower_hex_digit byte = (nat_le 48 byte && nat_le byte 57) || (nat_le 97 byte && nat_le byte 102)
+
+-- the bytes that a word spells, where it has an even number of lower-case digits and nothing else
+abbrev pub bytes_of_hex : List ℕ → Option (List ℕ)
+bytes_of_hex word = if list_all is_lower_hex_digit word then result_ok (decode_of word) else None
+
+-- the public key that a word spells by the bytes of its text
+abbrev pub key_of_hex : List ℕ → Option LmsPublic
+key_of_hex word = option_and_then key_of_text (bytes_of_hex word)
+
+-- ---- numbers: decimal digits, without a sign and without leading zeros
+
+-- `0`, or digits of which the first is none
+abbrev pub is_numeral : List ℕ → Bool
+is_numeral word =
+    list_all is_ascii_digit word && not (length word == 0) && (length word == 1 || not (slice_index word 0 == 48))
+
+-- the number that a word spells, where it is below 2 ^ 64
+abbrev pub number_of : List ℕ → Option ℕ
+number_of word =
+    if is_numeral word then such_that (λ n. nat_lt n (2 ^ 64)) (Some (digits_value 10 word)) else None
+
+-- ---- names
+
+-- the name that a word is
+abbrev pub name_of : List ℕ → Option (List ℕ)
+name_of word = if is_name word then Some word else None

@@ -6,7 +6,6 @@ use Rattle.arpki_play.specs.Answers.{most_bytes, answer_to, output_of, status_of
 use Rattle.arpki_play.specs.declared.fault.Fault.{Fault}
 use Rattle.arpki_play.specs.declared.fault.Fault.TheVariants as fault
 use Rattle.arpki_play.specs.declared.words.Command.{Command}
-use Rattle.arpki_play.specs.declared.words.Command.TheVariants.{Sig}
 
 -- The bytes were taken of a source, to its end where an input may be so long. Of a longer one no more
 -- than one byte past that was taken.
@@ -21,7 +20,7 @@ TakesAtMost most old new = (bytes : List ℕ) × Consumes old new bytes × (leng
 
 -- what a command takes of its source as its input, and nothing for words of no form
 abbrev pub TakesInput : Option Command → Option (List ℕ) → Option (List ℕ) → List ℕ → Type 0
-TakesInput (Some Sig) old new input = TakesAll old new input
+TakesInput (Some command) old new input = TakesAll old new input
 TakesInput None old new input = input ≡ []
 
 -- The command took its input, its answer to it was written whole, and the status is the answer's.

@@ -1,8 +1,41 @@
-ghost use Rattle.std.specs.Prelude.{◌≡◌, [], ◌∷◌, MatchOption, position};
-ghost use Rattle.arpki_play.specs.Lines.{is_newline, lines_of};
-ghost use Rattle.arpki_play.specs.Refusals.{ReadsLines, line_at, end_at};
+ghost use Rattle.std.specs.Prelude.{◌≡◌, ◌<◌, [], ◌∷◌, MatchOption, length, position};
+ghost use Rattle.std.specs.Option.{option_copied};
+ghost use Rattle.arpki_play.specs.Lines.{is_newline, is_space, is_text, lines_of, words_of};
+ghost use Rattle.arpki_play.specs.Views.{words_behind};
 
-use crate::refusal::{LineFault, Reason, Refusal};
+use crate::refusal::{LineFault, Reason};
+use crate::word::Word;
+use std::marker::Model;
+
+/// A reader of the lines of an input, from the first on.
+///
+/// A call that refuses a line leaves it open what is read then.
+#[derive(Debug, Drop)]
+pub struct Lines<'a> {
+    next: u64,
+    input: &'a [u8],
+}
+
+// Clauses see the number of the next line, and the lines that are still ahead.
+impl<'a> Model for Lines<'a> {
+    ghost use Rattle.std.specs.Prelude.{◌+◌, ◌<◌, ◌^◌, length};
+    ghost use Rattle.arpki_play.specs.Lines.{lines_of};
+    ghost use Rattle.arpki_play.specs.Refusals.{Cursor};
+
+    ghost Value = { Cursor };
+
+    ghost view = { λ l. record { next = l.next; ahead = lines_of l.input.now } };
+
+    ghost invariant = { λ l. l.next + length l.input.now < 2 ^ 64 };
+}
+
+/// The row of a named line: its number, and what stands behind its first word and the space after that,
+/// where there is a space.
+#[derive(Debug, Drop)]
+struct RowText<'a> {
+    line: u64,
+    behind: Option<&'a [u8]>,
+}
 
 /// Where the first newline stands.
 fn first_newline(input: &[u8]) -> Option<usize>
@@ -11,11 +44,19 @@ fn first_newline(input: &[u8]) -> Option<usize>
     input.iter().position(|byte| *byte == b'\n')
 }
 
+/// Where the first space stands.
+fn first_space(line: &[u8]) -> Option<usize>
+    ensures { result ≡ position is_space line.now }
+{
+    line.iter().position(|byte| *byte == b' ')
+}
+
 /// The first line of an input, without its newline, and what follows that newline; `None` where the
 /// input has no line, since it is empty.
 #[tactic(auto, using(crate::proofs::LineLaws::first_line_laws))]
 fn first_line(input: &[u8]) -> Option<(&[u8], &[u8])>
-    ensures { MatchOption result (lines_of input.now ≡ []) (λ cut. lines_of input.now ≡ cut.0.now ∷ lines_of cut.1.now) }
+    ensures cut { MatchOption result (lines_of input.now ≡ []) (λ cut. lines_of input.now ≡ cut.0.now ∷ lines_of cut.1.now) }
+    ensures shorter { MatchOption result (length input.now ≡ 0) (λ cut. length cut.1.now < length input.now) }
 {
     if input.is_empty() {
         return None;
@@ -26,30 +67,146 @@ fn first_line(input: &[u8]) -> Option<(&[u8], &[u8])>
     }
 }
 
-/// The line of this number, at which the input begins, and the input after it. It is refused as
-/// `words` where there is none.
-pub fn next_line(number: u64, input: &[u8]) -> Result<(&[u8], &[u8]), LineFault>
-    ensures { ReadsLines (λ cut. (cut.0.now, lines_of cut.1.now)) result (line_at number (lines_of input.now)) }
+/// The first word of a line, and what stands behind the space after it, where there is a space.
+#[tactic(auto, using(crate::proofs::WordLaws::first_word_laws))]
+fn first_word(line: &[u8]) -> (&[u8], Option<&[u8]>)
+    ensures { words_of line.now ≡ result.0.now ∷ words_behind (option_copied result.1) }
 {
-    match first_line(input) {
-        Some(cut) => Ok(cut),
-        None => Err(LineFault::Refused(Refusal {
-            line: number,
-            reason: Reason::Words,
-        })),
+    match first_space(line) {
+        Some(end) => (&line[..end], Some(&line[end + 1..])),
+        None => (line, None),
     }
 }
 
-/// Nothing, where the input has no line left. The next line, which has this number, is refused as
-/// `words`.
-pub fn no_line(number: u64, input: &[u8]) -> Result<(), LineFault>
-    ensures { ReadsLines (λ done. done) result (end_at number (lines_of input.now)) }
+/// Whether a line is text.
+fn is_text(line: &[u8]) -> bool
+    ensures { result ≡ is_text line.now }
 {
-    match first_line(input) {
-        None => Ok(()),
-        Some(_) => Err(LineFault::Refused(Refusal {
-            line: number,
-            reason: Reason::Words,
-        })),
+    line.iter().all(|byte| matches!(byte, 0x20..=0x7e))
+}
+
+impl<'a> RowText<'a> {
+    ghost use Rattle.arpki_play.specs.Refusals.{Reads};
+    ghost use Rattle.arpki_play.specs.Rows.{both_of, only_of};
+    ghost use Rattle.arpki_play.specs.Views.{row_in};
+
+    /// Its one field.
+    fn only(&self) -> Result<Word<'a>, LineFault>
+        ensures { Reads (λ word. word) result (only_of self.now.line (row_in self.now).fields) }
+    {
+        let line = self.line;
+        let Some(behind) = self.behind else {
+            return Err(LineFault::refused(line, Reason::Words));
+        };
+        let (text, more) = first_word(behind);
+        match more {
+            None => Ok(Word::new(line, 1, text)),
+            Some(_) => Err(LineFault::refused(line, Reason::Words)),
+        }
+    }
+
+    /// Its two fields.
+    fn both(&self) -> Result<(Word<'a>, Word<'a>), LineFault>
+        ensures { Reads (λ words. words) result (both_of self.now.line (row_in self.now).fields) }
+    {
+        let line = self.line;
+        let Some(behind) = self.behind else {
+            return Err(LineFault::refused(line, Reason::Words));
+        };
+        let (first, behind) = first_word(behind);
+        let Some(behind) = behind else {
+            return Err(LineFault::refused(line, Reason::Words));
+        };
+        let (second, more) = first_word(behind);
+        match more {
+            None => Ok((Word::new(line, 1, first), Word::new(line, 2, second))),
+            Some(_) => Err(LineFault::refused(line, Reason::Words)),
+        }
+    }
+}
+
+impl<'a> Lines<'a> {
+    ghost use Rattle.arpki_play.specs.Refusals.{Reads, Tells, line_at, start_of};
+    ghost use Rattle.arpki_play.specs.Rows.{field_at, no_row_at, row_at, two_fields_at};
+    ghost use Rattle.arpki_play.specs.Sig.{no_line_at};
+    ghost use Rattle.arpki_play.specs.Views.{row_in};
+
+    /// A reader that stands before the first line.
+    pub fn new(input: &'a [u8]) -> Lines<'a>
+        ensures { result ≡ start_of input.now }
+    {
+        Lines { next: 1, input }
+    }
+
+    /// The next line, as one word; a missing one is refused as `words`.
+    #[tactic(auto, unfolding(crate::specs::Refusals::line_at))]
+    pub fn line(&mut self) -> Result<Word<'a>, LineFault>
+        ensures { Tells (λ word. word) result self.new (line_at self.old) }
+    {
+        let line = self.next;
+        let Some((text, rest)) = first_line(self.input) else {
+            return Err(LineFault::refused(line, Reason::Words));
+        };
+        self.next += 1;
+        self.input = rest;
+        Ok(Word::new(line, 0, text))
+    }
+
+    /// Nothing, where no line is left; a line too many is refused as `words`.
+    pub fn no_line(&self) -> Result<(), LineFault>
+        ensures { Reads (λ done. done) result (no_line_at self.now) }
+    {
+        match first_line(self.input) {
+            None => Ok(()),
+            Some(_) => Err(LineFault::refused(self.next, Reason::Words)),
+        }
+    }
+
+    /// The next line, which has to be text and to begin with this word.
+    #[tactic(auto, unfolding(crate::specs::Rows::row_at))]
+    fn row(&mut self, name: &[u8]) -> Result<RowText<'a>, LineFault>
+        ensures { Tells row_in result self.new (row_at name.now self.old) }
+    {
+        let line = self.line()?;
+        if !is_text(line.text()) {
+            return Err(LineFault::refused(line.line(), Reason::Text));
+        }
+        let (word, behind) = first_word(line.text());
+        if word != name {
+            return Err(LineFault::refused(line.line(), Reason::Word));
+        }
+        Ok(RowText {
+            line: line.line(),
+            behind,
+        })
+    }
+
+    /// The next line, which has to be text of two words: this one, and the field that is given.
+    #[tactic(auto, unfolding(crate::specs::Rows::field_at))]
+    pub fn field(&mut self, name: &[u8]) -> Result<Word<'a>, LineFault>
+        ensures { Tells (λ word. word) result self.new (field_at name.now self.old) }
+    {
+        let row = self.row(name)?;
+        row.only()
+    }
+
+    /// The next line, which has to be text of three words: this one, and the two fields that are given.
+    #[tactic(auto, unfolding(crate::specs::Rows::two_fields_at))]
+    pub fn two_fields(&mut self, name: &[u8]) -> Result<(Word<'a>, Word<'a>), LineFault>
+        ensures { Tells (λ words. words) result self.new (two_fields_at name.now self.old) }
+    {
+        let row = self.row(name)?;
+        row.both()
+    }
+
+    /// Nothing, where no line is left; a line too many is refused as `text` or as `word`.
+    pub fn no_row(&self) -> Result<(), LineFault>
+        ensures { Reads (λ done. done) result (no_row_at self.now) }
+    {
+        match first_line(self.input) {
+            None => Ok(()),
+            Some((line, _)) if is_text(line) => Err(LineFault::refused(self.next, Reason::Word)),
+            Some(_) => Err(LineFault::refused(self.next, Reason::Text)),
+        }
     }
 }

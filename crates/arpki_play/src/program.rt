@@ -7,7 +7,7 @@ ghost use Rattle.arpki_play.specs.Words.{command_of, texts};
 
 use crate::answer::Answer;
 use crate::fault::Fault;
-use crate::run::{run_sig, show_usage};
+use crate::run::{run_command, show_usage};
 use crate::words::Command;
 use ar_io::{Sink, Source};
 use std::alloc::Global;
@@ -17,8 +17,8 @@ use std::alloc::Global;
 ///
 /// | status | comes |
 /// |---|---|
-/// | 0 | `sig` finds the signature valid |
-/// | 1 | `sig` finds it not valid |
+/// | 0 | `sig` finds the signature valid, `check` accepts the confirmation |
+/// | 1 | `sig` finds the signature not valid, `check` refuses the confirmation |
 /// | 2 | the words are of no form: the usage line |
 /// | 3 | a line of the input is refused, or the input is too long |
 /// | 4 | a read failed |
@@ -58,7 +58,7 @@ pub fn arpki_main<S: Source, K: Sink>(
     ensures sink_faults { K.faults sink.old ≤ K.faults sink.new }
 {
     match Command::read(words) {
-        Some(Command::Sig) => status(run_sig(alloc, source, sink)),
+        Some(command) => status(run_command(alloc, command, source, sink)),
         None => status(show_usage(sink)),
     }
 }

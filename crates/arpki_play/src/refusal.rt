@@ -1,6 +1,8 @@
-ghost use Rattle.std.specs.Prelude.{Some};
+ghost use Rattle.std.specs.Prelude.{◌≡◌, Some};
 ghost use Rattle.arpki_play.specs.Refusals.{reason_text, refusal_text};
+ghost use Rattle.arpki_play.specs.declared.refusal.LineFault.TheVariants as line_fault;
 
+use std::alloc::{AllocError, AllocFailed};
 use std::fmt;
 
 /// Why a line is refused.
@@ -8,7 +10,11 @@ use std::fmt;
 pub enum Reason {
     /// The input is longer than it may be.
     Limit,
-    /// A line is missing, or there is one too many.
+    /// A byte of the line is none of 0x20 to 0x7e.
+    Text,
+    /// The line does not begin with the word that has to stand there.
+    Word,
+    /// The line is missing, or has too few words or too many; or, in `sig`, it is one too many.
     Words,
     /// The word of this number, from 0, is not of its form or range.
     Field(usize),
@@ -20,6 +26,8 @@ impl fmt::Display for Reason {
     fn fmt<W: fmt::Write>(&self, f: &mut fmt::Formatter<W>) -> fmt::Result {
         match self {
             Reason::Limit => write!(f, "limit"),
+            Reason::Text => write!(f, "text"),
+            Reason::Word => write!(f, "word"),
             Reason::Words => write!(f, "words"),
             Reason::Field(k) => write!(f, "field {k}"),
         }
@@ -49,4 +57,29 @@ pub enum LineFault {
     Refused(Refusal),
     /// Memory ran out.
     Memory,
+}
+
+impl LineFault {
+    /// The refusal of the line with this number.
+    pub fn refused(line: u64, reason: Reason) -> LineFault
+        ensures { result ≡ line_fault.Refused (record { line = line; reason = reason }) }
+    {
+        LineFault::Refused(Refusal { line, reason })
+    }
+}
+
+impl From<AllocError> for LineFault {
+    ghost from_gives = { λ _ e. e ≡ line_fault.Memory };
+
+    fn from(_error: AllocError) -> LineFault {
+        LineFault::Memory
+    }
+}
+
+impl<T: Drop> From<AllocFailed<T>> for LineFault {
+    ghost from_gives = { λ _ e. e ≡ line_fault.Memory };
+
+    fn from(_error: AllocFailed<T>) -> LineFault {
+        LineFault::Memory
+    }
 }

@@ -1,14 +1,14 @@
 ghost use Rattle.std.specs.Prelude.{◌≡◌, ◌≢◌, ◌+◌, ◌≤◌, ℕ, List, IfOk, IfErr, OnOk, OnErr};
 ghost use Rattle.ar_base.specs.Faults.{HasRisen};
 ghost use Rattle.ar_io.specs.Wrote.{Appended, AppendedFront, Unchanged};
-ghost use Rattle.arpki_play.specs.Answers.{most_bytes, output_of, sig_answer, status_of};
+ghost use Rattle.arpki_play.specs.Answers.{answer_of, answer_to, most_bytes, output_of, status_of};
 ghost use Rattle.arpki_play.specs.Runs.{Answers, BreaksOff, TakesAll, TakesAtMost};
-ghost use Rattle.arpki_play.specs.declared.words.Command.TheVariants.{Sig};
 
 use crate::answer::Answer;
 use crate::fault::Fault;
 use crate::refusal::{Reason, Refusal};
-use crate::sig;
+use crate::words::Command;
+use crate::{check, sig};
 use ar_io::{ReadFault, Sink, Source, read_all, write_all};
 use std::alloc::Global;
 
@@ -21,17 +21,28 @@ const TOO_LONG: Refusal = Refusal {
     reason: Reason::Limit,
 };
 
-/// The answer of `sig` to all that the source has left.
-fn sig_answer<S: Source>(alloc: Global, source: &mut S) -> Result<Answer, Fault>
+/// The answer of a command to an input that is not too long.
+fn answer_of(alloc: Global, command: Command, input: &[u8]) -> Result<Answer, Fault>
+    ensures answer { IfOk result (λ answer. answer ≡ answer_of command input.now) }
+    ensures memory { IfErr result (λ fault. fault ≡ Fault.Memory) }
+{
+    match command {
+        Command::Sig => sig::answer(alloc, input),
+        Command::Check => check::answer(alloc, input),
+    }
+}
+
+/// The answer of a command to all that the source has left.
+fn answer_from<S: Source>(alloc: Global, command: Command, source: &mut S) -> Result<Answer, Fault>
     ensures ok { IfOk result (λ answer. (input : List ℕ) × TakesAll (S.left source.old) (S.left source.new) input
-        × (answer ≡ sig_answer input)) }
+        × (answer ≡ answer_to (Some command) input)) }
     ensures source { result ≡ Err Fault.Source → HasRisen (S.faults source.old) (S.faults source.new) }
     ensures sink { result ≢ Err Fault.Sink }
     ensures taken { OnErr result (TakesAtMost most_bytes (S.left source.old) (S.left source.new)) }
     ensures faults { S.faults source.old ≤ S.faults source.new }
 {
     match read_all(alloc, source, MOST_BYTES) {
-        Ok(input) => sig::answer(alloc, &input),
+        Ok(input) => answer_of(alloc, command, &input),
         Err(ReadFault::Long) => Ok(Answer::Refused(TOO_LONG)),
         Err(ReadFault::Fault) => Err(Fault::Source),
         Err(ReadFault::Memory) => Err(Fault::Memory),
@@ -51,25 +62,26 @@ fn write_answer<K: Sink>(alloc: Global, sink: &mut K, answer: &Answer) -> Result
     write_all(sink, output.as_bytes()).map_err(|_| Fault::Sink)
 }
 
-/// Runs `sig`.
-pub fn run_sig<S: Source, K: Sink>(
+/// Runs a command that reads an input.
+pub fn run_command<S: Source, K: Sink>(
     alloc: Global,
+    command: Command,
     source: &mut S,
     sink: &mut K,
 ) -> Result<Answer, Fault>
-    ensures ok { IfOk result (λ answer. Answers (Some Sig) (S.left source.old) (S.left source.new)
+    ensures ok { IfOk result (λ answer. Answers (Some command) (S.left source.old) (S.left source.new)
         K.wrote sink.old sink.new (status_of answer)) }
     ensures source { result ≡ Err Fault.Source → HasRisen (S.faults source.old) (S.faults source.new)
         × Unchanged K.wrote sink.old sink.new }
     ensures sink { result ≡ Err Fault.Sink → HasRisen (K.faults sink.old) (K.faults sink.new)
-        × BreaksOff (Some Sig) (S.left source.old) (S.left source.new) K.wrote sink.old sink.new }
+        × BreaksOff (Some command) (S.left source.old) (S.left source.new) K.wrote sink.old sink.new }
     ensures memory { result ≡ Err Fault.Memory → Unchanged K.wrote sink.old sink.new }
     ensures source_taken { result ≡ Err Fault.Source → TakesAtMost most_bytes (S.left source.old) (S.left source.new) }
     ensures memory_taken { result ≡ Err Fault.Memory → TakesAtMost (most_bytes + 1) (S.left source.old) (S.left source.new) }
     ensures source_faults { S.faults source.old ≤ S.faults source.new }
     ensures sink_faults { K.faults sink.old ≤ K.faults sink.new }
 {
-    let answer = sig_answer(alloc, source)?;
+    let answer = answer_from(alloc, command, source)?;
     match write_answer(alloc, sink, &answer) {
         Ok(()) => Ok(answer),
         Err(fault) => Err(fault),

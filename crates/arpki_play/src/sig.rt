@@ -1,15 +1,12 @@
 ghost use Rattle.std.specs.Prelude.{◌≡◌, IfOk, IfErr};
-ghost use Rattle.arpki_play.specs.Answers.{judged};
-ghost use Rattle.arpki_play.specs.Forms.{Spells};
-ghost use Rattle.arpki_play.specs.Lines.{lines_of};
-ghost use Rattle.arpki_play.specs.Refusals.{ReadsLines};
-ghost use Rattle.arpki_play.specs.Sig.{key_of_hex, question_in, question_of};
+ghost use Rattle.arpki_play.specs.Answers.{judged, unless_refused};
+ghost use Rattle.arpki_play.specs.Forms.{bytes_of_hex, key_of_hex};
+ghost use Rattle.arpki_play.specs.Refusals.{Reads, Tells, start_of};
+ghost use Rattle.arpki_play.specs.Sig.{question_at, question_in, word_at};
 
 use crate::answer::Answer;
 use crate::fault::Fault;
-use crate::forms::WordFault;
-use crate::hex_word::bytes_of;
-use crate::lines::{next_line, no_line};
+use crate::lines::Lines;
 use crate::refusal::LineFault;
 use lms_tree::{LmsPublic, valid};
 use std::alloc::Global;
@@ -22,25 +19,34 @@ pub struct SigInput {
     signature: Vec<u8>,
 }
 
-/// The key that a hex word of 112 digits spells.
-fn key_of(alloc: Global, word: &[u8]) -> Result<LmsPublic, WordFault>
-    ensures { Spells (λ key. key) result (key_of_hex word.now) }
+/// A line with a public key.
+#[tactic(auto, unfolding(crate::specs::Sig::word_at))]
+fn key(alloc: Global, lines: &mut Lines) -> Result<LmsPublic, LineFault>
+    ensures { Tells (λ key. key) result lines.new (word_at key_of_hex lines.old) }
 {
-    let bytes = bytes_of(alloc, word)?;
-    LmsPublic::read(&bytes).ok_or(WordFault::Form)
+    let word = lines.line()?;
+    word.key(alloc)
+}
+
+/// A line with the hex of some bytes.
+#[tactic(auto, unfolding(crate::specs::Sig::word_at))]
+fn bytes(alloc: Global, lines: &mut Lines) -> Result<Vec<u8>, LineFault>
+    ensures { Tells (λ bytes. bytes.items) result lines.new (word_at bytes_of_hex lines.old) }
+{
+    let word = lines.line()?;
+    word.bytes(alloc)
 }
 
 /// The three lines of an input.
+#[tactic(auto, unfolding(crate::specs::Sig::question_at))]
 fn read(alloc: Global, input: &[u8]) -> Result<SigInput, LineFault>
-    ensures { ReadsLines question_in result (question_of (lines_of input.now)) }
+    ensures { Reads question_in result (question_at (start_of input.now)) }
 {
-    let (line, rest) = next_line(1, input)?;
-    let key = key_of(alloc, line).map_err(|fault| fault.at(1, 0))?;
-    let (line, rest) = next_line(2, rest)?;
-    let message = bytes_of(alloc, line).map_err(|fault| fault.at(2, 0))?;
-    let (line, rest) = next_line(3, rest)?;
-    let signature = bytes_of(alloc, line).map_err(|fault| fault.at(3, 0))?;
-    no_line(4, rest)?;
+    let mut lines = Lines::new(input);
+    let key = key(alloc, &mut lines)?;
+    let message = bytes(alloc, &mut lines)?;
+    let signature = bytes(alloc, &mut lines)?;
+    lines.no_line()?;
     Ok(SigInput {
         key,
         message,
@@ -50,7 +56,7 @@ fn read(alloc: Global, input: &[u8]) -> Result<SigInput, LineFault>
 
 /// The answer to an input that is not too long.
 pub fn answer(alloc: Global, input: &[u8]) -> Result<Answer, Fault>
-    ensures answer { IfOk result (λ answer. answer ≡ judged (question_of (lines_of input.now))) }
+    ensures answer { IfOk result (λ answer. answer ≡ unless_refused judged (question_at (start_of input.now))) }
     ensures memory { IfErr result (λ fault. fault ≡ Fault.Memory) }
 {
     match read(alloc, input) {

@@ -1,7 +1,7 @@
 ghost use Rattle.std.specs.Prelude.{◌≡◌, ◌+◌, ◌*◌, ◌<◌, ◌≤◌, length, Ok, alloc_error};
 ghost use Rattle.std.specs.Option.{option_copied};
 ghost use Rattle.ar_base.specs.Gives.{GivesUnless};
-ghost use Rattle.party_keys.specs.Directory.{directory_of, is_party_count, key_of, keys_of, verified};
+ghost use Rattle.party_keys.specs.Directory.{directory_of, is_party_count, is_quorum, key_of, keys_of, verified};
 
 use crate::fault::{DirectoryFault, VerifyFault};
 use ar_base::Items;
@@ -33,11 +33,20 @@ impl Model for Directory {
     ghost invariant = { λ d. IsDirectory (record { logs = d.logs; authorities = d.authorities; quorum = d.quorum }) };
 }
 
-// Whether there may be so many logs, or so many authorities.
-fn is_party_count(n: usize) -> bool
+/// Whether a directory may have so many logs, or so many authorities: 3 to 16.
+pub fn is_party_count(n: usize) -> bool
     ensures { result ≡ is_party_count n }
 {
     3 <= n && n <= 16
+}
+
+/// Whether `q` of so many logs may be a quorum: q of N logs with 2q > N + 2 and q <= N, so that any two
+/// quorums share at least three logs.
+pub fn is_quorum(q: usize, logs: usize) -> bool
+    ensures { result ≡ is_quorum q logs }
+{
+    // 2q > N + 2, where neither side can be too large.
+    q <= logs && q > logs / 2 + 1
 }
 
 impl Directory {
@@ -55,8 +64,7 @@ impl Directory {
         if !is_party_count(authorities.len()) {
             return Err(DirectoryFault::Authorities);
         }
-        // A quorum of at most 16 logs can be doubled.
-        if q > logs.len() || 2 * q <= logs.len() + 2 {
+        if !is_quorum(q, logs.len()) {
             return Err(DirectoryFault::Quorum);
         }
         Ok(Directory {

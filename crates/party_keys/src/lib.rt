@@ -12,6 +12,6 @@ mod seed;
 #[cfg(test)]
 mod tests;
 
-pub use directory::Directory;
+pub use directory::{Directory, is_party_count, is_quorum};
 pub use fault::{DirectoryFault, VerifyFault};
 pub use seed::party_seed;

@@ -1,0 +1,122 @@
+-- The command `check`: what it reads, and what it finds.
+use Rattle.std.specs.Prelude.{ℕ, zero, suc, List, [], ◌∷◌, codes, Option, Result, Ok}
+use Rattle.lms_tree.specs.declared.public_key.LmsPublic.{LmsPublic}
+use Rattle.party_keys.specs.Directory.{PartyKeys, is_party_count, is_quorum}
+use Rattle.client_rule.specs.Rule.{judgement}
+use Rattle.client_rule.specs.declared.judgement.Judgement.{Judgement}
+use Rattle.client_rule.specs.declared.judgement.Judgement.TheVariants as judged
+use Rattle.arpki_play.specs.Forms.{bytes_of_hex, key_of_hex, name_of, number_of, such_that}
+use Rattle.arpki_play.specs.Refusals.{Cursor, Reading, ◌>>=◌, spelled}
+use Rattle.arpki_play.specs.Rows.{field_at, two_fields_at, no_row_at}
+use Rattle.arpki_play.specs.declared.refusal.Refusal.{Refusal}
+use Rattle.arpki_play.specs.declared.check.CheckInput.{CheckInput}
+use Rattle.arpki_play.specs.declared.finding.Finding.{Finding}
+use Rattle.arpki_play.specs.declared.finding.Finding.TheVariants.{Accepted, Refused}
+
+-- the directory that a client trusts, the name that it asks for, its epoch, the age that it allows, and
+-- the bytes of the confirmation that it was given
+pub record Inquiry : Type 0 where
+  pub keys : PartyKeys
+  pub name : List ℕ
+  pub now : ℕ
+  pub age : ℕ
+  pub confirmation : List ℕ
+
+-- ---- the directory
+
+-- how many logs, or authorities, a word says that there are
+unfoldable pub party_count_of : List ℕ → Option ℕ
+party_count_of word = such_that is_party_count (number_of word)
+
+-- how many of so many logs make a quorum, as a word says
+unfoldable pub quorum_of : ℕ → List ℕ → Option ℕ
+quorum_of logs word = such_that (λ q. is_quorum q logs) (number_of word)
+
+-- `logs <N> <q>`: how many logs, and how many of them make a quorum
+unfoldable pub logs_at : Cursor → Reading (ℕ × ℕ)
+logs_at at = do
+  fields ← two_fields_at (codes "logs") at
+  count ← spelled fields.0.0 (party_count_of fields.0.0.text)
+  quorum ← spelled fields.0.1 (quorum_of count fields.0.1.text)
+  Ok ((count, quorum), fields.1)
+
+-- `authorities <M>`: how many authorities
+unfoldable pub authorities_at : Cursor → Reading ℕ
+authorities_at at = do
+  field ← field_at (codes "authorities") at
+  count ← spelled field.0 (party_count_of field.0.text)
+  Ok (count, field.1)
+
+-- `key <112 hex>`: the key of the next party
+unfoldable pub key_at : Cursor → Reading LmsPublic
+key_at at = do
+  field ← field_at (codes "key") at
+  key ← spelled field.0 (key_of_hex field.0.text)
+  Ok (key, field.1)
+
+-- so many keys, a line each
+unfoldable pub keys_at : ℕ → Cursor → Reading (List LmsPublic)
+keys_at zero at = Ok ([], at)
+keys_at (suc count) at = do
+  key ← key_at at
+  others ← keys_at count key.1
+  Ok (key.0 ∷ others.0, others.1)
+
+-- the logs and their keys, and the authorities and theirs
+unfoldable pub directory_at : Cursor → Reading PartyKeys
+directory_at at = do
+  logs ← logs_at at
+  log_keys ← keys_at logs.0.0 logs.1
+  authorities ← authorities_at log_keys.1
+  authority_keys ← keys_at authorities.0 authorities.1
+  Ok (record { logs = log_keys.0; authorities = authority_keys.0; quorum = logs.0.1 }, authority_keys.1)
+
+-- ---- the question
+
+-- `name <name>`
+unfoldable pub name_at : Cursor → Reading (List ℕ)
+name_at at = do
+  field ← field_at (codes "name") at
+  name ← spelled field.0 (name_of field.0.text)
+  Ok (name, field.1)
+
+-- a line of this name with a number
+unfoldable pub number_at : List ℕ → Cursor → Reading ℕ
+number_at name at = do
+  field ← field_at name at
+  number ← spelled field.0 (number_of field.0.text)
+  Ok (number, field.1)
+
+-- `confirmation <hex>`
+unfoldable pub confirmation_at : Cursor → Reading (List ℕ)
+confirmation_at at = do
+  field ← field_at (codes "confirmation") at
+  bytes ← spelled field.0 (bytes_of_hex field.0.text)
+  Ok (bytes, field.1)
+
+-- the directory, the name, the epoch, the age and the confirmation, and no line more
+unfoldable pub inquiry_at : Cursor → Result Inquiry Refusal
+inquiry_at at = do
+  keys ← directory_at at
+  name ← name_at keys.1
+  now ← number_at (codes "now") name.1
+  age ← number_at (codes "age") now.1
+  confirmation ← confirmation_at age.1
+  end ← no_row_at confirmation.1
+  Ok (record { keys = keys.0; name = name.0; now = now.0; age = age.0; confirmation = confirmation.0 })
+
+-- the inquiry that the program holds
+abbrev pub inquiry_in : CheckInput → Inquiry
+inquiry_in input = record { keys = input.directory; name = input.name; now = input.now; age = input.age; confirmation = input.confirmation.items }
+
+-- ---- the verdict
+
+-- what is told of a judgement on a name
+abbrev pub told : List ℕ → Judgement → Finding
+told name (judged.Accepted certificate digest epoch root) = Accepted name certificate.serial epoch root digest
+told name (judged.Refused check) = Refused check
+
+-- what a client finds, by its rule
+abbrev pub finding_of : Inquiry → Finding
+finding_of inquiry =
+    told inquiry.name (judgement inquiry.keys inquiry.name inquiry.confirmation inquiry.now inquiry.age)

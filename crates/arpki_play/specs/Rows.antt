@@ -1,0 +1,62 @@
+-- Named lines: text whose first word says what the line is, with its fields behind it.
+use Rattle.std.specs.Prelude.{ℕ, Bool, false, if◌then◌else◌, List, [], ◌∷◌, Result, Ok, Err}
+use Rattle.std.specs.Str.{bytes_eq}
+use Rattle.arpki_play.specs.Lines.{is_text, words_of}
+use Rattle.arpki_play.specs.Refusals.{Cursor, Reading, WordAt, ◌>>=◌, line_at, refused}
+use Rattle.arpki_play.specs.declared.refusal.Reason.TheVariants.{Text, Word, Words}
+use Rattle.arpki_play.specs.declared.refusal.Refusal.{Refusal}
+
+-- a named line: its number, and its words behind the first
+pub record Row : Type 0 where
+  pub line : ℕ
+  pub fields : List (List ℕ)
+
+-- the row of these words, the first of which has to be this one
+abbrev pub row_of : List ℕ → ℕ → List (List ℕ) → Result Row Refusal
+row_of name line [] = refused line Word
+row_of name line (word ∷ fields) =
+    if bytes_eq word name then Ok (record { line = line; fields = fields }) else refused line Word
+
+-- the next line, which has to be text and to begin with this word
+unfoldable pub row_at : List ℕ → Cursor → Reading Row
+row_at name at = do
+  line ← line_at at
+  row ← (if is_text line.0.text then row_of name line.0.line (words_of line.0.text) else refused line.0.line Text)
+  Ok (row, line.1)
+
+-- its one field
+abbrev pub only_of : ℕ → List (List ℕ) → Result WordAt Refusal
+only_of line [] = refused line Words
+only_of line (field ∷ []) = Ok (record { line = line; number = 1; text = field })
+only_of line (field ∷ next ∷ more) = refused line Words
+
+-- its two fields
+abbrev pub both_of : ℕ → List (List ℕ) → Result (WordAt × WordAt) Refusal
+both_of line [] = refused line Words
+both_of line (first ∷ []) = refused line Words
+both_of line (first ∷ second ∷ []) =
+    Ok (record { line = line; number = 1; text = first }, record { line = line; number = 2; text = second })
+both_of line (first ∷ second ∷ next ∷ more) = refused line Words
+
+-- the next line, which has this name and one field
+unfoldable pub field_at : List ℕ → Cursor → Reading WordAt
+field_at name at = do
+  row ← row_at name at
+  field ← only_of row.0.line row.0.fields
+  Ok (field, row.1)
+
+-- the next line, which has this name and two fields
+unfoldable pub two_fields_at : List ℕ → Cursor → Reading (WordAt × WordAt)
+two_fields_at name at = do
+  row ← row_at name at
+  fields ← both_of row.0.line row.0.fields
+  Ok (fields, row.1)
+
+-- no line is left of these: one too many has no name that could stand there
+abbrev pub no_row_of : ℕ → List (List ℕ) → Result (Unit {0}) Refusal
+no_row_of next [] = Ok tt
+no_row_of next (line ∷ ahead) = if is_text line then refused next Word else refused next Text
+
+-- no line is left
+abbrev pub no_row_at : Cursor → Result (Unit {0}) Refusal
+no_row_at at = no_row_of at.next at.ahead

@@ -1,0 +1,191 @@
+ghost use Rattle.std.specs.Prelude.{◌≡◌, true, IfOk, IfErr, length};
+ghost use Rattle.arpki_play.specs.Answers.{found, unless_refused};
+ghost use Rattle.arpki_play.specs.Check.{authorities_at, confirmation_at, directory_at, finding_of, inquiry_at, inquiry_in, key_at, keys_at, logs_at, name_at, number_at, party_count_of, quorum_of};
+ghost use Rattle.arpki_play.specs.Refusals.{Reads, Tells, spelled, start_of};
+ghost use Rattle.party_keys.specs.Directory.{is_party_count, is_quorum};
+
+use crate::answer::Answer;
+use crate::fault::Fault;
+use crate::finding::Finding;
+use crate::lines::Lines;
+use crate::refusal::LineFault;
+use crate::word::Word;
+use ar_names::Name;
+use client_rule::judge;
+use lms_tree::LmsPublic;
+use party_keys::{Directory, is_party_count, is_quorum};
+use std::alloc::Global;
+
+/// What `check` is asked: what a client that trusts the directory makes of a confirmation of the name.
+#[derive(Debug, Drop)]
+pub struct CheckInput {
+    directory: Directory,
+    name: Name,
+    now: u64,
+    age: u64,
+    confirmation: Vec<u8>,
+}
+
+/// How many logs or authorities a word says that there are.
+#[tactic(auto, unfolding(crate::specs::Check::party_count_of))]
+fn party_count(word: &Word) -> Result<usize, LineFault>
+    ensures reads { Reads (λ n. n) result (spelled word.now (party_count_of word.now.text)) }
+    ensures fits { IfOk result (λ n. is_party_count n ≡ true) }
+{
+    let count = word.number()? as usize;
+    if !is_party_count(count) {
+        return Err(word.refused());
+    }
+    Ok(count)
+}
+
+/// How many of so many logs make a quorum, as a word says.
+#[tactic(auto, unfolding(crate::specs::Check::quorum_of))]
+fn quorum_of(word: &Word, logs: usize) -> Result<usize, LineFault>
+    ensures reads { Reads (λ q. q) result (spelled word.now (quorum_of logs word.now.text)) }
+    ensures fits { IfOk result (λ q. is_quorum q logs ≡ true) }
+{
+    let quorum = word.number()? as usize;
+    if !is_quorum(quorum, logs) {
+        return Err(word.refused());
+    }
+    Ok(quorum)
+}
+
+/// `logs <N> <q>`: how many logs there are, and how many of them make a quorum.
+#[tactic(auto, unfolding(crate::specs::Check::logs_at))]
+fn logs(lines: &mut Lines) -> Result<(usize, usize), LineFault>
+    ensures tells { Tells (λ x. x) result lines.new (logs_at lines.old) }
+    ensures count { IfOk result (λ x. is_party_count x.0 ≡ true) }
+    ensures quorum { IfOk result (λ x. is_quorum x.1 x.0 ≡ true) }
+{
+    let (count, quorum) = lines.two_fields(b"logs")?;
+    let count = party_count(&count)?;
+    let quorum = quorum_of(&quorum, count)?;
+    Ok((count, quorum))
+}
+
+/// `authorities <M>`: how many authorities there are.
+#[tactic(auto, unfolding(crate::specs::Check::authorities_at))]
+fn authorities(lines: &mut Lines) -> Result<usize, LineFault>
+    ensures tells { Tells (λ n. n) result lines.new (authorities_at lines.old) }
+    ensures count { IfOk result (λ n. is_party_count n ≡ true) }
+{
+    let field = lines.field(b"authorities")?;
+    let count = party_count(&field)?;
+    Ok(count)
+}
+
+/// `key <112 hex>`: the key of the next party.
+#[tactic(auto, unfolding(crate::specs::Check::key_at))]
+fn key(alloc: Global, lines: &mut Lines) -> Result<LmsPublic, LineFault>
+    ensures { Tells (λ key. key) result lines.new (key_at lines.old) }
+{
+    let field = lines.field(b"key")?;
+    field.key(alloc)
+}
+
+/// So many keys, a line each.
+#[tactic(auto, using(crate::proofs::KeyLines::key_lines))]
+fn keys(alloc: Global, lines: &mut Lines, count: usize) -> Result<Vec<LmsPublic>, LineFault>
+    ensures tells { Tells (λ keys. keys.items) result lines.new (keys_at count lines.old) }
+    ensures count { IfOk result (λ keys. length keys.items ≡ count) }
+{
+    let mut keys = Vec::new(alloc);
+    for _ in 0..count {
+        let next = key(alloc, lines)?;
+        keys.push(next)?;
+    }
+    Ok(keys)
+}
+
+/// The lines of the logs, of the authorities, and of their keys.
+#[tactic(auto, unfolding(crate::specs::Check::directory_at))]
+fn directory(alloc: Global, lines: &mut Lines) -> Result<Directory, LineFault>
+    ensures { Tells (λ directory. directory) result lines.new (directory_at lines.old) }
+{
+    let (count, quorum) = logs(lines)?;
+    let logs = keys(alloc, lines, count)?;
+    let count = authorities(lines)?;
+    let authorities = keys(alloc, lines, count)?;
+    match Directory::new(logs, authorities, quorum) {
+        Ok(directory) => Ok(directory),
+        // The counts were tested where they were read.
+        Err(_) => unreachable!(),
+    }
+}
+
+/// `name <name>`
+#[tactic(auto, unfolding(crate::specs::Check::name_at))]
+fn name(alloc: Global, lines: &mut Lines) -> Result<Name, LineFault>
+    ensures { Tells (λ name. name) result lines.new (name_at lines.old) }
+{
+    let field = lines.field(b"name")?;
+    field.name(alloc)
+}
+
+/// A line of this name with a number.
+#[tactic(auto, unfolding(crate::specs::Check::number_at))]
+fn number(lines: &mut Lines, name: &[u8]) -> Result<u64, LineFault>
+    ensures { Tells (λ n. n) result lines.new (number_at name.now lines.old) }
+{
+    let field = lines.field(name)?;
+    field.number()
+}
+
+/// `confirmation <hex>`
+#[tactic(auto, unfolding(crate::specs::Check::confirmation_at))]
+fn confirmation(alloc: Global, lines: &mut Lines) -> Result<Vec<u8>, LineFault>
+    ensures { Tells (λ bytes. bytes.items) result lines.new (confirmation_at lines.old) }
+{
+    let field = lines.field(b"confirmation")?;
+    field.bytes(alloc)
+}
+
+/// The lines of an input.
+#[tactic(auto, unfolding(crate::specs::Check::inquiry_at))]
+fn read(alloc: Global, input: &[u8]) -> Result<CheckInput, LineFault>
+    ensures { Reads inquiry_in result (inquiry_at (start_of input.now)) }
+{
+    let mut lines = Lines::new(input);
+    let directory = directory(alloc, &mut lines)?;
+    let name = name(alloc, &mut lines)?;
+    let now = number(&mut lines, b"now")?;
+    let age = number(&mut lines, b"age")?;
+    let confirmation = confirmation(alloc, &mut lines)?;
+    lines.no_row()?;
+    Ok(CheckInput {
+        directory,
+        name,
+        now,
+        age,
+        confirmation,
+    })
+}
+
+/// What a client finds that judges the confirmation by its rule.
+fn finding(input: CheckInput) -> Finding
+    ensures { result ≡ finding_of (inquiry_in input) }
+{
+    let CheckInput {
+        directory,
+        name,
+        now,
+        age,
+        confirmation,
+    } = input;
+    let judgement = judge(&directory, name.text(), &confirmation, now, age);
+    Finding::of(name, &judgement)
+}
+
+/// The answer to an input that is not too long.
+pub fn answer(alloc: Global, input: &[u8]) -> Result<Answer, Fault>
+    ensures answer { IfOk result (λ answer. answer ≡ unless_refused found (inquiry_at (start_of input.now))) }
+    ensures memory { IfErr result (λ fault. fault ≡ Fault.Memory) }
+{
+    match read(alloc, input) {
+        Ok(inquiry) => Ok(Answer::Found(finding(inquiry))),
+        Err(LineFault::Refused(refusal)) => Ok(Answer::Refused(refusal)),
+        Err(LineFault::Memory) => Err(Fault::Memory),
+    }
+}

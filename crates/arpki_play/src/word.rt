@@ -1,0 +1,142 @@
+ghost use Rattle.std.specs.Prelude.{◌≡◌, Option, List, ℕ};
+ghost use Rattle.std.specs.List.{list_all};
+ghost use Rattle.arpki_play.specs.Forms.{bytes_of_hex, is_lower_hex_digit, is_numeral, key_of_hex, name_of, number_of};
+ghost use Rattle.std.specs.Char.{is_ascii_digit};
+ghost use Rattle.arpki_play.specs.Refusals.{Reads, spelled};
+ghost use Rattle.arpki_play.specs.declared.refusal.LineFault.TheVariants as fault;
+ghost use Rattle.arpki_play.specs.declared.refusal.Reason.TheVariants.{Field};
+
+use crate::refusal::{LineFault, Reason};
+use ar_names::{Name, NameFault};
+use hex::FromHexError;
+use lms_tree::LmsPublic;
+use std::alloc::Global;
+use std::marker::Model;
+use std::str;
+
+/// A word of a line, which knows where it stands.
+///
+/// Each reader of a word below refuses it as `field` exactly where it is not of the reader's form. The
+/// other error is want of memory.
+#[derive(Debug, Drop)]
+pub struct Word<'a> {
+    line: u64,
+    number: usize,
+    text: &'a [u8],
+}
+
+// Clauses see the three fields.
+impl<'a> Model for Word<'a> {
+    ghost use Rattle.arpki_play.specs.Refusals.{WordAt};
+
+    ghost Value = { WordAt };
+
+    ghost view = { λ w. record { line = w.line; number = w.number; text = w.text.now } };
+}
+
+/// Whether the word has lower-case hex digits alone.
+fn has_lower_hex_digits(word: &[u8]) -> bool
+    ensures { result ≡ list_all is_lower_hex_digit word.now }
+{
+    word.iter()
+        .all(|byte| matches!(byte, b'0'..=b'9' | b'a'..=b'f'))
+}
+
+impl<'a> Word<'a> {
+    /// The word of this number, from 0, of a line.
+    pub fn new(line: u64, number: usize, text: &'a [u8]) -> Word<'a>
+        ensures { result ≡ record { line = line; number = number; text = text.now } }
+    {
+        Word { line, number, text }
+    }
+
+    /// The number of its line.
+    pub fn line(&self) -> u64
+        ensures { result ≡ self.now.line }
+    {
+        self.line
+    }
+
+    /// Its bytes.
+    pub fn text(&self) -> &'a [u8]
+        ensures { result.now ≡ self.now.text }
+    {
+        self.text
+    }
+
+    /// The refusal of a word that is not of its form or range.
+    pub fn refused(&self) -> LineFault
+        ensures { result ≡ fault.Refused (record { line = self.now.line; reason = Field self.now.number }) }
+    {
+        LineFault::refused(self.line, Reason::Field(self.number))
+    }
+
+    /// The bytes that a hex word spells: two lower-case digits for each byte.
+    pub fn bytes(&self, alloc: Global) -> Result<Vec<u8>, LineFault>
+        ensures { Reads (λ bytes. bytes.items) result (spelled self.now (bytes_of_hex self.now.text)) }
+    {
+        if !has_lower_hex_digits(self.text) {
+            return Err(self.refused());
+        }
+        match hex::decode(alloc, self.text) {
+            Ok(bytes) => Ok(bytes),
+            Err(FromHexError::OutOfMemory) => Err(LineFault::Memory),
+            Err(_) => Err(self.refused()),
+        }
+    }
+
+    /// The public key whose text a hex word of 112 digits spells.
+    pub fn key(&self, alloc: Global) -> Result<LmsPublic, LineFault>
+        ensures { Reads (λ key. key) result (spelled self.now (key_of_hex self.now.text)) }
+    {
+        let bytes = self.bytes(alloc)?;
+        LmsPublic::read(&bytes).ok_or(self.refused())
+    }
+
+    /// The number below 2^64 that the word spells in decimal digits, without a sign and without leading
+    /// zeros.
+    pub fn number(&self) -> Result<u64, LineFault>
+        ensures { Reads (λ n. n) result (spelled self.now (number_of self.now.text)) }
+    {
+        number_of(self.text).ok_or(self.refused())
+    }
+
+    /// The name that the word is.
+    pub fn name(&self, alloc: Global) -> Result<Name, LineFault>
+        ensures { Reads (λ name. name) result (spelled self.now (name_of self.now.text)) }
+    {
+        match Name::read(alloc, self.text) {
+            Ok(name) => Ok(name),
+            Err(NameFault::Refused(_)) => Err(self.refused()),
+            Err(NameFault::Memory) => Err(LineFault::Memory),
+        }
+    }
+}
+
+/// Whether a word is `0`, or decimal digits of which the first is not `0`.
+fn is_numeral(word: &[u8]) -> bool
+    ensures { result ≡ is_numeral word.now }
+{
+    has_digits(word) && !word.is_empty() && (word.len() == 1 || word[0] != b'0')
+}
+
+/// Whether the word has decimal digits alone.
+fn has_digits(word: &[u8]) -> bool
+    ensures { result ≡ list_all is_ascii_digit word.now }
+{
+    word.iter().all(|byte| byte.is_ascii_digit())
+}
+
+/// The number that a word spells, where it is one below 2^64.
+fn number_of(word: &[u8]) -> Option<u64>
+    ensures { result ≡ number_of word.now }
+{
+    if !is_numeral(word) {
+        return None;
+    }
+    match str::from_utf8(word) {
+        Ok(digits) => digits.parse().ok(),
+        // Digits are text.
+        Err(_) => unreachable!(),
+    }
+}
