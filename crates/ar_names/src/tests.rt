@@ -93,6 +93,7 @@ fn the_digest_is_of_a_tag_and_the_text(rt: HostRuntime) {
 fn a_name_is_read_from_its_text(rt: HostRuntime) -> Result<(), Fail> {
     let name = Name::read(rt.alloc(), b"a.example")?;
     assert_eq!(rt; name.text(), b"a.example".as_slice());
+    assert_eq!(rt; name.as_str(), "a.example");
     assert_eq!(rt; name.digest(), name_digest(b"a.example"));
     assert!(rt; matches!(Name::read(rt.alloc(), b"a..b"), Err(NameFault::Refused(2))));
     Ok(())

@@ -1,4 +1,4 @@
-use crate::{Directory, DirectoryFault, VerifyFault, party_seed};
+use crate::{Directory, DirectoryFault, VerifyFault, is_party_count, is_quorum, party_seed};
 use ar_statement::{Party, Role};
 use lms_tree::LmsPublic;
 use std::alloc::{AllocError, Global};
@@ -68,6 +68,27 @@ fn directories_keep_their_bounds(rt: HostRuntime) -> Result<(), Fail> {
         assert_eq!(rt; made(&directory), answer, "{logs} {authorities} {q}");
     }
     Ok(())
+}
+
+#[test]
+fn bounds_are_told_alone(rt: HostRuntime) {
+    for (n, may_be) in [(2usize, false), (3, true), (16, true), (17, false)] {
+        assert_eq!(rt; is_party_count(n), may_be, "{n}");
+    }
+    // A quorum, how many logs there are, and whether 2q > N + 2 and q <= N.
+    for (q, logs, may_be) in [
+        (3usize, 3usize, true),
+        (2, 3, false),
+        (3, 4, false),
+        (4, 4, true),
+        (4, 5, true),
+        (6, 5, false),
+        (9, 16, false),
+        (10, 16, true),
+        (usize::MAX, usize::MAX, true),
+    ] {
+        assert_eq!(rt; is_quorum(q, logs), may_be, "{q} of {logs}");
+    }
 }
 
 #[test]
