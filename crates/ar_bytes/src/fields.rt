@@ -94,6 +94,14 @@ impl<'a> Fields<'a> {
         Some(piece)
     }
 
+    /// The next `N` bytes as an array, borrowed.
+    pub fn array<const N: usize>(&mut self) -> Option<&'a [u8; N]>
+        ensures field { Reads (λ array. array.now) result self.old self.new (bytes_at N self.old) }
+        ensures none { IsNone result ↔ (length self.old.ahead < N) }
+    {
+        self.bytes(N)?.as_array()
+    }
+
     /// A count of two bytes, and so many bytes, borrowed. `None` takes nothing, also not the count.
     #[tactic(auto, unfolding(crate::specs::Reading::counted_at))]
     pub fn counted(&mut self) -> Option<&'a [u8]>

@@ -1,5 +1,5 @@
-//! Big-endian fields: a reader over borrowed bytes that knows its place in the whole input, and calls
-//! that append fields to a vector.
+//! Big-endian fields: a reader over borrowed bytes that knows its place in the whole input, calls that
+//! append fields to a vector, and calls that write fields into borrowed bytes.
 //!
 //! `specs/Reading.antt` says what it means to read a field. Every grammar of bytes above is written in
 //! its words.
@@ -10,6 +10,8 @@ pub mod laws;
 mod put;
 #[cfg(test)]
 mod tests;
+mod write;
 
 pub use fields::Fields;
 pub use put::{put_bytes, put_u8, put_u16, put_u32, put_u64};
+pub use write::{write_bytes, write_u8, write_u16, write_u32, write_u64};
