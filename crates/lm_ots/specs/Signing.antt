@@ -6,7 +6,6 @@ use Rattle.std.specs.Int.{w32, to_be_bytes}
 use Rattle.sha2.specs.Sha256.{sha256}
 use Rattle.byteorder.specs.Endian.{little_bytes}
 use Rattle.rand_chacha.specs.ChaCha.{word_at, key_of}
-use Rattle.lm_ots.specs.declared.ots_type.OtsType.{OtsType}
 use Rattle.lm_ots.specs.declared.secret.OtsSecret.{OtsSecret}
 use Rattle.lm_ots.specs.OtsKind.{number_of, width_of, count_of}
 use Rattle.lm_ots.specs.Digits.{digit}

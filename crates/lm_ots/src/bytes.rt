@@ -1,4 +1,4 @@
-ghost use Rattle.std.specs.Prelude.{◌≡◌, ◌+◌, ◌≤◌, ◌++◌, length, take};
+ghost use Rattle.std.specs.Prelude.{◌≡◌, ◌+◌, ◌++◌};
 
 /// Two arrays, one behind the other.
 pub(crate) fn join<const A: usize, const B: usize, const N: usize>(
@@ -13,12 +13,4 @@ pub(crate) fn join<const A: usize, const B: usize, const N: usize>(
     first.copy_from_slice(front);
     rest.copy_from_slice(back);
     bytes
-}
-
-/// Writes bytes into a slice, from a place on.
-pub(crate) fn put(out: &mut [u8], place: usize, bytes: &[u8])
-    requires { place + length bytes.now ≤ length out.old }
-    ensures { take (place + length bytes.now) out.new ≡ take place out.old ++ bytes.now }
-{
-    out[place..place + bytes.len()].copy_from_slice(bytes);
 }

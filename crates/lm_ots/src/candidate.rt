@@ -1,5 +1,4 @@
 ghost use Rattle.std.specs.Prelude.{◌≡◌, ◌+◌, ◌*◌, ◌<◌, ◌≤◌, ◌++◌, length, take, drop};
-ghost use Rattle.std.specs.Int.{w32, from_be_bytes};
 ghost use Rattle.lm_ots.specs.OtsKind.{count_of, signature_len_of};
 ghost use Rattle.lm_ots.specs.Candidate.{candidate, candidate_key, element};
 
@@ -10,8 +9,8 @@ use crate::hashing::{D_PBLC, begin, message_hash};
 use ar_bytes::Fields;
 use sha2::Digest;
 
-/// Where C begins in a signature.
-pub(crate) const RANDOMIZER_PLACE: usize = 4;
+// Where C begins in a signature.
+const RANDOMIZER_PLACE: usize = 4;
 
 /// Where the elements begin in a signature.
 pub(crate) const ELEMENTS_PLACE: usize = 36;
@@ -21,6 +20,7 @@ pub(crate) const ELEMENTS_PLACE: usize = 36;
 ///
 /// It is `None` exactly where the signature has not the length of its type, or the type's number
 /// does not stand in its first four bytes.
+#[tactic(auto, unfolding(ar_bytes::specs::Reading::number_at, ar_bytes::specs::Reading::bytes_at))]
 pub fn ots_candidate(
     id: &[u8; 16],
     leaf: u32,
@@ -30,23 +30,12 @@ pub fn ots_candidate(
 ) -> Option<[u8; 32]>
     ensures { result ≡ candidate id.now leaf kind message.now signature.now }
 {
-    if signature.len() == kind.signature_len() && type_number(signature) == kind.number() {
+    let number = Fields::new(signature).u32()?;
+    if signature.len() == kind.signature_len() && number == kind.number() {
         Some(candidate_key(id, leaf, kind, message, signature))
     } else {
         None
     }
-}
-
-// The number in the first four bytes.
-#[tactic(auto, unfolding(ar_bytes::specs::Reading::number_at, ar_bytes::specs::Reading::bytes_at))]
-fn type_number(signature: &[u8]) -> u32
-    requires { 4 ≤ length signature.now }
-    ensures { result ≡ from_be_bytes w32 (take 4 signature.now) }
-{
-    let Some(number) = Fields::new(signature).u32() else {
-        unreachable!()
-    };
-    number
 }
 
 fn candidate_key(

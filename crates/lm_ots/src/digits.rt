@@ -3,7 +3,7 @@ ghost use Rattle.lm_ots.specs.OtsKind.{width_of};
 ghost use Rattle.lm_ots.specs.Digits.{checksum, coef, with_checksum};
 
 use crate::OtsType;
-use crate::bytes::join;
+use ar_bytes::{write_bytes, write_u16};
 
 // Digit `i` of `bytes`, cut into numbers of the type's width (RFC 8554, section 3.1.3).
 pub(crate) fn coef(kind: OtsType, bytes: &[u8], i: usize) -> u8
@@ -28,8 +28,12 @@ fn checksum(kind: OtsType, hash: &[u8; 32]) -> u16
 }
 
 // A hash with its checksum behind it, which the digits are read from (RFC 8554, section 4.5).
+#[tactic(auto, unfolding(ar_bytes::specs::RoundTrip::number_text))]
 pub(crate) fn with_checksum(kind: OtsType, hash: &[u8; 32]) -> [u8; 34]
     ensures { result ≡ with_checksum kind hash.now }
 {
-    join(hash, &checksum(kind, hash).to_be_bytes())
+    let mut digits = [0u8; 34];
+    let place = write_bytes(&mut digits, 0, hash);
+    write_u16(&mut digits, place, checksum(kind, hash));
+    digits
 }

@@ -5,11 +5,12 @@ ghost use Rattle.lm_ots.specs.OtsKind.{count_of, signature_len_of};
 ghost use Rattle.lm_ots.specs.Signing.{public_key_of, randomizer_of, secret_element, signature_of, signed_element, value_after};
 
 use crate::OtsSecret;
-use crate::bytes::{join, put};
-use crate::candidate::{ELEMENTS_PLACE, RANDOMIZER_PLACE};
+use crate::bytes::join;
+use crate::candidate::ELEMENTS_PLACE;
 use crate::chain::{chain, step_text};
 use crate::digits::{coef, with_checksum};
 use crate::hashing::{D_PBLC, begin, message_hash};
+use ar_bytes::{write_bytes, write_u32};
 use byteorder::{ByteOrder, LittleEndian};
 use rand_chacha::ChaCha20Rng;
 use rand_core::SeedableRng;
@@ -44,8 +45,8 @@ pub fn ots_sign_into(secret: &OtsSecret, message: &[u8], out: &mut [u8])
 {
     let randomizer = randomizer(&secret.seed, secret.leaf);
     let hash = message_hash(&secret.id, secret.leaf, &randomizer, message);
-    put(out, 0, &secret.kind.number().to_be_bytes());
-    put(out, RANDOMIZER_PLACE, &randomizer);
+    let place = write_u32(out, 0, secret.kind.number());
+    write_bytes(out, place, &randomizer);
     put_elements(secret, &hash, out);
 }
 
@@ -56,13 +57,10 @@ fn put_elements(secret: &OtsSecret, hash: &[u8; 32], out: &mut [u8])
         ++ flat_map (signed_element secret.now hash.now) (range_with_len 0 (count_of secret.now.kind)) }
 {
     let digits = with_checksum(secret.kind, hash);
+    let mut place = ELEMENTS_PLACE;
     for i in 0..secret.kind.p() {
         let digit = coef(secret.kind, &digits, i);
-        put(
-            out,
-            ELEMENTS_PLACE + 32 * i,
-            &value_after(secret, digit, i as u16),
-        );
+        place = write_bytes(out, place, &value_after(secret, digit, i as u16));
     }
 }
 
@@ -100,7 +98,7 @@ fn randomizer(seed: &[u8; 32], leaf: u32) -> [u8; 32]
     for k in 0..8 {
         let mut word = [0u8; 4];
         LittleEndian::write_u32(&mut word, words.next_word());
-        put(&mut bytes, 4 * k, &word);
+        write_bytes(&mut bytes, 4 * k, &word);
     }
     bytes
 }

@@ -26,15 +26,16 @@ loop-k-preserved c =
     ap (λ p. p.0) c.next_word.ensures ∙ ap (λ (g : ChaCha). word_at 10 g.key g.stream g.word_pos) kept.words in
     let buf : c.write_u32.new.buf ≡ four k = c.write_u32.ensures ∙ ap (little_bytes 4) word in
     let width : length c.write_u32.new.buf ≡ 4 = ap length buf in
-    let more : 4 * (k + 1) ≡ 4 * k + length c.write_u32.new.buf = omega arith in
+    let written = c.write_bytes.ensures in
+    let more : 4 * (k + 1) ≡ c.write_bytes.result = omega (arith, written.place, width) in
     record {
       words = ap (λ p. p.1) c.next_word.ensures ∙ ap (λ g. (next_word 10 g).1) kept.words
           ∙ ap (at_word key leaf) place;
-      bytes = ap (λ n. take n c.put.new.out) more ∙ c.put.ensures
+      bytes = ap (λ n. take n c.write_bytes.new.out) more ∙ written.front
           ∙ ap (λ l. l ++ c.write_u32.new.buf) kept.bytes
           ∙ ap (λ l. flat_map four (range_with_len 0 k) ++ l) buf
           ∙ sym (flat_map-range-more four k);
-      width = c.put.auto.out ∙ kept.width;
+      width = c.write_bytes.auto.out ∙ kept.width;
     }
 
 pub returns : goal.returns

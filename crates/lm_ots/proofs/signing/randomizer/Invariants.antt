@@ -2,7 +2,7 @@ use Rattle.std.proofs.Common.{◌≡◌, ◌*◌, ◌∷◌, length, take}
 use Rattle.std.specs.List.{flat_map, range_with_len}
 use Rattle.sha2.specs.Sha256.{sha256}
 use Rattle.byteorder.specs.Endian.{little_bytes}
-use Rattle.rand_chacha.specs.ChaCha.{ChaCha, key_of}
+use Rattle.rand_chacha.specs.ChaCha.{key_of}
 use Rattle.lm_ots.specs.Signing.{randomizer_word}
 use Rattle.lm_ots.proofs.signing.randomizer.Given as goal
 
