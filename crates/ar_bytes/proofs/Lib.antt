@@ -2,3 +2,4 @@ pub mod Steps
 pub mod Passing
 pub mod Parts
 pub mod Entries
+pub mod Taken

@@ -1,8 +1,9 @@
 -- Keys and their texts.
-use Rattle.std.proofs.Common.{◌≡◌, ◌∙◌, ap, sym, refl, arith, ℕ, ◌+◌, ◌^◌, ◌<◌, ◌≤◌, List, ◌++◌, length, take, drop, get_or, Some}
+use Rattle.std.proofs.Common.{◌≡◌, ◌∙◌, ap, sym, refl, arith, ℕ, ◌+◌, ◌^◌, ◌<◌, ◌≤◌, List, ◌++◌, length, take, drop, get_or, Bool, true, false, cond, eqb, Some, None}
 use Rattle.std.specs.Int.{w32, to_be_bytes, from_be_bytes}
 use Rattle.std.proofs.lemmas.List.{take-append-drop, drop-drop, take_all, take_at, drop_at, places, length-append, length-take, length-drop}
 use Rattle.std.proofs.lemmas.Nat.{be_bytes_4, from_be_bytes-to_be_bytes_4}
+use Rattle.std.proofs.lemmas.Bool.{eqb-true}
 use Rattle.std.proofs.lemmas.Bool.Decides.{nat_tests}
 use Rattle.lm_ots.specs.declared.ots_type.OtsType.{OtsType}
 use Rattle.lm_ots.specs.declared.ots_type.OtsType.TheVariants.{W1, W2, W4, W8}
@@ -11,7 +12,7 @@ use Rattle.lms_tree.specs.declared.lms_type.LmsType.{LmsType}
 use Rattle.lms_tree.specs.declared.lms_type.LmsType.TheVariants.{H5, H10, H15, H20, H25}
 use Rattle.lms_tree.specs.declared.public_key.LmsPublic.{LmsPublic}
 use Rattle.lms_tree.specs.LmsKind as lms_kind
-use Rattle.lms_tree.specs.PublicKey.{key_text, HasWidths}
+use Rattle.lms_tree.specs.PublicKey.{fields_of, key_text, HasWidths}
 
 -- a type is the type of its number
 pub lms_type-number : (kind : LmsType) → lms_kind.type_of_number (lms_kind.number_of kind) ≡ Some kind
@@ -62,6 +63,34 @@ number-bytes : (bytes : List ℕ) (place : ℕ) → place + 4 ≤ length bytes �
 number-bytes bytes place within fits =
     be_bytes_4 (take 4 (drop place bytes)) _ (omega (arith, length-take {A = ℕ}, length-drop {A = ℕ}))
     (λ i. grind (arith, places, fits (place + i))) refl
+
+-- fewer or more than 56 bytes have no fields
+pub fields_of-short : (bytes : List ℕ) → length bytes < 56 → None ≡ fields_of bytes
+fields_of-short bytes h = grind (arith, nat_tests)
+
+pub fields_of-long : (bytes : List ℕ) → 56 < length bytes → None ≡ fields_of bytes
+fields_of-long bytes h = grind (arith, nat_tests)
+
+-- 56 bytes have four
+pub fields_of-whole : (bytes : List ℕ) (lms ots : ℕ) (id root : List ℕ) → length bytes ≡ 56 → lms ≡ from_be_bytes w32 (take 4 bytes) → ots ≡ from_be_bytes w32 (take 4 (drop 4 bytes)) → id ≡ take 16 (drop 8 bytes) → root ≡ take 32 (drop 24 bytes) → Some (lms, ots, id, root) ≡ fields_of bytes
+fields_of-whole bytes lms ots id root whole a b c d = rw (a, b, c, d, whole) refl
+
+some_if : {A : Type 0} (test : Bool) (x y : A) → Some y ≡ cond test (Some x) None → (test ≡ true) × (x ≡ y)
+some_if true x y e = (refl, cc)
+some_if false x y e = absurd cc
+
+-- and where there are four, they are these
+pub fields_of-some : (bytes : List ℕ) (f : ℕ × ℕ × List ℕ × List ℕ) → Some f ≡ fields_of bytes
+    → (length bytes ≡ 56) × (from_be_bytes w32 (take 4 bytes) ≡ f.0) × (from_be_bytes w32 (take 4 (drop 4 bytes)) ≡ f.1) × (f.2 ≡ take 16 (drop 8 bytes)) × (f.3 ≡ take 32 (drop 24 bytes))
+fields_of-some bytes f e =
+    let s = some_if (eqb (length bytes) 56) (from_be_bytes w32 (take 4 bytes), from_be_bytes w32 (take 4 (drop 4 bytes)), take 16 (drop 8 bytes), take 32 (drop 24 bytes)) f e in
+    (
+      eqb-true _ _ s.0,
+      ap (λ (x : ℕ × ℕ × List ℕ × List ℕ). x.0) s.1,
+      ap (λ (x : ℕ × ℕ × List ℕ × List ℕ). x.1) s.1,
+      sym (ap (λ (x : ℕ × ℕ × List ℕ × List ℕ). x.2) s.1),
+      sym (ap (λ (x : ℕ × ℕ × List ℕ × List ℕ). x.3) s.1),
+    )
 
 -- a key is read from the bytes of its text
 pub key_text-parts : (bytes : List ℕ) (key : LmsPublic) → length bytes ≡ 56 → ((i : ℕ) → get_or bytes i 0 < 256) → lms_kind.type_of_number (from_be_bytes w32 (take 4 bytes)) ≡ Some key.lms → ots_kind.type_of_number (from_be_bytes w32 (take 4 (drop 4 bytes))) ≡ Some key.ots → key.id ≡ take 16 (drop 8 bytes) → key.root ≡ take 32 (drop 24 bytes) → key_text key ≡ bytes

@@ -1,5 +1,5 @@
 -- The text of an LMS public key (RFC 8554, section 5.3).
-use Rattle.std.specs.Prelude.{◌≡◌, ℕ, Bool, ◌==◌, ◌&&◌, if◌then◌else◌, List, ◌++◌, length, take, drop, Option, None, is_some, option_and_then}
+use Rattle.std.specs.Prelude.{◌≡◌, ℕ, Bool, ◌==◌, ◌&&◌, if◌then◌else◌, List, ◌++◌, length, take, drop, Option, Some, None, is_some, option_and_then}
 use Rattle.std.specs.Option.{option_map}
 use Rattle.std.specs.Int.{w32, to_be_bytes, from_be_bytes}
 use Rattle.lm_ots.specs.OtsKind as ots_kind
@@ -17,6 +17,13 @@ unfoldable pub is_key_text : List ℕ → Bool
 is_key_text bytes =
     (length bytes == 56) && (is_some (lms_kind.type_of_number (from_be_bytes w32 (take 4 bytes)))
     && is_some (ots_kind.type_of_number (from_be_bytes w32 (take 4 (drop 4 bytes)))))
+
+-- the four fields of 56 bytes, whatever the numbers are
+abbrev pub fields_of : List ℕ → Option (ℕ × ℕ × List ℕ × List ℕ)
+fields_of bytes =
+    if length bytes == 56
+    then Some (from_be_bytes w32 (take 4 bytes), from_be_bytes w32 (take 4 (drop 4 bytes)), take 16 (drop 8 bytes), take 32 (drop 24 bytes))
+    else None
 
 -- the key that bytes are the text of
 unfoldable pub key_of_text : List ℕ → Option LmsPublic

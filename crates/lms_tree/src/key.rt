@@ -5,11 +5,11 @@ ghost use Rattle.lms_tree.specs.Key.{made, public_of, signature_of, type_to_make
 ghost use Rattle.lms_tree.specs.Validity.{lms_signature_len_of};
 ghost use Rattle.lms_tree.specs.declared.key.KeyFault.TheVariants.{Memory};
 
-use crate::bytes::put;
 use crate::nodes::make_nodes;
 use crate::parts::Parts;
 use crate::path::{put_one_time, put_path};
 use crate::{LmsPublic, LmsType};
+use ar_bytes::write_u32;
 use lm_ots::OtsType;
 use std::alloc::{AllocError, Global};
 use std::marker::Model;
@@ -109,10 +109,10 @@ impl LmsKey {
         requires room { length out.old ≡ lms_signature_len_of self.now.lms self.now.ots }
         ensures { out.new ≡ signature_of self.now leaf message.now }
     {
-        put(out, 0, &leaf.to_be_bytes());
+        write_u32(out, 0, leaf);
         put_one_time(&self.parts.secret(leaf), message, out);
         let type_place = 4 + self.parts.ots().signature_len();
-        put(out, type_place, &self.parts.lms().number().to_be_bytes());
+        write_u32(out, type_place, self.parts.lms().number());
         put_path(&self.parts, &self.nodes, leaf, out);
     }
 }

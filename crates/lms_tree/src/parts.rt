@@ -2,7 +2,6 @@ ghost use Rattle.std.specs.Prelude.{◌≡◌};
 ghost use Rattle.lms_tree.specs.Key.{id_of, secret_of};
 
 use crate::LmsType;
-use crate::bytes::{join, part};
 use lm_ots::{OtsSecret, OtsType};
 use sha2::{Digest, Sha256};
 use std::marker::Model;
@@ -79,6 +78,10 @@ impl Parts {
 fn id_of(seed: &[u8; 32]) -> [u8; 16]
     ensures { result ≡ id_of seed.now }
 {
-    let text: [u8; 33] = join(&[ID_TAG], seed);
-    part(&Sha256::digest(text.as_slice()), 0)
+    let mut hasher = Sha256::new();
+    hasher.update(&[ID_TAG]);
+    hasher.update(seed);
+    let mut id = [0u8; 16];
+    id.copy_from_slice(&hasher.finalize()[..16]);
+    id
 }

@@ -7,8 +7,8 @@ ghost use Rattle.lms_tree.specs.Key.{path_element, sibling_of};
 ghost use Rattle.lms_tree.specs.Nodes.{HoldsFrom};
 ghost use Rattle.lms_tree.specs.Validity.{lms_signature_len_of};
 
-use crate::bytes::put;
 use crate::parts::Parts;
+use ar_bytes::write_bytes;
 use lm_ots::{OtsSecret, ots_sign_into};
 
 /// Writes the LM-OTS signature into a signature.
@@ -37,7 +37,7 @@ pub(crate) fn put_path(parts: &Parts, nodes: &[[u8; 32]], leaf: u32, out: &mut [
     let mut node = parts.lms().leaves() + leaf;
     for k in 0..parts.lms().height() as usize {
         let element = nodes[sibling_of(node) as usize];
-        put(out, path_place + 32 * k, &element);
+        write_bytes(out, path_place + 32 * k, &element);
         node /= 2;
     }
 }

@@ -1,8 +1,8 @@
 ghost use Rattle.std.specs.Prelude.{◌≡◌, IfSome, is_some};
+ghost use Rattle.lms_tree.specs.PublicKey.{fields_of};
 
 use crate::LmsType;
-use crate::bytes::{join, part};
-use crate::numbers::number_at;
+use ar_bytes::{Fields, write_bytes, write_u32};
 use lm_ots::OtsType;
 
 /// An LMS public key (RFC 8554, section 5.3): the types of its tree and of its one-time signatures,
@@ -27,29 +27,37 @@ impl LmsPublic {
         ensures known { is_some result ≡ is_key_text bytes.now }
         ensures text { IfSome result (λ key. key_text key ≡ bytes.now) }
     {
-        if bytes.len() != 56 {
-            return None;
-        }
-        let lms = LmsType::of(number_at(bytes, 0))?;
-        let ots = OtsType::of(number_at(bytes, 4))?;
-        Some(LmsPublic {
-            lms,
-            ots,
-            id: part(bytes, 8),
-            root: part(bytes, 24),
-        })
+        let (lms, ots, id, root) = fields_of(bytes)?;
+        let lms = LmsType::of(lms)?;
+        let ots = OtsType::of(ots)?;
+        Some(LmsPublic { lms, ots, id, root })
     }
 
     /// The key's text of 56 bytes.
-    #[tactic(auto, unfolding(crate::specs::PublicKey::key_text))]
+    #[tactic(auto, unfolding(crate::specs::PublicKey::key_text, ar_bytes::specs::RoundTrip::number_text))]
     pub fn bytes(&self) -> [u8; 56]
         ensures { result ≡ key_text self.now }
     {
-        let types: [u8; 8] = join(
-            &self.lms.number().to_be_bytes(),
-            &self.ots.number().to_be_bytes(),
-        );
-        let rest: [u8; 48] = join(&self.id, &self.root);
-        join(&types, &rest)
+        let mut text = [0u8; 56];
+        let place = write_u32(&mut text, 0, self.lms.number());
+        let place = write_u32(&mut text, place, self.ots.number());
+        let place = write_bytes(&mut text, place, &self.id);
+        write_bytes(&mut text, place, &self.root);
+        text
     }
+}
+
+// The fields of a text of 56 bytes, whatever the numbers are.
+fn fields_of(bytes: &[u8]) -> Option<(u32, u32, [u8; 16], [u8; 32])>
+    ensures { result ≡ fields_of bytes.now }
+{
+    let mut fields = Fields::new(bytes);
+    let lms = fields.u32()?;
+    let ots = fields.u32()?;
+    let id = *fields.array()?;
+    let root = *fields.array()?;
+    if !fields.at_end() {
+        return None;
+    }
+    Some((lms, ots, id, root))
 }

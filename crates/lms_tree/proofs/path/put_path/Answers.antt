@@ -1,4 +1,4 @@
-use Rattle.std.proofs.Common.{◌≡◌, ◌∙◌, ap, sym, arith, ℕ, ◌+◌, ◌-◌, ◌*◌, ◌/◌, ◌^◌, ◌<◌, ◌≤◌, ◌++◌, List, [], take, get_or}
+use Rattle.std.proofs.Common.{◌≡◌, ◌∙◌, ap, sym, arith, ℕ, ◌+◌, ◌-◌, ◌*◌, ◌/◌, ◌^◌, ◌<◌, ◌≤◌, ◌++◌, List, [], length, take, get_or}
 use Rattle.std.specs.List.{flat_map, range_with_len}
 use Rattle.std.proofs.lemmas.List.{append_assoc}
 use Rattle.std.proofs.lemmas.Nat.{shr-shr, pow_pos}
@@ -8,6 +8,7 @@ use Rattle.lms_tree.specs.LmsKind.{height_of}
 use Rattle.lms_tree.specs.Nodes.{IsAt}
 use Rattle.lms_tree.specs.Key.{node_at, path_element, sibling_of}
 use Rattle.lms_tree.proofs.NodeLemmas.{pow-more, pow-height_of-le, sibling-at}
+use Rattle.lms_tree.proofs.SigningLemmas.{length-node_at}
 use Rattle.lms_tree.proofs.path.put_path.Goals as goal
 
 pub sibling_of-requires : goal.sibling_of-requires
@@ -36,14 +37,16 @@ loop-k-preserved c =
     ∙ ap (λ r. node_at key k (sibling_of r)) kept.node in
     let place : 8 + c.signature_len-path_place.result + 32 * k ≡ front + 32 * k =
     ap (λ n. 8 + n + 32 * k) (c.signature_len-path_place.ensures ∙ ap signature_len_of c.ots.ensures) in
-    let more : front + 32 * (k + 1) ≡ 8 + c.signature_len-path_place.result + 32 * k + 32 = omega (arith, place) in
+    let written = c.write_bytes.ensures in
+    let width : length value ≡ 32 = ap length value_is ∙ length-node_at key k (sibling_of ((2 ^ h + leaf) / 2 ^ k)) in
+    let more : front + 32 * (k + 1) ≡ c.write_bytes.result = omega (arith, place, written.place, width) in
     record {
       node = ap (λ n. n / 2) kept.node ∙ shr-shr (2 ^ h + leaf) k 1;
       bound = omega (arith, kept.bound);
       level = λ d e.
           let deeper = kept.level (d + 1) (omega arith) in
           (omega (arith, deeper.0, pow-more d), omega (arith, deeper.1, pow-more d));
-      out = ap (λ n. take n c.put.new.out) more ∙ c.put.ensures
+      out = ap (λ n. take n c.write_bytes.new.out) more ∙ written.front
           ∙ ap (λ n. take n c.loop-k.out ++ value) place
           ∙ ap (λ l. l ++ value) kept.out
           ∙ append_assoc (take front c.args.out.now) (flat_map path (range_with_len 0 k)) value
