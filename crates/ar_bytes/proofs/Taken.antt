@@ -1,5 +1,5 @@
 -- What a field that did not fail took from the bytes ahead.
-use Rattle.std.proofs.Common.{◌≡◌, ℕ, ◌+◌, ◌≤◌, ltb, List, length, take, drop, Ok, refl, sym, ap, ◌∙◌, arith}
+use Rattle.std.proofs.Common.{◌≡◌, ℕ, ◌+◌, ◌≤◌, ltb, List, length, take, drop, Ok, sym, ap, ◌∙◌, arith}
 use Rattle.std.specs.Int.{Width, byte_len, from_be_bytes}
 use Rattle.std.proofs.lemmas.Bool.{ltb-false}
 use Rattle.std.proofs.lemmas.List.{length-drop}

@@ -83,8 +83,7 @@ some_if false x y e = absurd cc
 pub fields_of-some : (bytes : List ℕ) (f : ℕ × ℕ × List ℕ × List ℕ) → Some f ≡ fields_of bytes
     → (length bytes ≡ 56) × (from_be_bytes w32 (take 4 bytes) ≡ f.0) × (from_be_bytes w32 (take 4 (drop 4 bytes)) ≡ f.1) × (f.2 ≡ take 16 (drop 8 bytes)) × (f.3 ≡ take 32 (drop 24 bytes))
 fields_of-some bytes f e =
-    let s = some_if (eqb (length bytes) 56) (from_be_bytes w32 (take 4 bytes), from_be_bytes w32 (take 4 (drop 4 bytes)), take 16 (drop 8 bytes), take 32 (drop 24 bytes)) f e in
-    (
+    let s = some_if (eqb (length bytes) 56) (from_be_bytes w32 (take 4 bytes), from_be_bytes w32 (take 4 (drop 4 bytes)), take 16 (drop 8 bytes), take 32 (drop 24 bytes)) f e in (
       eqb-true _ _ s.0,
       ap (λ (x : ℕ × ℕ × List ℕ × List ℕ). x.0) s.1,
       ap (λ (x : ℕ × ℕ × List ℕ × List ℕ). x.1) s.1,

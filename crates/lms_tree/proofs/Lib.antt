@@ -1,4 +1,4 @@
 pub mod KeyLemmas
 pub mod NodeLemmas
-pub mod PathLemmas
+pub mod SignatureLemmas
 pub mod SigningLemmas

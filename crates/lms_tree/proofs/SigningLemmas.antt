@@ -1,22 +1,19 @@
 -- What is signed is valid.
-use Rattle.std.proofs.Common.{◌≡◌, ◌∙◌, ap, sym, refl, arith, ℕ, zero, suc, ◌+◌, ◌-◌, ◌*◌, ◌/◌, ◌%◌, ◌^◌, ◌<◌, ◌≤◌, ◌==◌, eq-eqb, Bool, true, false, List, [], ◌∷◌, ◌++◌, cond, inl, inr, nat_lt, lt-ltb, length, map, take, drop}
+use Rattle.std.proofs.Common.{◌≡◌, ◌∙◌, ap, sym, refl, arith, ℕ, zero, suc, ◌+◌, ◌*◌, ◌/◌, ◌%◌, ◌^◌, ◌<◌, ◌==◌, eq-eqb, Bool, true, false, List, [], ◌∷◌, ◌++◌, cond, inl, inr, nat_lt, lt-ltb, length, map, take, drop}
 use Rattle.std.specs.List.{flat_map, range_with_len}
 use Rattle.std.specs.Int.{w32, to_be_bytes, from_be_bytes}
-use Rattle.std.specs.Str.{bytes_eq}
 use Rattle.std.proofs.lemmas.Bool.{cases_lt}
 use Rattle.std.proofs.lemmas.Bool.Decides.{nat_tests}
 use Rattle.std.proofs.lemmas.List.{length-append, take_at, drop_at, drop-drop, take-append-le}
 use Rattle.std.proofs.lemmas.Nat.{shr-shr, shr_high, from_be_bytes-to_be_bytes_4}
 use Rattle.std.proofs.lemmas.Slice.Eq.{bytes_eq-Decides}
 use Rattle.sha2.proofs.Facts256.{length-sha256}
-use Rattle.lm_ots.specs.declared.ots_type.OtsType.{OtsType}
 use Rattle.lm_ots.specs.OtsKind as ots_kind
 use Rattle.lm_ots.specs.OtsKind.{signature_len_of}
 use Rattle.lm_ots.specs.Candidate.{candidate_key}
 use Rattle.lm_ots.specs.Signing as one_time
 use Rattle.lm_ots.proofs.PieceLemmas.{length-pieces, piece-at}
 use Rattle.lm_ots.proofs.SigningLemmas.{length-signature_of, type_number-signature_of, candidate_key-signature_of}
-use Rattle.lms_tree.specs.declared.lms_type.LmsType.{LmsType}
 use Rattle.lms_tree.specs.declared.validity.Verdict.TheVariants.{Valid}
 use Rattle.lms_tree.specs.Tests.{first_failing}
 use Rattle.lms_tree.specs.KeyParts.{KeyParts}
@@ -24,10 +21,9 @@ use Rattle.lms_tree.specs.LmsKind as lms_kind
 use Rattle.lms_tree.specs.LmsKind.{height_of}
 use Rattle.lms_tree.specs.Tree.{leaf_node, inner_node, parent_of, go_up}
 use Rattle.lms_tree.specs.Key.{id_of, secret_of, node_at, public_of, sibling_of, path_element, signature_of}
-use Rattle.lms_tree.specs.Validity.{lms_signature_len_of, number_at, leaf_number, one_time_part, sibling, path_of, candidate_root, conditions, verdict_of}
+use Rattle.lms_tree.specs.Validity.{lms_signature_len_of, number_at, leaf_number, one_time_part, sibling, path_of, candidate_root, verdict_of}
 use Rattle.lms_tree.proofs.KeyLemmas.{lms_number-lt}
 use Rattle.lms_tree.proofs.NodeLemmas.{pow-height_of-le, node_at-leaf, node_at-more, sibling-of-odd, sibling-of-even}
-use Rattle.lms_tree.proofs.PathLemmas.{go_up-more}
 
 -- a node has 32 bytes
 pub length-node_at : (key : KeyParts) (height r : ℕ) → length (node_at key height r) ≡ 32

@@ -3,6 +3,7 @@ pub mod KeyParts
 pub mod LmsKind
 pub mod Nodes
 pub mod PublicKey
+pub mod SignatureParts
 pub mod Tests
 pub mod Tree
 pub mod Validity

@@ -41,13 +41,17 @@ sibling ots signature k = take 32 (drop (8 + signature_len_of ots + 32 * k) sign
 abbrev pub path_of : LmsType → OtsType → List ℕ → List (List ℕ)
 path_of lms ots signature = map (sibling ots signature) (range_with_len 0 (height_of lms))
 
--- Tc: the value at the root that a signature leads to (section 5.4.2, algorithm 6a)
+-- Tc: the value at the root that q, an LM-OTS signature and a path lead to (section 5.4.2,
+-- algorithm 6a)
+abbrev pub root_from : LmsPublic → List ℕ → ℕ → List ℕ → List (List ℕ) → List ℕ
+root_from key message q one_time path =
+    let node = 2 ^ height_of key.lms + q in
+    go_up key.id node (leaf_node key.id node (candidate_key key.id q key.ots message one_time)) path
+
+-- the value that a signature leads to
 unfoldable pub candidate_root : LmsPublic → List ℕ → List ℕ → List ℕ
 candidate_root key message signature =
-    let q = leaf_number signature in
-    let node = 2 ^ height_of key.lms + q in
-    let k = candidate_key key.id q key.ots message (one_time_part key.ots signature) in
-    go_up key.id node (leaf_node key.id node k) (path_of key.lms key.ots signature)
+    root_from key message (leaf_number signature) (one_time_part key.ots signature) (path_of key.lms key.ots signature)
 
 -- the five conditions: 1 the length is that of the key's types, 2 the LM-OTS type is the key's, 3 the
 -- LMS type is the key's, 4 the leaf is one of the tree's, 5 the signature leads to the key's root

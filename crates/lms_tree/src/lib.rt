@@ -10,15 +10,14 @@ pub use lms_type::LmsType;
 pub use public_key::LmsPublic;
 pub use validity::{Verdict, valid};
 
-mod bytes;
 mod key;
 pub mod laws;
 mod lms_type;
 mod nodes;
-mod numbers;
 mod parts;
 mod path;
 mod public_key;
+mod signature;
 #[cfg(test)]
 mod tests;
 mod tree;

@@ -1,10 +1,9 @@
-use Rattle.std.proofs.Common.{◌≡◌, ◌∙◌, ap, arith, ℕ, ◌*◌, ◌^◌, ◌<◌, ◌≤◌, [], length}
+use Rattle.std.proofs.Common.{◌≡◌, ◌∙◌, ap, arith, ◌<◌, [], length}
 use Rattle.std.proofs.lemmas.List.{get_or_read}
 use Rattle.std.proofs.lemmas.Nat.{pow_pos}
-use Rattle.lms_tree.specs.KeyParts.{KeyParts}
 use Rattle.lms_tree.specs.LmsKind.{height_of}
 use Rattle.lms_tree.specs.Nodes.{IsAt}
-use Rattle.lms_tree.specs.Key.{id_of, node_at, public_of}
+use Rattle.lms_tree.specs.Key.{node_at, public_of}
 use Rattle.lms_tree.proofs.KeyLemmas.{key-from-parts}
 use Rattle.lms_tree.proofs.key.LmsKey.public.Goals as goal
 
