@@ -1,62 +1,21 @@
-ghost use Rattle.std.specs.Prelude.{◌≡◌, ◌+◌, ◌≤◌, List, ℕ, ◌++◌, length, drop};
-ghost use Rattle.std.specs.Int.{w8, w16, w64};
+ghost use Rattle.std.specs.Prelude.{◌≡◌, ◌+◌, ◌≤◌, ◌++◌, length, take, drop};
+ghost use Rattle.std.specs.Int.{w64};
 ghost use Rattle.ar_bytes.specs.RoundTrip.{number_text};
 ghost use Rattle.ar_statement.specs.Claims.{head, name_text, text_of, claim_of, NameFits};
-ghost use Rattle.ar_statement.specs.Room.{Holds};
 
 use crate::party::{Party, Role};
 use crate::statement::{Statement, TEXT_LEN};
-
-/// Writes the piece behind the first `len` bytes, and tells how many bytes stand then.
-fn append(out: &mut [u8; TEXT_LEN], len: usize, piece: &[u8]) -> usize
-    requires { len + length piece.now ≤ 330 }
-    ensures len { result ≡ len + length piece.now }
-    ensures text { (base text : List ℕ) → Holds base out.old len text → Holds base out.new result (text ++ piece.now) }
-{
-    let end = len + piece.len();
-    out[len..end].copy_from_slice(piece);
-    end
-}
-
-/// Writes a number of one byte behind the first `len` bytes.
-#[tactic(auto, unfolding(ar_bytes::specs::RoundTrip::number_text))]
-fn append_u8(out: &mut [u8; TEXT_LEN], len: usize, v: u8) -> usize
-    requires { len + 1 ≤ 330 }
-    ensures len { result ≡ len + 1 }
-    ensures text { (base text : List ℕ) → Holds base out.old len text → Holds base out.new result (text ++ number_text w8 v) }
-{
-    append(out, len, &[v])
-}
-
-/// Writes a big-endian number of two bytes behind the first `len` bytes.
-#[tactic(auto, unfolding(ar_bytes::specs::RoundTrip::number_text))]
-fn append_u16(out: &mut [u8; TEXT_LEN], len: usize, v: u16) -> usize
-    requires { len + 2 ≤ 330 }
-    ensures len { result ≡ len + 2 }
-    ensures text { (base text : List ℕ) → Holds base out.old len text → Holds base out.new result (text ++ number_text w16 v) }
-{
-    append(out, len, &v.to_be_bytes())
-}
-
-/// Writes a big-endian number of eight bytes behind the first `len` bytes.
-#[tactic(auto, unfolding(ar_bytes::specs::RoundTrip::number_text))]
-fn append_u64(out: &mut [u8; TEXT_LEN], len: usize, v: u64) -> usize
-    requires { len + 8 ≤ 330 }
-    ensures len { result ≡ len + 8 }
-    ensures text { (base text : List ℕ) → Holds base out.old len text → Holds base out.new result (text ++ number_text w64 v) }
-{
-    append(out, len, &v.to_be_bytes())
-}
+use ar_bytes::{write_bytes, write_u8, write_u16, write_u64};
 
 /// Begins a text with its kind and its signer.
-#[tactic(auto, using(crate::proofs::Rooms::rooms))]
 fn put_head(out: &mut [u8; TEXT_LEN], kind: u8, signer: Party) -> usize
     ensures len { result ≡ 4 }
-    ensures text { Holds out.old out.new result (head kind signer) }
+    ensures front { take result out.new ≡ head kind signer }
+    ensures behind { drop result out.new ≡ drop result out.old }
 {
-    let len = append_u8(out, 0, kind);
-    let len = append_u8(out, len, signer.role.number());
-    append_u16(out, len, signer.number)
+    let place = write_u8(out, 0, kind);
+    let place = write_u8(out, place, signer.role.number());
+    write_u16(out, place, signer.number)
 }
 
 /// The text of a statement on one certificate alone, by its kind.
@@ -66,22 +25,26 @@ fn put_certificate(
     signer: Party,
     certificate: &[u8; 32],
 ) -> usize
-    ensures { Holds out.old out.new result (head kind signer ++ certificate.now) }
+    ensures len { result ≡ 36 }
+    ensures front { take result out.new ≡ head kind signer ++ certificate.now }
+    ensures behind { drop result out.new ≡ drop result out.old }
 {
-    let len = put_head(out, kind, signer);
-    append(out, len, certificate)
+    let place = put_head(out, kind, signer);
+    write_bytes(out, place, certificate)
 }
 
 /// Begins the text of a statement on an epoch.
 fn put_epoch(out: &mut [u8; TEXT_LEN], kind: u8, signer: Party, epoch: u64) -> usize
     ensures len { result ≡ 12 }
-    ensures text { Holds out.old out.new result (head kind signer ++ number_text w64 epoch) }
+    ensures front { take result out.new ≡ head kind signer ++ number_text w64 epoch }
+    ensures behind { drop result out.new ≡ drop result out.old }
 {
-    let len = put_head(out, kind, signer);
-    append_u64(out, len, epoch)
+    let place = put_head(out, kind, signer);
+    write_u64(out, place, epoch)
 }
 
 /// The text of a proposal or a vote, by its kind.
+#[tactic(auto, using(crate::proofs::Rooms::same_later))]
 fn put_ballot(
     out: &mut [u8; TEXT_LEN],
     kind: u8,
@@ -90,22 +53,64 @@ fn put_ballot(
     base: &[u8; 32],
     root: &[u8; 32],
 ) -> usize
-    ensures { Holds out.old out.new result (head kind signer ++ (number_text w64 epoch ++ (base.now ++ root.now))) }
+    ensures len { result ≡ 76 }
+    ensures front { take result out.new ≡ head kind signer ++ (number_text w64 epoch ++ (base.now ++ root.now)) }
+    ensures behind { drop result out.new ≡ drop result out.old }
 {
-    let len = put_epoch(out, kind, signer, epoch);
-    let len = append(out, len, base);
-    append(out, len, root)
+    let place = put_epoch(out, kind, signer, epoch);
+    let place = write_bytes(out, place, base);
+    write_bytes(out, place, root)
 }
 
 /// The text of a confirmation up to its name, by its kind.
+#[tactic(auto, using(crate::proofs::Rooms::same_later))]
 fn put_named(out: &mut [u8; TEXT_LEN], kind: u8, signer: Party, epoch: u64, name: &[u8]) -> usize
     requires { length name.now ≤ 253 }
     ensures len { result ≡ 13 + length name.now }
-    ensures text { Holds out.old out.new result (head kind signer ++ (number_text w64 epoch ++ name_text name.now)) }
+    ensures front { take result out.new ≡ head kind signer ++ (number_text w64 epoch ++ name_text name.now) }
+    ensures behind { drop result out.new ≡ drop result out.old }
 {
-    let len = put_epoch(out, kind, signer, epoch);
-    let len = append_u8(out, len, name.len() as u8);
-    append(out, len, name)
+    let place = put_epoch(out, kind, signer, epoch);
+    let place = write_u8(out, place, name.len() as u8);
+    write_bytes(out, place, name)
+}
+
+/// The text that a name has a certificate.
+#[tactic(auto, using(crate::proofs::Rooms::same_later))]
+fn put_confirm(
+    out: &mut [u8; TEXT_LEN],
+    signer: Party,
+    epoch: u64,
+    name: &[u8],
+    certificate: &[u8; 32],
+    root: &[u8; 32],
+) -> usize
+    requires { length name.now ≤ 253 }
+    ensures len { result ≡ 77 + length name.now }
+    ensures front { take result out.new ≡ head 6 signer ++ (number_text w64 epoch ++ (name_text name.now ++ (certificate.now ++ root.now))) }
+    ensures behind { drop result out.new ≡ drop result out.old }
+{
+    let place = put_named(out, 6, signer, epoch, name);
+    let place = write_bytes(out, place, certificate);
+    write_bytes(out, place, root)
+}
+
+/// The text that a name has no certificate.
+#[tactic(auto, using(crate::proofs::Rooms::same_later))]
+fn put_absent(
+    out: &mut [u8; TEXT_LEN],
+    signer: Party,
+    epoch: u64,
+    name: &[u8],
+    root: &[u8; 32],
+) -> usize
+    requires { length name.now ≤ 253 }
+    ensures len { result ≡ 45 + length name.now }
+    ensures front { take result out.new ≡ head 7 signer ++ (number_text w64 epoch ++ (name_text name.now ++ root.now)) }
+    ensures behind { drop result out.new ≡ drop result out.old }
+{
+    let place = put_named(out, 7, signer, epoch, name);
+    write_bytes(out, place, root)
 }
 
 impl Statement<'_> {
@@ -146,20 +151,13 @@ impl Statement<'_> {
                 name,
                 certificate,
                 root,
-            } => {
-                let len = put_named(out, 6, *signer, *epoch, name);
-                let len = append(out, len, certificate);
-                append(out, len, root)
-            }
+            } => put_confirm(out, *signer, *epoch, name, certificate, root),
             ConfirmAbsent {
                 signer,
                 epoch,
                 name,
                 root,
-            } => {
-                let len = put_named(out, 7, *signer, *epoch, name);
-                append(out, len, root)
-            }
+            } => put_absent(out, *signer, *epoch, name, root),
         }
     }
 }
