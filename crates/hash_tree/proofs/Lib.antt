@@ -3,3 +3,4 @@ pub mod Maps
 pub mod ByCount
 pub mod Apart
 pub mod DigestBytes
+pub mod Ascending
