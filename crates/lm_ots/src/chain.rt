@@ -39,6 +39,9 @@ fn advance(text: &mut [u8; 55], step: u8)
 }
 
 /// A value after the steps `from` to `to - 1` of chain `index` at a leaf (RFC 8554, section 4.3).
+///
+/// It is inlined into the loop over the chains, since the compiler inlines the hash into nested loops.
+#[inline(always)]
 pub(crate) fn chain(
     id: &[u8; 16],
     leaf: u32,

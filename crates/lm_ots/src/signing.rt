@@ -65,6 +65,7 @@ fn put_elements(secret: &OtsSecret, hash: &[u8; 32], out: &mut [u8])
 }
 
 // The value of chain `i` after its first `steps` steps.
+#[inline(always)]
 fn value_after(secret: &OtsSecret, steps: u8, i: u16) -> [u8; 32]
     ensures { result ≡ value_after secret.now steps i }
 {
