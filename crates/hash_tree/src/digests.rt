@@ -12,6 +12,7 @@ pub fn empty_digest() -> [u8; 32]
 }
 
 /// The digest of a set of one entry: SHA-256 of the byte 0x01, the key and the value.
+#[inline(always)]
 pub fn entry_digest(key: &[u8; 32], value: &[u8; 32]) -> [u8; 32]
     ensures { result ≡ strings.entry_digest key.now value.now }
 {

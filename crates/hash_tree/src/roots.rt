@@ -27,6 +27,10 @@ pub fn digest_at(entries: &[([u8; 32], [u8; 32])], depth: usize) -> [u8; 32]
 }
 
 // The digest at a depth, where that of the empty set is known already.
+//
+// It is inlined into the recursion, so that only a node costs a call.
+#[cycle(digest)]
+#[inline(always)]
 fn digest_with(entries: &[([u8; 32], [u8; 32])], depth: usize, empty: &[u8; 32]) -> [u8; 32]
     requires ascending { HasAscendingKeys entries.now }
     requires agreed { AgreeAmong depth (entries_of entries.now) }
@@ -37,14 +41,24 @@ fn digest_with(entries: &[([u8; 32], [u8; 32])], depth: usize, empty: &[u8; 32])
     match entries {
         [] => *empty,
         [(key, value)] => entry_digest(key, value),
-        _ => {
-            let (left, right) = halves(entries, depth);
-            node_digest(
-                &digest_with(left, depth + 1, empty),
-                &digest_with(right, depth + 1, empty),
-            )
-        }
+        _ => digest_of_several(entries, depth, empty),
     }
+}
+
+// The same of two entries or more.
+#[cycle(digest)]
+fn digest_of_several(entries: &[([u8; 32], [u8; 32])], depth: usize, empty: &[u8; 32]) -> [u8; 32]
+    requires ascending { HasAscendingKeys entries.now }
+    requires agreed { AgreeAmong depth (entries_of entries.now) }
+    requires several { 2 ≤ length entries.now }
+    requires in_key { depth ≤ 256 }
+    requires known { empty.now ≡ strings.empty_digest }
+    ensures { result ≡ tree.digest_at depth (entries_of entries.now) }
+{
+    let (left, right) = halves(entries, depth);
+    let left = digest_with(left, depth + 1, empty);
+    let right = digest_with(right, depth + 1, empty);
+    node_digest(&left, &right)
 }
 
 /// Two or more entries whose keys agree in all bits before the depth, by their bit at the depth: those

@@ -15,4 +15,6 @@ pub mod laws;
 mod make;
 mod path;
 #[cfg(test)]
+mod table_tests;
+#[cfg(test)]
 mod tests;
