@@ -4,11 +4,19 @@ ghost use Rattle.hash_tree.specs.Strings as strings;
 
 use sha2::{Digest, Sha256};
 
-/// The digest of an empty set of entries: SHA-256 of the byte 0x00.
+// What a node's string begins with.
+pub(crate) const NODE_TAG: u8 = 0x02;
+
+// SHA-256 of the byte 0x00.
+const EMPTY_DIGEST: [u8; 32] =
+    *b"\x6e\x34\x0b\x9c\xff\xb3\x7a\x98\x9c\xa5\x44\xe6\xbb\x78\x0a\x2c\x78\x90\x1d\x3f\xb3\x37\x38\x76\x85\x11\xa3\x06\x17\xaf\xa0\x1d";
+
+/// The digest of an empty set of entries: SHA-256 of the byte 0x00. It is a constant, and nothing is
+/// hashed.
 pub fn empty_digest() -> [u8; 32]
     ensures { result ≡ strings.empty_digest }
 {
-    Sha256::digest(&[0x00])
+    EMPTY_DIGEST
 }
 
 /// The digest of a set of one entry: SHA-256 of the byte 0x01, the key and the value.
@@ -27,7 +35,7 @@ pub fn entry_digest(key: &[u8; 32], value: &[u8; 32]) -> [u8; 32]
 pub fn node_digest(left: &[u8; 32], right: &[u8; 32]) -> [u8; 32]
     ensures { result ≡ strings.node_digest left.now right.now }
 {
-    let mut bytes = [0x02; 65];
+    let mut bytes = [NODE_TAG; 65];
     bytes[33..].copy_from_slice(right);
     bytes[1..33].copy_from_slice(left);
     hash(&bytes)
@@ -46,7 +54,7 @@ pub fn value_digest(serial: u64, certificate: &[u8; 32]) -> [u8; 32]
 
 // SHA-256 of a tag byte and two digests.
 #[inline(always)]
-fn hash(bytes: &[u8; 65]) -> [u8; 32]
+pub(crate) fn hash(bytes: &[u8; 65]) -> [u8; 32]
     ensures { result ≡ sha256 bytes.now }
 {
     let mut hasher = Sha256::new();

@@ -4,11 +4,12 @@ ghost use Rattle.hash_tree.specs.Entries.{entries_of, HasAscendingKeys, AgreeAmo
 ghost use Rattle.hash_tree.specs.Strings as strings;
 ghost use Rattle.hash_tree.specs.Root as tree;
 
-use crate::{empty_digest, entry_digest, key_bit, node_digest};
+use crate::digests::{NODE_TAG, hash};
+use crate::{empty_digest, entry_digest, key_bit};
 
 /// The root of the integrity tree over the entries.
 ///
-/// It hashes once for each entry and once for each node, and once for the empty set.
+/// It hashes once for each entry and once for each node.
 pub fn root_of(entries: &[([u8; 32], [u8; 32])]) -> [u8; 32]
     requires { HasAscendingKeys entries.now }
     ensures { result ≡ tree.root (entries_of entries.now) }
@@ -23,42 +24,45 @@ pub fn digest_at(entries: &[([u8; 32], [u8; 32])], depth: usize) -> [u8; 32]
     requires in_key { depth ≤ 256 }
     ensures { result ≡ tree.digest_at depth (entries_of entries.now) }
 {
-    digest_with(entries, depth, &empty_digest())
+    let mut digest = [0; 32];
+    put_digest(entries, depth, &mut digest);
+    digest
 }
 
-// The digest at a depth, where that of the empty set is known already.
+// Writes the digest at a depth.
 //
-// It is inlined into the recursion, so that only a node costs a call.
+// It is inlined into `put_node`, so that only a node costs a call.
 #[cycle(digest)]
 #[inline(always)]
-fn digest_with(entries: &[([u8; 32], [u8; 32])], depth: usize, empty: &[u8; 32]) -> [u8; 32]
+fn put_digest(entries: &[([u8; 32], [u8; 32])], depth: usize, out: &mut [u8])
     requires ascending { HasAscendingKeys entries.now }
     requires agreed { AgreeAmong depth (entries_of entries.now) }
     requires in_key { depth ≤ 256 }
-    requires known { empty.now ≡ strings.empty_digest }
-    ensures { result ≡ tree.digest_at depth (entries_of entries.now) }
+    requires room { length out.old ≡ 32 }
+    ensures { out.new ≡ tree.digest_at depth (entries_of entries.now) }
 {
     match entries {
-        [] => *empty,
-        [(key, value)] => entry_digest(key, value),
-        _ => digest_of_several(entries, depth, empty),
+        [] => out.copy_from_slice(&empty_digest()),
+        [(key, value)] => out.copy_from_slice(&entry_digest(key, value)),
+        _ => put_node(entries, depth, out),
     }
 }
 
-// The same of two entries or more.
+// The same of two entries or more. The digests of the halves are written where they are hashed.
 #[cycle(digest)]
-fn digest_of_several(entries: &[([u8; 32], [u8; 32])], depth: usize, empty: &[u8; 32]) -> [u8; 32]
+fn put_node(entries: &[([u8; 32], [u8; 32])], depth: usize, out: &mut [u8])
     requires ascending { HasAscendingKeys entries.now }
     requires agreed { AgreeAmong depth (entries_of entries.now) }
     requires several { 2 ≤ length entries.now }
     requires in_key { depth ≤ 256 }
-    requires known { empty.now ≡ strings.empty_digest }
-    ensures { result ≡ tree.digest_at depth (entries_of entries.now) }
+    requires room { length out.old ≡ 32 }
+    ensures { out.new ≡ tree.digest_at depth (entries_of entries.now) }
 {
     let (left, right) = halves(entries, depth);
-    let left = digest_with(left, depth + 1, empty);
-    let right = digest_with(right, depth + 1, empty);
-    node_digest(&left, &right)
+    let mut bytes = [NODE_TAG; 65];
+    put_digest(left, depth + 1, &mut bytes[1..33]);
+    put_digest(right, depth + 1, &mut bytes[33..]);
+    out.copy_from_slice(&hash(&bytes));
 }
 
 /// Two or more entries whose keys agree in all bits before the depth, by their bit at the depth: those
