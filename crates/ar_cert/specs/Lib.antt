@@ -3,3 +3,4 @@ pub mod Certificate
 pub mod Changes
 pub mod Faults
 pub mod Views
+pub mod Judging

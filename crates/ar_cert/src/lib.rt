@@ -1,15 +1,21 @@
-//! Certificates of domains: their text, read in place or into a value, and written.
+//! Certificates of domains: their text, read in place or into a value, and written; and changes, judged
+//! by the policy rule.
 //!
 //! `specs/Certificate.antt` and `specs/Changes.antt` have the grammars, field by field, with the place
-//! of the first fault.
+//! of the first fault. `specs/Judging.antt` says what the rule is asked for a change, and which lists of
+//! changes are the chain of a name.
 #![tactic(auto)]
 
 mod cert;
 mod change;
 mod copies;
 mod digest;
+mod facts;
 mod fault;
 mod fields;
+mod judging;
+#[cfg(test)]
+mod judging_tests;
 pub mod laws;
 mod reading;
 #[cfg(test)]
@@ -20,4 +26,5 @@ mod writing;
 pub use cert::{Cert, Policy};
 pub use change::{Change, Endorsement};
 pub use fault::CertFault;
+pub use judging::{chain_ok, judge_change};
 pub use view::CertView;

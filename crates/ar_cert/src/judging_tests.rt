@@ -1,0 +1,201 @@
+use crate::{Cert, Change, chain_ok, judge_change};
+use cert_policy::PolicyRefusal;
+use std::alloc::Global;
+use std::test::Fail;
+
+/// The certificate that registers a.example: it trusts the authorities 0, 1 and 2 with the threshold 2,
+/// and is keyed.
+fn first() -> &'static [u8] {
+    b"\x01\x09a.example\x00\x00\x00\x00\x00\x00\x00\x00\x00\x00\x00\x00\x00\x00\x00\x00\x00\x00\x00\x00\x00\x00\x00\x00\x00\x00\x00\x00\x00\x00\x00\x00\x00\x00\x00\x00\x00\x00\x00\x00\x00\x00\x00\x05\x00\x00\x00\x04\xe4p\xd6\xbf\xc9\x95I/\x13\x04:` \xe8\x0d.+\xb0\x81\xc3\x13\x7f\xfd\xbe\x93\x9a\x0e=\xbe\xd1\x5c\xe2\xcd\xdc\x91g\xce'\xde3_\xb4\x96\xf0\x1e\x8e\xa8!\x01\x02\x01\x00\x00\x00\x0a\x00\x00\x00\x00\x00\x00\x03\xe8\x03\x00\x00\x00\x01\x00\x02\x00"
+}
+
+/// The certificate behind it, of another key: it trusts the authorities 0 to 3 with the threshold 1, and
+/// is not keyed.
+fn second() -> &'static [u8] {
+    b"\x01\x09a.example\x00\x00\x00\x00\x00\x00\x00\x01G\xefn~\xe2\xedI\xc7\x8b>\xae\x98\xb5#\x1f5\xfc\xf5\x11GQ\x99\xd4\x19\x82\x93)\xc2\x1fn\xd3v\x00\x00\x00\x05\x00\x00\x00\x04\xa2{TH\xa0\xec\xbb\xb3y\xcd$\xd4P\xe6\x95\x9d'\xa8u\x13\xaa\xdc\xb1\xccZ\x98`\x1e-`\xbf\xa1\x89\xc9\xc4\xfc)\xe1Sy\x083\xd6\xf5\xaa\xf1\xa5\xdc\x01\x01\x00\x00\x00\x00\x0a\x00\x00\x00\x00\x00\x00\x03\xe8\x04\x00\x00\x00\x01\x00\x02\x00\x03\x00"
+}
+
+/// The certificate behind that, which revokes the name.
+fn third() -> &'static [u8] {
+    b"\x01\x09a.example\x00\x00\x00\x00\x00\x00\x00\x02\xc9\x90\xce\xb5\xdd\x02\x93\xc3G6\x148\xf5M\x94\xd2\xb5\x0fi\x03WI/u\x89\xaeO\xdd\xb5\x9a\xcd;\x00\x00\x00\x05\x00\x00\x00\x04\xa2{TH\xa0\xec\xbb\xb3y\xcd$\xd4P\xe6\x95\x9d'\xa8u\x13\xaa\xdc\xb1\xccZ\x98`\x1e-`\xbf\xa1\x89\xc9\xc4\xfc)\xe1Sy\x083\xd6\xf5\xaa\xf1\xa5\xdc\x01\x02\x01\x00\x00\x00\x0a\x00\x00\x00\x00\x00\x00\x03\xe8\x03\x00\x00\x00\x01\x00\x02\x01"
+}
+
+/// A certificate in the place of the third, whose threshold is more than the authorities that it trusts.
+fn unreachable_third() -> &'static [u8] {
+    b"\x01\x09a.example\x00\x00\x00\x00\x00\x00\x00\x02\xc9\x90\xce\xb5\xdd\x02\x93\xc3G6\x148\xf5M\x94\xd2\xb5\x0fi\x03WI/u\x89\xaeO\xdd\xb5\x9a\xcd;\x00\x00\x00\x05\x00\x00\x00\x04\xa2{TH\xa0\xec\xbb\xb3y\xcd$\xd4P\xe6\x95\x9d'\xa8u\x13\xaa\xdc\xb1\xccZ\x98`\x1e-`\xbf\xa1\x89\xc9\xc4\xfc)\xe1Sy\x083\xd6\xf5\xaa\xf1\xa5\xdc\x01\x02\x01\x00\x00\x00\x0a\x00\x00\x00\x00\x00\x00\x03\xe8\x01\x00\x04\x00"
+}
+
+/// The signature by the leaf 7 of the first certificate's key that hands over to the second.
+fn handover() -> &'static [u8] {
+    b"\x00\x00\x00\x07\x00\x00\x00\x04\x9e)\x01\x99\xf4A\xbb\x93\xd4f1\x9d\xdfhH\x19L\x1d\x22\xf9\xb2W\xa8Q\xd2\x87\xab\xbe\xb68\x1f\xf4%\xdd\xe3>v\xe1\x8f\x97\xfe\x12\xcah)\xe7\xeeZ2Q\x1bg\xd1h\x9e|\x11\x10|\xfe{\x1e\xf2*\x92]\xa7J\x0d\xb0p\x09\xf7%3:\x12(\x86Z\xb3]-\x86`\x8a\x9c\x0c\xaa\x9d\xc0\xa1N\xfe\x1b\xad7x@\x91\x92\x1aZ%u;\x04\xaf\x90~A\x91\x86\xfduX\xae^\xb1\xba6\xae\xea\xe0\xf1\xc8\x01\x0e6\xffr\xed\x88\xd2\xbaaL\xe3j\x97\x8d\xbb\xcaG\x88\xe2dA\x83i\xba/\x07J\xfa\x0e\x85\xb7\x86~[8c\xdd\x0bG\xd5\xae\x92\xf1\xd6f\x80\xde6\x1e-D^\x8e\xb6\xd4\xdb\xe7:q\xb1\x10\xa5\xa9\x91\xf2\x0f\xbc\xb6\xfb}\x1e\xc8\x94\xfa\x985\x87@q\xb0 +Wa\xcd\xe0\xc2x\xf6\xd0Q\x10\xd3\x8en\x93\xa0I\xe1\x90\xdc\xc7\x1b\xc2\x11?n\xd8\x94\xe6V\xef\xc1v\xf2\x9e_\xb5\x0d,\xa0\x93yB\xf7xNz\xa3:T\x8d\xa6\xecy\x03\xa0\xb1\xb6\xe1\xbd\x0d\x19\x14\x16|\xdd\x10\x06\xe9w-2\xee\xfc\xb7\xff\xbcvB\x9f\xd2\x06\x9fG\x90\xbb\x0c\xb8-\xa5P\xba\xd0\xed\x0c\xd7\xcfp\xc3z>M0{\x01\xe5o|q\xf3\x9e\xbd\xfc\x91\xb6\xd5\xb4\x02_\xd8\xbb~\xbdWc\x19h\xd2\xdbj\x8ax\x95rt\xfe\xe7N\x87\xcc\xefE\x12^g\x03M\xf3\x12\x19?\x15\x8f6?\x972]\xb9ks\xce\xae\x15\x9d\xa8z\xf5\xc5\x05u\xeb\xdf\x85*\xc84tM\xc3\x1a\xfd*\x99\xd2V\xc0\xb7\xde0d\xb3\x8c\x9ar\xecr\xedD\x14\xb0{A\x82\xbe\x0b\xe4\xe4L\x9c*/_\x99N\x9b\x8b\x9d<\x075\xbf\xe3\xa2\xd6\x0b\xeb\xfe\xb3\xe0\xffR\xe5\xd5?\x8b\x15\xb2\x0a\xfe\xd0\xe4s|\x80odV\xe6\xe9\x84\x99\xa4\x92\xe4\x17\x9c\xc2\xb8\xb2\xe5\x7f#6A@\x90zk3\x1bf\xdc\x1e,\xe5\xb5\xb0\xe2\xf28\x88\x16xna\xcdy\xfe\xf0\x09\xf0F\xfdzT\x91\xff\xec\xaa\x9d\xc7\x12\x7f\x9a\xa9<\xf2g\xf8\xb5\xb5\xc3\xea)\x5c<l\xd05\x03\x87\xcd\x9b\x92\xd9W\x00L\x93Fh\xe0F\xf9\x9dMs}#\xeb\xd8\xf3\x09\xb7h\x9bre\x86\x8e\x81v\xb8\x89\xf9@b\x94'#\x82X\x94\xcc\x9a52\xb0\xdc#\x80\xc2\x18l\x81\xa5E\xb3x6v+\x8a=\xd0\x18O|_K\xae\x95\x9d\xe1\xda\xee\xeb\x89\x18\x8f\xf3\xf8\x03o]\x0f\x9f\x9cCL\x14\x1c's\xf7o\xfd}\x92\xe6\x06\x13\xce\xf3a_\xe27F+\xba\x02\xb6-\xcd`]\x8dBB\x8fE\xf8\xf4*M\xcd\xae\xa1\x9b\x98\x97\xc24+\xf1;#\xa9\xb9\x04\xa1_\xbf\x9b\xca\xbd`j#\xa1\x9179\xd9V\x19\xae\x00\xf9\xd8\xdeQl\x17\xd8\xdd\x88K\xb3k\xc5*=\xe4\xef\x8bi8$\xa1\x099\xca\xfc|\xf5e\x83G\xf8X\xcd\xcd\x02\x85\xee\xa1\x0e\xa8\xc1S\xcc\xb6,\xad\xdd?\xe8\xeb\x0e\x8bN%\xfc\xeb\xe8qQ\xe5\x04\xa8ZO0}\xa2\xef\xcak\xa1\x0e\xcc\x83\x12*\x13\x10\xa4\xf4X \x1d\xfd\x09iU\xe2\xcc\xaf\xee|0,\xb5\x08\x19S?\x90\x0e\x19\xb1\x91\xee\x84\xda\xe9DBoF\xa3T\xfd\xfc\x92\x84\xb9sSd\xff\xfb\x17\x12\xe6\xc8\xb21@H\xea\xf2\x00\x8c\xa9\xb7\xb4\xablm\xfd\x80I&+\xb9l\xac\x96H\x1aE@\xebS\x9buy\xb3\xb4/\xd7\x96\xc0\xab\xb8~\x9c\xf9\x06J\x9d\xdcG+\x90jjrb\x85[.\x1f\x86\xc5\x89\x84\xb4\xfe\xe6\xb0\xb6\xe0\xb3\x8f7\x15\xcc\x10\xf8#\xec\x8e\x8cS\x03\xf1\x0dK\xd96\x84\x9a\xfa\x9c>o\xa8\x99EM\x09\xb6\xe3\x00\xd0\x93\xf9\x5cUk\xd5\xf2%\xd0pIo\xe0\xfa\xd37\xbc\xbc\xf1\x8ec\x14\x0b\xff\xf1\xee\xd0\x80\x86W\x84N\xae5I\x08Y\xceU8\x9e\xdc'\x85\xbe\xdf\xea\xd1EK\xb3\xc8\xfbT\x1b\xe2\x1eN\x1bY*w\xa2b\xb3kJz#\x98\xcfA>\x0a\xf4\xd6c\x13C^\xde:ha\x9c\xbb\x94E\x84\xd2d\x01\xa8\x0dm\xb3\xd5\x08\x1f\x10\xbd>Lc\x5c\xbd_d*B>\xf6\xc2\xa3\xd2W\xaf\x980\xe0*U\x87\xdd\xf2\xb2&\x9aTXij\xc4\x7f\xd0f\xce\x94\xd1\xe2\x1c_\xd4\x10\x04\xa9M\xb3<\xbf\xfc;o\x0d\xd14Wp\xddgP\xb8\x80\x14#\xa94\xb1\xd5\xaa\xb1\xd8.\x8dh\xe6\xbe\x02eH&wtY\xb7\x06DC(\x9d\x19LD>)\xbcuk\x197{\xd4\x00\x00\x00\x05\xad\xa7\x81\xe7\xdbA\xc1\x897\xc2Eq\xd7\x98\xd5EKN\xef\x82>@\xd3\xfbL\xb0\xb5E\x02\x11\xb2\x10\xdfI\xbb\x1c\xfcd\xa0QU\x5c\x1bL\x5c\x90oF\x80\x93\xefR\xcc\x89\x1ad\xe3\x01\x03\x10\xac\xcaU\x81\xbf\x84K\x7f\xf7\xa6!\xe2\xfc\x80X\xf2pI&BA\x82\xe7\x08<\xa3\x89w\xe26\xf3\xad\x11N\x96\x88\x159\xed;\xd8Q\xa8\x09d\xc4\x19\xd4\xe3\xa2\xc0 \x5cdW\xceNa\xba\xac'p+?\x8d\x96\x897\xa6\xf2\xea\xd4aS\xd5\x98\x90J\xf3\x14\x13\xf3\xfdk\xef\xa6\xb2\xd8\xc3\xd3d\x94\xc7\xb82\xc9\x84\xd5\xad\xa2"
+}
+
+/// The number of bytes in two bytes.
+fn length(bytes: &[u8]) -> [u8; 2] {
+    ((bytes.len() % 0x1_0000) as u16).to_be_bytes()
+}
+
+/// The change to a certificate with endorsements by these authorities.
+fn change(
+    alloc: Global,
+    cert: &[u8],
+    endorsers: &[u8],
+    handover: Option<&[u8]>,
+) -> Result<Change, Fail> {
+    let mut text = length(cert).to_vec(alloc)?;
+    text.extend_from_slice(cert)?;
+    text.push(length(endorsers)[1])?;
+    for authority in endorsers {
+        text.extend_from_slice(&[0, *authority, 0, 3, b's', b'i', b'g'])?;
+    }
+    match handover {
+        None => text.push(0)?,
+        Some(signature) => {
+            text.push(1)?;
+            text.extend_from_slice(&length(signature))?;
+            text.extend_from_slice(signature)?;
+        }
+    }
+    Ok(Change::read(alloc, &text).ok().ok_or("a change")?)
+}
+
+/// The handover with one bit of the byte at a place turned.
+fn altered(alloc: Global, place: usize) -> Result<Vec<u8>, Fail> {
+    let mut signature = handover().to_vec(alloc)?;
+    match signature.get_mut(place) {
+        None => return Err(Fail::from("a place")),
+        Some(byte) => *byte ^= 1,
+    }
+    Ok(signature)
+}
+
+/// The number of the clause that fails, or 0.
+fn number_of(answer: Result<(), PolicyRefusal>) -> u8 {
+    match answer {
+        Ok(()) => 0,
+        Err(refusal) => refusal.number(),
+    }
+}
+
+/// What is answered for the change to a certificate with these endorsers and this handover.
+fn judged(
+    alloc: Global,
+    old: Option<&[u8]>,
+    cert: &[u8],
+    endorsers: &[u8],
+    handover: Option<&[u8]>,
+) -> Result<u8, Fail> {
+    let change = change(alloc, cert, endorsers, handover)?;
+    let Some(text) = old else {
+        return Ok(number_of(judge_change(None, &change)));
+    };
+    let old = Cert::read(alloc, text).ok().ok_or("a certificate")?;
+    Ok(number_of(judge_change(Some(&old), &change)))
+}
+
+#[test]
+fn registrations_are_judged(rt: HostRuntime) -> Result<(), Fail> {
+    let alloc = rt.alloc();
+    assert_eq!(rt; judged(alloc, None, first(), &[0, 1, 2], None)?, 0);
+    assert_eq!(rt; judged(alloc, None, first(), &[40, 41, 42], None)?, 0);
+    assert_eq!(rt; judged(alloc, None, first(), &[0, 1], None)?, 5);
+    assert_eq!(rt;
+        judged(alloc, None, second(), &[0, 1, 2], Some(handover()))?,
+        3
+    );
+    assert_eq!(rt; judged(alloc, None, third(), &[0, 1, 2], None)?, 1);
+    Ok(())
+}
+
+#[test]
+fn updates_of_a_keyed_certificate_are_judged(rt: HostRuntime) -> Result<(), Fail> {
+    let alloc = rt.alloc();
+    let old = Some(first());
+    let good = Some(handover());
+    assert_eq!(rt; judged(alloc, old, second(), &[0, 1, 2], good)?, 0);
+    assert_eq!(rt; judged(alloc, old, second(), &[0, 1, 3], good)?, 0);
+    assert_eq!(rt; judged(alloc, old, second(), &[0, 1, 3], None)?, 7);
+    assert_eq!(rt; judged(alloc, old, second(), &[0, 3, 4], good)?, 6);
+    assert_eq!(rt; judged(alloc, old, second(), &[0, 3, 4], None)?, 6);
+    assert_eq!(rt; judged(alloc, old, second(), &[0, 1], good)?, 5);
+    assert_eq!(rt; judged(alloc, old, third(), &[0, 1, 2], good)?, 3);
+    assert_eq!(rt; judged(alloc, old, first(), &[0, 1, 2], good)?, 3);
+    Ok(())
+}
+
+#[test]
+fn a_handover_that_is_not_valid_is_none(rt: HostRuntime) -> Result<(), Fail> {
+    let alloc = rt.alloc();
+    let old = Some(first());
+    for place in [3, 40, 1291] {
+        let signature = altered(alloc, place)?;
+        assert_eq!(rt;
+            judged(alloc, old, second(), &[0, 1, 2], Some(&signature))?,
+            7,
+            "{place}"
+        );
+    }
+    let cut = handover().get(..1291);
+    assert_eq!(rt; judged(alloc, old, second(), &[0, 1, 2], cut)?, 7);
+    assert_eq!(rt; judged(alloc, old, second(), &[0, 1, 2], Some(b""))?, 7);
+    Ok(())
+}
+
+#[test]
+fn updates_of_a_certificate_that_is_not_keyed_are_judged(rt: HostRuntime) -> Result<(), Fail> {
+    let alloc = rt.alloc();
+    let old = Some(second());
+    assert_eq!(rt; judged(alloc, old, third(), &[1, 5, 6], None)?, 0);
+    assert_eq!(rt; judged(alloc, old, third(), &[1, 5, 6], Some(b"none"))?, 0);
+    assert_eq!(rt; judged(alloc, old, third(), &[4, 5, 6], None)?, 6);
+    assert_eq!(rt;
+        judged(alloc, old, unreachable_third(), &[1, 5, 6], None)?,
+        8
+    );
+    assert_eq!(rt;
+        judged(alloc, old, unreachable_third(), &[4, 5, 6], None)?,
+        6
+    );
+    assert_eq!(rt; judged(alloc, Some(third()), third(), &[0, 1, 2], None)?, 1);
+    Ok(())
+}
+
+/// The chain of the certificates with these numbers from 1, of which 4 is the second without its
+/// handover.
+fn chain(alloc: Global, numbers: &[u8]) -> Result<Vec<Change>, Fail> {
+    let mut chain = Vec::new(alloc);
+    for number in numbers {
+        let next = match number {
+            1 => change(alloc, first(), &[0, 1, 2], None)?,
+            2 => change(alloc, second(), &[0, 1, 3], Some(handover()))?,
+            3 => change(alloc, third(), &[1, 5, 6], None)?,
+            _ => change(alloc, second(), &[0, 1, 3], None)?,
+        };
+        chain.push(next)?;
+    }
+    Ok(chain)
+}
+
+#[test]
+fn a_chain_registers_first_and_each_next_follows(rt: HostRuntime) -> Result<(), Fail> {
+    let table: [(&[u8], bool); 14] = [
+        (&[1], true),
+        (&[1, 2], true),
+        (&[1, 2, 3], true),
+        (&[], false),
+        (&[3], false),
+        (&[2, 3], false),
+        (&[1, 3], false),
+        (&[1, 4], false),
+        (&[1, 4, 3], false),
+        (&[1, 1], false),
+        (&[2, 1], false),
+        (&[1, 3, 2], false),
+        (&[1, 2, 2], false),
+        (&[1, 2, 3, 3], false),
+    ];
+    for (numbers, ok) in table {
+        assert_eq!(rt; chain_ok(&chain(rt.alloc(), numbers)?), ok, "{numbers:?}");
+    }
+    Ok(())
+}
