@@ -4,7 +4,7 @@ use crate::party::Party;
 pub const TEXT_LEN: usize = 330;
 
 /// What a party signs. Digests have 32 bytes, and epochs are from 1 to 2^63.
-#[derive(Clone, Copy, Debug)]
+#[derive(Clone, Copy, Debug, PartialEq, Eq)]
 pub enum Statement<'a> {
     /// The authority vouches for the certificate with this digest.
     Endorse {

@@ -6,7 +6,7 @@ use crate::statement::{Statement, TEXT_LEN};
 use std::marker::Model;
 
 /// The text of one statement, kept without memory.
-#[derive(Clone, Copy, Debug)]
+#[derive(Clone, Copy, Debug, PartialEq, Eq)]
 pub struct Text {
     len: u16,
     bytes: [u8; TEXT_LEN],

@@ -2,7 +2,7 @@ use ar_statement::Party;
 use thiserror::Error;
 
 /// Which bound of a directory is not kept; the first where there are several.
-#[derive(Clone, Copy, Debug, Error)]
+#[derive(Clone, Copy, Debug, Error, PartialEq, Eq)]
 pub enum DirectoryFault {
     /// There are not 3 to 16 logs.
     #[error("a directory has 3 to 16 logs")]
@@ -16,7 +16,7 @@ pub enum DirectoryFault {
 }
 
 /// Why a signature was not accepted.
-#[derive(Clone, Copy, Debug)]
+#[derive(Clone, Copy, Debug, PartialEq, Eq)]
 pub enum VerifyFault {
     /// The party is no log and no authority of the directory.
     Unknown(Party),
