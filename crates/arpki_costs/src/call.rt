@@ -1,11 +1,13 @@
 //! The calls that are measured. Each stands in a function that is never inlined, so that its name is
 //! seen by whoever counts.
 ghost use Rattle.std.specs.Prelude.{◌≡◌, ◌^◌, ◌<◌, length};
+ghost use Rattle.ar_base.specs.Gives.{GivesUnless};
 ghost use Rattle.hash_tree.specs.Entries.{entries_of, HasAscendingKeys};
 ghost use Rattle.hash_tree.specs.Root as tree;
 ghost use Rattle.lms_tree.specs.Key as signing;
 ghost use Rattle.lms_tree.specs.LmsKind.{height_of};
 ghost use Rattle.lms_tree.specs.Validity.{lms_signature_len_of};
+ghost use Rattle.lms_tree.specs.declared.key.KeyFault.TheVariants.{Memory};
 
 use crate::table::table;
 use hash_tree::root_of;
@@ -47,7 +49,9 @@ pub(crate) fn root_of_table(alloc: Global, count: u32) -> io::Result<[u8; 32]> {
 }
 
 #[inline(never)]
-fn make_key(alloc: Global, seed: &[u8; 32], lms: u32, ots: u32) -> Result<LmsKey, KeyFault> {
+fn make_key(alloc: Global, seed: &[u8; 32], lms: u32, ots: u32) -> Result<LmsKey, KeyFault>
+    ensures { GivesUnless Memory (λ key. key) result (signing.made seed.now lms ots) }
+{
     LmsKey::make(alloc, seed, lms, ots)
 }
 
