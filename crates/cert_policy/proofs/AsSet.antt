@@ -6,8 +6,8 @@ use Rattle.std.proofs.lemmas.Bool.{eqb-true, eq-eqb, both_ways}
 use Rattle.std.proofs.lemmas.Cmp.{nat_cmp_total}
 use Rattle.std.proofs.lemmas.List.Folds.{list_any_at}
 use Rattle.std.proofs.lemmas.Map.Views.{Contains-from_any}
-use Rattle.cert_policy.specs.Numbers.{set_of, distinct_count, count_among}
-use Rattle.cert_policy.proofs.Counting.{among}
+use Rattle.vote_quorum.specs.Numbers.{set_of, distinct_count, shared_count}
+use Rattle.vote_quorum.proofs.Counting.{among}
 
 same_tests : (a b : Bool) → (a ≡ true → b ≡ true) → (b ≡ true → a ≡ true) → a ≡ b
 same_tests true b there back = sym (there refl)
@@ -30,5 +30,5 @@ same_numbers one other same =
 pub same_distinct : (one other : List ℕ) → ((number : ℕ) → Contains one number ↔ Contains other number) → distinct_count one ≡ distinct_count other
 same_distinct one other same = ap len (same_numbers one other same)
 
-pub same_among : (trusted one other : List ℕ) → ((number : ℕ) → Contains one number ↔ Contains other number) → count_among trusted one ≡ count_among trusted other
+pub same_among : (trusted one other : List ℕ) → ((number : ℕ) → Contains one number ↔ Contains other number) → shared_count one trusted ≡ shared_count other trusted
 same_among trusted one other same = ap (λ s. len (intersection s (set_of trusted))) (same_numbers one other same)

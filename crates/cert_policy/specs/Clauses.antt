@@ -3,7 +3,7 @@ use Rattle.std.specs.Prelude.{◌≡◌, ℕ, ◌+◌, ◌≤◌, ◌==◌, nat_
 use Rattle.std.specs.Str.{bytes_eq}
 use Rattle.cert_policy.specs.declared.refusal.PolicyRefusal.{PolicyRefusal}
 use Rattle.cert_policy.specs.declared.refusal.PolicyRefusal.TheVariants.{Revoked, Name, Serial, Previous, Endorsers, Threshold, Handover, Policy}
-use Rattle.cert_policy.specs.Numbers.{count_among, distinct_count}
+use Rattle.vote_quorum.specs.Numbers.{distinct_count, shared_count}
 use Rattle.cert_policy.specs.FirstFailing.{Clause, first_failing}
 use Rattle.cert_policy.specs.Terms.{CertTerms, PolicyTerms}
 
@@ -23,7 +23,7 @@ update_clauses old new endorsers handover =
     ∷ ((Serial, new.serial == old.serial + 1)
     ∷ ((Previous, bytes_eq new.previous old.digest)
     ∷ ((Endorsers, nat_le 3 (distinct_count endorsers))
-    ∷ ((Threshold, nat_le old.policy.threshold (count_among old.policy.trusted endorsers))
+    ∷ ((Threshold, nat_le old.policy.threshold (shared_count endorsers old.policy.trusted))
     ∷ ((Handover, not old.policy.keyed || handover)
     ∷ ((Policy, is_well_formed new.policy)
     ∷ [])))))))
@@ -61,7 +61,7 @@ pub record Follows (old new : CertTerms) (endorsers : List ℕ) (handover : Bool
   pub next_serial : new.serial ≡ old.serial + 1
   pub linked : new.previous ≡ old.digest
   pub endorsed : 3 ≤ distinct_count endorsers
-  pub trusted : old.policy.threshold ≤ count_among old.policy.trusted endorsers
+  pub trusted : old.policy.threshold ≤ shared_count endorsers old.policy.trusted
   pub handed_over : IsTrue old.policy.keyed → IsTrue handover
   pub well_formed : IsWellFormed new.policy
 

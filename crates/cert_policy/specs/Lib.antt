@@ -1,4 +1,3 @@
 pub mod Clauses
 pub mod FirstFailing
-pub mod Numbers
 pub mod Terms

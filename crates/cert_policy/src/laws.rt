@@ -3,7 +3,7 @@ ghost use Rattle.std.specs.Prelude.{◌≡◌, ℕ, ◌<◌, ◌↔◌, Bool, fa
 ghost use Rattle.std.specs.List.Sorted.{IsStrictlyIncreasing};
 ghost use Rattle.cert_policy.specs.Clauses.{registration_clauses, update_clauses};
 ghost use Rattle.cert_policy.specs.FirstFailing.{Clause, first_failing, number_of};
-ghost use Rattle.cert_policy.specs.Numbers.{count_among, distinct_count};
+ghost use Rattle.vote_quorum.specs.Numbers.{distinct_count, shared_count};
 ghost use Rattle.cert_policy.specs.Terms.{CertTerms};
 ghost use Rattle.cert_policy.specs.declared.refusal.PolicyRefusal.{PolicyRefusal};
 
@@ -30,5 +30,5 @@ pub fn endorsers_count_as_a_set()
     ensures distinct { (one other : List ℕ) → ((number : ℕ) → Contains one number ↔ Contains other number)
         → distinct_count one ≡ distinct_count other }
     ensures among { (trusted one other : List ℕ) → ((number : ℕ) → Contains one number ↔ Contains other number)
-        → count_among trusted one ≡ count_among trusted other }
+        → shared_count one trusted ≡ shared_count other trusted }
 {}

@@ -2,8 +2,9 @@ ghost use Rattle.std.specs.Prelude.{◌≡◌, ◌↔◌, IsOk, IsTrue};
 ghost use Rattle.cert_policy.specs.Clauses.{Follows, Registers, is_well_formed, registration_answer, update_answer};
 ghost use Rattle.cert_policy.specs.Terms.{cert_terms, policy_terms};
 
-use crate::endorsers::{count_among, distinct_count};
+use crate::endorsers::count_among;
 use crate::{Facts, PolicyFacts, PolicyRefusal};
+use vote_quorum::distinct_count;
 
 /// The authorities that must endorse each certificate, whatever a policy says.
 const LEAST_ENDORSERS: usize = 3;
