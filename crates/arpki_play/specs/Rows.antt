@@ -1,5 +1,5 @@
 -- Named lines: text whose first word says what the line is, with its fields behind it.
-use Rattle.std.specs.Prelude.{ℕ, Bool, false, if◌then◌else◌, List, [], ◌∷◌, Result, Ok, Err}
+use Rattle.std.specs.Prelude.{ℕ, if◌then◌else◌, List, [], ◌∷◌, Result, Ok}
 use Rattle.std.specs.Str.{bytes_eq}
 use Rattle.arpki_play.specs.Lines.{is_text, words_of}
 use Rattle.arpki_play.specs.Refusals.{Cursor, Reading, WordAt, ◌>>=◌, line_at, refused}

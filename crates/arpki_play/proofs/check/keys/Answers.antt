@@ -1,4 +1,4 @@
-use Rattle.std.proofs.Common.{rules, ◌≡◌, [], ◌∷◌, Err, length-append, arith}
+use Rattle.std.proofs.Common.{rules, [], ◌∷◌, length-append, arith}
 use Rattle.arpki_play.proofs.KeyLines.{key_more, key_gives_up, keys_all}
 use Rattle.arpki_play.proofs.check.keys.Goals as goal
 

@@ -1,6 +1,5 @@
 -- A numeral is text, and `parse` reads its number.
-use Rattle.std.proofs.Common.{◌≡◌, true, subst, sym, ◌∙◌}
-use Rattle.std.specs.Str.Parse.{ParsesUnsigned}
+use Rattle.std.proofs.Common.{◌≡◌, true, ◌∙◌}
 use Rattle.arpki_play.specs.Forms.{is_numeral}
 use Rattle.arpki_play.proofs.Numerals.{numeral_is_text, numeral_read}
 use Rattle.arpki_play.proofs.word.number_of.Goals as goal
