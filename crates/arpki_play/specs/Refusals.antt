@@ -69,7 +69,14 @@ abbrev pub spelled : {T : Type 0} → WordAt → Option T → Result T Refusal
 spelled word (Some value) = Ok value
 spelled word None = refused word.line (Field word.number)
 
--- ---- answers of the program's readers, which may find no memory
+-- ---- answers of the program's readers
+
+-- The call gave what the definition of a reading gives, and stands behind its lines then.
+abbrev pub Gives : {T V : Type 0} → (T → V) → Result T Refusal → Cursor → Reading V → Type 0
+Gives view (Ok value) new reading = reading ≡ Ok (view value, new)
+Gives view (Err refusal) new reading = reading ≡ Err refusal
+
+-- ---- answers of those that may find no memory
 
 -- the definition refuses the line that the fault tells; want of memory tells nothing
 abbrev pub FailsBy : {V : Type 0} → LineFault → Result V Refusal → Type 0

@@ -1,14 +1,14 @@
 ghost use Rattle.std.specs.Prelude.{◌≡◌, true, IfOk, IfErr, length};
 ghost use Rattle.arpki_play.specs.Answers.{found, unless_refused};
 ghost use Rattle.arpki_play.specs.Check.{authorities_at, confirmation_at, directory_at, finding_of, inquiry_at, inquiry_in, key_at, keys_at, logs_at, name_at, number_at, party_count_of, quorum_of};
-ghost use Rattle.arpki_play.specs.Refusals.{Reads, Tells, spelled, start_of};
+ghost use Rattle.arpki_play.specs.Refusals.{Gives, Reads, Tells, spelled, start_of};
 ghost use Rattle.party_keys.specs.Directory.{is_party_count, is_quorum};
 
 use crate::answer::Answer;
 use crate::fault::Fault;
 use crate::finding::Finding;
 use crate::lines::Lines;
-use crate::refusal::LineFault;
+use crate::refusal::{LineFault, Refusal};
 use crate::word::Word;
 use ar_names::Name;
 use client_rule::judge;
@@ -28,8 +28,8 @@ pub struct CheckInput {
 
 /// How many logs or authorities a word says that there are.
 #[tactic(auto, unfolding(crate::specs::Check::party_count_of))]
-fn party_count(word: &Word) -> Result<usize, LineFault>
-    ensures reads { Reads (λ n. n) result (spelled word.now (party_count_of word.now.text)) }
+fn party_count(word: &Word) -> Result<usize, Refusal>
+    ensures reads { result ≡ spelled word.now (party_count_of word.now.text) }
     ensures fits { IfOk result (λ n. is_party_count n ≡ true) }
 {
     let count = word.number()? as usize;
@@ -41,8 +41,8 @@ fn party_count(word: &Word) -> Result<usize, LineFault>
 
 /// How many of so many logs make a quorum, as a word says.
 #[tactic(auto, unfolding(crate::specs::Check::quorum_of))]
-fn quorum_of(word: &Word, logs: usize) -> Result<usize, LineFault>
-    ensures reads { Reads (λ q. q) result (spelled word.now (quorum_of logs word.now.text)) }
+fn quorum_of(word: &Word, logs: usize) -> Result<usize, Refusal>
+    ensures reads { result ≡ spelled word.now (quorum_of logs word.now.text) }
     ensures fits { IfOk result (λ q. is_quorum q logs ≡ true) }
 {
     let quorum = word.number()? as usize;
@@ -54,8 +54,8 @@ fn quorum_of(word: &Word, logs: usize) -> Result<usize, LineFault>
 
 /// `logs <N> <q>`: how many logs there are, and how many of them make a quorum.
 #[tactic(auto, unfolding(crate::specs::Check::logs_at))]
-fn logs(lines: &mut Lines) -> Result<(usize, usize), LineFault>
-    ensures tells { Tells (λ x. x) result lines.new (logs_at lines.old) }
+fn logs(lines: &mut Lines) -> Result<(usize, usize), Refusal>
+    ensures tells { Gives (λ x. x) result lines.new (logs_at lines.old) }
     ensures count { IfOk result (λ x. is_party_count x.0 ≡ true) }
     ensures quorum { IfOk result (λ x. is_quorum x.1 x.0 ≡ true) }
 {
@@ -67,8 +67,8 @@ fn logs(lines: &mut Lines) -> Result<(usize, usize), LineFault>
 
 /// `authorities <M>`: how many authorities there are.
 #[tactic(auto, unfolding(crate::specs::Check::authorities_at))]
-fn authorities(lines: &mut Lines) -> Result<usize, LineFault>
-    ensures tells { Tells (λ n. n) result lines.new (authorities_at lines.old) }
+fn authorities(lines: &mut Lines) -> Result<usize, Refusal>
+    ensures tells { Gives (λ n. n) result lines.new (authorities_at lines.old) }
     ensures count { IfOk result (λ n. is_party_count n ≡ true) }
 {
     let field = lines.field(b"authorities")?;
@@ -126,8 +126,8 @@ fn name(alloc: Global, lines: &mut Lines) -> Result<Name, LineFault>
 
 /// A line of this name with a number.
 #[tactic(auto, unfolding(crate::specs::Check::number_at))]
-fn number(lines: &mut Lines, name: &[u8]) -> Result<u64, LineFault>
-    ensures { Tells (λ n. n) result lines.new (number_at name.now lines.old) }
+fn number(lines: &mut Lines, name: &[u8]) -> Result<u64, Refusal>
+    ensures { Gives (λ n. n) result lines.new (number_at name.now lines.old) }
 {
     let field = lines.field(name)?;
     field.number()

@@ -3,7 +3,7 @@ ghost use Rattle.std.specs.Option.{option_copied};
 ghost use Rattle.arpki_play.specs.Lines.{is_newline, is_space, is_text, lines_of, words_of};
 ghost use Rattle.arpki_play.specs.Views.{words_behind};
 
-use crate::refusal::{LineFault, Reason};
+use crate::refusal::{Reason, Refusal};
 use crate::word::Word;
 use std::marker::Model;
 
@@ -86,47 +86,46 @@ fn is_text(line: &[u8]) -> bool
 }
 
 impl<'a> RowText<'a> {
-    ghost use Rattle.arpki_play.specs.Refusals.{Reads};
     ghost use Rattle.arpki_play.specs.Rows.{both_of, only_of};
     ghost use Rattle.arpki_play.specs.Views.{row_in};
 
     /// Its one field.
-    fn only(&self) -> Result<Word<'a>, LineFault>
-        ensures { Reads (λ word. word) result (only_of self.now.line (row_in self.now).fields) }
+    fn only(&self) -> Result<Word<'a>, Refusal>
+        ensures { result ≡ only_of self.now.line (row_in self.now).fields }
     {
         let line = self.line;
         let Some(behind) = self.behind else {
-            return Err(LineFault::refused(line, Reason::Words));
+            return Err(Refusal::new(line, Reason::Words));
         };
         let (text, more) = first_word(behind);
         match more {
             None => Ok(Word::new(line, 1, text)),
-            Some(_) => Err(LineFault::refused(line, Reason::Words)),
+            Some(_) => Err(Refusal::new(line, Reason::Words)),
         }
     }
 
     /// Its two fields.
-    fn both(&self) -> Result<(Word<'a>, Word<'a>), LineFault>
-        ensures { Reads (λ words. words) result (both_of self.now.line (row_in self.now).fields) }
+    fn both(&self) -> Result<(Word<'a>, Word<'a>), Refusal>
+        ensures { result ≡ both_of self.now.line (row_in self.now).fields }
     {
         let line = self.line;
         let Some(behind) = self.behind else {
-            return Err(LineFault::refused(line, Reason::Words));
+            return Err(Refusal::new(line, Reason::Words));
         };
         let (first, behind) = first_word(behind);
         let Some(behind) = behind else {
-            return Err(LineFault::refused(line, Reason::Words));
+            return Err(Refusal::new(line, Reason::Words));
         };
         let (second, more) = first_word(behind);
         match more {
             None => Ok((Word::new(line, 1, first), Word::new(line, 2, second))),
-            Some(_) => Err(LineFault::refused(line, Reason::Words)),
+            Some(_) => Err(Refusal::new(line, Reason::Words)),
         }
     }
 }
 
 impl<'a> Lines<'a> {
-    ghost use Rattle.arpki_play.specs.Refusals.{Reads, Tells, line_at, start_of};
+    ghost use Rattle.arpki_play.specs.Refusals.{Gives, line_at, start_of};
     ghost use Rattle.arpki_play.specs.Rows.{field_at, no_row_at, row_at, two_fields_at};
     ghost use Rattle.arpki_play.specs.Sig.{no_line_at};
     ghost use Rattle.arpki_play.specs.Views.{row_in};
@@ -140,12 +139,12 @@ impl<'a> Lines<'a> {
 
     /// The next line, as one word; a missing one is refused as `words`.
     #[tactic(auto, unfolding(crate::specs::Refusals::line_at))]
-    pub fn line(&mut self) -> Result<Word<'a>, LineFault>
-        ensures { Tells (λ word. word) result self.new (line_at self.old) }
+    pub fn line(&mut self) -> Result<Word<'a>, Refusal>
+        ensures { Gives (λ word. word) result self.new (line_at self.old) }
     {
         let line = self.next;
         let Some((text, rest)) = first_line(self.input) else {
-            return Err(LineFault::refused(line, Reason::Words));
+            return Err(Refusal::new(line, Reason::Words));
         };
         self.next += 1;
         self.input = rest;
@@ -153,27 +152,27 @@ impl<'a> Lines<'a> {
     }
 
     /// Nothing, where no line is left; a line too many is refused as `words`.
-    pub fn no_line(&self) -> Result<(), LineFault>
-        ensures { Reads (λ done. done) result (no_line_at self.now) }
+    pub fn no_line(&self) -> Result<(), Refusal>
+        ensures { result ≡ no_line_at self.now }
     {
         match first_line(self.input) {
             None => Ok(()),
-            Some(_) => Err(LineFault::refused(self.next, Reason::Words)),
+            Some(_) => Err(Refusal::new(self.next, Reason::Words)),
         }
     }
 
     /// The next line, which has to be text and to begin with this word.
     #[tactic(auto, unfolding(crate::specs::Rows::row_at))]
-    fn row(&mut self, name: &[u8]) -> Result<RowText<'a>, LineFault>
-        ensures { Tells row_in result self.new (row_at name.now self.old) }
+    fn row(&mut self, name: &[u8]) -> Result<RowText<'a>, Refusal>
+        ensures { Gives row_in result self.new (row_at name.now self.old) }
     {
         let line = self.line()?;
         if !is_text(line.text()) {
-            return Err(LineFault::refused(line.line(), Reason::Text));
+            return Err(Refusal::new(line.line(), Reason::Text));
         }
         let (word, behind) = first_word(line.text());
         if word != name {
-            return Err(LineFault::refused(line.line(), Reason::Word));
+            return Err(Refusal::new(line.line(), Reason::Word));
         }
         Ok(RowText {
             line: line.line(),
@@ -183,8 +182,8 @@ impl<'a> Lines<'a> {
 
     /// The next line, which has to be text of two words: this one, and the field that is given.
     #[tactic(auto, unfolding(crate::specs::Rows::field_at))]
-    pub fn field(&mut self, name: &[u8]) -> Result<Word<'a>, LineFault>
-        ensures { Tells (λ word. word) result self.new (field_at name.now self.old) }
+    pub fn field(&mut self, name: &[u8]) -> Result<Word<'a>, Refusal>
+        ensures { Gives (λ word. word) result self.new (field_at name.now self.old) }
     {
         let row = self.row(name)?;
         row.only()
@@ -192,21 +191,21 @@ impl<'a> Lines<'a> {
 
     /// The next line, which has to be text of three words: this one, and the two fields that are given.
     #[tactic(auto, unfolding(crate::specs::Rows::two_fields_at))]
-    pub fn two_fields(&mut self, name: &[u8]) -> Result<(Word<'a>, Word<'a>), LineFault>
-        ensures { Tells (λ words. words) result self.new (two_fields_at name.now self.old) }
+    pub fn two_fields(&mut self, name: &[u8]) -> Result<(Word<'a>, Word<'a>), Refusal>
+        ensures { Gives (λ words. words) result self.new (two_fields_at name.now self.old) }
     {
         let row = self.row(name)?;
         row.both()
     }
 
     /// Nothing, where no line is left; a line too many is refused as `text` or as `word`.
-    pub fn no_row(&self) -> Result<(), LineFault>
-        ensures { Reads (λ done. done) result (no_row_at self.now) }
+    pub fn no_row(&self) -> Result<(), Refusal>
+        ensures { result ≡ no_row_at self.now }
     {
         match first_line(self.input) {
             None => Ok(()),
-            Some((line, _)) if is_text(line) => Err(LineFault::refused(self.next, Reason::Word)),
-            Some(_) => Err(LineFault::refused(self.next, Reason::Text)),
+            Some((line, _)) if is_text(line) => Err(Refusal::new(self.next, Reason::Word)),
+            Some(_) => Err(Refusal::new(self.next, Reason::Text)),
         }
     }
 }

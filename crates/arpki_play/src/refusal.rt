@@ -42,6 +42,15 @@ pub struct Refusal {
     pub reason: Reason,
 }
 
+impl Refusal {
+    /// The refusal of the line with this number.
+    pub fn new(line: u64, reason: Reason) -> Refusal
+        ensures { result ≡ record { line = line; reason = reason } }
+    {
+        Refusal { line, reason }
+    }
+}
+
 impl fmt::Display for Refusal {
     ghost output = { λ refusal. Some (refusal_text refusal) };
 
@@ -59,12 +68,11 @@ pub enum LineFault {
     Memory,
 }
 
-impl LineFault {
-    /// The refusal of the line with this number.
-    pub fn refused(line: u64, reason: Reason) -> LineFault
-        ensures { result ≡ line_fault.Refused (record { line = line; reason = reason }) }
-    {
-        LineFault::Refused(Refusal { line, reason })
+impl From<Refusal> for LineFault {
+    ghost from_gives = { λ refusal e. e ≡ line_fault.Refused refusal };
+
+    fn from(refusal: Refusal) -> LineFault {
+        LineFault::Refused(refusal)
     }
 }
 

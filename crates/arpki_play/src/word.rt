@@ -3,10 +3,9 @@ ghost use Rattle.std.specs.List.{list_all};
 ghost use Rattle.arpki_play.specs.Forms.{bytes_of_hex, is_lower_hex_digit, is_numeral, key_of_hex, name_of, number_of};
 ghost use Rattle.std.specs.Char.{is_ascii_digit};
 ghost use Rattle.arpki_play.specs.Refusals.{Reads, spelled};
-ghost use Rattle.arpki_play.specs.declared.refusal.LineFault.TheVariants as fault;
 ghost use Rattle.arpki_play.specs.declared.refusal.Reason.TheVariants.{Field};
 
-use crate::refusal::{LineFault, Reason};
+use crate::refusal::{LineFault, Reason, Refusal};
 use ar_names::{Name, NameFault};
 use hex::FromHexError;
 use lms_tree::LmsPublic;
@@ -17,7 +16,7 @@ use std::str;
 /// A word of a line, which knows where it stands.
 ///
 /// Each reader of a word below refuses it as `field` exactly where it is not of the reader's form. The
-/// other error is want of memory.
+/// other error, of those that take memory, is want of it.
 #[derive(Debug, Drop)]
 pub struct Word<'a> {
     line: u64,
@@ -65,10 +64,10 @@ impl<'a> Word<'a> {
     }
 
     /// The refusal of a word that is not of its form or range.
-    pub fn refused(&self) -> LineFault
-        ensures { result ≡ fault.Refused (record { line = self.now.line; reason = Field self.now.number }) }
+    pub fn refused(&self) -> Refusal
+        ensures { result ≡ record { line = self.now.line; reason = Field self.now.number } }
     {
-        LineFault::refused(self.line, Reason::Field(self.number))
+        Refusal::new(self.line, Reason::Field(self.number))
     }
 
     /// The bytes that a hex word spells: two lower-case digits for each byte.
@@ -76,12 +75,12 @@ impl<'a> Word<'a> {
         ensures { Reads (λ bytes. bytes.items) result (spelled self.now (bytes_of_hex self.now.text)) }
     {
         if !has_lower_hex_digits(self.text) {
-            return Err(self.refused());
+            return Err(LineFault::Refused(self.refused()));
         }
         match hex::decode(alloc, self.text) {
             Ok(bytes) => Ok(bytes),
             Err(FromHexError::OutOfMemory) => Err(LineFault::Memory),
-            Err(_) => Err(self.refused()),
+            Err(_) => Err(LineFault::Refused(self.refused())),
         }
     }
 
@@ -90,13 +89,14 @@ impl<'a> Word<'a> {
         ensures { Reads (λ key. key) result (spelled self.now (key_of_hex self.now.text)) }
     {
         let bytes = self.bytes(alloc)?;
-        LmsPublic::read(&bytes).ok_or(self.refused())
+        let key = LmsPublic::read(&bytes).ok_or(self.refused())?;
+        Ok(key)
     }
 
     /// The number below 2^64 that the word spells in decimal digits, without a sign and without leading
     /// zeros.
-    pub fn number(&self) -> Result<u64, LineFault>
-        ensures { Reads (λ n. n) result (spelled self.now (number_of self.now.text)) }
+    pub fn number(&self) -> Result<u64, Refusal>
+        ensures { result ≡ spelled self.now (number_of self.now.text) }
     {
         number_of(self.text).ok_or(self.refused())
     }
@@ -107,7 +107,7 @@ impl<'a> Word<'a> {
     {
         match Name::read(alloc, self.text) {
             Ok(name) => Ok(name),
-            Err(NameFault::Refused(_)) => Err(self.refused()),
+            Err(NameFault::Refused(_)) => Err(LineFault::Refused(self.refused())),
             Err(NameFault::Memory) => Err(LineFault::Memory),
         }
     }

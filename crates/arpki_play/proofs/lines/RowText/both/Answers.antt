@@ -6,4 +6,4 @@ use Rattle.arpki_play.proofs.lines.RowText.both.Goals as goal
 pub returns-in-Some-more : goal.returns-in-Some-more
 returns-in-Some-more c =
     let some = words_some c.in-Some-more.field-0.now in
-    rw (c.refused-in-Some-more.ensures, c.in-Some.is, c.first_word.ensures, c.in-Some-behind.is, c.first_word-2.ensures, c.in-Some-more.is, some.2) refl
+    rw (c.new-in-Some-more.ensures, c.in-Some.is, c.first_word.ensures, c.in-Some-behind.is, c.first_word-2.ensures, c.in-Some-more.is, some.2) refl
