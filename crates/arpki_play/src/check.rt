@@ -72,8 +72,7 @@ fn authorities(lines: &mut Lines) -> Result<usize, Refusal>
     ensures count { IfOk result (λ n. is_party_count n ≡ true) }
 {
     let field = lines.field(b"authorities")?;
-    let count = party_count(&field)?;
-    Ok(count)
+    party_count(&field)
 }
 
 /// `key <112 hex>`: the key of the next party.
