@@ -12,7 +12,7 @@ pub enum Reason {
     Limit,
     /// A byte of the line is none of 0x20 to 0x7e.
     Text,
-    /// The line does not begin with the word that has to stand there.
+    /// The line does not begin with the word that has to stand there; or, in `check`, it is one too many.
     Word,
     /// The line is missing, or has too few words or too many; or, in `sig`, it is one too many.
     Words,
