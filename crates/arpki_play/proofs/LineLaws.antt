@@ -30,11 +30,11 @@ line_before : (line : List ℕ) (pieces : List (List ℕ)) → AtLeastOne pieces
 line_before line pieces some = rw some.2 refl
 
 -- what a test chose
-pub found_at : (b : Bool) (n end : ℕ) → cond b (Some n) None ≡ Some end → (b ≡ true) × (n ≡ end)
+found_at : (b : Bool) (n end : ℕ) → cond b (Some n) None ≡ Some end → (b ≡ true) × (n ≡ end)
 found_at true n end h = (refl, cc)
 found_at false n end h = cc
 
-pub found_not : (b : Bool) (n : ℕ) → cond b (Some n) None ≡ None → b ≡ false
+found_not : (b : Bool) (n : ℕ) → cond b (Some n) None ≡ None → b ≡ false
 found_not true n h = cc
 found_not false n h = refl
 
@@ -43,18 +43,31 @@ unfolding lines_of
 lines_of-empty [] h = refl
 lines_of-empty (byte ∷ input) h = absurd (omega arith)
 
+-- a cut at the first place that ends a piece
+pub cut_at : (ends : ℕ → Bool) (text : List ℕ) (end : ℕ) → position ends text ≡ Some end → slice_split ends text ≡ take end text ∷ slice_split ends (take (length text - (end + 1)) (drop (end + 1) text))
+cut_at ends text end h =
+    let at = position_or_len ends text in
+    let found = found_at (nat_lt at (length text)) at end h in
+    let within : at < length text = ltb-true at (length text) found.0 in
+    let rest : take (length text - (end + 1)) (drop (end + 1) text) ≡ drop (at + 1) text =
+    take_all (length text - (end + 1)) (drop (end + 1) text) (omega (arith, length-drop (end + 1) text)) ∙ ap (λ n. drop (n + 1) text) (sym found.1) in
+    slice_split_first ends text 0 within
+    ∙ ap (λ n. take n text ∷ slice_split ends (drop (at + 1) text)) found.1
+    ∙ ap (λ more. take end text ∷ slice_split ends more) (sym rest)
+
+-- a text in which no place ends a piece
+pub uncut : (ends : ℕ → Bool) (text : List ℕ) → position ends text ≡ None → slice_split ends text ≡ text ∷ []
+uncut ends text h =
+    let at = position_or_len ends text in
+    let none : length text ≤ at = ltb-false at (length text) (found_not (nat_lt at (length text)) at h) in
+    let fails = All-from_get_or (λ byte. ends byte ≡ false) text 0 (λ k lt. fails_before_first ends text k 0 (omega arith)) in
+    slice_split_none ends text fails
+
 pub lines_of-newline : (input : List ℕ) (end : ℕ) → position is_newline input ≡ Some end → lines_of input ≡ take end input ∷ lines_of (take (length input - (end + 1)) (drop (end + 1) input))
 unfolding lines_of
 lines_of-newline input end h =
-    let at = position_or_len is_newline input in
-    let found = found_at (nat_lt at (length input)) at end h in
-    let within : at < length input = ltb-true at (length input) found.0 in
-    let rest : take (length input - (end + 1)) (drop (end + 1) input) ≡ drop (at + 1) input =
-    take_all (length input - (end + 1)) (drop (end + 1) input) (omega (arith, length-drop (end + 1) input)) ∙ ap (λ n. drop (n + 1) input) (sym found.1) in
-    ap lines_of_pieces (slice_split_first is_newline input 0 within)
-    ∙ line_before (take at input) (slice_split is_newline (drop (at + 1) input)) (pieces_are_some is_newline (drop (at + 1) input))
-    ∙ ap (λ n. take n input ∷ lines_of_pieces (slice_split is_newline (drop (at + 1) input))) found.1
-    ∙ ap (λ more. take end input ∷ lines_of_pieces (slice_split is_newline more)) (sym rest)
+    let rest = take (length input - (end + 1)) (drop (end + 1) input) in
+    ap lines_of_pieces (cut_at is_newline input end h) ∙ line_before (take end input) (slice_split is_newline rest) (pieces_are_some is_newline rest)
 
 -- an input with no newline is its one line, where it is not empty
 one_line : (input : List ℕ) → 0 < length input → lines_of_pieces (input ∷ []) ≡ input ∷ []
@@ -63,10 +76,6 @@ one_line (byte ∷ input) some = refl
 
 pub lines_of-one : (input : List ℕ) → position is_newline input ≡ None → (length input ≡ 0 → ⊥) → lines_of input ≡ input ∷ lines_of []
 unfolding lines_of
-lines_of-one input h some =
-    let at = position_or_len is_newline input in
-    let none : length input ≤ at = ltb-false at (length input) (found_not (nat_lt at (length input)) at h) in
-    let fails = All-from_get_or (λ byte. is_newline byte ≡ false) input 0 (λ k lt. fails_before_first is_newline input k 0 (omega arith)) in
-    ap lines_of_pieces (slice_split_none is_newline input fails) ∙ one_line input (omega arith)
+lines_of-one input h some = ap lines_of_pieces (uncut is_newline input h) ∙ one_line input (omega arith)
 
 pub ruleset first_line_laws = (lines_of-empty, lines_of-newline, lines_of-one)

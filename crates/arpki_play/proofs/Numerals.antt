@@ -1,5 +1,5 @@
 -- Words of digits, and the number that `parse` reads of one.
-use Rattle.std.proofs.Common.{◌≡◌, ℕ, ◌<◌, ◌^◌, Bool, true, false, cond, ltb, List, [], ◌∷◌, length, Some, None, Result, Ok, Err, refl, sym, ◌∙◌, arith}
+use Rattle.std.proofs.Common.{◌≡◌, ℕ, ◌<◌, ◌^◌, Bool, ◌&&◌, true, false, cond, ltb, List, [], ◌∷◌, length, Some, None, Result, Ok, Err, refl, sym, ap, ◌∙◌, arith}
 use Rattle.std.specs.Char.{is_ascii_digit}
 use Rattle.std.specs.List.{list_all}
 use Rattle.std.specs.Result.{OkIff, result_ok}
@@ -8,7 +8,7 @@ use Rattle.std.specs.Str.Parse.{ParsesUnsigned, digits_value}
 use Rattle.std.proofs.lemmas.Str.{IsUtf8-from_ascii}
 use Rattle.std.proofs.lemmas.Str.Parse.{IsNumeralModel, numerals_by_value, tells_all_ascii_digits, parse_digits}
 use Rattle.std.proofs.lemmas.Fmt.{IsAscii-from_digits}
-use Rattle.std.proofs.lemmas.Bool.{and_parts, cond-true, eqb-false, le-ltb, lt-ltb, not-true}
+use Rattle.std.proofs.lemmas.Bool.{and_parts, eqb-false, le-ltb, lt-ltb, not-true}
 use Rattle.arpki_play.specs.Forms.{is_numeral, number_of}
 
 pub digits_alone : (word : List ℕ) → list_all is_ascii_digit word ≡ all_ascii_digits word
@@ -39,5 +39,6 @@ pub numeral_read : {E : Type 0} (word : List ℕ) (r : Result ℕ E) → is_nume
 numeral_read word r h parses =
     let digits = numeral_digits word h in
     let n = digits_value 10 word in
+    let small : (is_numeral word && ltb n (2 ^ 64)) ≡ ltb n (2 ^ 64) = rw h refl in
     small_read r (0 < length word) (n < 2 ^ 64) n (ltb n (2 ^ 64)) (lt-ltb n (2 ^ 64)) (λ no. le-ltb n (2 ^ 64) (omega arith)) digits.1 (parse_digits own 64 word r parses digits.0)
-    ∙ sym (cond-true (is_numeral word) _ _ h)
+    ∙ ap (λ test. cond test (Some n) None) (sym small)

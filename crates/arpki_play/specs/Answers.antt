@@ -14,8 +14,8 @@ use Rattle.arpki_play.specs.declared.finding.Finding.{Finding}
 use Rattle.arpki_play.specs.declared.finding.Finding.TheVariants as finding
 use Rattle.arpki_play.specs.declared.refusal.Reason.TheVariants.{Limit}
 use Rattle.arpki_play.specs.declared.refusal.Refusal.{Refusal}
-use Rattle.arpki_play.specs.declared.words.Command.{Command}
-use Rattle.arpki_play.specs.declared.words.Command.TheVariants.{Sig, Check}
+use Rattle.arpki_play.specs.declared.command.Command.{Command}
+use Rattle.arpki_play.specs.declared.command.Command.TheVariants.{Sig, Check}
 
 -- the bytes of the longest input
 abbrev pub most_bytes : ℕ

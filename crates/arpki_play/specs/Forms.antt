@@ -38,7 +38,7 @@ is_numeral word =
 -- the number that a word spells, where it is below 2 ^ 64
 abbrev pub number_of : List ℕ → Option ℕ
 number_of word =
-    if is_numeral word then such_that (λ n. nat_lt n (2 ^ 64)) (Some (digits_value 10 word)) else None
+    if is_numeral word && nat_lt (digits_value 10 word) (2 ^ 64) then Some (digits_value 10 word) else None
 
 -- ---- names
 

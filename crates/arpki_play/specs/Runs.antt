@@ -5,7 +5,7 @@ use Rattle.ar_io.specs.Wrote.{Appended, AppendedFront}
 use Rattle.arpki_play.specs.Answers.{most_bytes, answer_to, output_of, status_of}
 use Rattle.arpki_play.specs.declared.fault.Fault.{Fault}
 use Rattle.arpki_play.specs.declared.fault.Fault.TheVariants as fault
-use Rattle.arpki_play.specs.declared.words.Command.{Command}
+use Rattle.arpki_play.specs.declared.command.Command.{Command}
 
 -- The bytes were taken of a source, to its end where an input may be so long. Of a longer one no more
 -- than one byte past that was taken.

@@ -2,8 +2,8 @@
 use Rattle.std.specs.Prelude.{ℕ, if◌then◌else◌, List, [], ◌∷◌, codes, map, Option, Some, None, String, string_bytes}
 use Rattle.std.specs.Str.{bytes_eq}
 use Rattle.std.specs.declared.alloc.Global.{Global}
-use Rattle.arpki_play.specs.declared.words.Command.{Command}
-use Rattle.arpki_play.specs.declared.words.Command.TheVariants.{Sig, Check}
+use Rattle.arpki_play.specs.declared.command.Command.{Command}
+use Rattle.arpki_play.specs.declared.command.Command.TheVariants.{Sig, Check}
 
 -- the bytes of each word
 abbrev pub texts : List (String Global) → List (List ℕ)

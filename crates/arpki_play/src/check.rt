@@ -34,7 +34,7 @@ fn party_count(word: &Word) -> Result<usize, Refusal>
 {
     let count = word.number()? as usize;
     if !is_party_count(count) {
-        return Err(word.refused());
+        return Err(word.refusal());
     }
     Ok(count)
 }
@@ -47,7 +47,7 @@ fn quorum_of(word: &Word, logs: usize) -> Result<usize, Refusal>
 {
     let quorum = word.number()? as usize;
     if !is_quorum(quorum, logs) {
-        return Err(word.refused());
+        return Err(word.refusal());
     }
     Ok(quorum)
 }

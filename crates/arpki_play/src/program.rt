@@ -6,9 +6,9 @@ ghost use Rattle.arpki_play.specs.Runs.{Answers, BreaksOff, TakesAtMost};
 ghost use Rattle.arpki_play.specs.Words.{command_of, texts};
 
 use crate::answer::Answer;
+use crate::command::Command;
 use crate::fault::Fault;
 use crate::run::{run_command, show_usage};
-use crate::words::Command;
 use ar_io::{Sink, Source};
 use std::alloc::Global;
 

@@ -5,9 +5,9 @@ ghost use Rattle.arpki_play.specs.Answers.{answer_of, answer_to, most_bytes, out
 ghost use Rattle.arpki_play.specs.Runs.{Answers, BreaksOff, TakesAll, TakesAtMost};
 
 use crate::answer::Answer;
+use crate::command::Command;
 use crate::fault::Fault;
 use crate::refusal::{Reason, Refusal};
-use crate::words::Command;
 use crate::{check, sig};
 use ar_io::{ReadFault, Sink, Source, read_all, write_all};
 use std::alloc::Global;

@@ -64,7 +64,7 @@ impl<'a> Word<'a> {
     }
 
     /// The refusal of a word that is not of its form or range.
-    pub fn refused(&self) -> Refusal
+    pub fn refusal(&self) -> Refusal
         ensures { result ≡ record { line = self.now.line; reason = Field self.now.number } }
     {
         Refusal::new(self.line, Reason::Field(self.number))
@@ -75,12 +75,12 @@ impl<'a> Word<'a> {
         ensures { Reads (λ bytes. bytes.items) result (spelled self.now (bytes_of_hex self.now.text)) }
     {
         if !has_lower_hex_digits(self.text) {
-            return Err(LineFault::Refused(self.refused()));
+            return Err(LineFault::Refused(self.refusal()));
         }
         match hex::decode(alloc, self.text) {
             Ok(bytes) => Ok(bytes),
             Err(FromHexError::OutOfMemory) => Err(LineFault::Memory),
-            Err(_) => Err(LineFault::Refused(self.refused())),
+            Err(_) => Err(LineFault::Refused(self.refusal())),
         }
     }
 
@@ -89,7 +89,7 @@ impl<'a> Word<'a> {
         ensures { Reads (λ key. key) result (spelled self.now (key_of_hex self.now.text)) }
     {
         let bytes = self.bytes(alloc)?;
-        let key = LmsPublic::read(&bytes).ok_or(self.refused())?;
+        let key = LmsPublic::read(&bytes).ok_or(self.refusal())?;
         Ok(key)
     }
 
@@ -98,7 +98,7 @@ impl<'a> Word<'a> {
     pub fn number(&self) -> Result<u64, Refusal>
         ensures { result ≡ spelled self.now (number_of self.now.text) }
     {
-        number_of(self.text).ok_or(self.refused())
+        number_of(self.text).ok_or(self.refusal())
     }
 
     /// The name that the word is.
@@ -107,7 +107,7 @@ impl<'a> Word<'a> {
     {
         match Name::read(alloc, self.text) {
             Ok(name) => Ok(name),
-            Err(NameFault::Refused(_)) => Err(LineFault::Refused(self.refused())),
+            Err(NameFault::Refused(_)) => Err(LineFault::Refused(self.refusal())),
             Err(NameFault::Memory) => Err(LineFault::Memory),
         }
     }
