@@ -5,7 +5,7 @@ ghost use Rattle.lm_ots.specs.Candidate.{candidate, candidate_key, element};
 use crate::OtsType;
 use crate::chain::chain;
 use crate::digits::{coef, with_checksum};
-use crate::hashing::{D_PBLC, begin, message_hash};
+use crate::hashing::{D_PBLC, domain_hasher, message_hash};
 use ar_bytes::Fields;
 use sha2::Digest;
 
@@ -51,7 +51,7 @@ fn candidate_key(
     let randomizer = &signature[RANDOMIZER_PLACE..ELEMENTS_PLACE];
     let hash = message_hash(id, leaf, randomizer, message);
     let digits = with_checksum(kind, &hash);
-    let mut hasher = begin(id, leaf, D_PBLC);
+    let mut hasher = domain_hasher(id, leaf, D_PBLC);
     for i in 0..kind.p() {
         let from = coef(kind, &digits, i);
         let end = chain(

@@ -4,7 +4,7 @@ ghost use Rattle.sha2.specs.Hashers.{Holds256};
 ghost use Rattle.sha2.specs.Sha256.{sha256};
 ghost use Rattle.lm_ots.specs.Chain.{chain, domain_text, step_text};
 
-use crate::bytes::join;
+use ar_bytes::{write_bytes, write_u8, write_u16, write_u32};
 use sha2::{Digest, Sha256};
 
 // Where the number of the step stands in what a step hashes, and where the value begins.
@@ -13,6 +13,7 @@ const STEP_PLACE: usize = 22;
 const VALUE_PLACE: usize = 23;
 
 /// What step `step` of a chain hashes.
+#[tactic(auto, unfolding(ar_bytes::specs::RoundTrip::number_text))]
 pub(crate) fn step_text(
     id: &[u8; 16],
     leaf: u32,
@@ -22,10 +23,13 @@ pub(crate) fn step_text(
 ) -> [u8; 55]
     ensures { result ≡ step_text id.now leaf index step value.now }
 {
-    let place: [u8; 6] = join(&leaf.to_be_bytes(), &index.to_be_bytes());
-    let head: [u8; 22] = join(id, &place);
-    let tail: [u8; 33] = join(&[step], value);
-    join(&head, &tail)
+    let mut text = [0u8; 55];
+    let place = write_bytes(&mut text, 0, id);
+    let place = write_u32(&mut text, place, leaf);
+    let place = write_u16(&mut text, place, index);
+    let place = write_u8(&mut text, place, step);
+    write_bytes(&mut text, place, value);
+    text
 }
 
 // One step: the value becomes the hash of the text, in which the number of the step is written.

@@ -11,8 +11,10 @@ pub(crate) const D_PBLC: u16 = 0x8080;
 // What stands in a string with a message.
 const D_MESG: u16 = 0x8181;
 
-/// A hasher that holds what all strings of a leaf or a node under a domain begin with.
-pub(crate) fn begin(id: &[u8; 16], number: u32, domain: u16) -> Sha256
+/// A hasher that holds what each string of a leaf or of a tree's node begins with (RFC 8554, sections 4.3,
+/// 4.5 and 5.3): I, the number of the leaf or the node, and the two bytes that tell such strings apart
+/// (section 7.1).
+pub fn domain_hasher(id: &[u8; 16], number: u32, domain: u16) -> Sha256
     ensures { Holds256 result (id.now ++ (to_be_bytes w32 number ++ to_be_bytes w16 domain)) }
 {
     let mut hasher = Sha256::new();
@@ -26,7 +28,7 @@ pub(crate) fn begin(id: &[u8; 16], number: u32, domain: u16) -> Sha256
 pub(crate) fn message_hash(id: &[u8; 16], leaf: u32, randomizer: &[u8], message: &[u8]) -> [u8; 32]
     ensures { result ≡ message_hash id.now leaf randomizer.now message.now }
 {
-    let mut hasher = begin(id, leaf, D_MESG);
+    let mut hasher = domain_hasher(id, leaf, D_MESG);
     hasher.update(randomizer);
     hasher.update(message);
     hasher.finalize()

@@ -6,11 +6,11 @@
 #![tactic(auto)]
 
 pub use candidate::ots_candidate;
+pub use hashing::domain_hasher;
 pub use ots_type::OtsType;
 pub use secret::OtsSecret;
 pub use signing::{ots_public, ots_sign_into};
 
-mod bytes;
 mod candidate;
 mod chain;
 mod digits;

@@ -5,11 +5,10 @@ ghost use Rattle.lm_ots.specs.OtsKind.{count_of, signature_len_of};
 ghost use Rattle.lm_ots.specs.Signing.{public_key_of, randomizer_of, secret_element, signature_of, signed_element, value_after};
 
 use crate::OtsSecret;
-use crate::bytes::join;
 use crate::candidate::ELEMENTS_PLACE;
 use crate::chain::{chain, step_text};
 use crate::digits::{coef, with_checksum};
-use crate::hashing::{D_PBLC, begin, message_hash};
+use crate::hashing::{D_PBLC, domain_hasher, message_hash};
 use ar_bytes::{write_bytes, write_u32};
 use byteorder::{ByteOrder, LittleEndian};
 use rand_chacha::ChaCha20Rng;
@@ -27,7 +26,7 @@ const RANDOMIZER_TAG: u8 = 0x43;
 pub fn ots_public(secret: &OtsSecret) -> [u8; 32]
     ensures { result ≡ public_key_of secret.now }
 {
-    let mut hasher = begin(&secret.id, secret.leaf, D_PBLC);
+    let mut hasher = domain_hasher(&secret.id, secret.leaf, D_PBLC);
     for i in 0..secret.kind.p() {
         hasher.update(&value_after(secret, secret.kind.last(), i as u16));
     }
@@ -85,8 +84,10 @@ fn secret_element(secret: &OtsSecret, i: u16) -> [u8; 32]
 fn randomizer_key(seed: &[u8; 32]) -> [u8; 32]
     ensures { result ≡ sha256 (0x43 ∷ seed.now) }
 {
-    let text: [u8; 33] = join(&[RANDOMIZER_TAG], seed);
-    Sha256::digest(text.as_slice())
+    let mut hasher = Sha256::new();
+    hasher.update(&[RANDOMIZER_TAG]);
+    hasher.update(seed);
+    hasher.finalize()
 }
 
 // C of a leaf.
