@@ -26,7 +26,7 @@ pieces_are_some ends [] = ([], [], refl)
 pieces_are_some ends (byte ∷ input) = cut_some (ends byte) byte (slice_split ends input)
 
 -- a piece that another follows is a line
-line_before : (line : List ℕ) (pieces : List (List ℕ)) → AtLeastOne pieces → lines_of_pieces (line ∷ pieces) ≡ line ∷ lines_of_pieces pieces
+pub line_before : (line : List ℕ) (pieces : List (List ℕ)) → AtLeastOne pieces → lines_of_pieces (line ∷ pieces) ≡ line ∷ lines_of_pieces pieces
 line_before line pieces some = rw some.2 refl
 
 -- what a test chose

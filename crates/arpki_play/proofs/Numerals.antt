@@ -23,7 +23,7 @@ numeral_digits word h =
     let some : length word ≡ 0 → ⊥ = eqb-false _ _ (not-true _ front.1) in
     (sym (digits_alone word) ∙ front.0, omega arith)
 
-own : IsNumeralModel (λ ds. all_ascii_digits ds ≡ true) (digits_value 10)
+pub own : IsNumeralModel (λ ds. all_ascii_digits ds ≡ true) (digits_value 10)
 own = numerals_by_value _ tells_all_ascii_digits
 
 pub numeral_is_text : (word : List ℕ) → is_numeral word ≡ true → IsUtf8 word

@@ -8,3 +8,4 @@ pub mod Runs
 pub mod Sig
 pub mod Views
 pub mod Words
+pub mod Written

@@ -4,6 +4,7 @@
 //! an input is cut and which line is refused first, `Views` how a row that is read in place is seen, and
 //! `Forms` what a word spells; `Sig` and `Check` what these commands read, and `Check` what a client
 //! finds; `Answers` what is written and with which status; and `Runs` what a run takes and writes.
+//! `Written` says how a question and an inquiry are written, and `laws` that they are read so.
 #![tactic(auto)]
 
 pub use program::arpki_main;
@@ -13,6 +14,7 @@ mod check;
 mod command;
 mod fault;
 mod finding;
+pub mod laws;
 mod lines;
 mod program;
 mod refusal;

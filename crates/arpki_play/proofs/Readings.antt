@@ -1,0 +1,182 @@
+-- What is written for `sig` and for `check` is read as just that.
+use Rattle.std.proofs.Common.{◌≡◌, ℕ, suc, ◌+◌, ◌*◌, ◌<◌, ◌≤◌, ◌^◌, true, List, [], ◌∷◌, ◌++◌, length, map, Option, Some, Ok, refl, ap, ◌∙◌, All, codes, append_assoc, le-leb, lt-ltb, arith}
+use Rattle.std.specs.Fmt.{decimal}
+use Rattle.std.specs.List.{list_all}
+use Rattle.std.specs.Str.{bytes_eq}
+use Rattle.std.proofs.lemmas.List.Folds.{list_all-append}
+use Rattle.std.proofs.lemmas.Slice.Eq.{bytes_eq-Decides}
+use Rattle.hex.specs.Hex.{IsBytes, encode_lower}
+use Rattle.std.proofs.lemmas.List.Elements.{All-head, All-tail}
+use Rattle.ar_names.specs.Names.{IsName}
+use Rattle.party_keys.specs.Directory.{IsDirectory, PartyKeys, is_party_count, is_quorum}
+use Rattle.lms_tree.specs.declared.public_key.LmsPublic.{LmsPublic}
+use Rattle.arpki_play.specs.Forms.{bytes_of_hex, key_of_hex}
+use Rattle.arpki_play.specs.Lines.{is_text, words_of}
+use Rattle.arpki_play.specs.Check.{Inquiry, authorities_at, confirmation_at, directory_at, inquiry_at, key_at, keys_at, logs_at, name_at, number_at, party_count_of, quorum_of}
+use Rattle.arpki_play.specs.Refusals.{Cursor, line_at, start_of}
+use Rattle.arpki_play.specs.Rows.{field_at, row_at, two_fields_at}
+use Rattle.arpki_play.specs.Sig.{Question, question_at, word_at}
+use Rattle.arpki_play.specs.Written.{IsInquiry, IsKey, IsQuestion, asked_lines, authorities_line, directory_lines, hex_of_key, inquiry_lines, inquiry_text, key_line, logs_line, question_lines, question_text, text_of_lines}
+use Rattle.arpki_play.proofs.Spelled.{bytes_of_hex-encode, decimal_is_word, hex_is_word, key_is_word, key_of_hex-key, name_is_word, name_of-name, number_of-decimal}
+use Rattle.arpki_play.proofs.TextLaws.{is_word, lines_of-text, text_joined, word_is_text, words_of-first, words_of-last}
+
+-- a cursor before these lines, of which the first has this number
+abbrev before : ℕ → List (List ℕ) → Cursor
+before next ahead = record { next = next; ahead = ahead }
+
+-- lines of text are ahead of an input that they make
+start_of-text : (lines : List (List ℕ)) → list_all is_text lines ≡ true → start_of (text_of_lines lines) ≡ before 1 lines
+start_of-text lines h = ap (before 1) (lines_of-text lines h)
+
+-- ---- the question of `sig`
+
+word_reads : {T : Type 0} (form : List ℕ → Option T) (next : ℕ) (line : List ℕ) (ahead : List (List ℕ)) (value : T) → form line ≡ Some value → word_at form (before next (line ∷ ahead)) ≡ Ok (value, before (next + 1) ahead)
+unfolding word_at line_at
+word_reads form next line ahead value h = rw h refl
+
+lines_are_text : (question : Question) → IsQuestion question → list_all is_text (question_lines question) ≡ true
+lines_are_text question h =
+    let key = word_is_text (hex_of_key question.key) (key_is_word question.key h.key) in
+    let message = word_is_text (encode_lower question.message) (hex_is_word question.message h.message) in
+    let signature = word_is_text (encode_lower question.signature) (hex_is_word question.signature h.signature) in
+    rw (key, message, signature) refl
+
+pub question_reads : (question : Question) → IsQuestion question → question_at (start_of (question_text question)) ≡ Ok question
+unfolding question_at
+question_reads question h =
+    let message = encode_lower question.message in
+    let signature = encode_lower question.signature in
+    let key = word_reads key_of_hex 1 (hex_of_key question.key) (message ∷ signature ∷ []) question.key (key_of_hex-key question.key h.key) in
+    let second = word_reads bytes_of_hex 2 message (signature ∷ []) question.message (bytes_of_hex-encode question.message h.message) in
+    let third = word_reads bytes_of_hex 3 signature [] question.signature (bytes_of_hex-encode question.signature h.signature) in
+    ap question_at (start_of-text (question_lines question) (lines_are_text question h))
+    ∙ rw (key, second, third) refl
+
+-- ---- named lines
+
+named_is_text : (name field : List ℕ) → is_word name ≡ true → is_word field ≡ true → is_text (name ++ (32 ∷ field)) ≡ true
+named_is_text name field n f = text_joined name field (word_is_text name n) (word_is_text field f)
+
+row_reads : (name rest : List ℕ) (next : ℕ) (ahead : List (List ℕ)) → is_word name ≡ true → is_text rest ≡ true → row_at name (before next ((name ++ (32 ∷ rest)) ∷ ahead)) ≡ Ok (record { line = next; fields = words_of rest }, before (next + 1) ahead)
+unfolding row_at line_at
+row_reads name rest next ahead n r =
+    let same : bytes_eq name name ≡ true = (bytes_eq-Decides name name).1 refl in
+    rw (text_joined name rest (word_is_text name n) r, words_of-first name rest n, same) refl
+
+field_reads : (name field : List ℕ) (next : ℕ) (ahead : List (List ℕ)) → is_word name ≡ true → is_word field ≡ true → field_at name (before next ((name ++ (32 ∷ field)) ∷ ahead)) ≡ Ok (record { line = next; number = 1; text = field }, before (next + 1) ahead)
+unfolding field_at
+field_reads name field next ahead n f =
+    rw (row_reads name field next ahead n (word_is_text field f), words_of-last field f) refl
+
+two_fields_read : (name first second : List ℕ) (next : ℕ) (ahead : List (List ℕ)) → is_word name ≡ true → is_word first ≡ true → is_word second ≡ true → two_fields_at name (before next ((name ++ (32 ∷ (first ++ (32 ∷ second)))) ∷ ahead)) ≡ Ok ((record { line = next; number = 1; text = first }, record { line = next; number = 2; text = second }), before (next + 1) ahead)
+unfolding two_fields_at
+two_fields_read name first second next ahead n f s =
+    rw (row_reads name (first ++ (32 ∷ second)) next ahead n (named_is_text first second f s), words_of-first first second f, words_of-last second s) refl
+
+-- ---- the inquiry of `check`
+
+key_reads : (key : LmsPublic) (next : ℕ) (ahead : List (List ℕ)) → IsKey key → key_at (before next (key_line key ∷ ahead)) ≡ Ok (key, before (next + 1) ahead)
+unfolding key_at
+key_reads key next ahead h =
+    rw (field_reads (codes "key") (hex_of_key key) next ahead refl (key_is_word key h), key_of_hex-key key h) refl
+
+keys_read : (keys : List LmsPublic) (next : ℕ) (ahead : List (List ℕ)) → All IsKey keys → keys_at (length keys) (before next (map key_line keys ++ ahead)) ≡ Ok (keys, before (next + length keys) ahead)
+unfolding keys_at
+keys_read [] next ahead h = let same : next + length {A = LmsPublic} [] ≡ next = omega arith in rw same refl
+keys_read (key ∷ keys) next ahead h =
+    let first = key_reads key next (map key_line keys ++ ahead) (All-head IsKey key keys h) in
+    let others = keys_read keys (next + 1) ahead (All-tail IsKey key keys h) in
+    let behind : next + 1 + length keys ≡ next + suc (length keys) = omega arith in
+    rw (first, others, behind) refl
+
+logs_read : (count quorum next : ℕ) (ahead : List (List ℕ)) → is_party_count count ≡ true → is_quorum quorum count ≡ true → count < 2 ^ 64 → quorum < 2 ^ 64 → logs_at (before next (logs_line count quorum ∷ ahead)) ≡ Ok ((count, quorum), before (next + 1) ahead)
+unfolding logs_at party_count_of quorum_of
+logs_read count quorum next ahead c q n m =
+    rw (two_fields_read (codes "logs") (decimal count) (decimal quorum) next ahead refl (decimal_is_word count n) (decimal_is_word quorum m), number_of-decimal count n, c, number_of-decimal quorum m, q) refl
+
+authorities_read : (count next : ℕ) (ahead : List (List ℕ)) → is_party_count count ≡ true → count < 2 ^ 64 → authorities_at (before next (authorities_line count ∷ ahead)) ≡ Ok (count, before (next + 1) ahead)
+unfolding authorities_at party_count_of
+authorities_read count next ahead c n =
+    rw (field_reads (codes "authorities") (decimal count) next ahead refl (decimal_is_word count n), number_of-decimal count n, c) refl
+
+name_reads : (name : List ℕ) (next : ℕ) (ahead : List (List ℕ)) → IsName name → name_at (before next ((codes "name " ++ name) ∷ ahead)) ≡ Ok (name, before (next + 1) ahead)
+unfolding name_at
+name_reads name next ahead h =
+    rw (field_reads (codes "name") name next ahead refl (name_is_word name h), name_of-name name h) refl
+
+number_reads : (name : List ℕ) (n next : ℕ) (ahead : List (List ℕ)) → is_word name ≡ true → n < 2 ^ 64 → number_at name (before next ((name ++ (32 ∷ decimal n)) ∷ ahead)) ≡ Ok (n, before (next + 1) ahead)
+unfolding number_at
+number_reads name n next ahead w h =
+    rw (field_reads name (decimal n) next ahead w (decimal_is_word n h), number_of-decimal n h) refl
+
+confirmation_reads : (bytes : List ℕ) (next : ℕ) (ahead : List (List ℕ)) → IsBytes bytes → confirmation_at (before next ((codes "confirmation " ++ encode_lower bytes) ∷ ahead)) ≡ Ok (bytes, before (next + 1) ahead)
+unfolding confirmation_at
+confirmation_reads bytes next ahead h =
+    rw (field_reads (codes "confirmation") (encode_lower bytes) next ahead refl (hex_is_word bytes h), bytes_of_hex-encode bytes h) refl
+
+-- the tests of the bounds that a directory keeps
+party_count : (n : ℕ) → 3 ≤ n → n ≤ 16 → is_party_count n ≡ true
+party_count n least most = rw (le-leb 3 n least, le-leb n 16 most) refl
+
+quorum_test : (q n : ℕ) → n + 2 < 2 * q → q ≤ n → is_quorum q n ≡ true
+quorum_test q n least most = rw (lt-ltb (n + 2) (2 * q) least, le-leb q n most) refl
+
+-- where the lines of a directory end
+abbrev behind_directory : PartyKeys → ℕ
+behind_directory keys = 1 + 1 + length keys.logs + 1 + length keys.authorities
+
+directory_reads : (keys : PartyKeys) (ahead : List (List ℕ)) → IsDirectory keys → All IsKey keys.logs → All IsKey keys.authorities → directory_at (before 1 (directory_lines keys ++ ahead)) ≡ Ok (keys, before (behind_directory keys) ahead)
+unfolding directory_at
+directory_reads keys ahead d l a =
+    let authority_lines = map key_line keys.authorities ++ ahead in
+    let behind = authorities_line (length keys.authorities) ∷ authority_lines in
+    let joined : map key_line keys.logs ++ (authorities_line (length keys.authorities) ∷ map key_line keys.authorities) ++ ahead ≡ map key_line keys.logs ++ behind = append_assoc (map key_line keys.logs) (authorities_line (length keys.authorities) ∷ map key_line keys.authorities) ahead in
+    let logs = logs_read (length keys.logs) keys.quorum 1 (map key_line keys.logs ++ behind) (party_count _ d.logs_least d.logs_most) (quorum_test _ _ d.quorum_least d.quorum_most) (omega (arith, d.logs_most)) (omega (arith, d.logs_most, d.quorum_most)) in
+    let log_keys = keys_read keys.logs (1 + 1) behind l in
+    let authorities = authorities_read (length keys.authorities) (1 + 1 + length keys.logs) authority_lines (party_count _ d.authorities_least d.authorities_most) (omega (arith, d.authorities_most)) in
+    let authority_keys = keys_read keys.authorities (1 + 1 + length keys.logs + 1) ahead a in
+    rw (joined, logs, log_keys, authorities, authority_keys) refl
+
+key_lines_are_text : (keys : List LmsPublic) → All IsKey keys → list_all is_text (map key_line keys) ≡ true
+key_lines_are_text [] h = refl
+key_lines_are_text (key ∷ keys) h =
+    let first : is_text (key_line key) ≡ true = named_is_text (codes "key") (hex_of_key key) refl (key_is_word key (All-head IsKey key keys h)) in
+    rw first (key_lines_are_text keys (All-tail IsKey key keys h))
+
+directory_is_text : (keys : PartyKeys) → IsDirectory keys → All IsKey keys.logs → All IsKey keys.authorities → list_all is_text (directory_lines keys) ≡ true
+directory_is_text keys d l a =
+    let count = decimal_is_word (length keys.logs) (omega (arith, d.logs_most)) in
+    let quorum = decimal_is_word keys.quorum (omega (arith, d.logs_most, d.quorum_most)) in
+    let both = named_is_text (decimal (length keys.logs)) (decimal keys.quorum) count quorum in
+    let logs : is_text (logs_line (length keys.logs) keys.quorum) ≡ true = text_joined (codes "logs") (decimal (length keys.logs) ++ (32 ∷ decimal keys.quorum)) refl both in
+    let authorities : is_text (authorities_line (length keys.authorities)) ≡ true = named_is_text (codes "authorities") (decimal (length keys.authorities)) refl (decimal_is_word (length keys.authorities) (omega (arith, d.authorities_most))) in
+    let parts = list_all-append is_text (map key_line keys.logs) (authorities_line (length keys.authorities) ∷ map key_line keys.authorities) in
+    rw (logs, parts, key_lines_are_text keys.logs l, authorities, key_lines_are_text keys.authorities a) refl
+
+asked_are_text : (inquiry : Inquiry) → IsInquiry inquiry → list_all is_text (asked_lines inquiry) ≡ true
+asked_are_text inquiry h =
+    let name : is_text (codes "name " ++ inquiry.name) ≡ true = named_is_text (codes "name") inquiry.name refl (name_is_word inquiry.name h.name) in
+    let now : is_text (codes "now " ++ decimal inquiry.now) ≡ true = named_is_text (codes "now") (decimal inquiry.now) refl (decimal_is_word inquiry.now h.now) in
+    let age : is_text (codes "age " ++ decimal inquiry.age) ≡ true = named_is_text (codes "age") (decimal inquiry.age) refl (decimal_is_word inquiry.age h.age) in
+    let confirmation : is_text (codes "confirmation " ++ encode_lower inquiry.confirmation) ≡ true = named_is_text (codes "confirmation") (encode_lower inquiry.confirmation) refl (hex_is_word inquiry.confirmation h.confirmation) in
+    rw (name, now, age, confirmation) refl
+
+inquiry_is_text : (inquiry : Inquiry) → IsInquiry inquiry → list_all is_text (inquiry_lines inquiry) ≡ true
+inquiry_is_text inquiry h =
+    list_all-append is_text (directory_lines inquiry.keys) (asked_lines inquiry)
+    ∙ rw (directory_is_text inquiry.keys h.directory h.logs h.authorities, asked_are_text inquiry h) refl
+
+pub inquiry_reads : (inquiry : Inquiry) → IsInquiry inquiry → inquiry_at (start_of (inquiry_text inquiry)) ≡ Ok inquiry
+unfolding inquiry_at
+inquiry_reads inquiry h =
+    let next = behind_directory inquiry.keys in
+    let confirmation_line = codes "confirmation " ++ encode_lower inquiry.confirmation in
+    let age_line = codes "age " ++ decimal inquiry.age in
+    let now_line = codes "now " ++ decimal inquiry.now in
+    let directory = directory_reads inquiry.keys (asked_lines inquiry) h.directory h.logs h.authorities in
+    let name = name_reads inquiry.name next (now_line ∷ age_line ∷ confirmation_line ∷ []) h.name in
+    let now = number_reads (codes "now") inquiry.now (next + 1) (age_line ∷ confirmation_line ∷ []) refl h.now in
+    let age = number_reads (codes "age") inquiry.age (next + 1 + 1) (confirmation_line ∷ []) refl h.age in
+    let confirmation = confirmation_reads inquiry.confirmation (next + 1 + 1 + 1) [] h.confirmation in
+    ap inquiry_at (start_of-text (inquiry_lines inquiry) (inquiry_is_text inquiry h))
+    ∙ rw (directory, name, now, age, confirmation) refl

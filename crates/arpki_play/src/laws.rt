@@ -1,0 +1,19 @@
+//! Laws on what is read, over the definitions alone: each is the contract of a function without a body.
+
+ghost use Rattle.std.specs.Prelude.{◌≡◌, Ok};
+ghost use Rattle.arpki_play.specs.Check.{Inquiry, inquiry_at};
+ghost use Rattle.arpki_play.specs.Refusals.{start_of};
+ghost use Rattle.arpki_play.specs.Sig.{Question, question_at};
+ghost use Rattle.arpki_play.specs.Written.{IsInquiry, IsQuestion, inquiry_text, question_text};
+
+/// A question that is written is read as just this question.
+pub fn a_question_is_read_as_it_is_written()
+    ensures { (question : Question) → IsQuestion question
+        → question_at (start_of (question_text question)) ≡ Ok question }
+{}
+
+/// An inquiry that is written is read as just this inquiry.
+pub fn an_inquiry_is_read_as_it_is_written()
+    ensures { (inquiry : Inquiry) → IsInquiry inquiry
+        → inquiry_at (start_of (inquiry_text inquiry)) ≡ Ok inquiry }
+{}
