@@ -16,7 +16,7 @@ digits_alone [] = refl
 digits_alone (byte ∷ word) = rw (digits_alone word) refl
 
 -- the digits of a numeral, and that there are some
-numeral_digits : (word : List ℕ) → is_numeral word ≡ true → (all_ascii_digits word ≡ true) × (0 < length word)
+pub numeral_digits : (word : List ℕ) → is_numeral word ≡ true → (all_ascii_digits word ≡ true) × (0 < length word)
 numeral_digits word h =
     let parts = and_parts _ _ h in
     let front = and_parts _ _ parts.0 in

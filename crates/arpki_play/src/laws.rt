@@ -1,15 +1,22 @@
 //! Laws on what is read, over the definitions alone: each is the contract of a function without a body.
 
-ghost use Rattle.std.specs.Prelude.{◌≡◌, Ok};
+ghost use Rattle.std.specs.Prelude.{◌≡◌, ℕ, List, Ok};
 ghost use Rattle.arpki_play.specs.Check.{Inquiry, inquiry_at};
+ghost use Rattle.arpki_play.specs.Lines.{lines_of};
 ghost use Rattle.arpki_play.specs.Refusals.{start_of};
 ghost use Rattle.arpki_play.specs.Sig.{Question, question_at};
-ghost use Rattle.arpki_play.specs.Written.{IsInquiry, IsQuestion, inquiry_text, question_text};
+ghost use Rattle.arpki_play.specs.Written.{IsInquiry, IsQuestion, inquiry_text, question_lines, question_text};
 
 /// A question that is written is read as just this question.
 pub fn a_question_is_read_as_it_is_written()
     ensures { (question : Question) → IsQuestion question
         → question_at (start_of (question_text question)) ≡ Ok question }
+{}
+
+/// A question is read from the lines that write it, and from no others.
+pub fn only_written_questions_are_read()
+    ensures { (input : List ℕ) (question : Question) → question_at (start_of input) ≡ Ok question
+        → lines_of input ≡ question_lines question }
 {}
 
 /// An inquiry that is written is read as just this inquiry.
