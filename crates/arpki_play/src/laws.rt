@@ -5,7 +5,7 @@ ghost use Rattle.arpki_play.specs.Check.{Inquiry, inquiry_at};
 ghost use Rattle.arpki_play.specs.Lines.{lines_of};
 ghost use Rattle.arpki_play.specs.Refusals.{start_of};
 ghost use Rattle.arpki_play.specs.Sig.{Question, question_at};
-ghost use Rattle.arpki_play.specs.Written.{IsInquiry, IsQuestion, inquiry_text, question_lines, question_text};
+ghost use Rattle.arpki_play.specs.Written.{IsInquiry, IsQuestion, inquiry_lines, inquiry_text, question_lines, question_text};
 
 /// A question that is written is read as just this question.
 pub fn a_question_is_read_as_it_is_written()
@@ -23,4 +23,10 @@ pub fn only_written_questions_are_read()
 pub fn an_inquiry_is_read_as_it_is_written()
     ensures { (inquiry : Inquiry) → IsInquiry inquiry
         → inquiry_at (start_of (inquiry_text inquiry)) ≡ Ok inquiry }
+{}
+
+/// An inquiry is read from the lines that write it, and from no others.
+pub fn only_written_inquiries_are_read()
+    ensures { (input : List ℕ) (inquiry : Inquiry) → inquiry_at (start_of input) ≡ Ok inquiry
+        → lines_of input ≡ inquiry_lines inquiry }
 {}
