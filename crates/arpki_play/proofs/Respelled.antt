@@ -17,7 +17,7 @@ use Rattle.lms_tree.specs.PublicKey.{key_of_text, key_text}
 use Rattle.lms_tree.proofs.KeyLemmas.{key_text-parts}
 use Rattle.arpki_play.specs.Forms.{bytes_of_hex, is_lower_hex_digit, is_numeral, key_of_hex, name_of, number_of, such_that}
 use Rattle.arpki_play.specs.Written.{hex_of_key}
-use Rattle.arpki_play.proofs.Numerals.{digits_alone, numeral_digits, own}
+use Rattle.arpki_play.proofs.Numerals.{numeral_digits, own}
 
 -- ---- what a value shows
 

@@ -1,5 +1,5 @@
 -- What is read for `sig` and for `check` is read from the lines that write it, and from no others.
-use Rattle.std.proofs.Common.{◌≡◌, ℕ, zero, suc, ◌+◌, Bool, true, false, cond, List, [], ◌∷◌, ◌++◌, length, map, Option, Some, None, Result, Ok, Err, refl, sym, ap, ◌∙◌, arith, append_assoc, codes}
+use Rattle.std.proofs.Common.{◌≡◌, ℕ, zero, suc, ◌+◌, Bool, true, false, cond, List, [], ◌∷◌, ◌++◌, length, map, Option, Some, None, Result, Ok, Err, refl, sym, ap, ◌∙◌, append_assoc, codes}
 use Rattle.std.specs.Fmt.{decimal}
 use Rattle.std.specs.List.{join_with_byte}
 use Rattle.std.specs.Str.{bytes_eq}
@@ -227,9 +227,15 @@ keys_are (suc count) at new keys h =
     let more = keys_are count key.0.1 others.0.1 others.0.0 others.1 in
     let same = ok_is (key.0.0 ∷ others.0.0, others.0.1) (keys, new) others.2 in (
       key_is at key.0.1 key.0.0 key.1 ∙ behind (key_line key.0.0) more.0
-      ∙ ap (λ (x : List LmsPublic × Cursor). map key_line x.0 ++ x.1.ahead) same,
+          ∙ ap (λ (x : List LmsPublic × Cursor). map key_line x.0 ++ x.1.ahead) same,
       sym (ap (λ (x : List LmsPublic × Cursor). length x.0) same) ∙ ap suc more.1,
     )
+
+-- the lines of a directory, one part behind the other
+directory_joined : (keys : PartyKeys) (logs authorities : ℕ) (whole log_keys behind_logs authority_keys rest : List (List ℕ)) → whole ≡ logs_line logs keys.quorum ∷ log_keys → log_keys ≡ map key_line keys.logs ++ behind_logs → length keys.logs ≡ logs → behind_logs ≡ authorities_line authorities ∷ authority_keys → authority_keys ≡ map key_line keys.authorities ++ rest → length keys.authorities ≡ authorities → whole ≡ directory_lines keys ++ rest
+directory_joined keys logs authorities whole log_keys behind_logs authority_keys rest a b m c d n =
+    let parts = append_assoc (map key_line keys.logs) (authorities_line (length keys.authorities) ∷ map key_line keys.authorities) rest in
+    rw (a, b, c, d, parts, m, n) refl
 
 directory_is : (at new : Cursor) (keys : PartyKeys) → directory_at at ≡ Ok (keys, new) → at.ahead ≡ directory_lines keys ++ new.ahead
 unfolding directory_at
@@ -239,18 +245,11 @@ directory_is at new keys h =
     let authorities = bind_ok (authorities_at log_keys.0.1) _ (keys, new) log_keys.2 in
     let authority_keys = bind_ok (keys_at authorities.0.0 authorities.0.1) _ (keys, new) authorities.2 in
     let whole : PartyKeys = record { logs = log_keys.0.0; authorities = authority_keys.0.0; quorum = logs.0.0.1 } in
-    let logs_read = keys_are logs.0.0.0 logs.0.1 log_keys.0.1 log_keys.0.0 log_keys.1 in
-    let authorities_read = keys_are authorities.0.0 authorities.0.1 authority_keys.0.1 authority_keys.0.0 authority_keys.1 in
-    let back = map key_line whole.authorities ++ authority_keys.0.1.ahead in
-    let third : log_keys.0.1.ahead ≡ authorities_line (length whole.authorities) ∷ back =
-    authorities_are log_keys.0.1 authorities.0.1 authorities.0.0 authorities.1 ∙ behind (authorities_line authorities.0.0) authorities_read.0
-    ∙ ap (λ (n : ℕ). authorities_line n ∷ back) (sym authorities_read.1) in
-    let second : logs.0.1.ahead ≡ map key_line whole.logs ++ (authorities_line (length whole.authorities) ∷ back) =
-    logs_read.0 ∙ ap (λ (l : List (List ℕ)). map key_line whole.logs ++ l) third
-    in
-    let front : at.ahead ≡ logs_line (length whole.logs) whole.quorum ∷ logs.0.1.ahead =
-    logs_are at logs.0.1 logs.0.0 logs.1 ∙ ap (λ (n : ℕ). logs_line n whole.quorum ∷ logs.0.1.ahead) (sym logs_read.1) in
-    front ∙ behind (logs_line (length whole.logs) whole.quorum) (second ∙ sym (append_assoc (map key_line whole.logs) (authorities_line (length whole.authorities) ∷ map key_line whole.authorities) authority_keys.0.1.ahead))
+    let first = keys_are logs.0.0.0 logs.0.1 log_keys.0.1 log_keys.0.0 log_keys.1 in
+    let second = keys_are authorities.0.0 authorities.0.1 authority_keys.0.1 authority_keys.0.0 authority_keys.1 in
+    let counts = logs_are at logs.0.1 logs.0.0 logs.1 in
+    let count = authorities_are log_keys.0.1 authorities.0.1 authorities.0.0 authorities.1 in
+    directory_joined whole logs.0.0.0 authorities.0.0 _ _ _ _ _ counts first.0 first.1 count second.0 second.1
     ∙ ap (λ (x : PartyKeys × Cursor). directory_lines x.0 ++ x.1.ahead) (ok_is (whole, authority_keys.0.1) (keys, new) authority_keys.2)
 
 -- a line that is refused for one of two reasons
