@@ -17,7 +17,7 @@ use Rattle.ar_cert.specs.Changes.{Revision}
 
 -- the terms of a policy
 abbrev pub policy_terms_of : Terms → PolicyTerms
-policy_terms_of p = record { threshold = p.threshold; keyed = p.keyed; max_age = p.max_age; until = p.until; trusted = p.trusted }
+policy_terms_of p = record { threshold = p.threshold; keyed = p.keyed; max_age = p.max_age; until = p.until; trusted = p.trusted; wait = None }
 
 -- the terms of a certificate, with its digest
 abbrev pub cert_terms_of : Certificate → CertTerms

@@ -23,6 +23,7 @@ impl Cert {
                 max_age: policy.max_age,
                 until: policy.until,
                 trusted: policy.trusted.as_slice(),
+                wait: None,
             },
         }
     }

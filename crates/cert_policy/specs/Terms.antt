@@ -1,17 +1,18 @@
 -- What a certificate says, as plain data, and how the borrowed facts of a program are seen as it.
-use Rattle.std.specs.Prelude.{ℕ, Bool, List}
+use Rattle.std.specs.Prelude.{ℕ, Bool, List, Option}
 use Rattle.cert_policy.specs.declared.facts.Facts.{Facts}
 use Rattle.cert_policy.specs.declared.facts.PolicyFacts.{PolicyFacts}
 
 -- a policy: how many of the trusted authorities must endorse the next certificate, whether its key
--- must be handed over, how old a confirmation may be and until when the policy holds, in epochs, and
--- the numbers of the trusted authorities
+-- must be handed over, how old a confirmation may be and until when the policy holds, in epochs, the
+-- numbers of the trusted authorities, and how many epochs a recovery waits, where there is one
 pub record PolicyTerms : Type 0 where
   pub threshold : ℕ
   pub keyed : Bool
   pub max_age : ℕ
   pub until : ℕ
   pub trusted : List ℕ
+  pub wait : Option ℕ
 
 -- a certificate: the bytes of its name, its serial number, the digest of the one before it and its
 -- own, whether it revokes the name, and its policy
@@ -31,6 +32,7 @@ policy_terms p = record {
   max_age = p.max_age;
   until = p.until;
   trusted = p.trusted.now;
+  wait = p.wait;
 }
 
 -- the certificate that borrowed facts tell of

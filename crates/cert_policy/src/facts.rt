@@ -27,4 +27,6 @@ pub struct PolicyFacts<'a> {
     pub until: u64,
     /// The numbers of the authorities that the domain trusts.
     pub trusted: &'a [u16],
+    /// How many epochs a recovery waits; `None` in a policy of version 1, which has no recovery.
+    pub wait: Option<u16>,
 }
