@@ -142,4 +142,21 @@ impl<'a> Fields<'a> {
     {
         self.left.is_empty()
     }
+
+    /// The bytes that are left.
+    pub fn left(&self) -> &'a [u8]
+        ensures { result.now ≡ self.now.ahead }
+    {
+        self.left
+    }
+
+    /// A second reader that stands at the same place.
+    pub fn copy(&self) -> Fields<'a>
+        ensures { result ≡ self.now }
+    {
+        Fields {
+            left: self.left,
+            place: self.place,
+        }
+    }
 }
