@@ -10,36 +10,36 @@ use Rattle.ar_bytes.proofs.Passing.{counted_again, counted_pass}
 use Rattle.ar_bytes.proofs.Parts.{whole_again, whole_pass}
 use Rattle.ar_cert.specs.Lists.{number_from, Ascend}
 use Rattle.ar_cert.specs.Certificate.{IsCertificate, certificate_text, counted_certificate_at, count_at, flag_at, flag_text}
-use Rattle.ar_cert.specs.Changes.{Voucher, Revision, voucher_from, vouchers_at, handover_at, change_at, voucher_text, handover_text, change_text, IsSignature, IsVoucher, IsRevision}
+use Rattle.ar_cert.specs.Changes.{Endorsement, Change, endorsement_from, endorsements_at, handover_at, change_at, endorsement_text, handover_text, change_text, IsSignature, IsEndorsement, IsChange}
 use Rattle.ar_cert.proofs.Lists.{ascending_again, ascending_pass, number_from_again, number_from_pass}
 use Rattle.ar_cert.proofs.FieldLaws.{count_again, count_pass, flag_again, flag_pass}
 use Rattle.ar_cert.proofs.CertificateLaws.{split, next, counted_certificate_again, counted_certificate_pass}
 
 -- ---- endorsements
 
-voucher_from_again : (least : ℕ) (v : Voucher) → least ≤ v.authority → IsVoucher v → ReadsBack (voucher_from least) v (voucher_text v)
-unfolding voucher_from
-voucher_from_again least v le h at new p =
+endorsement_from_again : (least : ℕ) (v : Endorsement) → least ≤ v.authority → IsEndorsement v → ReadsBack (endorsement_from least) v (endorsement_text v)
+unfolding endorsement_from
+endorsement_from_again least v le h at new p =
     let s = split at new (number_text w16 v.authority) (counted_text v.signature) p in
     rw (number_from_again least v.authority le h.0 at s.0 s.1, counted_again v.signature h.1 s.0 new s.2) refl
 
-voucher_from_pass : (least : ℕ) → IsSpelledBy (voucher_from least) voucher_text (λ v. (least ≤ v.authority) × IsVoucher v)
-unfolding voucher_from
-voucher_from_pass least at new v bytes e =
+endorsement_from_pass : (least : ℕ) → IsSpelledBy (endorsement_from least) endorsement_text (λ v. (least ≤ v.authority) × IsEndorsement v)
+unfolding endorsement_from
+endorsement_from_pass least at new v bytes e =
     let authority = next (number_from least) (number_text w16) (λ n. (least ≤ n) × (n < 2 ^ 16)) (number_from_pass least) _ at (v, new) bytes e in
     let signature = next counted_at counted_text IsSignature (λ a n x. counted_pass a n x) _ authority.1 (v, new) authority.4 authority.5 in
-    let value : Voucher = record { authority = authority.0; signature = signature.0 } in
+    let value : Endorsement = record { authority = authority.0; signature = signature.0 } in
     let passes = Passes-then at authority.1 signature.1 (number_text w16 authority.0) (counted_text signature.0) authority.2 signature.2 in
-    subst (λ (x : Voucher × Cursor). Passes at (voucher_text x.0) x.1 × ((least ≤ x.0.authority) × IsVoucher x.0)) (ok_is (value, signature.1) (v, new) signature.5) (passes, (authority.3.0, (authority.3.1, signature.3)))
+    subst (λ (x : Endorsement × Cursor). Passes at (endorsement_text x.0) x.1 × ((least ≤ x.0.authority) × IsEndorsement x.0)) (ok_is (value, signature.1) (v, new) signature.5) (passes, (authority.3.0, (authority.3.1, signature.3)))
 
-abbrev AreVouchers : List Voucher → Type 0
-AreVouchers = Ascend (λ v. v.authority) IsVoucher 0
+abbrev AreEndorsements : List Endorsement → Type 0
+AreEndorsements = Ascend (λ v. v.authority) IsEndorsement 0
 
-vouchers_again : (count : ℕ) (vs : List Voucher) → length vs ≡ count → AreVouchers vs → ReadsBack (vouchers_at count 0) vs (flat_map voucher_text vs)
-vouchers_again count vs = ascending_again (λ v. v.authority) voucher_from voucher_text IsVoucher voucher_from_again count 0 vs
+endorsements_again : (count : ℕ) (vs : List Endorsement) → length vs ≡ count → AreEndorsements vs → ReadsBack (endorsements_at count 0) vs (flat_map endorsement_text vs)
+endorsements_again count vs = ascending_again (λ v. v.authority) endorsement_from endorsement_text IsEndorsement endorsement_from_again count 0 vs
 
-vouchers_pass : (count : ℕ) → IsSpelledBy (vouchers_at count 0) (flat_map voucher_text) (λ vs. AreVouchers vs × (length vs ≡ count))
-vouchers_pass count = ascending_pass (λ v. v.authority) voucher_from voucher_text IsVoucher voucher_from_pass count 0
+endorsements_pass : (count : ℕ) → IsSpelledBy (endorsements_at count 0) (flat_map endorsement_text) (λ vs. AreEndorsements vs × (length vs ≡ count))
+endorsements_pass count = ascending_pass (λ v. v.authority) endorsement_from endorsement_text IsEndorsement endorsement_from_pass count 0
 
 -- ---- the handover
 
@@ -74,27 +74,27 @@ handover_pass at new o bytes e =
 
 -- ---- the change
 
-pub change_again : (r : Revision) → IsRevision r → ReadsBack change_at r (change_text r)
+pub change_again : (r : Change) → IsChange r → ReadsBack change_at r (change_text r)
 unfolding change_at change_text
 change_again r h at new p =
     let cert = split at new (counted_text (certificate_text r.cert)) _ p in
     let count = split cert.0 new (number_text w8 (length r.endorsements)) _ cert.2 in
-    let list = split count.0 new (flat_map voucher_text r.endorsements) (handover_text r.handover) count.2 in
-    rw (counted_certificate_again r.cert h.cert at cert.0 cert.1, count_again 8 (length r.endorsements) h.few (omega (arith, h.few)) cert.0 count.0 count.1, vouchers_again (length r.endorsements) r.endorsements refl h.ascending count.0 list.0 list.1, handover_again r.handover h.handover list.0 new list.2) refl
+    let list = split count.0 new (flat_map endorsement_text r.endorsements) (handover_text r.handover) count.2 in
+    rw (counted_certificate_again r.cert h.cert at cert.0 cert.1, count_again 8 (length r.endorsements) h.few (omega (arith, h.few)) cert.0 count.0 count.1, endorsements_again (length r.endorsements) r.endorsements refl h.ascending count.0 list.0 list.1, handover_again r.handover h.handover list.0 new list.2) refl
 
-pub change_pass : IsSpelledBy change_at change_text IsRevision
+pub change_pass : IsSpelledBy change_at change_text IsChange
 unfolding change_at change_text
 change_pass at new r bytes e =
     let cert = next counted_certificate_at (λ c. counted_text (certificate_text c)) IsCertificate counted_certificate_pass _ at (r, new) bytes e in
     let count = next (count_at 8) (number_text w8) (λ n. n ≤ 8) (count_pass 8) _ cert.1 (r, new) cert.4 cert.5 in
-    let list = next (vouchers_at count.0 0) (flat_map voucher_text) (λ vs. AreVouchers vs × (length vs ≡ count.0)) (vouchers_pass count.0) _ count.1 (r, new) count.4 count.5 in
+    let list = next (endorsements_at count.0 0) (flat_map endorsement_text) (λ vs. AreEndorsements vs × (length vs ≡ count.0)) (endorsements_pass count.0) _ count.1 (r, new) count.4 count.5 in
     let handover = next handover_at handover_text (λ o. IfSome o IsSignature) handover_pass _ list.1 (r, new) list.4 list.5 in
-    let value : Revision = record { cert = cert.0; endorsements = list.0; handover = handover.0 } in
-    let back = Passes-then count.1 list.1 handover.1 (flat_map voucher_text list.0) (handover_text handover.0) list.2 handover.2 in
+    let value : Change = record { cert = cert.0; endorsements = list.0; handover = handover.0 } in
+    let back = Passes-then count.1 list.1 handover.1 (flat_map endorsement_text list.0) (handover_text handover.0) list.2 handover.2 in
     let counted : Passes cert.1 (number_text w8 (length list.0)) count.1 = subst (λ (k : ℕ). Passes cert.1 (number_text w8 k) count.1) (sym list.3.1) count.2 in
     let passes = Passes-then at cert.1 handover.1 (counted_text (certificate_text cert.0)) _ cert.2 (Passes-then cert.1 count.1 handover.1 (number_text w8 (length list.0)) _ counted back) in
-    let fits : IsRevision value = record { cert = cert.3; few = omega (arith, count.3, list.3.1); ascending = list.3.0; handover = handover.3 } in
-    subst (λ (x : Revision × Cursor). Passes at (change_text x.0) x.1 × IsRevision x.0) (ok_is (value, handover.1) (r, new) handover.5) (passes, fits)
+    let fits : IsChange value = record { cert = cert.3; few = omega (arith, count.3, list.3.1); ascending = list.3.0; handover = handover.3 } in
+    subst (λ (x : Change × Cursor). Passes at (change_text x.0) x.1 × IsChange x.0) (ok_is (value, handover.1) (r, new) handover.5) (passes, fits)
 
 -- ---- whole texts
 

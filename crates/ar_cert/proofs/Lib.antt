@@ -2,7 +2,7 @@ pub mod Lists
 pub mod Numbers
 pub mod Hashed
 pub mod Views
-pub mod Vouchers
+pub mod Endorsements
 pub mod Lengths
 pub mod FieldLaws
 pub mod CertificateLaws

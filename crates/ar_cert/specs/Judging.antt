@@ -11,7 +11,7 @@ use Rattle.cert_policy.specs.declared.refusal.PolicyRefusal.{PolicyRefusal}
 use Rattle.cert_policy.specs.Terms.{CertTerms, PolicyTerms}
 use Rattle.cert_policy.specs.Clauses.{update_answer, registration_answer, Follows, Registers}
 use Rattle.ar_cert.specs.Certificate.{Terms, Certificate, digest_of}
-use Rattle.ar_cert.specs.Changes.{Revision}
+use Rattle.ar_cert.specs.Changes.{Change}
 
 -- ---- what the rule reads
 
@@ -24,7 +24,7 @@ abbrev pub cert_terms_of : Certificate → CertTerms
 cert_terms_of c = record { name = c.name; serial = c.serial; previous = c.previous; digest = digest_of c; revoked = c.revoked; policy = policy_terms_of c.policy }
 
 -- the authorities that endorse a change
-abbrev pub endorsers_of : Revision → List ℕ
+abbrev pub endorsers_of : Change → List ℕ
 endorsers_of change = map (λ v. v.authority) change.endorsements
 
 abbrev pub is_valid : Verdict → Bool
@@ -38,31 +38,31 @@ is_signed key digest None = false
 is_signed key digest (Some signature) = is_valid (verdict_of key (text_of (claims.handover digest)) signature)
 
 -- whether the subject key of the old certificate hands over to the change's
-abbrev pub is_handed_over : Certificate → Revision → Bool
+abbrev pub is_handed_over : Certificate → Change → Bool
 is_handed_over old change = is_signed old.subject (digest_of change.cert) change.handover
 
 -- ---- the answer
 
 -- Whether a change registers its name, where there is no old certificate, or else follows the old one; or
 -- the least clause that fails.
-abbrev pub judgement : Option Certificate → Revision → Result (Unit {0}) PolicyRefusal
+abbrev pub judgement : Option Certificate → Change → Result (Unit {0}) PolicyRefusal
 judgement None change = registration_answer (cert_terms_of change.cert) (endorsers_of change)
 judgement (Some old) change = update_answer (cert_terms_of old) (cert_terms_of change.cert) (endorsers_of change) (is_handed_over old change)
 
 -- what it is that a change registers its name, or follows the old certificate
-unfoldable pub IsAccepted : Option Certificate → Revision → Type 0
+unfoldable pub IsAccepted : Option Certificate → Change → Type 0
 IsAccepted None change = Registers (cert_terms_of change.cert) (endorsers_of change)
 IsAccepted (Some old) change = Follows (cert_terms_of old) (cert_terms_of change.cert) (endorsers_of change) (is_handed_over old change)
 
 -- ---- chains
 
 -- each change follows the certificate of the one before it
-abbrev pub EachFollows : List Revision → Type 0
-EachFollows changes = (k : ℕ) (d : Revision) → k + 1 < length changes → IsAccepted (Some (get_or changes k d).cert) (get_or changes (k + 1) d)
+abbrev pub EachFollows : List Change → Type 0
+EachFollows changes = (k : ℕ) (d : Change) → k + 1 < length changes → IsAccepted (Some (get_or changes k d).cert) (get_or changes (k + 1) d)
 
 -- The changes are the chain of a name: there is one, the first registers the name, and each next one
 -- follows the one before it.
-pub record IsChain (changes : List Revision) : Type 0 where
+pub record IsChain (changes : List Change) : Type 0 where
   pub some : 0 < length changes
-  pub first : (d : Revision) → IsAccepted None (get_or changes 0 d)
+  pub first : (d : Change) → IsAccepted None (get_or changes 0 d)
   pub next : EachFollows changes

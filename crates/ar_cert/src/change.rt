@@ -15,9 +15,9 @@ pub struct Endorsement {
 
 // Clauses see the two fields.
 impl Model for Endorsement {
-    ghost use Rattle.ar_cert.specs.Changes.{Voucher, IsSignature};
+    ghost use Rattle.ar_cert.specs.Changes.{Endorsement, IsSignature};
 
-    ghost Value = { Voucher };
+    ghost Value = { Endorsement };
 
     ghost view = { λ e. record { authority = e.authority; signature = e.signature } };
 
@@ -38,11 +38,11 @@ pub struct Change {
 impl Model for Change {
     ghost use Rattle.std.specs.Prelude.{◌≤◌, length, IfSome};
     ghost use Rattle.ar_cert.specs.Lists.{Ascend};
-    ghost use Rattle.ar_cert.specs.Changes.{Revision, IsSignature, IsVoucher};
+    ghost use Rattle.ar_cert.specs.Changes.{Change, IsSignature, IsEndorsement};
 
-    ghost Value = { Revision };
+    ghost Value = { Change };
 
     ghost view = { λ c. record { cert = c.cert; endorsements = c.endorsements; handover = c.handover } };
 
-    ghost invariant = { λ c. (length c.endorsements ≤ 8) × Ascend (λ v. v.authority) IsVoucher 0 c.endorsements × IfSome c.handover IsSignature };
+    ghost invariant = { λ c. (length c.endorsements ≤ 8) × Ascend (λ v. v.authority) IsEndorsement 0 c.endorsements × IfSome c.handover IsSignature };
 }

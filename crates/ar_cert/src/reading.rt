@@ -2,7 +2,7 @@ ghost use Rattle.std.specs.Prelude.{◌≡◌, length, IfOk, IfSome};
 ghost use Rattle.ar_base.specs.Gives.{GivesUnless};
 ghost use Rattle.ar_bytes.specs.Reading.{whole, counted_at, Tells};
 ghost use Rattle.ar_cert.specs.Certificate.{certificate_at, counted_certificate_at};
-ghost use Rattle.ar_cert.specs.Changes.{voucher_from, vouchers_at, handover_at, change_at, IsSignature, IsVoucher};
+ghost use Rattle.ar_cert.specs.Changes.{endorsement_from, endorsements_at, handover_at, change_at, IsSignature, IsEndorsement};
 ghost use Rattle.ar_cert.specs.Lists.{Ascend};
 ghost use Rattle.ar_cert.specs.Faults.{unless_faulty, TellsUnless};
 ghost use Rattle.ar_cert.specs.declared.fault.CertFault.TheVariants as faults;
@@ -49,9 +49,9 @@ fn signature<'a>(fields: &mut Fields<'a>) -> Result<&'a [u8], usize>
 }
 
 /// An endorsement by an authority whose number is not below `least`.
-#[tactic(auto, unfolding(crate::specs::Changes::voucher_from))]
+#[tactic(auto, unfolding(crate::specs::Changes::endorsement_from))]
 fn endorsement(alloc: Global, fields: &mut Fields, least: u32) -> Result<Endorsement, CertFault>
-    ensures { TellsUnless (λ endorsement. endorsement) result fields.new (voucher_from least fields.old) }
+    ensures { TellsUnless (λ endorsement. endorsement) result fields.new (endorsement_from least fields.old) }
 {
     let authority = number_from(fields, least).map_err(CertFault::Form)?;
     let signature = signature(fields).map_err(CertFault::Form)?;
@@ -68,9 +68,9 @@ fn endorsements(
     fields: &mut Fields,
     count: u8,
 ) -> Result<Vec<Endorsement>, CertFault>
-    ensures tells { TellsUnless (λ list. list.items) result fields.new (vouchers_at count 0 fields.old) }
+    ensures tells { TellsUnless (λ list. list.items) result fields.new (endorsements_at count 0 fields.old) }
     ensures len { IfOk result (λ list. length list.items ≡ count) }
-    ensures ascending { IfOk result (λ list. Ascend (λ v. v.authority) IsVoucher 0 list.items) }
+    ensures ascending { IfOk result (λ list. Ascend (λ v. v.authority) IsEndorsement 0 list.items) }
 {
     let mut list = Vec::new(alloc);
     let mut least = 0;

@@ -9,7 +9,7 @@ fn certificate() -> &'static [u8] {
 }
 
 /// What stands behind it in a change with three endorsements and a handover.
-fn vouchers() -> &'static [u8] {
+fn endorsements() -> &'static [u8] {
     b"\x03\x00\x00\x00\x03abc\x00\x01\x00\x00\x00\x02\x00\x01z\x01\x00\x02ho"
 }
 
@@ -51,7 +51,7 @@ fn fault_of_cut(fields: &[usize], len: usize) -> Option<CertFault> {
 fn change_text(alloc: Global) -> Result<Vec<u8>, Fail> {
     let mut text = [0, 130].to_vec(alloc)?;
     text.extend_from_slice(certificate())?;
-    text.extend_from_slice(vouchers())?;
+    text.extend_from_slice(endorsements())?;
     Ok(text)
 }
 

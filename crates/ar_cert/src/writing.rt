@@ -4,7 +4,7 @@ ghost use Rattle.std.specs.Int.{w8};
 ghost use Rattle.ar_bytes.specs.RoundTrip.{number_text, counted_text};
 ghost use Rattle.ar_cert.specs.Lists.{numbers_text};
 ghost use Rattle.ar_cert.specs.Certificate.{front_text, rules_text, terms_text, certificate_text};
-ghost use Rattle.ar_cert.specs.Changes.{voucher_text, handover_text, change_text, IsSignature};
+ghost use Rattle.ar_cert.specs.Changes.{endorsement_text, handover_text, change_text, IsSignature};
 
 use crate::cert::{Cert, Policy};
 use crate::change::{Change, Endorsement};
@@ -102,7 +102,7 @@ fn put_endorsement(
     out: &mut Vec<u8>,
     endorsement: &Endorsement,
 ) -> Result<(), AllocError>
-    ensures { OnOk result (out.new.items ≡ out.old.items ++ voucher_text endorsement.now) }
+    ensures { OnOk result (out.new.items ≡ out.old.items ++ endorsement_text endorsement.now) }
 {
     put_u16(alloc, out, endorsement.authority)?;
     put_signature(alloc, out, endorsement.signature.as_slice())
@@ -145,7 +145,7 @@ fn put_endorsements(
     out: &mut Vec<u8>,
     endorsements: &[Endorsement],
 ) -> Result<(), AllocError>
-    ensures { OnOk result (out.new.items ≡ out.old.items ++ flat_map voucher_text endorsements.now) }
+    ensures { OnOk result (out.new.items ≡ out.old.items ++ flat_map endorsement_text endorsements.now) }
 {
     for endorsement in endorsements {
         put_endorsement(alloc, out, endorsement)?;
