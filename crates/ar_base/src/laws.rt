@@ -1,5 +1,6 @@
 //! Laws on the definitions of `specs/`: each is the contract of a function with an empty body.
-ghost use Rattle.std.specs.Prelude.{◌≡◌, ◌≤◌, ℕ};
+ghost use Rattle.std.specs.Prelude.{◌≡◌, ◌≤◌, ℕ, IsTrue, List};
+ghost use Rattle.ar_base.specs.Apart.{Apart, IsIn, none_collide};
 ghost use Rattle.ar_base.specs.Faults.{HasRisen, most_faults, one_more};
 
 /// A count after one more has risen.
@@ -16,4 +17,15 @@ pub fn a_count_that_stays_has_not_risen()
 pub fn a_rise_lasts()
     ensures before { (start old new : ℕ) → start ≤ old → HasRisen old new → HasRisen start new }
     ensures behind { (old new end : ℕ) → old ≤ new → new ≤ end → HasRisen old new → HasRisen old end }
+{}
+
+/// Of two strings of a list in which none collide, the digest tells which it is.
+pub fn a_digest_is_of_one_string()
+    ensures { (strings : List (List ℕ)) → IsTrue (none_collide strings) → Apart strings }
+{}
+
+/// Where no two strings of a list collide, no two of a part of it do.
+pub fn no_part_collides()
+    ensures { (part strings : List (List ℕ)) → ((x : List ℕ) → IsIn part x → IsIn strings x)
+        → IsTrue (none_collide strings) → IsTrue (none_collide part) }
 {}

@@ -5,7 +5,7 @@ use Rattle.std.specs.Bool.{Decides}
 use Rattle.std.proofs.lemmas.Bool.Decides.{same_from_decides, Decides-and, Decides-eqb, nat_tests}
 use Rattle.std.proofs.lemmas.Slice.Eq.{bytes_eq-Decides}
 use Rattle.tree_proof.specs.Fold.{digests_in}
-use Rattle.tree_proof.specs.Proofs.{On}
+use Rattle.tree_proof.specs.Membership.{On}
 use Rattle.client_rule.specs.Rule.{leads}
 
 le_decides : (a b : ℕ) → Decides (nat_le a b) (a ≤ b)

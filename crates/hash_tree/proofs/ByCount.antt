@@ -5,7 +5,7 @@ use Rattle.sha2.specs.Sha256.{sha256}
 use Rattle.hash_tree.specs.Strings.{empty_string, entry_string, node_string, empty_digest, entry_digest, node_digest}
 use Rattle.hash_tree.specs.Entries.{Entry, Entries, entries_of, HasAscendingKeys, AgreeAmong, half, of_side}
 use Rattle.hash_tree.specs.Root.{by_count, string_below, strings_below, digest_below, digest_at}
-use Rattle.hash_tree.proofs.Apart.{IsIn}
+use Rattle.ar_base.specs.Apart.{IsIn}
 use Rattle.hash_tree.proofs.Maps.{entries-entries_of, half-entries_of, agree-half}
 
 pub string-none : (left : ℕ) (m : Entries) → entries m ≡ [] → string_below left m ≡ empty_string

@@ -1,6 +1,5 @@
 pub mod KeyBits
 pub mod Maps
 pub mod ByCount
-pub mod Apart
 pub mod DigestBytes
 pub mod Ascending

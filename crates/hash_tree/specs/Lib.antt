@@ -1,4 +1,3 @@
 pub mod Strings
 pub mod Entries
 pub mod Root
-pub mod Collision

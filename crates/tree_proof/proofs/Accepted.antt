@@ -12,7 +12,7 @@ use Rattle.hash_tree.proofs.ByCount.{string-none, string-one, string-more}
 use Rattle.tree_proof.specs.declared.path.Bottom.TheVariants.{Empty, Other}
 use Rattle.tree_proof.specs.Fold.{joined}
 use Rattle.tree_proof.specs.Path.{steps_below, bottom_below, steps_of, bottom_of}
-use Rattle.tree_proof.specs.Proofs.{On, Off, LeadsTo, SpeaksOf, bottom_string}
+use Rattle.tree_proof.specs.Membership.{On, Off, LeadsTo, SpeaksOf, bottom_string}
 use Rattle.tree_proof.proofs.Down.{turned, turned-push, value_down, path_value-down}
 use Rattle.tree_proof.proofs.Few.{get-none, get-one, get-one_inverse, few_left}
 use Rattle.tree_proof.proofs.Lands.{Count, none, one, more, count_of, same-half}

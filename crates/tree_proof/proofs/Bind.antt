@@ -8,13 +8,13 @@ use Rattle.sha2.proofs.Facts256.{length-sha256}
 use Rattle.hash_tree.specs.Strings.{empty_string, entry_string}
 use Rattle.hash_tree.specs.Entries.{Entry, Entries, bit, half, IsDigest, HoldsDigests, AgreeAmong}
 use Rattle.hash_tree.specs.Root.{string_below, digest_below, strings_below, root, strings_of}
-use Rattle.hash_tree.specs.Collision.{none_collide}
+use Rattle.ar_base.specs.Apart.{none_collide, IsIn, Apart}
 use Rattle.hash_tree.proofs.Maps.{total, exact, one_at, agree-half}
 use Rattle.hash_tree.proofs.ByCount.{string-none, string-one, string-end, string-more, string-several, strings-own}
-use Rattle.hash_tree.proofs.Apart.{IsIn, Apart, apart, in_front, in_rest}
+use Rattle.ar_base.proofs.Apart.{apart, in_front, in_rest}
 use Rattle.tree_proof.specs.declared.path.Bottom.{Bottom}
 use Rattle.tree_proof.specs.declared.path.Bottom.TheVariants.{Empty, Other}
-use Rattle.tree_proof.specs.Proofs.{On, Off, LeadsTo, HasDigestKey, bottom_string, path_strings}
+use Rattle.tree_proof.specs.Membership.{On, Off, LeadsTo, HasDigestKey, bottom_string, path_strings}
 use Rattle.tree_proof.proofs.Down.{turned, path_value-down, strings_down-above}
 use Rattle.tree_proof.proofs.Few.{get-none, get-one, get-other, few_left}
 use Rattle.tree_proof.proofs.Lands.{Count, none, one, more, count_of, Foot, lands, same_parts, same-half, within-half, strings-half}

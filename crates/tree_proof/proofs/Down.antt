@@ -1,7 +1,7 @@
 -- A path from the top down: what it leads up to, and the strings on the way.
 use Rattle.std.proofs.Common.{◌≡◌, ℕ, suc, ◌+◌, List, [], ◌∷◌, ◌++◌, length, length-append, add-zero, zero-add, refl, sym, ap, ◌∙◌, ◌⊎◌, inl, inr, ⊎_elim, arith}
 use Rattle.sha2.specs.Sha256.{sha256}
-use Rattle.hash_tree.proofs.Apart.{IsIn}
+use Rattle.ar_base.specs.Apart.{IsIn}
 use Rattle.tree_proof.specs.Fold.{joined, path_value, strings_above}
 
 -- the digests in turn, the last first

@@ -11,7 +11,8 @@ use Rattle.hash_tree.specs.Entries.{Entry, Entries, bit, half}
 use Rattle.hash_tree.specs.Root.{string_below, digest_below, strings_below}
 use Rattle.hash_tree.proofs.Maps.{get-half, one_at}
 use Rattle.hash_tree.proofs.ByCount.{string-none, string-one, string-end, string-more, strings-own, strings-more}
-use Rattle.hash_tree.proofs.Apart.{IsIn, Apart, in_front, in_rest}
+use Rattle.ar_base.specs.Apart.{IsIn, Apart}
+use Rattle.ar_base.proofs.Apart.{in_front, in_rest}
 use Rattle.tree_proof.specs.Fold.{joined}
 use Rattle.tree_proof.proofs.Down.{value_down, strings_down}
 

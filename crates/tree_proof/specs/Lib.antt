@@ -1,3 +1,3 @@
 pub mod Fold
-pub mod Proofs
+pub mod Membership
 pub mod Path

@@ -1,8 +1,8 @@
-ghost use Rattle.std.specs.Prelude.{◌≡◌, ◌%◌, ◌≤◌, ◌↔◌, IsTrue, length};
+ghost use Rattle.std.specs.Prelude.{◌≡◌, ◌≤◌, ◌↔◌, IsTrue, length};
 ghost use Rattle.hash_tree.specs.Entries.{Agree};
 ghost use Rattle.sha2.specs.Sha256.{sha256};
-ghost use Rattle.tree_proof.specs.Fold.{digests_in, path_value};
-ghost use Rattle.tree_proof.specs.Proofs.{On, Off, SpeaksOf, bottom_string};
+ghost use Rattle.tree_proof.specs.Fold.{path_value};
+ghost use Rattle.tree_proof.specs.Membership.{OnBytes, OffBytes, SpeaksOf, bottom_string};
 
 use crate::Bottom;
 use hash_tree::{empty_digest, entry_digest, key_bit, node_digest};
@@ -12,7 +12,7 @@ use hash_tree::{empty_digest, entry_digest, key_bit, node_digest};
 /// The steps are digests of 32 bytes, the deepest first, one after another. It is false where their
 /// length is no multiple of 32, and where there are more than 256.
 pub fn check_present(key: &[u8; 32], value: &[u8; 32], steps: &[u8], root: &[u8; 32]) -> bool
-    ensures { IsTrue result ↔ ((length steps.now % 32 ≡ 0) × On key.now value.now (digests_in steps.now) root.now) }
+    ensures { IsTrue result ↔ OnBytes key.now value.now steps.now root.now }
 {
     let (digests, rest) = steps.as_chunks::<32>();
     rest.is_empty() && leads_to(key, entry_digest(key, value), digests, root)
@@ -24,7 +24,7 @@ pub fn check_present(key: &[u8; 32], value: &[u8; 32], steps: &[u8], root: &[u8;
 ///
 /// It is false where the steps' length is no multiple of 32, and where there are more than 256.
 pub fn check_absent(key: &[u8; 32], bottom: &Bottom, steps: &[u8], root: &[u8; 32]) -> bool
-    ensures { IsTrue result ↔ ((length steps.now % 32 ≡ 0) × Off key.now bottom.now (digests_in steps.now) root.now) }
+    ensures { IsTrue result ↔ OffBytes key.now bottom.now steps.now root.now }
 {
     let (digests, rest) = steps.as_chunks::<32>();
     rest.is_empty()

@@ -3,15 +3,15 @@
 //! `HoldsDigests` and `IsDigest` say that keys and values have 32 bytes, as in the program each has
 //! by its type. The one premise beside them is that no two strings of a list collide, and the list is
 //! of the strings that were hashed for the set of entries and for the path.
-ghost use Rattle.std.specs.Prelude.{◌≡◌, ℕ, List, ◌++◌, None, Some, IsTrue};
+ghost use Rattle.std.specs.Prelude.{◌≡◌, ◌↔◌, ℕ, List, ◌++◌, None, Some, IsTrue};
 ghost use Rattle.std.specs.FinMap.{get};
-ghost use Rattle.hash_tree.specs.Collision.{none_collide};
+ghost use Rattle.ar_base.specs.Apart.{none_collide};
 ghost use Rattle.hash_tree.specs.Entries.{Entries, IsDigest, HoldsDigests};
 ghost use Rattle.hash_tree.specs.Root.{root, strings_of};
 ghost use Rattle.hash_tree.specs.Strings.{entry_string};
 ghost use Rattle.tree_proof.specs.Path.{steps_of, bottom_of};
 ghost use Rattle.tree_proof.specs.declared.path.Bottom.{Bottom};
-ghost use Rattle.tree_proof.specs.Proofs.{On, Off, HasDigestKey, bottom_string, path_strings};
+ghost use Rattle.tree_proof.specs.Membership.{On, Off, OnBytes, OffBytes, HasDigestKey, bottom_string, is_on, is_off, path_strings};
 
 /// The path of a key that has a value shows that value under the root.
 pub fn made_presence_is_accepted()
@@ -44,4 +44,15 @@ pub fn absence_binds()
 pub fn equal_roots_bind()
     ensures { (m n : Entries) → HoldsDigests m → HoldsDigests n
         → IsTrue (none_collide (strings_of m ++ strings_of n)) → root m ≡ root n → m ≡ n }
+{}
+
+/// The test `is_on` tells whether bytes show that a key has a value.
+pub fn presence_is_tested()
+    ensures { (key value bytes root : List ℕ) → IsTrue (is_on key value bytes root) ↔ OnBytes key value bytes root }
+{}
+
+/// The test `is_off` tells whether bytes show that a key has no value.
+pub fn absence_is_tested()
+    ensures { (key : List ℕ) (bottom : Bottom) (bytes root : List ℕ)
+        → IsTrue (is_off key bottom bytes root) ↔ OffBytes key bottom bytes root }
 {}

@@ -1,6 +1,6 @@
 //! Paths in the integrity tree: what shows, under a root, that a key has a value or that it has none.
 //!
-//! A path lists siblings, the deepest first. `specs/Proofs.antt` says when steps show a key's value
+//! A path lists siblings, the deepest first. `specs/Membership.antt` says when steps show a key's value
 //! or its absence, `specs/Path.antt` what the path of a key in a set of entries is, and `laws` that a
 //! made path is accepted, and that an accepted one tells the truth where no two strings that were
 //! hashed collide.

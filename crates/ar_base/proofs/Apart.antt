@@ -1,17 +1,11 @@
--- What follows where no two strings of a list collide.
-use Rattle.std.proofs.Common.{◌≡◌, ℕ, List, [], ◌∷◌, ◌++◌, Bool, true, refl, ap, ◌∙◌, ◌⊎◌, inl, inr}
+-- What follows where no two strings of a list collide, and where a string of joined lists stands.
+use Rattle.std.proofs.Common.{◌≡◌, ℕ, List, [], ◌∷◌, ◌++◌, Bool, true, false, ◌&&◌, refl, ap, ◌∙◌, ◌⊎◌, inl, inr, ⊎_elim}
 use Rattle.std.specs.Prelude.{IsTrue}
 use Rattle.std.specs.List.{list_all}
 use Rattle.std.specs.Str.{bytes_eq}
 use Rattle.sha2.specs.Sha256.{sha256}
 use Rattle.std.proofs.lemmas.Slice.Eq.{bytes_eq-Decides}
-use Rattle.hash_tree.specs.Collision.{are_apart, none_collide}
-use Rattle.hash_tree.proofs.Maps.{both-first, both-second}
-
--- x stands in the list
-abbrev pub IsIn : List (List ℕ) → List ℕ → Type 0
-IsIn [] x = ⊥
-IsIn (y ∷ ys) x = (x ≡ y) ⊎ IsIn ys x
+use Rattle.ar_base.specs.Apart.{are_apart, none_collide, IsIn, Apart}
 
 pub in_front : (xs ys : List (List ℕ)) (x : List ℕ) → IsIn xs x → IsIn (xs ++ ys) x
 in_front [] ys x h = absurd h
@@ -22,9 +16,19 @@ pub in_rest : (xs ys : List (List ℕ)) (x : List ℕ) → IsIn ys x → IsIn (x
 in_rest [] ys x h = h
 in_rest (z ∷ xs) ys x h = inr (in_rest xs ys x h)
 
--- of two strings of the list with one digest, both are one
-abbrev pub Apart : List (List ℕ) → Type 0
-Apart strings = (x y : List ℕ) → IsIn strings x → IsIn strings y → sha256 x ≡ sha256 y → x ≡ y
+pub in_both : (xs ys : List (List ℕ)) (x : List ℕ) → IsIn (xs ++ ys) x → IsIn xs x ⊎ IsIn ys x
+in_both [] ys x h = inr h
+in_both (z ∷ xs) ys x (inl e) = inl (inl e)
+in_both (z ∷ xs) ys x (inr h) =
+    ⊎_elim (λ (i : IsIn xs x). inl (inr i)) (λ (i : IsIn ys x). inr i) (in_both xs ys x h)
+
+both-first : (a b : Bool) → (a && b) ≡ true → a ≡ true
+both-first true b h = refl
+both-first false b h = h
+
+both-second : (a b : Bool) → (a && b) ≡ true → b ≡ true
+both-second true b h = h
+both-second false b h = absurd (cc)
 
 all_in : (p : List ℕ → Bool) (xs : List (List ℕ)) (x : List ℕ) → list_all p xs ≡ true → IsIn xs x → p x ≡ true
 all_in p [] x h i = absurd i
