@@ -1,5 +1,6 @@
-//! What the crates above share: a list type whose value in a contract is the list of its items, and
-//! the words of `specs/` on counts of faults, on want of memory and on strings that do not collide.
+//! What the crates above share: a list type whose value in a contract is the list of its items, the
+//! shares of seats, and the words of `specs/` on counts of faults, on want of memory and on strings that
+//! do not collide.
 //!
 //! `specs/Faults.antt` says what it is that a count of faults rose, `specs/Gives.antt` that a call
 //! which takes memory answers as its definition says, and `specs/Apart.antt` that no two strings of a
@@ -7,8 +8,10 @@
 #![tactic(auto)]
 
 pub use items::Items;
+pub use share::Share;
 
 mod items;
 pub mod laws;
+mod share;
 #[cfg(test)]
 mod tests;

@@ -1,4 +1,4 @@
-use crate::Items;
+use crate::{Items, Share};
 use std::test::Fail;
 
 #[test]
@@ -11,5 +11,16 @@ fn a_list_is_the_vector_that_it_was_made_from(rt: HostRuntime) -> Result<(), Fai
     assert!(rt; !items.is_empty());
     assert_eq!(rt; items.as_slice(), [3, 1, 2].as_slice());
     assert_eq!(rt; items.into_vec().as_slice(), [3, 1, 2].as_slice());
+    Ok(())
+}
+
+#[test]
+fn a_share_is_split_32_times(rt: HostRuntime) -> Result<(), Fail> {
+    let mut share = Share::whole();
+    for _ in 0..32 {
+        assert!(rt; share.split().is_some());
+    }
+    assert_eq!(rt; share.parts(), 1);
+    assert!(rt; share.split().is_none());
     Ok(())
 }
