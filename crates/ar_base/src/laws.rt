@@ -1,7 +1,9 @@
 //! Laws on the definitions of `specs/`: each is the contract of a function with an empty body.
-ghost use Rattle.std.specs.Prelude.{◌≡◌, ◌+◌, ◌<◌, ◌≤◌, ℕ, IsTrue, List};
+ghost use Rattle.std.specs.Prelude.{◌≡◌, ◌+◌, ◌<◌, ◌≤◌, ◌↔◌, ℕ, Bool, false, List, length, get_or, Result, Ok, Err, All, IsTrue};
 ghost use Rattle.ar_base.specs.Apart.{Apart, IsIn, none_collide};
 ghost use Rattle.ar_base.specs.Faults.{HasRisen, most_faults, one_more};
+ghost use Rattle.ar_base.specs.FirstFailing.{first_failing};
+ghost use Rattle.ar_base.specs.Gives.{GivesOrWants, GivesUnless};
 ghost use Rattle.ar_base.specs.Shares.{given_of, left_of};
 
 /// A count after one more has risen.
@@ -40,4 +42,22 @@ pub fn a_split_loses_nothing()
 /// Each part of a share above 1 is a share.
 pub fn each_part_is_a_share()
     ensures { (share : ℕ) → 1 < share → (0 < left_of share) × (0 < given_of share) }
+{}
+
+/// No test of a list fails exactly where all hold. The fault of the list is that of a test which does
+/// not hold, behind tests that all hold.
+pub fn the_first_that_fails<E>()
+    ensures none { (tests : List (E × Bool)) → (first_failing tests ≡ Ok tt) ↔ All (λ t. IsTrue t.1) tests }
+    ensures fault { (tests : List (E × Bool)) (error : E) → first_failing tests ≡ Err error
+        → (place : ℕ) × ((place < length tests) × (((d : E × Bool) → get_or tests place d ≡ (error, false))
+            × ((k : ℕ) (d : E × Bool) → k < place → IsTrue (get_or tests k d).1))) }
+{}
+
+/// Where want of memory never stands in a refusal's place, each refusal that is expected is given, and
+/// the answer is one that may be given at all.
+pub fn a_refusal_is_given<T, V, E>()
+    ensures refused { (memory : E) (view : T → V) (result : Result T E) (expected : Result V E) (error : E)
+        → GivesOrWants memory view result expected → expected ≡ Err error → result ≡ Err error }
+    ensures given { (memory : E) (view : T → V) (result : Result T E) (expected : Result V E)
+        → GivesOrWants memory view result expected → GivesUnless memory view result expected }
 {}

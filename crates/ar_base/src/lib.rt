@@ -1,10 +1,11 @@
 //! What the crates above share: a list type whose value in a contract is the list of its items, the
-//! shares of seats, and the words of `specs/` on counts of faults, on want of memory and on strings that
-//! do not collide.
+//! shares of seats, and the words of `specs/`.
 //!
-//! `specs/Faults.antt` says what it is that a count of faults rose, `specs/Gives.antt` that a call
-//! which takes memory answers as its definition says, and `specs/Apart.antt` that no two strings of a
-//! list have one digest under SHA-256.
+//! `specs/Bytes.antt` says what bytes and digests are, `specs/Chaining.antt` how one reading stands
+//! behind another, `specs/Faults.antt` what it is that a count of faults rose, `specs/FirstFailing.antt`
+//! which of an ordered list of tests is the one that fails, `specs/Gives.antt` that a call which takes
+//! memory answers as its definition says, and `specs/Apart.antt` that no two strings of a list have one
+//! digest under SHA-256.
 #![tactic(auto)]
 
 pub use items::Items;

@@ -1,5 +1,6 @@
 pub mod Steps
 pub mod Passing
 pub mod Parts
-pub mod Entries
+pub mod TestedFields
+pub mod Ascending
 pub mod Taken

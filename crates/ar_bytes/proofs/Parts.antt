@@ -2,8 +2,10 @@
 -- is spelled so, where that holds of the field in it.
 use Rattle.std.proofs.Common.{◌≡◌, ℕ, ◌+◌, Bool, true, cond, List, [], ◌++◌, length, Ok, Err, refl, sym, ap, subst, ◌∙◌}
 use Rattle.std.proofs.lemmas.List.{append-nil}
-use Rattle.ar_bytes.specs.Reading.{Cursor, Reading, ◌>>=◌, all_of, start_of, bytes_at, such_that, part_at, within, whole}
-use Rattle.ar_bytes.specs.RoundTrip.{AreBytes, Passes, ReadsBack, IsSpelledBy}
+use Rattle.ar_base.specs.Chaining.{◌>>=◌}
+use Rattle.ar_bytes.specs.Reading.{Cursor, Reading, all_of, start_of, bytes_at, such_that, part_at, within, whole}
+use Rattle.ar_base.specs.Bytes.{AreBytes}
+use Rattle.ar_bytes.specs.RoundTrip.{Passes, ReadsBack, IsSpelledBy}
 use Rattle.ar_bytes.proofs.Steps.{bind_ok, test_ok, ok_is, all_ok}
 use Rattle.ar_bytes.proofs.Passing.{bytes_again, bytes_pass, AreBytes-front}
 

@@ -2,8 +2,10 @@
 use Rattle.std.proofs.Common.{◌≡◌, ℕ, ◌+◌, Bool, true, false, cond, eqb, List, [], ◌++◌, length, Result, Ok, Err, refl, sym, ap, ◌∙◌, append_assoc, arith}
 use Rattle.std.proofs.lemmas.Bool.{eqb-true}
 use Rattle.std.proofs.lemmas.List.{length-append, get_or-append-add, nil_from_length}
-use Rattle.ar_bytes.specs.Reading.{Cursor, ◌>>=◌, all_of}
-use Rattle.ar_bytes.specs.RoundTrip.{AreBytes, Passes}
+use Rattle.ar_base.specs.Chaining.{◌>>=◌}
+use Rattle.ar_bytes.specs.Reading.{Cursor, all_of}
+use Rattle.ar_base.specs.Bytes.{AreBytes}
+use Rattle.ar_bytes.specs.RoundTrip.{Passes}
 
 -- the step before one that did not fail did not fail
 pub bind_ok : {A B : Type 0} (r : Result A ℕ) (f : A → Result B ℕ) (y : B) → (r >>= f) ≡ Ok y → (x : A) × (r ≡ Ok x) × (f x ≡ Ok y)

@@ -1,3 +1,4 @@
 pub mod Reading
 pub mod RoundTrip
-pub mod Entries
+pub mod Tested
+pub mod Ascending

@@ -18,6 +18,7 @@
 -- the whole input, and bytes left over in it fail at the first of them, as in a whole input (`whole`).
 use Rattle.std.specs.Prelude.{◌≡◌, ℕ, ◌+◌, List, length, take, drop, Option, Some, None, Result, Ok, Err, IsErr, Bool, nat_lt, ◌==◌, if◌then◌else◌}
 use Rattle.std.specs.Int.{Width, w16, byte_len, from_be_bytes}
+pub use Rattle.ar_base.specs.Chaining.{◌>>=◌}
 
 -- where a reading stands: the bytes still ahead, and how many bytes of the input lie before them
 pub record Cursor : Type 0 where
@@ -27,12 +28,6 @@ pub record Cursor : Type 0 where
 -- a value and the cursor behind it, or the place of the field that fails
 abbrev pub Reading : Type 0 → Type 0
 Reading A = Result (A × Cursor) ℕ
-
--- one step behind the other; the first that fails is the fault
-infixl 10 ◌>>=◌
-abbrev pub ◌>>=◌ : {A B : Type 0} → Result A ℕ → (A → Result B ℕ) → Result B ℕ
-(Ok x) >>= f = f x
-(Err place) >>= f = Err place
 
 -- before the first byte of an input
 abbrev pub start_of : List ℕ → Cursor
@@ -69,6 +64,12 @@ unfoldable pub part_at : ℕ → Cursor → Reading Cursor
 part_at n at = do
   bytes ← bytes_at n at
   Ok (record { ahead = bytes.0; place = at.place }, bytes.1)
+
+-- a count of two bytes, and so many bytes as an input of their own
+unfoldable pub counted_part_at : Cursor → Reading Cursor
+counted_part_at at = do
+  count ← number_at w16 at
+  part_at count.0 count.1
 
 -- the value of a reading that took all there was; bytes left over fail at the first of them
 abbrev pub all_of : {A : Type 0} → A × Cursor → Result A ℕ

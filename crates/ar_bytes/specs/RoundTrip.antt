@@ -1,11 +1,8 @@
 -- The texts of fields: what is put is read again, and what is read is spelled so.
-use Rattle.std.specs.Prelude.{◌≡◌, ℕ, ◌+◌, ◌<◌, List, ◌++◌, length, slice_index, Ok}
+use Rattle.std.specs.Prelude.{◌≡◌, ℕ, ◌+◌, ◌<◌, List, ◌++◌, length, Ok}
 use Rattle.std.specs.Int.{Width, w16, to_be_bytes}
+pub use Rattle.ar_base.specs.Bytes.{AreBytes}
 use Rattle.ar_bytes.specs.Reading.{Cursor, Reading, number_at}
-
--- numbers that are bytes
-abbrev pub AreBytes : List ℕ → Type 0
-AreBytes bytes = (i : ℕ) → slice_index bytes i < 256
 
 -- the text of a number: its bytes, the highest first
 unfoldable pub number_text : Width → ℕ → List ℕ

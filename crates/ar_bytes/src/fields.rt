@@ -1,5 +1,6 @@
 ghost use Rattle.std.specs.Prelude.{◌≡◌, ◌==◌, ◌<◌, ◌^◌, ◌↔◌, length, IsNone, IfSome};
 ghost use Rattle.std.specs.Int.{w8, w16, w32, w64};
+ghost use Rattle.ar_base.specs.Bytes.{AreBytes};
 
 use std::marker::Model;
 
@@ -159,4 +160,11 @@ impl<'a> Fields<'a> {
             place: self.place,
         }
     }
+}
+
+/// Tells a proof that the numbers of a slice of bytes are bytes. It does nothing.
+pub fn are_bytes(bytes: &[u8])
+    ensures { AreBytes bytes.now }
+{
+    let _bytes = bytes;
 }

@@ -8,10 +8,11 @@
 mod fields;
 pub mod laws;
 mod put;
+mod take;
 #[cfg(test)]
 mod tests;
 mod write;
 
-pub use fields::Fields;
+pub use fields::{Fields, are_bytes};
 pub use put::{put_bytes, put_u8, put_u16, put_u32, put_u64};
 pub use write::{write_bytes, write_u8, write_u16, write_u32, write_u64};
