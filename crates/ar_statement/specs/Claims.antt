@@ -1,7 +1,8 @@
 -- What parties sign, and the one text of each statement.
 use Rattle.std.specs.Prelude.{◌≡◌, ℕ, ◌^◌, ◌<◌, ◌≤◌, ◌⊎◌, List, ◌++◌, length}
 use Rattle.std.specs.Int.{w8, w16, w64}
-use Rattle.ar_bytes.specs.RoundTrip.{AreBytes, number_text}
+pub use Rattle.ar_base.specs.Bytes.{IsDigest}
+use Rattle.ar_bytes.specs.RoundTrip.{number_text}
 use Rattle.ar_names.specs.Names.{IsName}
 use Rattle.ar_statement.specs.declared.party.Role.{Role}
 use Rattle.ar_statement.specs.declared.party.Role.TheVariants.{LogServer, Authority, Owner, Client}
@@ -69,11 +70,6 @@ text_of (confirm signer epoch name certificate root) = head 6 signer ++ (number_
 text_of (confirm_absent signer epoch name root) = head 7 signer ++ (number_text w64 epoch ++ (name_text name ++ root))
 
 -- ---- ranges
-
--- 32 bytes
-pub record IsDigest (digest : List ℕ) : Type 0 where
-  pub len : length digest ≡ 32
-  pub bytes : AreBytes digest
 
 -- a log or an authority
 abbrev pub IsWitness : Party → Type 0
