@@ -2,17 +2,9 @@
 use Rattle.std.proofs.Common.{◌≡◌, ℕ, zero, suc, ◌+◌, ◌<◌, ◌≤◌, List, [], ◌∷◌, refl, sym, ap, ◌∙◌, ⊎_elim, arith, Bool, true, false, cond, eqb, ◌&&◌, ◌||◌}
 use Rattle.std.specs.List.{AllByRecursion}
 use Rattle.std.proofs.lemmas.Bool.{cases_eq, eq-eqb, ne_eqb}
+use Rattle.vote_quorum.specs.Counted.{one_if, count_below}
 use Rattle.vote_quorum.specs.Numbers.{distinct_count}
 use Rattle.vote_quorum.proofs.Counting.{among, distinct_count-cons, distinct_count-nil}
-
--- one where the test passes
-abbrev pub one_if : Bool → ℕ
-one_if b = cond b 1 0
-
--- how many numbers below n pass the test
-abbrev pub count_below : ℕ → (ℕ → Bool) → ℕ
-count_below zero p = zero
-count_below (suc n) p = one_if (p n) + count_below n p
 
 -- tests that agree below n pass as many
 pub count_below-same : (n : ℕ) (p r : ℕ → Bool) → ((q : ℕ) → q < n → p q ≡ r q) → count_below n p ≡ count_below n r

@@ -2,7 +2,10 @@ pub mod Adding
 pub mod Below
 pub mod Beside
 pub mod Counting
+pub mod Counts
 pub mod Grown
 pub mod Kept
 pub mod Places
+pub mod Reported
 pub mod Shared
+pub mod Silence

@@ -1,3 +1,5 @@
 pub mod Ballots
+pub mod Counted
 pub mod Marks
 pub mod Numbers
+pub mod Statuses
