@@ -1,4 +1,4 @@
-ghost use Rattle.std.specs.Prelude.{◌≡◌, ◌≤◌, vec_len, IfOk, IfErr, OnOk};
+ghost use Rattle.std.specs.Prelude.{◌≡◌, ◌≢◌, ◌≤◌, vec_len, IfOk, IfErr, OnOk};
 ghost use Rattle.std.specs.Io.KnownBytes.{Consumes, IsAtEnd};
 ghost use Rattle.ar_base.specs.Faults.{HasRisen};
 ghost use Rattle.ar_io.specs.ReadAll.{Stopped};
@@ -12,7 +12,7 @@ const PIECE_LEN: usize = 4096;
 /// All bytes that the source has left, read to its end, where they are at most `limit`.
 ///
 /// At most `limit + 1` bytes are taken. `Long` comes exactly where that one byte more was there,
-/// and `Fault` only where a read failed. After a `Fault` and after `Memory`, for which what was taken
+/// and `Fault` exactly where a read failed. After a `Fault` and after `Memory`, for which what was taken
 /// stands, at most `limit` bytes were taken.
 pub fn read_all<S: Source>(
     alloc: Global,
@@ -27,8 +27,9 @@ pub fn read_all<S: Source>(
     // On an error some front of what was left was taken, longer than the limit exactly at `Long`.
     ensures stopped { IfErr result (Stopped (S.left source.old) (S.left source.new) limit) }
 
-    // A fault has its cause in the count of faults.
+    // A fault has its cause in the count of faults, and none is hidden behind another answer.
     ensures fault { result ≡ Err ReadFault.Fault → HasRisen (S.faults source.old) (S.faults source.new) }
+    ensures uncounted { result ≢ Err ReadFault.Fault → S.faults source.new ≡ S.faults source.old }
     ensures never_falls { S.faults source.old ≤ S.faults source.new }
 {
     let mut bytes = Vec::new(alloc);

@@ -1,4 +1,4 @@
-ghost use Rattle.std.specs.Prelude.{ℕ, ◌≤◌, ◌<◌, List, length, take, IfOk, OnErr};
+ghost use Rattle.std.specs.Prelude.{ℕ, ◌≡◌, ◌≤◌, ◌<◌, List, length, take, IfOk, OnOk, OnErr};
 ghost use Rattle.std.specs.Io.{WritesAtMost};
 ghost use Rattle.ar_base.specs.Faults.{HasRisen};
 ghost use Rattle.ar_io.specs.Wrote.{Appended, Unchanged};
@@ -15,12 +15,14 @@ pub trait Sink {
     ghost faults: { Self → ℕ };
 
     /// Writes some bytes of the front of `piece`, and answers how many they are: at least one where
-    /// `piece` is not empty. A write that failed wrote nothing, and the count of faults rose in it.
+    /// `piece` is not empty. A write that failed wrote nothing, and the count of faults rose in it. It
+    /// stays in each other write, so that no fault is hidden.
     fn write(&mut self, piece: &[u8]) -> Result<usize, Failed>
         ensures bound { WritesAtMost result piece.now }
         ensures progress { IfOk result (λ n. 0 < length piece.now → 0 < n) }
         ensures appends { IfOk result (λ n. Appended wrote self.old self.new (take n piece.now)) }
         ensures kept { OnErr result (Unchanged wrote self.old self.new) }
         ensures never_falls { faults self.old ≤ faults self.new }
-        ensures failed { OnErr result (HasRisen (faults self.old) (faults self.new)) };
+        ensures failed { OnErr result (HasRisen (faults self.old) (faults self.new)) }
+        ensures uncounted { OnOk result (faults self.new ≡ faults self.old) };
 }

@@ -1,4 +1,4 @@
-ghost use Rattle.std.specs.Prelude.{ℕ, ◌≤◌, List, Option, OnErr};
+ghost use Rattle.std.specs.Prelude.{ℕ, ◌≡◌, ◌≤◌, List, Option, OnOk, OnErr};
 ghost use Rattle.std.specs.Io.{ReadsAtMost};
 ghost use Rattle.std.specs.Io.KnownBytes.{ReadConsumes};
 ghost use Rattle.ar_base.specs.Faults.{HasRisen};
@@ -17,10 +17,12 @@ pub trait Source {
     /// at most the length of `buf`. What `buf` holds behind them is left open.
     ///
     /// No bytes for a buffer that is not empty mean the end: then nothing is left. A read that failed
-    /// took nothing, and the count of faults rose in it.
+    /// took nothing, and the count of faults rose in it. It stays in each other read, so that no fault is
+    /// hidden.
     fn read(&mut self, buf: &mut [u8]) -> Result<usize, Failed>
         ensures bound { ReadsAtMost result buf.new }
         ensures bytes { ReadConsumes (left self.old) (left self.new) result buf.new }
         ensures never_falls { faults self.old ≤ faults self.new }
-        ensures failed { OnErr result (HasRisen (faults self.old) (faults self.new)) };
+        ensures failed { OnErr result (HasRisen (faults self.old) (faults self.new)) }
+        ensures uncounted { OnOk result (faults self.new ≡ faults self.old) };
 }

@@ -1,4 +1,4 @@
-use Rattle.std.proofs.Common.{arith}
+use Rattle.std.proofs.Common.{◌∙◌}
 use Rattle.ar_io.proofs.WroteLemmas.{Appended-more}
 use Rattle.ar_io.proofs.writing.write_all.Goals as goal
 
@@ -6,5 +6,5 @@ use Rattle.ar_io.proofs.writing.write_all.Goals as goal
 pub loop-rest-preserved : goal.loop-rest-preserved
 loop-rest-preserved g c = (
   Appended-more g.K.Sink.wrote _ _ _ _ _ _ c.loop-rest.invariant.0 c.in_ok-count.ensures.appends,
-  omega (arith, c.loop-rest.invariant.1, c.write.ensures.never_falls),
+  c.in_ok-count.ensures.uncounted ∙ c.loop-rest.invariant.1,
 )
