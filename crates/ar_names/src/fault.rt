@@ -5,7 +5,7 @@ use std::alloc::AllocError;
 use thiserror::Error;
 
 /// Why a text was not read as a name.
-#[derive(Debug, Drop, Error, PartialEq, Eq)]
+#[derive(Clone, Copy, Debug, PartialEq, Eq, Error)]
 pub enum NameFault {
     /// The text is no name; its first fault is at this place.
     #[error("no name, at place {0}")]

@@ -1,5 +1,5 @@
 ghost use Rattle.std.specs.Prelude.{◌≡◌};
-ghost use Rattle.ar_base.specs.Gives.{GivesUnless};
+ghost use Rattle.ar_base.specs.Gives.{GivesOrWants};
 ghost use Rattle.ar_names.specs.Names.{IsName, name_digest_of};
 ghost use Rattle.ar_names.specs.NameReading.{name_in};
 ghost use Rattle.ar_names.specs.declared.fault.NameFault.TheVariants as faults;
@@ -30,9 +30,9 @@ impl Model for Name {
 }
 
 impl Name {
-    /// The name with this text, or the place of its first fault.
+    /// The name with this text, or the place of its first fault. Memory is taken only for a name.
     pub fn read(alloc: Global, text: &[u8]) -> Result<Name, NameFault>
-        ensures { GivesUnless faults.Memory (λ name. name) result (name_in text.now) }
+        ensures { GivesOrWants faults.Memory (λ name. name) result (name_in text.now) }
     {
         if let Some(place) = first_fault(text) {
             return Err(NameFault::Refused(place));
