@@ -6,7 +6,7 @@ ghost use Rattle.hash_tree.specs.Entries.{entries_of, HasAscendingKeys};
 ghost use Rattle.hash_tree.specs.Root as tree;
 ghost use Rattle.lms_tree.specs.Key as signing;
 ghost use Rattle.lms_tree.specs.LmsKind.{height_of};
-ghost use Rattle.lms_tree.specs.Validity.{lms_signature_len_of};
+ghost use Rattle.lms_tree.specs.Signature.{lms_signature_len_of};
 ghost use Rattle.lms_tree.specs.declared.key.KeyFault.TheVariants.{Memory};
 
 use crate::table::table;

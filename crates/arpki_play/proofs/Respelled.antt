@@ -13,8 +13,8 @@ use Rattle.hex.specs.Hex.{IsBytes, decode_of, decode_pairs, digit_or_error, enco
 use Rattle.hex.specs.declared.error.FromHexError.{FromHexError}
 use Rattle.hex.proofs.HexLemmas.{decode_of-even, decode_of-ok}
 use Rattle.lms_tree.specs.declared.public_key.LmsPublic.{LmsPublic}
-use Rattle.lms_tree.specs.PublicKey.{key_of_text, key_text}
-use Rattle.lms_tree.proofs.KeyLemmas.{key_text-parts}
+use Rattle.lms_tree.specs.PublicKey.{key_of_text}
+use Rattle.lms_tree.proofs.KeyLemmas.{key_text-key_of_text}
 use Rattle.arpki_play.specs.Forms.{bytes_of_hex, is_lower_hex_digit, is_numeral, key_of_hex, name_of, number_of, such_that}
 use Rattle.arpki_play.specs.Written.{hex_of_key}
 use Rattle.arpki_play.proofs.Numerals.{numeral_digits, own}
@@ -30,10 +30,6 @@ kept false o y e = absurd cc
 stepped : {A B : Type 0} (f : A → Option B) (o : Option A) (y : B) → option_and_then f o ≡ Some y → (x : A) × (o ≡ Some x) × (f x ≡ Some y)
 stepped f (Some x) y e = (x, refl, e)
 stepped f None y e = absurd cc
-
-mapped : {A B : Type 0} (f : A → B) (o : Option A) (y : B) → option_map f o ≡ Some y → (x : A) × (o ≡ Some x) × (f x ≡ y)
-mapped f (Some x) y e = (x, refl, same_Some (f x) y e)
-mapped f None y e = absurd cc
 
 gave : {A E : Type 0} (r : Result A E) (y : A) → result_ok r ≡ Some y → r ≡ Ok y
 gave (Ok x) y e = ap Ok (same_Some x y e)
@@ -109,23 +105,11 @@ hex_own word bytes h =
 
 -- ---- keys
 
-key_own : (bytes : List ℕ) (key : LmsPublic) → IsBytes bytes → key_of_text bytes ≡ Some key → key_text key ≡ bytes
-unfolding key_of_text
-key_own bytes key fits h =
-    let whole = kept (eqb (length bytes) 56) _ key h in
-    let lms = stepped _ _ key whole.1 in
-    let ots = mapped _ _ key lms.2 in
-    key_text-parts bytes key (eqb-true _ _ whole.0) fits
-    (lms.1 ∙ ap (λ (k : LmsPublic). Some k.lms) ots.2)
-    (ots.1 ∙ ap (λ (k : LmsPublic). Some k.ots) ots.2)
-    (sym (ap (λ (k : LmsPublic). k.id) ots.2))
-    (sym (ap (λ (k : LmsPublic). k.root) ots.2))
-
 pub key_hex_own : (word : List ℕ) (key : LmsPublic) → key_of_hex word ≡ Some key → hex_of_key key ≡ word
 key_hex_own word key h =
     let bytes = stepped key_of_text (bytes_of_hex word) key h in
     let own_hex = hex_own word bytes.0 bytes.1 in
-    ap encode_lower (key_own bytes.0 key own_hex.1 bytes.2) ∙ own_hex.0
+    ap encode_lower (key_text-key_of_text bytes.0 key own_hex.1 bytes.2).0 ∙ own_hex.0
 
 -- ---- numbers
 

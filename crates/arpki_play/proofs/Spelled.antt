@@ -6,17 +6,15 @@ use Rattle.std.specs.Int.{w32, to_be_bytes}
 use Rattle.std.specs.List.{list_all}
 use Rattle.std.proofs.lemmas.Bool.{and_parts, cases_lt, eqb-true, not-false, or_parts}
 use Rattle.std.proofs.lemmas.Fmt.{decimal_digit, digits_decimal, digits_value-decimal, first_decimal, decimal_nonempty}
-use Rattle.std.proofs.lemmas.List.{take_all, take_at, drop_at}
 use Rattle.std.proofs.lemmas.List.Elements.{All-from_get_or}
 use Rattle.std.proofs.lemmas.List.Sums.{list_all-from_AllPass}
-use Rattle.std.proofs.lemmas.Nat.{from_be_bytes-to_be_bytes_4}
 use Rattle.hex.specs.Hex.{IsBytes, encode_lower, encode_with, lower_digits}
 use Rattle.hex.proofs.HexLemmas.{decode_of-encode_lower}
 use Rattle.ar_names.specs.Names.{IsName, is_label_byte, is_wrong_at}
 use Rattle.ar_names.proofs.Least.{name_is_right}
 use Rattle.lms_tree.specs.declared.public_key.LmsPublic.{LmsPublic}
-use Rattle.lms_tree.specs.PublicKey.{HasWidths, key_of_text, key_text}
-use Rattle.lms_tree.proofs.KeyLemmas.{length-key_text, lms_number-lt, lms_type-number, ots_number-lt, ots_type-number}
+use Rattle.lms_tree.specs.PublicKey.{key_text}
+use Rattle.lms_tree.proofs.KeyLemmas.{bytes-key_text, key_of_text-key_text}
 use Rattle.arpki_play.specs.Forms.{bytes_of_hex, is_lower_hex_digit, is_numeral, key_of_hex, name_of, number_of}
 use Rattle.arpki_play.specs.Written.{IsKey, hex_of_key}
 use Rattle.arpki_play.proofs.Numerals.{digits_alone, own}
@@ -70,40 +68,9 @@ hex_is_word bytes h =
 
 -- ---- keys
 
-IsBytes-append : (front back : List ℕ) → IsBytes front → IsBytes back → IsBytes (front ++ back)
-IsBytes-append [] back f b k = b k
-IsBytes-append (byte ∷ front) back f b zero = f 0
-IsBytes-append (byte ∷ front) back f b (suc k) = IsBytes-append front back (λ i. f (suc i)) b k
-
-bytes_of_number : (n : ℕ) → IsBytes (to_be_bytes w32 n)
-bytes_of_number n zero = omega arith
-bytes_of_number n (suc zero) = omega arith
-bytes_of_number n (suc (suc zero)) = omega arith
-bytes_of_number n (suc (suc (suc zero))) = omega arith
-bytes_of_number n (suc (suc (suc (suc i)))) = omega arith
-
--- two numbers of 32 bits and two strings of bytes are bytes
-parts_bytes : (m n : ℕ) (id root : List ℕ) → m < 2 ^ 32 → n < 2 ^ 32 → IsBytes id → IsBytes root → IsBytes (to_be_bytes w32 m ++ (to_be_bytes w32 n ++ (id ++ root)))
-parts_bytes m n id root _ _ i r =
-    IsBytes-append (to_be_bytes w32 m) (to_be_bytes w32 n ++ (id ++ root)) (bytes_of_number m)
-    (IsBytes-append (to_be_bytes w32 n) (id ++ root) (bytes_of_number n) (IsBytes-append id root i r))
-
 -- the text of a key is bytes
 key_text_bytes : (key : LmsPublic) → IsKey key → IsBytes (key_text key)
-unfolding key_text
-key_text_bytes key h = parts_bytes _ _ key.id key.root (lms_number-lt key.lms) (ots_number-lt key.ots) h.id h.root
-
--- and the key is read from it
-key_of_text-key_text : (key : LmsPublic) → HasWidths key → key_of_text (key_text key) ≡ Some key
-unfolding key_text key_of_text
-key_of_text-key_text key h =
-    let len : eqb (length (key_text key)) 56 ≡ true = eq-eqb _ _ (length-key_text key h) in
-    let lms = from_be_bytes-to_be_bytes_4 _ (lms_number-lt key.lms) in
-    let ots = from_be_bytes-to_be_bytes_4 _ (ots_number-lt key.ots) in
-    let id : take 16 (key.id ++ key.root) ≡ key.id = take_at key.id key.root 16 h.0 in
-    let behind : drop 16 (key.id ++ key.root) ≡ key.root = drop_at key.id key.root 16 h.0 in
-    let root : take 32 key.root ≡ key.root = take_all 32 key.root (omega (arith, h.1)) in
-    rw (len, lms, ots, lms_type-number key.lms, ots_type-number key.ots, id, behind, root) refl
+key_text_bytes key h = bytes-key_text key h.id h.root
 
 pub key_of_hex-key : (key : LmsPublic) → IsKey key → key_of_hex (hex_of_key key) ≡ Some key
 key_of_hex-key key h = rw (bytes_of_hex-encode (key_text key) (key_text_bytes key h)) (key_of_text-key_text key h.widths)

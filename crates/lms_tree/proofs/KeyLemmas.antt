@@ -1,10 +1,18 @@
 -- Keys and their texts.
-use Rattle.std.proofs.Common.{◌≡◌, ◌∙◌, ap, sym, refl, arith, ℕ, ◌+◌, ◌^◌, ◌<◌, ◌≤◌, List, ◌++◌, length, take, drop, get_or, Bool, true, false, cond, eqb, Some, None}
-use Rattle.std.specs.Int.{w32, to_be_bytes, from_be_bytes}
-use Rattle.std.proofs.lemmas.List.{take-append-drop, drop-drop, take_all, take_at, drop_at, places, length-append, length-take, length-drop}
-use Rattle.std.proofs.lemmas.Nat.{be_bytes_4, from_be_bytes-to_be_bytes_4}
-use Rattle.std.proofs.lemmas.Bool.{eqb-true}
+use Rattle.std.proofs.Common.{◌≡◌, ◌∙◌, ap, sym, subst, refl, arith, ℕ, zero, suc, ◌+◌, ◌^◌, ◌<◌, ◌≤◌, List, [], ◌∷◌, ◌++◌, length, take, drop, Bool, true, false, Option, Some, None, Result, Ok, Err, eqb, eq-eqb, ltb, ◌&&◌}
+use Rattle.std.specs.Prelude.{is_some}
+use Rattle.std.specs.Option.{ok_or}
+use Rattle.std.specs.Result.{result_ok}
+use Rattle.std.specs.Int.{w32, from_be_bytes}
+use Rattle.std.proofs.lemmas.List.{length-append, length-drop}
+use Rattle.std.proofs.lemmas.Bool.{eqb-true, le-ltb}
 use Rattle.std.proofs.lemmas.Bool.Decides.{nat_tests}
+use Rattle.ar_bytes.specs.Reading.{Cursor, Reading, ◌>>=◌, all_of, behind, bytes_at, number_at, start_of, whole}
+use Rattle.ar_bytes.specs.RoundTrip.{AreBytes, Passes, ReadsBack, IsSpelledBy, number_text}
+use Rattle.ar_bytes.proofs.Steps.{all_ok, bind_ok, ok_is, Passes-then, Passes-first, Passes-second, AreBytes-behind}
+use Rattle.ar_bytes.proofs.Passing.{bytes_again, bytes_pass, number_again, number_pass, wide32, length-number_text}
+use Rattle.ar_bytes.proofs.Taken.{bytes_taken, left_of, number_taken}
+use Rattle.ar_bytes.proofs.Parts.{whole_again, whole_pass}
 use Rattle.lm_ots.specs.declared.ots_type.OtsType.{OtsType}
 use Rattle.lm_ots.specs.declared.ots_type.OtsType.TheVariants.{W1, W2, W4, W8}
 use Rattle.lm_ots.specs.OtsKind as ots_kind
@@ -12,9 +20,10 @@ use Rattle.lms_tree.specs.declared.lms_type.LmsType.{LmsType}
 use Rattle.lms_tree.specs.declared.lms_type.LmsType.TheVariants.{H5, H10, H15, H20, H25}
 use Rattle.lms_tree.specs.declared.public_key.LmsPublic.{LmsPublic}
 use Rattle.lms_tree.specs.LmsKind as lms_kind
-use Rattle.lms_tree.specs.PublicKey.{fields_of, key_text, HasWidths}
+use Rattle.lms_tree.specs.PublicKey.{HasWidths, is_key_text, key_at, key_of_text, key_text, type_at}
 
--- a type is the type of its number
+-- ---- types and their numbers
+
 pub lms_type-number : (kind : LmsType) → lms_kind.type_of_number (lms_kind.number_of kind) ≡ Some kind
 lms_type-number H5 = refl
 lms_type-number H10 = refl
@@ -28,7 +37,6 @@ ots_type-number W2 = refl
 ots_type-number W4 = refl
 ots_type-number W8 = refl
 
--- the numbers fit
 pub lms_number-lt : (kind : LmsType) → lms_kind.number_of kind < 2 ^ 32
 lms_number-lt H5 = omega arith
 lms_number-lt H10 = omega arith
@@ -42,72 +50,148 @@ ots_number-lt W2 = omega arith
 ots_number-lt W4 = omega arith
 ots_number-lt W8 = omega arith
 
--- a string is its parts
-pub same-parts : (bytes : List ℕ) → take 4 bytes ++ (take 4 (drop 4 bytes) ++ (take 16 (drop 8 bytes) ++ drop 24 bytes)) ≡ bytes
-same-parts bytes =
-    ap (λ l. take 4 bytes ++ (take 4 (drop 4 bytes) ++ l))
-    (ap (λ l. take 16 (drop 8 bytes) ++ l) (sym (drop-drop 16 8 bytes)) ∙ take-append-drop 16 (drop 8 bytes))
-    ∙ ap (λ l. take 4 bytes ++ l)
-    (ap (λ l. take 4 (drop 4 bytes) ++ l) (sym (drop-drop 4 4 bytes)) ∙ take-append-drop 4 (drop 4 bytes))
-    ∙ take-append-drop 4 bytes
-
--- a number is that of its type
-pub lms_number-type : (n : ℕ) (kind : LmsType) → lms_kind.type_of_number n ≡ Some kind → lms_kind.number_of kind ≡ n
+lms_number-type : (n : ℕ) (kind : LmsType) → lms_kind.type_of_number n ≡ Some kind → lms_kind.number_of kind ≡ n
 lms_number-type n kind e = grind (arith, nat_tests)
 
-pub ots_number-type : (n : ℕ) (kind : OtsType) → ots_kind.type_of_number n ≡ Some kind → ots_kind.number_of kind ≡ n
+ots_number-type : (n : ℕ) (kind : OtsType) → ots_kind.type_of_number n ≡ Some kind → ots_kind.number_of kind ≡ n
 ots_number-type n kind e = grind (arith, nat_tests)
 
--- the four bytes at a place are those of the number there
-number-bytes : (bytes : List ℕ) (place : ℕ) → place + 4 ≤ length bytes → ((i : ℕ) → get_or bytes i 0 < 256) → to_be_bytes w32 (from_be_bytes w32 (take 4 (drop place bytes))) ≡ take 4 (drop place bytes)
-number-bytes bytes place within fits =
-    be_bytes_4 (take 4 (drop place bytes)) _ (omega (arith, length-take {A = ℕ}, length-drop {A = ℕ}))
-    (λ i. grind (arith, places, fits (place + i))) refl
+-- ---- a type in a text
 
--- fewer or more than 56 bytes have no fields
-pub fields_of-short : (bytes : List ℕ) → length bytes < 56 → None ≡ fields_of bytes
-fields_of-short bytes h = grind (arith, nat_tests)
+type_again : {A : Type 0} (type_of_number : ℕ → Option A) (kind : A) (n : ℕ) → n < 2 ^ 32 → type_of_number n ≡ Some kind
+    → ReadsBack (type_at type_of_number) kind (number_text w32 n)
+unfolding type_at
+type_again type_of_number kind n lt is at new p = rw (number_again w32 (2 ^ 32) wide32 n lt at new p, is) refl
 
-pub fields_of-long : (bytes : List ℕ) → 56 < length bytes → None ≡ fields_of bytes
-fields_of-long bytes h = grind (arith, nat_tests)
+is_ok : {A : Type 0} (o : Option A) (place : ℕ) (x : A) → ok_or o place ≡ Ok x → o ≡ Some x
+is_ok None place x e = absurd cc
+is_ok (Some y) place x e = cc
 
--- 56 bytes have four
-pub fields_of-whole : (bytes : List ℕ) (lms ots : ℕ) (id root : List ℕ) → length bytes ≡ 56 → lms ≡ from_be_bytes w32 (take 4 bytes) → ots ≡ from_be_bytes w32 (take 4 (drop 4 bytes)) → id ≡ take 16 (drop 8 bytes) → root ≡ take 32 (drop 24 bytes) → Some (lms, ots, id, root) ≡ fields_of bytes
-fields_of-whole bytes lms ots id root whole a b c d = rw (a, b, c, d, whole) refl
+type_pass : {A : Type 0} (type_of_number : ℕ → Option A) (number_of : A → ℕ) → ((n : ℕ) (kind : A) → type_of_number n ≡ Some kind → number_of kind ≡ n)
+    → IsSpelledBy (type_at type_of_number) (λ kind. number_text w32 (number_of kind)) (λ _. Unit {0})
+unfolding type_at
+type_pass {A} type_of_number number_of own at new kind bytes e =
+    let b = bind_ok {B = A × Cursor} (number_at w32 at) (λ n. ok_or (type_of_number n.0) at.place >>= λ k. Ok (k, n.1)) (kind, new) e in
+    let k = bind_ok {B = A × Cursor} (ok_or (type_of_number b.0.0) at.place) (λ k. Ok (k, b.0.1)) (kind, new) b.2 in
+    let p = number_pass w32 (2 ^ 32) wide32 at b.0.1 b.0.0 bytes b.1 in
+    let number = own b.0.0 k.0 (is_ok (type_of_number b.0.0) at.place k.0 k.1) in
+    subst (λ (x : A × Cursor). Passes at (number_text w32 (number_of x.0)) x.1 × Unit {0}) (ok_is (k.0, b.0.1) (kind, new) k.2)
+    (rw number p.0, tt)
 
-some_if : {A : Type 0} (test : Bool) (x y : A) → Some y ≡ cond test (Some x) None → (test ≡ true) × (x ≡ y)
-some_if true x y e = (refl, cc)
-some_if false x y e = absurd cc
+-- ---- a key
 
--- and where there are four, they are these
-pub fields_of-some : (bytes : List ℕ) (f : ℕ × ℕ × List ℕ × List ℕ) → Some f ≡ fields_of bytes
-    → (length bytes ≡ 56) × (from_be_bytes w32 (take 4 bytes) ≡ f.0) × (from_be_bytes w32 (take 4 (drop 4 bytes)) ≡ f.1) × (f.2 ≡ take 16 (drop 8 bytes)) × (f.3 ≡ take 32 (drop 24 bytes))
-fields_of-some bytes f e =
-    let s = some_if (eqb (length bytes) 56) (from_be_bytes w32 (take 4 bytes), from_be_bytes w32 (take 4 (drop 4 bytes)), take 16 (drop 8 bytes), take 32 (drop 24 bytes)) f e in (
-      eqb-true _ _ s.0,
-      ap (λ (x : ℕ × ℕ × List ℕ × List ℕ). x.0) s.1,
-      ap (λ (x : ℕ × ℕ × List ℕ × List ℕ). x.1) s.1,
-      sym (ap (λ (x : ℕ × ℕ × List ℕ × List ℕ). x.2) s.1),
-      sym (ap (λ (x : ℕ × ℕ × List ℕ × List ℕ). x.3) s.1),
+abbrev the_key : LmsType → OtsType → List ℕ → List ℕ → LmsPublic
+the_key lms ots id root = record { lms = lms; ots = ots; id = id; root = root }
+
+abbrev lms_at : Cursor → Reading LmsType
+lms_at at = type_at lms_kind.type_of_number at
+
+abbrev ots_at : Cursor → Reading OtsType
+ots_at at = type_at ots_kind.type_of_number at
+
+-- what is read behind each field
+abbrev behind_id : LmsType → OtsType → List ℕ × Cursor → Reading LmsPublic
+behind_id lms ots i = bytes_at 32 i.1 >>= λ r. Ok (the_key lms ots i.0 r.0, r.1)
+
+abbrev behind_ots : LmsType → OtsType × Cursor → Reading LmsPublic
+behind_ots lms o = bytes_at 16 o.1 >>= behind_id lms o.0
+
+abbrev behind_lms : LmsType × Cursor → Reading LmsPublic
+behind_lms l = ots_at l.1 >>= behind_ots l.0
+
+-- a key is read again
+pub key_again : (key : LmsPublic) → HasWidths key → ReadsBack key_at key (key_text key)
+unfolding key_at key_text
+key_again key h at new p =
+    let lms = number_text w32 (lms_kind.number_of key.lms) in
+    let ots = number_text w32 (ots_kind.number_of key.ots) in
+    let past_lms = Passes-second at new lms (ots ++ (key.id ++ key.root)) p in
+    let past_ots = Passes-second _ new ots (key.id ++ key.root) past_lms in
+    rw (
+      type_again lms_kind.type_of_number key.lms _ (lms_number-lt key.lms) (lms_type-number key.lms) at _ (Passes-first at new lms (ots ++ (key.id ++ key.root)) p),
+      type_again ots_kind.type_of_number key.ots _ (ots_number-lt key.ots) (ots_type-number key.ots) _ _ (Passes-first _ new ots (key.id ++ key.root) past_lms),
+      bytes_again 16 key.id _ _ h.0 (Passes-first _ new key.id key.root past_ots),
+      bytes_again 32 key.root _ new h.1 (Passes-second _ new key.id key.root past_ots),
+    ) refl
+
+-- a key that is read is spelled so
+pub key_pass : IsSpelledBy key_at key_text HasWidths
+unfolding key_at key_text
+key_pass at new key bytes e =
+    let lms = bind_ok {B = LmsPublic × Cursor} (lms_at at) behind_lms (key, new) e in
+    let ots = bind_ok {B = LmsPublic × Cursor} (ots_at lms.0.1) (behind_ots lms.0.0) (key, new) lms.2 in
+    let id = bind_ok {B = LmsPublic × Cursor} (bytes_at 16 ots.0.1) (behind_id lms.0.0 ots.0.0) (key, new) ots.2 in
+    let root = bind_ok {B = LmsPublic × Cursor} (bytes_at 32 id.0.1) (λ r. Ok (the_key lms.0.0 ots.0.0 id.0.0 r.0, r.1)) (key, new) id.2 in
+    let l = type_pass lms_kind.type_of_number lms_kind.number_of lms_number-type at lms.0.1 lms.0.0 bytes lms.1 in
+    let o = type_pass ots_kind.type_of_number ots_kind.number_of ots_number-type lms.0.1 ots.0.1 ots.0.0 (AreBytes-behind at lms.0.1 _ l.0 bytes) ots.1 in
+    let i = bytes_pass 16 ots.0.1 id.0.1 id.0.0 id.1 in
+    let r = bytes_pass 32 id.0.1 root.0.1 root.0.0 root.1 in
+    let text = Passes-then at lms.0.1 root.0.1 _ _ l.0 (Passes-then lms.0.1 ots.0.1 root.0.1 _ _ o.0 (Passes-then ots.0.1 id.0.1 root.0.1 _ _ i.0 r.0)) in
+    subst (λ (x : LmsPublic × Cursor). Passes at (key_text x.0) x.1 × HasWidths x.0)
+    (ok_is (the_key lms.0.0 ots.0.0 id.0.0 root.0.0, root.0.1) (key, new) root.2) (text, (i.1, r.1))
+
+-- what reading a whole text gave
+pub gave : {A : Type 0} (r : Result A ℕ) (x : A) → result_ok r ≡ Some x → r ≡ Ok x
+gave (Ok y) x e = cc
+gave (Err place) x e = absurd cc
+
+-- the text of a key is read as it
+pub key_of_text-key_text : (key : LmsPublic) → HasWidths key → key_of_text (key_text key) ≡ Some key
+unfolding key_of_text
+key_of_text-key_text key h = ap result_ok (whole_again key_at key (key_text key) (key_again key h))
+
+-- a key that was read spells the text
+pub key_text-key_of_text : (bytes : List ℕ) (key : LmsPublic) → AreBytes bytes → key_of_text bytes ≡ Some key → (key_text key ≡ bytes) × HasWidths key
+unfolding key_of_text
+key_text-key_of_text bytes key are e =
+    let p = whole_pass key_at key_text HasWidths key_pass bytes key are (gave (whole key_at bytes) key e) in
+    (sym p.0, p.1)
+
+-- the text of a key has 56 bytes
+pub length-key_text : (key : LmsPublic) → HasWidths key → length (key_text key) ≡ 56
+unfolding key_text
+length-key_text key h =
+    let lms = number_text w32 (lms_kind.number_of key.lms) in
+    let ots = number_text w32 (ots_kind.number_of key.ots) in
+    omega (
+      arith,
+      length-append lms (ots ++ (key.id ++ key.root)),
+      length-append ots (key.id ++ key.root),
+      length-append key.id key.root,
+      length-number_text w32 (lms_kind.number_of key.lms),
+      length-number_text w32 (ots_kind.number_of key.ots),
+      h.0,
+      h.1,
     )
 
--- a key is read from the bytes of its text
-pub key_text-parts : (bytes : List ℕ) (key : LmsPublic) → length bytes ≡ 56 → ((i : ℕ) → get_or bytes i 0 < 256) → lms_kind.type_of_number (from_be_bytes w32 (take 4 bytes)) ≡ Some key.lms → ots_kind.type_of_number (from_be_bytes w32 (take 4 (drop 4 bytes))) ≡ Some key.ots → key.id ≡ take 16 (drop 8 bytes) → key.root ≡ take 32 (drop 24 bytes) → key_text key ≡ bytes
-unfolding key_text
-key_text-parts bytes key whole fits lms ots id root =
-    let first = ap (to_be_bytes w32) (lms_number-type _ key.lms lms) ∙ number-bytes bytes 0 (omega arith) fits in
-    let second = ap (to_be_bytes w32) (ots_number-type _ key.ots ots) ∙ number-bytes bytes 4 (omega arith) fits in
-    let last = root ∙ take_all 32 (drop 24 bytes) (omega (arith, length-drop {A = ℕ})) in
-    ap (λ l. l ++ (to_be_bytes w32 (ots_kind.number_of key.ots) ++ (key.id ++ key.root))) first
-    ∙ ap (λ l. take 4 bytes ++ (l ++ (key.id ++ key.root))) second
-    ∙ ap (λ l. take 4 bytes ++ (take 4 (drop 4 bytes) ++ (l ++ key.root))) id
-    ∙ ap (λ l. take 4 bytes ++ (take 4 (drop 4 bytes) ++ (take 16 (drop 8 bytes) ++ l))) last
-    ∙ same-parts bytes
+-- and they are bytes
+append_bytes : (front back : List ℕ) → AreBytes front → AreBytes back → AreBytes (front ++ back)
+append_bytes [] back f b k = b k
+append_bytes (byte ∷ front) back f b zero = f 0
+append_bytes (byte ∷ front) back f b (suc k) = append_bytes front back (λ i. f (suc i)) b k
 
--- the four bytes of two numbers differ where the numbers do
-number-from-bytes : (m n : ℕ) → m < 2 ^ 32 → n < 2 ^ 32 → to_be_bytes w32 m ≡ to_be_bytes w32 n → m ≡ n
-number-from-bytes m n p q e =
-    sym (from_be_bytes-to_be_bytes_4 m p) ∙ ap (from_be_bytes w32) e ∙ from_be_bytes-to_be_bytes_4 n q
+number_bytes : (n : ℕ) → AreBytes (number_text w32 n)
+unfolding number_text
+number_bytes n zero = omega arith
+number_bytes n (suc zero) = omega arith
+number_bytes n (suc (suc zero)) = omega arith
+number_bytes n (suc (suc (suc zero))) = omega arith
+number_bytes n (suc (suc (suc (suc i)))) = omega arith
+
+pub bytes-key_text : (key : LmsPublic) → AreBytes key.id → AreBytes key.root → AreBytes (key_text key)
+unfolding key_text
+bytes-key_text key id root =
+    append_bytes (number_text w32 (lms_kind.number_of key.lms)) (number_text w32 (ots_kind.number_of key.ots) ++ (key.id ++ key.root)) (number_bytes (lms_kind.number_of key.lms))
+    (append_bytes (number_text w32 (ots_kind.number_of key.ots)) (key.id ++ key.root) (number_bytes (ots_kind.number_of key.ots))
+    (append_bytes key.id key.root id root))
+
+-- two keys with one text are equal
+pub one-text-one-key : (a b : LmsPublic) → HasWidths a → HasWidths b → key_text a ≡ key_text b → a ≡ b
+one-text-one-key a b p q e =
+    let first = key_of_text-key_text a p in
+    let second = key_of_text-key_text b q in
+    let same = sym first ∙ ap key_of_text e ∙ second in
+    cc
 
 -- two keys are equal where their parts are
 pub key-from-parts : (a b : LmsPublic) → a.lms ≡ b.lms → a.ots ≡ b.ots → a.id ≡ b.id → a.root ≡ b.root → a ≡ b
@@ -117,22 +201,117 @@ key-from-parts a b lms ots id root =
     ∙ ap (λ k. let key : LmsPublic = record { lms = b.lms; ots = b.ots; id = k; root = a.root } in key) id
     ∙ ap (λ k. let key : LmsPublic = record { lms = b.lms; ots = b.ots; id = b.id; root = k } in key) root
 
--- the text of a key has 56 bytes
-pub length-key_text : (key : LmsPublic) → HasWidths key → length (key_text key) ≡ 56
-unfolding key_text
-length-key_text key h = omega (arith, length-append key.id key.root, h.0, h.1)
+-- ---- which texts are read
 
--- two keys with one text are equal
-pub one-text-one-key : (a b : LmsPublic) → HasWidths a → HasWidths b → key_text a ≡ key_text b → a ≡ b
-unfolding key_text
-one-text-one-key a b p q e =
-    let lms_number = number-from-bytes _ _ (lms_number-lt a.lms) (lms_number-lt b.lms) (ap (take 4) e) in
-    let lms_some = sym (lms_type-number a.lms) ∙ ap lms_kind.type_of_number lms_number ∙ lms_type-number b.lms in
-    let lms : a.lms ≡ b.lms = cc in
-    let ots_number = number-from-bytes _ _ (ots_number-lt a.ots) (ots_number-lt b.ots) (ap (λ l. take 4 (drop 4 l)) e) in
-    let ots_some = sym (ots_type-number a.ots) ∙ ap ots_kind.type_of_number ots_number ∙ ots_type-number b.ots in
-    let ots : a.ots ≡ b.ots = cc in
-    let rest : a.id ++ a.root ≡ b.id ++ b.root = ap (drop 8) e in
-    let id : a.id ≡ b.id = sym (take_at a.id a.root 16 p.0) ∙ ap (take 16) rest ∙ take_at b.id b.root 16 q.0 in
-    let root : a.root ≡ b.root = sym (drop_at a.id a.root 16 p.0) ∙ ap (drop 16) rest ∙ drop_at b.id b.root 16 q.0 in
-    key-from-parts a b lms ots id root
+-- fields that are long enough
+pub bytes_there : (n : ℕ) (at : Cursor) → n ≤ length at.ahead → bytes_at n at ≡ Ok (take n at.ahead, behind n at)
+unfolding bytes_at
+bytes_there n at h = let long : ltb (length at.ahead) n ≡ false = le-ltb _ _ h in rw long refl
+
+pub number_there : (at : Cursor) → 4 ≤ length at.ahead → number_at w32 at ≡ Ok (from_be_bytes w32 (take 4 at.ahead), behind 4 at)
+unfolding number_at
+number_there at h = rw (bytes_there 4 at h) refl
+
+-- 56 bytes that name two types are read
+readable : (bytes : List ℕ) (lms : LmsType) (ots : OtsType) → length bytes ≡ 56
+    → lms_kind.type_of_number (from_be_bytes w32 (take 4 bytes)) ≡ Some lms
+    → ots_kind.type_of_number (from_be_bytes w32 (take 4 (drop 4 bytes))) ≡ Some ots
+    → is_some (key_of_text bytes) ≡ true
+unfolding key_of_text key_at type_at whole
+readable bytes lms ots len is_lms is_ots =
+    let first = behind 4 (start_of bytes) in
+    let second = behind 4 first in
+    let third = behind 16 second in
+    let last = behind 32 third in
+    let a : length first.ahead + 4 ≡ length bytes = omega (arith, length-drop 4 bytes) in
+    let b : length second.ahead + 4 ≡ length first.ahead = omega (arith, length-drop 4 first.ahead) in
+    let c : length third.ahead + 16 ≡ length second.ahead = omega (arith, length-drop 16 second.ahead) in
+    let d : length last.ahead + 32 ≡ length third.ahead = omega (arith, length-drop 32 third.ahead) in
+    let none : eqb (length last.ahead) 0 ≡ true = eq-eqb _ _ (omega arith) in
+    rw (
+      number_there (start_of bytes) (omega arith),
+      is_lms,
+      number_there first (omega arith),
+      is_ots,
+      bytes_there 16 second (omega arith),
+      bytes_there 32 third (omega arith),
+      none,
+    ) refl
+
+-- a type that was read is the one that the four bytes name
+type_taken : {A : Type 0} (type_of_number : ℕ → Option A) (at new : Cursor) (kind : A) → type_at type_of_number at ≡ Ok (kind, new)
+    → (type_of_number (from_be_bytes w32 (take 4 at.ahead)) ≡ Some kind) × (new.ahead ≡ drop 4 at.ahead) × (length new.ahead + 4 ≡ length at.ahead)
+unfolding type_at
+type_taken {A} type_of_number at new kind e =
+    let b = bind_ok {B = A × Cursor} (number_at w32 at) (λ n. ok_or (type_of_number n.0) at.place >>= λ k. Ok (k, n.1)) (kind, new) e in
+    let k = bind_ok {B = A × Cursor} (ok_or (type_of_number b.0.0) at.place) (λ k. Ok (k, b.0.1)) (kind, new) b.2 in
+    let took = number_taken w32 at b.0.1 b.0.0 b.1 in
+    let names = is_ok (type_of_number b.0.0) at.place k.0 k.1 in
+    let left = left_of _ _ _ _ _ took in
+    let rest = took.rest in
+    let same = ok_is (k.0, b.0.1) (kind, new) k.2 in
+    let P : A × Cursor → Type 0 = λ x. (type_of_number (from_be_bytes w32 (take 4 at.ahead)) ≡ Some x.0) × (x.1.ahead ≡ drop 4 at.ahead) × (length x.1.ahead + 4 ≡ length at.ahead) in
+    subst P same (ap type_of_number (sym took.value) ∙ names, rest, left)
+
+-- what was read had 56 bytes and named two types
+read_says : (bytes : List ℕ) (key : LmsPublic) → key_of_text bytes ≡ Some key → (length bytes ≡ 56)
+    × (lms_kind.type_of_number (from_be_bytes w32 (take 4 bytes)) ≡ Some key.lms)
+    × (ots_kind.type_of_number (from_be_bytes w32 (take 4 (drop 4 bytes))) ≡ Some key.ots)
+unfolding key_of_text key_at whole
+read_says bytes key e =
+    let start = start_of bytes in
+    let all = bind_ok (key_at start) all_of key (gave (whole key_at bytes) key e) in
+    let ended = all_ok all.0 key all.2 in
+    let lms = bind_ok {B = LmsPublic × Cursor} (lms_at start) behind_lms all.0 all.1 in
+    let ots = bind_ok {B = LmsPublic × Cursor} (ots_at lms.0.1) (behind_ots lms.0.0) all.0 lms.2 in
+    let id = bind_ok {B = LmsPublic × Cursor} (bytes_at 16 ots.0.1) (behind_id lms.0.0 ots.0.0) all.0 ots.2 in
+    let root = bind_ok {B = LmsPublic × Cursor} (bytes_at 32 id.0.1) (λ r. Ok (the_key lms.0.0 ots.0.0 id.0.0 r.0, r.1)) all.0 id.2 in
+    let l = type_taken lms_kind.type_of_number start lms.0.1 lms.0.0 lms.1 in
+    let o = type_taken ots_kind.type_of_number lms.0.1 ots.0.1 ots.0.0 ots.1 in
+    let same : (the_key lms.0.0 ots.0.0 id.0.0 root.0.0, root.0.1) ≡ all.0 = ok_is (the_key lms.0.0 ots.0.0 id.0.0 root.0.0, root.0.1) all.0 root.2 in
+    let last : root.0.1 ≡ all.0.1 = ap (λ (x : LmsPublic × Cursor). x.1) same in
+    let lms_is : lms.0.0 ≡ key.lms = ap (λ (x : LmsPublic × Cursor). x.0.lms) same ∙ ap (λ (k : LmsPublic). k.lms) ended.0 in
+    let ots_is : ots.0.0 ≡ key.ots = ap (λ (x : LmsPublic × Cursor). x.0.ots) same ∙ ap (λ (k : LmsPublic). k.ots) ended.0 in (
+      omega (
+        arith,
+        l.2,
+        o.2,
+        left_of _ _ _ _ _ (bytes_taken 16 ots.0.1 id.0.1 id.0.0 id.1),
+        left_of _ _ _ _ _ (bytes_taken 32 id.0.1 root.0.1 root.0.0 root.1),
+        ap (λ (at : Cursor). length at.ahead) last,
+        ap (λ (rest : List ℕ). length rest) ended.1,
+      ),
+      l.0 ∙ ap (λ (k : LmsType). Some k) lms_is,
+      ap (λ (rest : List ℕ). ots_kind.type_of_number (from_be_bytes w32 (take 4 rest))) (sym l.1) ∙ o.0 ∙ ap (λ (k : OtsType). Some k) ots_is,
+    )
+
+some_of : {A : Type 0} (o : Option A) → is_some o ≡ true → (x : A) × (o ≡ Some x)
+some_of None e = absurd cc
+some_of (Some x) e = (x, refl)
+
+both : (a b : Bool) → (a && b) ≡ true → (a ≡ true) × (b ≡ true)
+both true b e = (refl, e)
+both false b e = absurd cc
+
+-- a key is read exactly from the texts of keys
+pub is_some-key_of_text : (bytes : List ℕ) → is_some (key_of_text bytes) ≡ is_key_text bytes
+unfolding is_key_text
+is_some-key_of_text bytes = by (key_of_text bytes) refl
+  where
+    by : (key : Option LmsPublic) → key_of_text bytes ≡ key → is_some key ≡ is_key_text bytes
+    by (Some key) e =
+        let says = read_says bytes key e in
+        let len : eqb (length bytes) 56 ≡ true = eq-eqb _ _ says.0 in
+        rw (len, says.1, says.2) refl
+    by None e = never (is_key_text bytes) refl
+      where
+        never : (b : Bool) → is_key_text bytes ≡ b → false ≡ b
+        never false is = refl
+        never true is =
+            let first = both _ _ is in
+            let second = both _ _ first.1 in
+            let lms = some_of _ second.0 in
+            let ots = some_of _ second.1 in
+            let read = readable bytes lms.0 ots.0 (eqb-true _ _ first.0) lms.1 ots.1 in
+            let none = ap is_some e in
+            cc

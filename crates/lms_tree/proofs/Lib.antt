@@ -2,3 +2,4 @@ pub mod KeyLemmas
 pub mod NodeLemmas
 pub mod SignatureLemmas
 pub mod SigningLemmas
+pub mod VerdictLemmas

@@ -1,54 +1,146 @@
--- What a signature is judged by, once its parts are read.
-use Rattle.std.proofs.Common.{◌≡◌, ◌∙◌, ap, refl, arith, ℕ, zero, suc, ◌+◌, ◌*◌, ◌^◌, ◌<◌, ◌==◌, Bool, true, false, not, List, [], ◌∷◌, length, take, drop, map}
-use Rattle.std.specs.Prelude.{nat_lt}
-use Rattle.std.specs.List.{range_with_len}
-use Rattle.std.specs.Str.{bytes_eq}
+-- The parts of a signature, and what it is judged by.
+use Rattle.std.proofs.Common.{◌≡◌, ◌∙◌, ap, sym, refl, arith, ℕ, ◌+◌, ◌*◌, ◌^◌, eqb, true, false, List, [], ◌∷◌, ◌++◌, length, take, drop, Some, None, Ok, eq-eqb}
+use Rattle.std.specs.Prelude.{All}
+use Rattle.std.specs.List.{flat_map}
+use Rattle.std.specs.Result.{result_ok}
+use Rattle.std.specs.Int.{w32, from_be_bytes}
 use Rattle.std.specs.Simd.{first_chunks}
-use Rattle.std.proofs.lemmas.List.{drop-drop}
-use Rattle.std.proofs.lemmas.Bool.Decides.{nat_tests}
+use Rattle.std.proofs.lemmas.List.{take_at, drop_at, length-append, length-drop}
+use Rattle.std.proofs.lemmas.List.Elements.{All-head, All-tail}
+use Rattle.std.proofs.lemmas.Bool.{ne_eqb}
+use Rattle.ar_base.specs.FirstFailing.{first_failing}
+use Rattle.ar_bytes.specs.Reading.{Cursor, ◌>>=◌, all_of, behind, start_of, bytes_at, number_at, whole}
+use Rattle.ar_bytes.specs.RoundTrip.{ReadsBack, number_text}
+use Rattle.ar_bytes.proofs.Steps.{bind_ok, all_ok, Passes-first, Passes-second}
+use Rattle.ar_bytes.proofs.Passing.{bytes_again, number_again, wide32}
+use Rattle.ar_bytes.proofs.Parts.{whole_again}
+use Rattle.ar_bytes.proofs.Taken.{bytes_taken, number_taken, left_of}
 use Rattle.lm_ots.specs.declared.ots_type.OtsType.{OtsType}
-use Rattle.lm_ots.specs.OtsKind as ots_kind
 use Rattle.lm_ots.specs.OtsKind.{signature_len_of}
 use Rattle.lms_tree.specs.declared.lms_type.LmsType.{LmsType}
 use Rattle.lms_tree.specs.declared.public_key.LmsPublic.{LmsPublic}
-use Rattle.lms_tree.specs.declared.signature.Signature.{Signature}
-use Rattle.lms_tree.specs.LmsKind as lms_kind
+use Rattle.lms_tree.specs.declared.validity.Verdict.TheVariants.{Invalid}
 use Rattle.lms_tree.specs.LmsKind.{height_of}
-use Rattle.lms_tree.specs.Tests.{first_failing}
-use Rattle.lms_tree.specs.SignatureParts.{HasParts}
-use Rattle.lms_tree.specs.Validity.{lms_signature_len_of, path_of, root_from, candidate_root, verdict_of}
+use Rattle.lms_tree.specs.Signature.{SignatureParts, FitsTypes, lms_signature_len_of, signature_at, signature_text}
+use Rattle.lms_tree.specs.Validity.{HasLength, conditions_on, parts_of, verdict, verdict_of}
+use Rattle.lms_tree.proofs.KeyLemmas.{bytes_there, gave, number_there}
 
--- a length that is another
-pub is-short : (n m : ℕ) → n < m → false ≡ (n == m)
-is-short n m h = grind (arith, nat_tests)
+-- ---- the text of a signature
 
-pub is-long : (n m : ℕ) → m < n → false ≡ (n == m)
-is-long n m h = grind (arith, nat_tests)
+-- digests that were joined are cut again
+chunks-again : (nodes : List (List ℕ)) → All (λ node. length node ≡ 32) nodes → first_chunks 32 (length nodes) (flat_map (λ node. node) nodes) ≡ nodes
+chunks-again [] wide = refl
+chunks-again (x ∷ xs) wide =
+    let rest = flat_map (λ (node : List ℕ). node) xs in
+    let width = All-head (λ (node : List ℕ). length node ≡ 32) x xs wide in
+    ap (λ l. l ∷ first_chunks 32 (length xs) (drop 32 (x ++ rest))) (take_at x rest 32 width)
+    ∙ ap (λ l. x ∷ first_chunks 32 (length xs) l) (drop_at x rest 32 width)
+    ∙ ap (λ l. x ∷ l) (chunks-again xs (All-tail (λ (node : List ℕ). length node ≡ 32) x xs wide))
 
--- pieces of 32 bytes, one behind the other
-chunks-from : (bytes : List ℕ) (front k n place : ℕ) → place ≡ front + 32 * k → first_chunks 32 n (drop place bytes) ≡ map (λ i. take 32 (drop (front + 32 * i) bytes)) (range_with_len k n)
-chunks-from bytes front k zero place e = refl
-chunks-from bytes front k (suc n) place e =
-    let next : place + 32 ≡ front + 32 * (k + 1) = omega (arith, e) in
-    ap (λ p. take 32 (drop p bytes) ∷ first_chunks 32 n (drop 32 (drop place bytes))) e
-    ∙ ap (λ l. take 32 (drop (front + 32 * k) bytes) ∷ first_chunks 32 n l) (drop-drop 32 place bytes)
-    ∙ ap (λ l. take 32 (drop (front + 32 * k) bytes) ∷ l) (chunks-from bytes front (k + 1) n (place + 32) next)
+length-joined : (nodes : List (List ℕ)) → All (λ node. length node ≡ 32) nodes → length (flat_map (λ node. node) nodes) ≡ 32 * length nodes
+length-joined [] wide = refl
+length-joined (x ∷ xs) wide =
+    omega (
+      arith,
+      All-head (λ (node : List ℕ). length node ≡ 32) x xs wide,
+      length-append x (flat_map (λ (node : List ℕ). node) xs),
+      length-joined xs (All-tail (λ (node : List ℕ). length node ≡ 32) x xs wide),
+    )
 
--- the path is what stands behind the types, cut into such pieces
-pub path_of-chunks : (lms : LmsType) (ots : OtsType) (signature : List ℕ) → first_chunks 32 (height_of lms) (drop (8 + signature_len_of ots) signature) ≡ path_of lms ots signature
-path_of-chunks lms ots signature = chunks-from signature (8 + signature_len_of ots) 0 (height_of lms) _ (omega arith)
+-- a signature is read again
+pub signature_again : (lms : LmsType) (ots : OtsType) (parts : SignatureParts) → FitsTypes lms ots parts → ReadsBack (signature_at lms ots) parts (signature_text parts)
+unfolding signature_at signature_text
+signature_again lms ots parts fits at new p =
+    let leaf = number_text w32 parts.leaf in
+    let kind = number_text w32 parts.lms in
+    let path = flat_map (λ (node : List ℕ). node) parts.path in
+    let behind_leaf = Passes-second at new leaf (parts.one_time ++ (kind ++ path)) p in
+    let behind_one_time = Passes-second _ new parts.one_time (kind ++ path) behind_leaf in
+    let steps : length path ≡ 32 * height_of lms = length-joined parts.path fits.nodes ∙ ap (λ n. 32 * n) fits.steps in
+    let nodes : first_chunks 32 (height_of lms) path ≡ parts.path =
+    ap (λ n. first_chunks 32 n path) (sym fits.steps) ∙ chunks-again parts.path fits.nodes in
+    rw (
+      number_again w32 (2 ^ 32) wide32 parts.leaf fits.leaf at _ (Passes-first at new leaf (parts.one_time ++ (kind ++ path)) p),
+      bytes_again (signature_len_of ots) parts.one_time _ _ fits.one_time (Passes-first _ new parts.one_time (kind ++ path) behind_leaf),
+      number_again w32 (2 ^ 32) wide32 parts.lms fits.number _ _ (Passes-first _ new kind path behind_one_time),
+      bytes_again (32 * height_of lms) path _ new steps (Passes-second _ new kind path behind_one_time),
+      nodes,
+    ) refl
 
--- the verdict, by the parts
-pub judged : (key : LmsPublic) (message signature : List ℕ) (parts : Signature) → HasParts key.lms key.ots signature parts → true ≡ (length signature == lms_signature_len_of key.lms key.ots)
-    → verdict_of key message signature ≡ first_failing 1 (true ∷ (parts.ots == ots_kind.number_of key.ots) ∷ (parts.lms == lms_kind.number_of key.lms) ∷ nat_lt parts.leaf (2 ^ height_of key.lms) ∷ bytes_eq (root_from key message parts.leaf parts.one_time.now parts.path.now) key.root ∷ [])
-unfolding verdict_of candidate_root
-judged key message signature parts p whole = rw (p.leaf, p.ots, p.one_time, p.lms, p.path, ← whole) refl
+pub parts_of-signature_text : (key : LmsPublic) (parts : SignatureParts) → FitsTypes key.lms key.ots parts → parts_of key (signature_text parts) ≡ Some parts
+unfolding parts_of
+parts_of-signature_text key parts fits =
+    ap result_ok (whole_again (signature_at key.lms key.ots) parts (signature_text parts) (signature_again key.lms key.ots parts fits))
 
--- what a test of difference says
-pub was_false : (b : Bool) → not b ≡ true → b ≡ false
-was_false true e = absurd cc
-was_false false e = refl
+-- ---- its length
 
-pub was_true : (b : Bool) → not b ≡ false → b ≡ true
-was_true true e = refl
-was_true false e = absurd cc
+-- what has the length has parts
+pub has_parts : (key : LmsPublic) (signature : List ℕ) → HasLength key signature → (parts : SignatureParts) × (parts_of key signature ≡ Some parts)
+unfolding parts_of signature_at whole
+has_parts key signature h =
+    let n = signature_len_of key.ots in
+    let m = 32 * height_of key.lms in
+    let one = behind 4 (start_of signature) in
+    let two = behind n one in
+    let three = behind 4 two in
+    let four = behind m three in
+    let a : length one.ahead + 4 ≡ length signature = omega (arith, length-drop 4 signature) in
+    let b : length two.ahead + n ≡ length one.ahead = omega (arith, length-drop n one.ahead) in
+    let c : length three.ahead + 4 ≡ length two.ahead = omega (arith, length-drop 4 two.ahead) in
+    let d : length four.ahead + m ≡ length three.ahead = omega (arith, length-drop m three.ahead) in
+    let none : eqb (length four.ahead) 0 ≡ true = eq-eqb _ _ (omega arith) in
+    let leaf = number_there (start_of signature) (omega arith) in
+    let one_time = bytes_there n one (omega arith) in
+    let kind = number_there two (omega arith) in
+    let path = bytes_there m three (omega arith) in
+    let parts : SignatureParts = record {
+      leaf = from_be_bytes w32 (take 4 signature);
+      one_time = take n one.ahead;
+      lms = from_be_bytes w32 (take 4 two.ahead);
+      path = first_chunks 32 (height_of key.lms) (take m three.ahead);
+    } in
+    (parts, rw (leaf, one_time, kind, path, none) refl)
+
+-- what has parts has the length
+pub has_length : (key : LmsPublic) (signature : List ℕ) (parts : SignatureParts) → parts_of key signature ≡ Some parts → HasLength key signature
+unfolding parts_of signature_at whole
+has_length key signature parts e =
+    let n = signature_len_of key.ots in
+    let m = 32 * height_of key.lms in
+    let start = start_of signature in
+    let all = bind_ok (signature_at key.lms key.ots start) all_of parts (gave (whole (signature_at key.lms key.ots) signature) parts e) in
+    let ended = all_ok all.0 parts all.2 in
+    let leaf = bind_ok {B = SignatureParts × Cursor} (number_at w32 start) (λ q. bytes_at n q.1 >>= λ o. number_at w32 o.1 >>= λ k. bytes_at m k.1 >>= λ p. Ok (record { leaf = q.0; one_time = o.0; lms = k.0; path = first_chunks 32 (height_of key.lms) p.0 }, p.1)) all.0 all.1 in
+    let one_time = bind_ok {B = SignatureParts × Cursor} (bytes_at n leaf.0.1) (λ o. number_at w32 o.1 >>= λ k. bytes_at m k.1 >>= λ p. Ok (record { leaf = leaf.0.0; one_time = o.0; lms = k.0; path = first_chunks 32 (height_of key.lms) p.0 }, p.1)) all.0 leaf.2 in
+    let kind = bind_ok {B = SignatureParts × Cursor} (number_at w32 one_time.0.1) (λ k. bytes_at m k.1 >>= λ p. Ok (record { leaf = leaf.0.0; one_time = one_time.0.0; lms = k.0; path = first_chunks 32 (height_of key.lms) p.0 }, p.1)) all.0 one_time.2 in
+    let path = bind_ok {B = SignatureParts × Cursor} (bytes_at m kind.0.1) (λ p. Ok (record { leaf = leaf.0.0; one_time = one_time.0.0; lms = kind.0.0; path = first_chunks 32 (height_of key.lms) p.0 }, p.1)) all.0 kind.2 in
+    let last : path.0.1 ≡ all.0.1 = let is = path.2 in cc in
+    omega (
+      arith,
+      left_of _ _ _ _ _ (number_taken w32 start leaf.0.1 leaf.0.0 leaf.1),
+      left_of _ _ _ _ _ (bytes_taken n leaf.0.1 one_time.0.1 one_time.0.0 one_time.1),
+      left_of _ _ _ _ _ (number_taken w32 one_time.0.1 kind.0.1 kind.0.0 kind.1),
+      left_of _ _ _ _ _ (bytes_taken m kind.0.1 path.0.1 path.0.0 path.1),
+      ap (λ (at : Cursor). length at.ahead) last,
+      ap (λ (l : List ℕ). length l) ended.1,
+    )
+
+-- ---- the verdict
+
+-- by the parts, where there are some
+pub judged : (key : LmsPublic) (message signature : List ℕ) (parts : SignatureParts) → parts_of key signature ≡ Some parts
+    → verdict_of key message signature ≡ verdict (first_failing (conditions_on key message (Some parts)))
+unfolding verdict_of
+judged key message signature parts e =
+    let whole : eqb (length signature) (lms_signature_len_of key.lms key.ots) ≡ true = eq-eqb _ _ (has_length key signature parts e) in
+    rw (whole, e) refl
+
+-- what has no parts has another length
+pub no_parts : (key : LmsPublic) (signature : List ℕ) → parts_of key signature ≡ None → ¬ HasLength key signature
+no_parts key signature e is = let parts = has_parts key signature is in cc
+
+pub short : (key : LmsPublic) (message signature : List ℕ) → parts_of key signature ≡ None → verdict_of key message signature ≡ Invalid 1
+unfolding verdict_of
+short key message signature e =
+    let other : eqb (length signature) (lms_signature_len_of key.lms key.ots) ≡ false = ne_eqb _ _ (no_parts key signature e) in
+    rw other refl

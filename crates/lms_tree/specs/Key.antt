@@ -1,8 +1,7 @@
 -- Keys that sign, made from a seed, and their signatures (RFC 8554, sections 5.2 to 5.4). How I comes
 -- from the seed is this project's own choice.
-use Rattle.std.specs.Prelude.{ℕ, zero, suc, ◌+◌, ◌-◌, ◌*◌, ◌/◌, ◌%◌, ◌^◌, ◌==◌, List, ◌∷◌, ◌++◌, take, Option, Some, None, Result, Ok, Err, if◌then◌else◌}
-use Rattle.std.specs.List.{flat_map, range_with_len}
-use Rattle.std.specs.Int.{w32, to_be_bytes}
+use Rattle.std.specs.Prelude.{ℕ, zero, suc, ◌+◌, ◌-◌, ◌*◌, ◌/◌, ◌%◌, ◌^◌, ◌==◌, List, ◌∷◌, map, take, Option, Some, None, Result, Ok, Err, if◌then◌else◌}
+use Rattle.std.specs.List.{range_with_len}
 use Rattle.sha2.specs.Sha256.{sha256}
 use Rattle.lm_ots.specs.declared.ots_type.OtsType.{OtsType}
 use Rattle.lm_ots.specs.declared.secret.OtsSecret.{OtsSecret}
@@ -11,6 +10,7 @@ use Rattle.lm_ots.specs.Signing as one_time
 use Rattle.lms_tree.specs.LmsKind as lms_kind
 use Rattle.lms_tree.specs.LmsKind.{height_of}
 use Rattle.lms_tree.specs.KeyParts.{KeyParts}
+use Rattle.lms_tree.specs.Signature.{SignatureParts, signature_text}
 use Rattle.lms_tree.specs.Tree.{leaf_node, inner_node}
 use Rattle.lms_tree.specs.declared.lms_type.LmsType.{LmsType}
 use Rattle.lms_tree.specs.declared.lms_type.LmsType.TheVariants.{H5, H10, H15}
@@ -63,9 +63,15 @@ sibling_of r = if r % 2 == 1 then r - 1 else r + 1
 abbrev pub path_element : KeyParts → ℕ → ℕ → List ℕ
 path_element key leaf k = node_at key k (sibling_of ((2 ^ height_of key.lms + leaf) / 2 ^ k))
 
--- Sign: u32 q || LM-OTS signature || u32 LMS type || path[0] .. path[h - 1] (section 5.4)
+-- the parts of a signature: q, the LM-OTS signature, the LMS type, and the path path[0] .. path[h - 1]
+abbrev pub signed_parts : KeyParts → ℕ → List ℕ → SignatureParts
+signed_parts key leaf message = record {
+  leaf = leaf;
+  one_time = one_time.signature_of (secret_of key leaf) message;
+  lms = lms_kind.number_of key.lms;
+  path = map (path_element key leaf) (range_with_len 0 (height_of key.lms));
+}
+
+-- Sign: the signature of a message by a leaf (section 5.4)
 unfoldable pub signature_of : KeyParts → ℕ → List ℕ → List ℕ
-signature_of key leaf message =
-    to_be_bytes w32 leaf ++ (one_time.signature_of (secret_of key leaf) message
-    ++ (to_be_bytes w32 (lms_kind.number_of key.lms)
-    ++ flat_map (path_element key leaf) (range_with_len 0 (height_of key.lms))))
+signature_of key leaf message = signature_text (signed_parts key leaf message)

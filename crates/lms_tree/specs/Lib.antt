@@ -1,9 +1,9 @@
+pub mod BorrowedParts
 pub mod Key
 pub mod KeyParts
 pub mod LmsKind
 pub mod Nodes
 pub mod PublicKey
-pub mod SignatureParts
-pub mod Tests
+pub mod Signature
 pub mod Tree
 pub mod Validity

@@ -1,8 +1,8 @@
-ghost use Rattle.std.specs.Prelude.{◌≡◌, ◌^◌, ◌<◌, length};
+ghost use Rattle.std.specs.Prelude.{◌≡◌, ◌^◌, ◌<◌, length, Err, IsOk};
 ghost use Rattle.ar_base.specs.Gives.{GivesUnless};
 ghost use Rattle.lms_tree.specs.LmsKind.{height_of};
 ghost use Rattle.lms_tree.specs.Key.{made, public_of, signature_of, type_to_make};
-ghost use Rattle.lms_tree.specs.Validity.{lms_signature_len_of};
+ghost use Rattle.lms_tree.specs.Signature.{lms_signature_len_of};
 ghost use Rattle.lms_tree.specs.declared.key.KeyFault.TheVariants.{Memory};
 
 use crate::nodes::make_nodes;
@@ -16,7 +16,7 @@ use std::marker::Model;
 use thiserror::Error;
 
 /// Why no key was made.
-#[derive(Debug, Drop, Error)]
+#[derive(Clone, Copy, Debug, Error, PartialEq, Eq)]
 pub enum KeyFault {
     /// No key of these types is made: the LMS type is none of 5, 6 and 7, or the LM-OTS type is none
     /// of 1 to 4.
@@ -62,9 +62,11 @@ impl Model for LmsKey {
 impl LmsKey {
     /// The key of a seed, of an LMS type from 5 to 7 and an LM-OTS type from 1 to 4.
     ///
-    /// It costs one public key for each leaf: seconds for 2^15 leaves.
+    /// It is `Kind` exactly where the types are others, and `Memory` only where they are these. It
+    /// costs one public key for each leaf: seconds for 2^15 leaves.
     pub fn make(alloc: Global, seed: &[u8; 32], lms: u32, ots: u32) -> Result<LmsKey, KeyFault>
-        ensures { GivesUnless Memory (λ key. key) result (made seed.now lms ots) }
+        ensures answer { GivesUnless Memory (λ key. key) result (made seed.now lms ots) }
+        ensures memory { result ≡ Err Memory → IsOk (made seed.now lms ots) }
     {
         let (Some(lms), Some(ots)) = (type_to_make(lms), OtsType::of(ots)) else {
             return Err(KeyFault::Kind);
@@ -84,6 +86,13 @@ impl LmsKey {
             id: *self.parts.id(),
             root: self.nodes[1],
         }
+    }
+
+    /// The seed that the key was made from.
+    pub fn seed(&self) -> &[u8; 32]
+        ensures { result.now ≡ self.now.seed }
+    {
+        self.parts.seed()
     }
 
     /// The number of leaves, 2^h.

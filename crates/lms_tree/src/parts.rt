@@ -42,6 +42,12 @@ impl Parts {
         }
     }
 
+    pub(crate) fn seed(&self) -> &[u8; 32]
+        ensures { result.now ≡ self.now.seed }
+    {
+        &self.seed
+    }
+
     pub(crate) fn lms(&self) -> LmsType
         ensures { result ≡ self.now.lms }
     {

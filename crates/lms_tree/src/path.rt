@@ -5,7 +5,7 @@ ghost use Rattle.lm_ots.specs.Signing as one_time;
 ghost use Rattle.lms_tree.specs.LmsKind.{height_of};
 ghost use Rattle.lms_tree.specs.Key.{path_element, sibling_of};
 ghost use Rattle.lms_tree.specs.Nodes.{HoldsFrom};
-ghost use Rattle.lms_tree.specs.Validity.{lms_signature_len_of};
+ghost use Rattle.lms_tree.specs.Signature.{lms_signature_len_of};
 
 use crate::parts::Parts;
 use ar_bytes::write_bytes;

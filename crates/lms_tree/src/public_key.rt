@@ -1,5 +1,8 @@
-ghost use Rattle.std.specs.Prelude.{◌≡◌, IfSome, is_some};
-ghost use Rattle.lms_tree.specs.PublicKey.{fields_of};
+ghost use Rattle.std.specs.Prelude.{◌≡◌, is_some};
+ghost use Rattle.ar_bytes.specs.Reading.{Tells};
+ghost use Rattle.lm_ots.specs.OtsKind as ots_kind;
+ghost use Rattle.lms_tree.specs.LmsKind as lms_kind;
+ghost use Rattle.lms_tree.specs.PublicKey.{is_key_text, key_at, key_of_text, key_text, type_at};
 
 use crate::LmsType;
 use ar_bytes::{Fields, write_bytes, write_u32};
@@ -16,25 +19,23 @@ pub struct LmsPublic {
 }
 
 impl LmsPublic {
-    ghost use Rattle.lms_tree.specs.PublicKey.{is_key_text, key_of_text, key_text};
-
     /// The key of a text of 56 bytes: u32 LMS type, u32 LM-OTS type, I, T[1].
     ///
     /// It is `None` exactly where the length is not 56, or one of the types is not known.
-    #[tactic(auto, unfolding(crate::specs::PublicKey::is_key_text, crate::specs::PublicKey::key_of_text))]
+    #[tactic(auto, unfolding(crate::specs::PublicKey::key_of_text, ar_bytes::specs::Reading::whole))]
     pub fn read(bytes: &[u8]) -> Option<LmsPublic>
-        ensures key { result ≡ key_of_text bytes.now }
-        ensures known { is_some result ≡ is_key_text bytes.now }
-        ensures text { IfSome result (λ key. key_text key ≡ bytes.now) }
+        ensures { result ≡ key_of_text bytes.now }
     {
-        let (lms, ots, id, root) = fields_of(bytes)?;
-        let lms = LmsType::of(lms)?;
-        let ots = OtsType::of(ots)?;
-        Some(LmsPublic { lms, ots, id, root })
+        let mut fields = Fields::new(bytes);
+        let key = key(&mut fields).ok()?;
+        if !fields.at_end() {
+            return None;
+        }
+        Some(key)
     }
 
     /// The key's text of 56 bytes.
-    #[tactic(auto, unfolding(crate::specs::PublicKey::key_text, ar_bytes::specs::RoundTrip::number_text))]
+    #[tactic(auto, unfolding(crate::specs::PublicKey::key_text))]
     pub fn bytes(&self) -> [u8; 56]
         ensures { result ≡ key_text self.now }
     {
@@ -47,17 +48,34 @@ impl LmsPublic {
     }
 }
 
-// The fields of a text of 56 bytes, whatever the numbers are.
-fn fields_of(bytes: &[u8]) -> Option<(u32, u32, [u8; 16], [u8; 32])>
-    ensures { result ≡ fields_of bytes.now }
+// The fields of a key.
+#[tactic(auto, unfolding(crate::specs::PublicKey::key_at))]
+fn key(fields: &mut Fields) -> Result<LmsPublic, usize>
+    ensures { Tells (λ key. key) result fields.new (key_at fields.old) }
 {
-    let mut fields = Fields::new(bytes);
-    let lms = fields.u32()?;
-    let ots = fields.u32()?;
-    let id = *fields.array()?;
-    let root = *fields.array()?;
-    if !fields.at_end() {
-        return None;
-    }
-    Some((lms, ots, id, root))
+    let lms = lms_type(fields)?;
+    let ots = ots_type(fields)?;
+    let place = fields.place();
+    let id = *fields.array().ok_or(place)?;
+    let place = fields.place();
+    let root = *fields.array().ok_or(place)?;
+    Ok(LmsPublic { lms, ots, id, root })
+}
+
+#[tactic(auto, unfolding(crate::specs::PublicKey::type_at))]
+fn lms_type(fields: &mut Fields) -> Result<LmsType, usize>
+    ensures { Tells (λ kind. kind) result fields.new (type_at lms_kind.type_of_number fields.old) }
+{
+    let place = fields.place();
+    let number = fields.u32().ok_or(place)?;
+    LmsType::of(number).ok_or(place)
+}
+
+#[tactic(auto, unfolding(crate::specs::PublicKey::type_at))]
+fn ots_type(fields: &mut Fields) -> Result<OtsType, usize>
+    ensures { Tells (λ kind. kind) result fields.new (type_at ots_kind.type_of_number fields.old) }
+{
+    let place = fields.place();
+    let number = fields.u32().ok_or(place)?;
+    OtsType::of(number).ok_or(place)
 }

@@ -1,17 +1,19 @@
-use Rattle.std.proofs.Common.{◌≡◌, ◌∙◌, ap, sym, arith, ◌+◌, ◌++◌, take}
+use Rattle.std.proofs.Common.{◌≡◌, ◌∙◌, ap, sym, arith, ◌+◌, ◌++◌, List, ℕ, take}
 use Rattle.std.specs.List.{flat_map, range_with_len}
 use Rattle.std.specs.Int.{w32, to_be_bytes}
 use Rattle.std.proofs.lemmas.List.{append_assoc}
+use Rattle.std.proofs.lemmas.List.Folds.{flat_map-map}
 use Rattle.ar_bytes.specs.RoundTrip.{number_text}
 use Rattle.lm_ots.specs.declared.secret.OtsSecret.{OtsSecret}
 use Rattle.lm_ots.specs.OtsKind.{signature_len_of}
 use Rattle.lm_ots.specs.Signing as one_time
 use Rattle.lms_tree.specs.LmsKind.{height_of, number_of}
 use Rattle.lms_tree.specs.Key.{path_element, secret_of, signature_of}
+use Rattle.lms_tree.specs.Signature.{signature_text}
 use Rattle.lms_tree.proofs.key.LmsKey.sign_at.Goals as goal
 
 pub returns : goal.returns
-unfolding signature_of number_text
+unfolding signature_of signature_text number_text
 returns c =
     let key = c.self.inside.parts in
     let leaf = c.args.leaf in
@@ -41,4 +43,5 @@ returns c =
     ∙ ap (λ l. (number ++ signed) ++ l) kind_is in
     c.put_path.ensures ∙ ap (λ l. l ++ path) third
     ∙ append_assoc (number ++ signed) kind path ∙ append_assoc number signed (kind ++ path)
+    ∙ ap (λ l. number ++ (signed ++ (kind ++ l))) (sym (flat_map-map (λ (node : List ℕ). node) (path_element key leaf) (range_with_len 0 (height_of key.lms))))
     ∙ ap (λ k. signature_of k leaf message) c.self.view_is
