@@ -7,8 +7,10 @@ use Rattle.std.specs.Int.{w32, from_be_bytes}
 use Rattle.std.proofs.lemmas.List.{length-append, length-drop}
 use Rattle.std.proofs.lemmas.Bool.{eqb-true, le-ltb}
 use Rattle.std.proofs.lemmas.Bool.Decides.{nat_tests}
-use Rattle.ar_bytes.specs.Reading.{Cursor, Reading, ◌>>=◌, all_of, behind, bytes_at, number_at, start_of, whole}
-use Rattle.ar_bytes.specs.RoundTrip.{AreBytes, Passes, ReadsBack, IsSpelledBy, number_text}
+use Rattle.ar_base.specs.Bytes.{AreBytes}
+use Rattle.ar_base.specs.Chaining.{◌>>=◌}
+use Rattle.ar_bytes.specs.Reading.{Cursor, Reading, all_of, behind, bytes_at, number_at, start_of, whole}
+use Rattle.ar_bytes.specs.RoundTrip.{Passes, ReadsBack, IsSpelledBy, number_text}
 use Rattle.ar_bytes.proofs.Steps.{all_ok, bind_ok, ok_is, Passes-then, Passes-first, Passes-second, AreBytes-behind}
 use Rattle.ar_bytes.proofs.Passing.{bytes_again, bytes_pass, number_again, number_pass, wide32, length-number_text}
 use Rattle.ar_bytes.proofs.Taken.{bytes_taken, left_of, number_taken}

@@ -9,7 +9,8 @@ use Rattle.std.proofs.lemmas.List.{take_at, drop_at, length-append, length-drop}
 use Rattle.std.proofs.lemmas.List.Elements.{All-head, All-tail}
 use Rattle.std.proofs.lemmas.Bool.{ne_eqb}
 use Rattle.ar_base.specs.FirstFailing.{first_failing}
-use Rattle.ar_bytes.specs.Reading.{Cursor, ◌>>=◌, all_of, behind, start_of, bytes_at, number_at, whole}
+use Rattle.ar_base.specs.Chaining.{◌>>=◌}
+use Rattle.ar_bytes.specs.Reading.{Cursor, all_of, behind, start_of, bytes_at, number_at, whole}
 use Rattle.ar_bytes.specs.RoundTrip.{ReadsBack, number_text}
 use Rattle.ar_bytes.proofs.Steps.{bind_ok, all_ok, Passes-first, Passes-second}
 use Rattle.ar_bytes.proofs.Passing.{bytes_again, number_again, wide32}

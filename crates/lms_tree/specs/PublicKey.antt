@@ -3,7 +3,8 @@ use Rattle.std.specs.Prelude.{◌≡◌, ℕ, Bool, ◌==◌, ◌&&◌, List, �
 use Rattle.std.specs.Option.{ok_or}
 use Rattle.std.specs.Result.{result_ok}
 use Rattle.std.specs.Int.{w32, from_be_bytes}
-use Rattle.ar_bytes.specs.Reading.{Cursor, Reading, ◌>>=◌, bytes_at, number_at, whole}
+use Rattle.ar_base.specs.Chaining.{◌>>=◌}
+use Rattle.ar_bytes.specs.Reading.{Cursor, Reading, bytes_at, number_at, whole}
 use Rattle.ar_bytes.specs.RoundTrip.{number_text}
 use Rattle.lm_ots.specs.OtsKind as ots_kind
 use Rattle.lms_tree.specs.LmsKind as lms_kind

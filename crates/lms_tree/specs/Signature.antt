@@ -3,7 +3,8 @@ use Rattle.std.specs.Prelude.{◌≡◌, ℕ, ◌+◌, ◌*◌, ◌<◌, ◌^◌
 use Rattle.std.specs.List.{flat_map}
 use Rattle.std.specs.Simd.{first_chunks}
 use Rattle.std.specs.Int.{w32}
-use Rattle.ar_bytes.specs.Reading.{Cursor, Reading, ◌>>=◌, bytes_at, number_at}
+use Rattle.ar_base.specs.Chaining.{◌>>=◌}
+use Rattle.ar_bytes.specs.Reading.{Cursor, Reading, bytes_at, number_at}
 use Rattle.ar_bytes.specs.RoundTrip.{number_text}
 use Rattle.lm_ots.specs.declared.ots_type.OtsType.{OtsType}
 use Rattle.lm_ots.specs.OtsKind.{signature_len_of}

@@ -1,5 +1,5 @@
-ghost use Rattle.std.specs.Prelude.{◌≡◌, ◌^◌, ◌<◌, length, Err, IsOk};
-ghost use Rattle.ar_base.specs.Gives.{GivesUnless};
+ghost use Rattle.std.specs.Prelude.{◌≡◌, ◌^◌, ◌<◌, length};
+ghost use Rattle.ar_base.specs.Gives.{GivesOrWants};
 ghost use Rattle.lms_tree.specs.LmsKind.{height_of};
 ghost use Rattle.lms_tree.specs.Key.{made, public_of, signature_of, type_to_make};
 ghost use Rattle.lms_tree.specs.Signature.{lms_signature_len_of};
@@ -65,8 +65,7 @@ impl LmsKey {
     /// It is `Kind` exactly where the types are others, and `Memory` only where they are these. It
     /// costs one public key for each leaf: seconds for 2^15 leaves.
     pub fn make(alloc: Global, seed: &[u8; 32], lms: u32, ots: u32) -> Result<LmsKey, KeyFault>
-        ensures answer { GivesUnless Memory (λ key. key) result (made seed.now lms ots) }
-        ensures memory { result ≡ Err Memory → IsOk (made seed.now lms ots) }
+        ensures { GivesOrWants Memory (λ key. key) result (made seed.now lms ots) }
     {
         let (Some(lms), Some(ots)) = (type_to_make(lms), OtsType::of(ots)) else {
             return Err(KeyFault::Kind);

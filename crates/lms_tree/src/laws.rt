@@ -1,7 +1,7 @@
 //! Laws of the definitions: each is the contract of a function that does nothing.
 
 ghost use Rattle.std.specs.Prelude.{◌≡◌, ◌^◌, ◌<◌, ◌↔◌, ℕ, List, Some, is_some};
-ghost use Rattle.ar_bytes.specs.RoundTrip.{AreBytes};
+ghost use Rattle.ar_base.specs.Bytes.{AreBytes};
 ghost use Rattle.lms_tree.specs.Key.{public_of, signature_of};
 ghost use Rattle.lms_tree.specs.KeyParts.{KeyParts};
 ghost use Rattle.lms_tree.specs.LmsKind.{height_of};

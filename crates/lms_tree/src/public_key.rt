@@ -1,8 +1,8 @@
-ghost use Rattle.std.specs.Prelude.{◌≡◌, is_some};
+ghost use Rattle.std.specs.Prelude.{◌≡◌};
 ghost use Rattle.ar_bytes.specs.Reading.{Tells};
 ghost use Rattle.lm_ots.specs.OtsKind as ots_kind;
 ghost use Rattle.lms_tree.specs.LmsKind as lms_kind;
-ghost use Rattle.lms_tree.specs.PublicKey.{is_key_text, key_at, key_of_text, key_text, type_at};
+ghost use Rattle.lms_tree.specs.PublicKey.{key_at, key_of_text, key_text, type_at};
 
 use crate::LmsType;
 use ar_bytes::{Fields, write_bytes, write_u32};
@@ -55,10 +55,8 @@ fn key(fields: &mut Fields) -> Result<LmsPublic, usize>
 {
     let lms = lms_type(fields)?;
     let ots = ots_type(fields)?;
-    let place = fields.place();
-    let id = *fields.array().ok_or(place)?;
-    let place = fields.place();
-    let root = *fields.array().ok_or(place)?;
+    let id = fields.take_array()?;
+    let root = fields.take_array()?;
     Ok(LmsPublic { lms, ots, id, root })
 }
 
@@ -67,7 +65,7 @@ fn lms_type(fields: &mut Fields) -> Result<LmsType, usize>
     ensures { Tells (λ kind. kind) result fields.new (type_at lms_kind.type_of_number fields.old) }
 {
     let place = fields.place();
-    let number = fields.u32().ok_or(place)?;
+    let number = fields.take_u32()?;
     LmsType::of(number).ok_or(place)
 }
 
@@ -76,6 +74,6 @@ fn ots_type(fields: &mut Fields) -> Result<OtsType, usize>
     ensures { Tells (λ kind. kind) result fields.new (type_at ots_kind.type_of_number fields.old) }
 {
     let place = fields.place();
-    let number = fields.u32().ok_or(place)?;
+    let number = fields.take_u32()?;
     OtsType::of(number).ok_or(place)
 }
