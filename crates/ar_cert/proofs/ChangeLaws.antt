@@ -1,6 +1,7 @@
 -- A change: what was put is read again, and what is read is spelled so; and what follows for whole texts.
-use Rattle.std.proofs.Common.{◌≡◌, ℕ, ◌^◌, ◌<◌, ◌≤◌, Bool, true, false, List, ◌++◌, length, Option, None, Some, Ok, refl, sym, ap, subst, ◌∙◌, arith}
-use Rattle.std.specs.Prelude.{IfSome, ◌↔◌, if◌then◌else◌}
+use Rattle.std.proofs.Common.{◌≡◌, ℕ, zero, suc, ◌^◌, ◌<◌, ◌≤◌, Bool, true, false, cond, eqb, List, ◌++◌, length, Option, None, Some, Ok, refl, sym, ap, subst, ◌∙◌, append_assoc, arith}
+use Rattle.std.proofs.lemmas.Bool.{eqb-true}
+use Rattle.std.specs.Prelude.{IfSome, IsNone, ◌↔◌, if◌then◌else◌}
 use Rattle.std.specs.List.{flat_map}
 use Rattle.std.specs.Int.{w8, w16}
 use Rattle.ar_bytes.specs.Reading.{Cursor, Reading, ◌>>=◌, counted_at, whole}
@@ -8,11 +9,12 @@ use Rattle.ar_bytes.specs.RoundTrip.{AreBytes, Passes, ReadsBack, IsSpelledBy, n
 use Rattle.ar_bytes.proofs.Steps.{bind_ok, ok_is, Passes-then}
 use Rattle.ar_bytes.proofs.Passing.{counted_again, counted_pass}
 use Rattle.ar_bytes.proofs.Parts.{whole_again, whole_pass}
-use Rattle.ar_cert.specs.Lists.{number_from, Ascend}
-use Rattle.ar_cert.specs.Certificate.{IsCertificate, certificate_text, counted_certificate_at, count_at, flag_at, flag_text}
-use Rattle.ar_cert.specs.Changes.{Endorsement, Change, endorsement_from, endorsements_at, handover_at, change_at, endorsement_text, handover_text, change_text, IsSignature, IsEndorsement, IsChange}
-use Rattle.ar_cert.proofs.Lists.{ascending_again, ascending_pass, number_from_again, number_from_pass}
-use Rattle.ar_cert.proofs.FieldLaws.{count_again, count_pass, flag_again, flag_pass}
+use Rattle.ar_bytes.specs.Tested.{count_at}
+use Rattle.ar_bytes.specs.Ascending.{number_from, Ascend}
+use Rattle.ar_bytes.proofs.TestedFields.{count_again, count_pass}
+use Rattle.ar_bytes.proofs.Ascending.{ascending_again, ascending_pass, number_from_again, number_from_pass}
+use Rattle.ar_cert.specs.Certificate.{IsCertificate, certificate_text, counted_certificate_at}
+use Rattle.ar_cert.specs.Changes.{Endorsement, Change, endorsement_from, endorsements_at, counted_endorsements_at, Consent, most_flag, consent_by, consent_at, change_at, endorsement_text, consent_text, change_text, IsSignature, IsEndorsement, IsChange}
 use Rattle.ar_cert.proofs.CertificateLaws.{split, next, counted_certificate_again, counted_certificate_pass}
 
 -- ---- endorsements
@@ -41,60 +43,106 @@ endorsements_again count vs = ascending_again (λ v. v.authority) endorsement_fr
 endorsements_pass : (count : ℕ) → IsSpelledBy (endorsements_at count 0) (flat_map endorsement_text) (λ vs. AreEndorsements vs × (length vs ≡ count))
 endorsements_pass count = ascending_pass (λ v. v.authority) endorsement_from endorsement_text IsEndorsement endorsement_from_pass count 0
 
--- ---- the handover
+abbrev counted_endorsements_text : List Endorsement → List ℕ
+counted_endorsements_text vs = number_text w8 (length vs) ++ flat_map endorsement_text vs
 
-handover_again : (o : Option (List ℕ)) → IfSome o IsSignature → ReadsBack handover_at o (handover_text o)
-unfolding handover_at handover_text
-handover_again None h at new p = rw (flag_again false at new p) refl
-handover_again (Some signature) h at new p =
-    let s = split at new (flag_text true) (counted_text signature) p in
-    rw (flag_again true at s.0 s.1, counted_again signature h s.0 new s.2) refl
+counted_endorsements_again : (vs : List Endorsement) → length vs ≤ 8 → AreEndorsements vs → ReadsBack counted_endorsements_at vs (counted_endorsements_text vs)
+unfolding counted_endorsements_at
+counted_endorsements_again vs few h at new p =
+    let s = split at new (number_text w8 (length vs)) (flat_map endorsement_text vs) p in
+    rw (count_again 8 (length vs) few (omega (arith, few)) at s.0 s.1) (endorsements_again (length vs) vs refl h s.0 new s.2)
+
+counted_endorsements_pass : IsSpelledBy counted_endorsements_at counted_endorsements_text (λ vs. (length vs ≤ 8) × AreEndorsements vs)
+unfolding counted_endorsements_at
+counted_endorsements_pass at new vs bytes e =
+    let count = next (count_at 8) (number_text w8) (λ n. n ≤ 8) (count_pass 8) (λ count. endorsements_at count.0 0 count.1) at (vs, new) bytes e in
+    let q = endorsements_pass count.0 count.1 new vs count.4 count.5 in
+    let both = Passes-then at count.1 new (number_text w8 count.0) (flat_map endorsement_text vs) count.2 q.0 in
+    (subst (λ (k : ℕ). Passes at (number_text w8 k ++ flat_map endorsement_text vs) new) (sym q.1.1) both, (omega (arith, count.3, q.1.1), q.1.0))
+
+-- ---- the handover or the objection
+
+abbrev AreConsent : ℕ → Consent → Type 0
+AreConsent count o = IfSome o.0 IsSignature × IfSome o.1 IsSignature × IfSome o.1 (λ _. (count ≡ 0) × IsNone o.0)
+
+flag_fits : (count : ℕ) → 1 ≤ most_flag count
+flag_fits count = elim (eqb count 0) as (λ none. 1 ≤ cond none 2 1) [ true ↦ omega arith | false ↦ omega arith ]
+
+consent_again : (count : ℕ) (handover objection : Option (List ℕ)) → AreConsent count (handover, objection) → ReadsBack (consent_at count) (handover, objection) (consent_text handover objection)
+unfolding consent_at consent_text
+consent_again count None None h at new p = rw (count_again (most_flag count) 0 (omega arith) (omega arith) at new p) refl
+consent_again count (Some signature) None h at new p =
+    let s = split at new (number_text w8 1) (counted_text signature) p in
+    rw (count_again (most_flag count) 1 (flag_fits count) (omega arith) at s.0 s.1, counted_again signature h.0 s.0 new s.2) refl
+consent_again count None (Some signature) h at new p =
+    let s = split at new (number_text w8 2) (counted_text signature) p in
+    let most : 2 ≤ most_flag count = rw h.2.0 (omega arith) in
+    rw (count_again (most_flag count) 2 most (omega arith) at s.0 s.1, counted_again signature h.1 s.0 new s.2) refl
+consent_again count (Some handover) (Some objection) h at new p = let none : true ≡ false = h.2.1 in absurd cc
 
 -- what stands behind the flag
-abbrev behind_flag : Bool × Cursor → Reading (Option (List ℕ))
-behind_flag x = if x.0 then (counted_at x.1 >>= λ signature. Ok (Some signature.0, signature.1)) else Ok (None, x.1)
+abbrev behind_flag : ℕ × Cursor → Reading Consent
+behind_flag x = if eqb x.0 0 then Ok ((None, None), x.1) else (counted_at x.1 >>= λ signature. Ok (consent_by x.0 signature.0, signature.1))
 
-handover_rest : (flag : Bool) (at mid new : Cursor) (o : Option (List ℕ)) → Passes at (flag_text flag) mid → AreBytes mid.ahead → behind_flag (flag, mid) ≡ Ok (o, new) → Passes at (handover_text o) new × IfSome o IsSignature
-unfolding handover_text
-handover_rest false at mid new o p bytes e =
-    let is = ok_is {A = Option (List ℕ) × Cursor} (None, mid) (o, new) e in
-    subst (λ (x : Option (List ℕ) × Cursor). Passes at (handover_text x.0) x.1 × IfSome x.0 IsSignature) is (p, tt)
-handover_rest true at mid new o p bytes e =
-    let b = bind_ok {B = Option (List ℕ) × Cursor} (counted_at mid) (λ signature. Ok (Some signature.0, signature.1)) (o, new) e in
+greatest : (none : Bool) → 2 ≤ cond none 2 1 → none ≡ true
+greatest true h = refl
+greatest false h = absurd (omega (arith, h))
+
+-- a flag of 2 stands behind no endorsements
+none_endorse : (count : ℕ) → 2 ≤ most_flag count → count ≡ 0
+none_endorse count h = eqb-true count 0 (greatest (eqb count 0) h)
+
+no_more : (count : ℕ) → most_flag count ≤ 2
+no_more count = elim (eqb count 0) as (λ none. cond none 2 1 ≤ 2) [ true ↦ omega arith | false ↦ omega arith ]
+
+consent_rest : (count flag : ℕ) (at mid new : Cursor) (o : Consent) → flag ≤ most_flag count → Passes at (number_text w8 flag) mid → AreBytes mid.ahead → behind_flag (flag, mid) ≡ Ok (o, new) → Passes at (consent_text o.0 o.1) new × AreConsent count o
+unfolding consent_text
+consent_rest count zero at mid new o le p bytes e =
+    subst (λ (x : Consent × Cursor). Passes at (consent_text x.0.0 x.0.1) x.1 × AreConsent count x.0) (ok_is {A = Consent × Cursor} ((None, None), mid) (o, new) e) (p, (tt, tt, tt))
+consent_rest count (suc zero) at mid new o le p bytes e =
+    let b = bind_ok {B = Consent × Cursor} (counted_at mid) (λ signature. Ok ((Some signature.0, None), signature.1)) (o, new) e in
     let q = counted_pass mid b.0.1 b.0.0 bytes b.1 in
-    let both = Passes-then at mid b.0.1 (flag_text true) (counted_text b.0.0) p q.0 in
-    let is = ok_is {A = Option (List ℕ) × Cursor} (Some b.0.0, b.0.1) (o, new) b.2 in
-    subst (λ (x : Option (List ℕ) × Cursor). Passes at (handover_text x.0) x.1 × IfSome x.0 IsSignature) is (both, q.1)
+    let both = Passes-then at mid b.0.1 (number_text w8 1) (counted_text b.0.0) p q.0 in
+    subst (λ (x : Consent × Cursor). Passes at (consent_text x.0.0 x.0.1) x.1 × AreConsent count x.0) (ok_is {A = Consent × Cursor} ((Some b.0.0, None), b.0.1) (o, new) b.2) (both, (q.1, tt, tt))
+consent_rest count (suc (suc zero)) at mid new o le p bytes e =
+    let b = bind_ok {B = Consent × Cursor} (counted_at mid) (λ signature. Ok ((None, Some signature.0), signature.1)) (o, new) e in
+    let q = counted_pass mid b.0.1 b.0.0 bytes b.1 in
+    let both = Passes-then at mid b.0.1 (number_text w8 2) (counted_text b.0.0) p q.0 in
+    subst (λ (x : Consent × Cursor). Passes at (consent_text x.0.0 x.0.1) x.1 × AreConsent count x.0) (ok_is {A = Consent × Cursor} ((None, Some b.0.0), b.0.1) (o, new) b.2) (both, (tt, q.1, (none_endorse count (omega (arith, le)), refl)))
+consent_rest count (suc (suc (suc flag))) at mid new o le p bytes e = absurd (omega (arith, le, no_more count))
 
-handover_pass : IsSpelledBy handover_at handover_text (λ o. IfSome o IsSignature)
-unfolding handover_at
-handover_pass at new o bytes e =
-    let flag = next flag_at flag_text (λ _. Unit {0}) flag_pass _ at (o, new) bytes e in
-    handover_rest flag.0 at flag.1 new o flag.2 flag.4 flag.5
+consent_pass : (count : ℕ) → IsSpelledBy (consent_at count) (λ o. consent_text o.0 o.1) (AreConsent count)
+unfolding consent_at
+consent_pass count at new o bytes e =
+    let flag = next (count_at (most_flag count)) (number_text w8) (λ n. n ≤ most_flag count) (count_pass (most_flag count)) _ at (o, new) bytes e in
+    consent_rest count flag.0 at flag.1 new o flag.3 flag.2 flag.4 flag.5
 
 -- ---- the change
+
+-- the endorsements and the rest, from the left
+regroup : (count list rest : List ℕ) → count ++ (list ++ rest) ≡ (count ++ list) ++ rest
+regroup count list rest = sym (append_assoc count list rest)
 
 pub change_again : (r : Change) → IsChange r → ReadsBack change_at r (change_text r)
 unfolding change_at change_text
 change_again r h at new p =
     let cert = split at new (counted_text (certificate_text r.cert)) _ p in
-    let count = split cert.0 new (number_text w8 (length r.endorsements)) _ cert.2 in
-    let list = split count.0 new (flat_map endorsement_text r.endorsements) (handover_text r.handover) count.2 in
-    rw (counted_certificate_again r.cert h.cert at cert.0 cert.1, count_again 8 (length r.endorsements) h.few (omega (arith, h.few)) cert.0 count.0 count.1, endorsements_again (length r.endorsements) r.endorsements refl h.ascending count.0 list.0 list.1, handover_again r.handover h.handover list.0 new list.2) refl
+    let behind = subst (λ (t : List ℕ). Passes cert.0 t new) (regroup (number_text w8 (length r.endorsements)) (flat_map endorsement_text r.endorsements) (consent_text r.handover r.objection)) cert.2 in
+    let list = split cert.0 new (counted_endorsements_text r.endorsements) (consent_text r.handover r.objection) behind in
+    rw (counted_certificate_again r.cert h.cert at cert.0 cert.1, counted_endorsements_again r.endorsements h.few h.ascending cert.0 list.0 list.1, consent_again (length r.endorsements) r.handover r.objection (h.handover, h.objection, h.alone) list.0 new list.2) refl
 
 pub change_pass : IsSpelledBy change_at change_text IsChange
 unfolding change_at change_text
 change_pass at new r bytes e =
     let cert = next counted_certificate_at (λ c. counted_text (certificate_text c)) IsCertificate counted_certificate_pass _ at (r, new) bytes e in
-    let count = next (count_at 8) (number_text w8) (λ n. n ≤ 8) (count_pass 8) _ cert.1 (r, new) cert.4 cert.5 in
-    let list = next (endorsements_at count.0 0) (flat_map endorsement_text) (λ vs. AreEndorsements vs × (length vs ≡ count.0)) (endorsements_pass count.0) _ count.1 (r, new) count.4 count.5 in
-    let handover = next handover_at handover_text (λ o. IfSome o IsSignature) handover_pass _ list.1 (r, new) list.4 list.5 in
-    let value : Change = record { cert = cert.0; endorsements = list.0; handover = handover.0 } in
-    let back = Passes-then count.1 list.1 handover.1 (flat_map endorsement_text list.0) (handover_text handover.0) list.2 handover.2 in
-    let counted : Passes cert.1 (number_text w8 (length list.0)) count.1 = subst (λ (k : ℕ). Passes cert.1 (number_text w8 k) count.1) (sym list.3.1) count.2 in
-    let passes = Passes-then at cert.1 handover.1 (counted_text (certificate_text cert.0)) _ cert.2 (Passes-then cert.1 count.1 handover.1 (number_text w8 (length list.0)) _ counted back) in
-    let fits : IsChange value = record { cert = cert.3; few = omega (arith, count.3, list.3.1); ascending = list.3.0; handover = handover.3 } in
-    subst (λ (x : Change × Cursor). Passes at (change_text x.0) x.1 × IsChange x.0) (ok_is (value, handover.1) (r, new) handover.5) (passes, fits)
+    let list = next counted_endorsements_at counted_endorsements_text (λ vs. (length vs ≤ 8) × AreEndorsements vs) counted_endorsements_pass _ cert.1 (r, new) cert.4 cert.5 in
+    let consent = next (consent_at (length list.0)) (λ o. consent_text o.0 o.1) (AreConsent (length list.0)) (consent_pass (length list.0)) _ list.1 (r, new) list.4 list.5 in
+    let value : Change = record { cert = cert.0; endorsements = list.0; handover = consent.0.0; objection = consent.0.1 } in
+    let back = Passes-then cert.1 list.1 consent.1 (counted_endorsements_text list.0) (consent_text consent.0.0 consent.0.1) list.2 consent.2 in
+    let behind = subst (λ (t : List ℕ). Passes cert.1 t consent.1) (append_assoc (number_text w8 (length list.0)) (flat_map endorsement_text list.0) (consent_text consent.0.0 consent.0.1)) back in
+    let passes = Passes-then at cert.1 consent.1 (counted_text (certificate_text cert.0)) _ cert.2 behind in
+    let fits : IsChange value = record { cert = cert.3; few = list.3.0; ascending = list.3.1; handover = consent.3.0; objection = consent.3.1; alone = consent.3.2 } in
+    subst (λ (x : Change × Cursor). Passes at (change_text x.0) x.1 × IsChange x.0) (ok_is (value, consent.1) (r, new) consent.5) (passes, fits)
 
 -- ---- whole texts
 

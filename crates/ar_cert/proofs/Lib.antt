@@ -1,7 +1,4 @@
-pub mod Lists
 pub mod Numbers
-pub mod Hashed
-pub mod Views
 pub mod Endorsements
 pub mod Lengths
 pub mod FieldLaws

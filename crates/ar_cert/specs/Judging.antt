@@ -8,20 +8,16 @@ use Rattle.lms_tree.specs.declared.validity.Verdict.{Verdict}
 use Rattle.lms_tree.specs.declared.validity.Verdict.TheVariants.{Valid, Invalid}
 use Rattle.lms_tree.specs.Validity.{verdict_of}
 use Rattle.cert_policy.specs.declared.refusal.PolicyRefusal.{PolicyRefusal}
-use Rattle.cert_policy.specs.Terms.{CertTerms, PolicyTerms}
+use Rattle.cert_policy.specs.Terms.{CertTerms}
 use Rattle.cert_policy.specs.Clauses.{update_answer, registration_answer, Follows, Registers}
-use Rattle.ar_cert.specs.Certificate.{Terms, Certificate, digest_of}
+use Rattle.ar_cert.specs.Certificate.{Certificate, digest_of}
 use Rattle.ar_cert.specs.Changes.{Change}
 
 -- ---- what the rule reads
 
--- the terms of a policy
-abbrev pub policy_terms_of : Terms → PolicyTerms
-policy_terms_of p = record { threshold = p.threshold; keyed = p.keyed; max_age = p.max_age; until = p.until; trusted = p.trusted; wait = None }
-
 -- the terms of a certificate, with its digest
 abbrev pub cert_terms_of : Certificate → CertTerms
-cert_terms_of c = record { name = c.name; serial = c.serial; previous = c.previous; digest = digest_of c; revoked = c.revoked; policy = policy_terms_of c.policy }
+cert_terms_of c = record { name = c.name; serial = c.serial; previous = c.previous; digest = digest_of c; revoked = c.revoked; policy = c.policy }
 
 -- the authorities that endorse a change
 abbrev pub endorsers_of : Change → List ℕ

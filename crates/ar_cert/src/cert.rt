@@ -1,6 +1,7 @@
 ghost use Rattle.std.specs.Prelude.{◌≡◌, ◌++◌, OnOk, OnErr, IfOk};
 
 use ar_base::Items;
+use ar_bytes::are_bytes;
 use ar_names::Name;
 use lms_tree::LmsPublic;
 use std::marker::Model;
@@ -18,19 +19,35 @@ pub struct Policy {
     pub until: u64,
     /// The numbers of the trusted authorities: at most 16, which ascend strictly.
     pub trusted: Items<u16>,
+    /// How many epochs a recovery waits, 1 to 10,000; `None` where the domain has no recovery.
+    pub wait: Option<u16>,
 }
 
 // Clauses see the terms.
 impl Model for Policy {
-    ghost use Rattle.std.specs.Prelude.{◌≤◌, length};
-    ghost use Rattle.ar_cert.specs.Lists.{AreNumbers};
-    ghost use Rattle.ar_cert.specs.Certificate.{Terms};
+    ghost use Rattle.std.specs.Prelude.{◌≤◌, length, IfSome};
+    ghost use Rattle.cert_policy.specs.Terms.{PolicyTerms};
+    ghost use Rattle.ar_bytes.specs.Ascending.{AreNumbers};
+    ghost use Rattle.ar_cert.specs.Certificate.{IsWait};
 
-    ghost Value = { Terms };
+    ghost Value = { PolicyTerms };
 
-    ghost view = { λ p. record { threshold = p.threshold; keyed = p.keyed; max_age = p.max_age; until = p.until; trusted = p.trusted } };
+    ghost view = { λ p. record { threshold = p.threshold; keyed = p.keyed; max_age = p.max_age; until = p.until; trusted = p.trusted; wait = p.wait } };
 
-    ghost invariant = { λ p. (length p.trusted ≤ 16) × AreNumbers p.trusted };
+    ghost invariant = { λ p. (length p.trusted ≤ 16) × AreNumbers p.trusted × IfSome p.wait IsWait };
+}
+
+impl Policy {
+    ghost use Rattle.ar_cert.specs.Certificate.{AreTerms};
+
+    /// That each of the terms is in its range.
+    pub fn told(&self)
+        ensures { AreTerms self.now }
+    {
+        let _threshold = self.threshold;
+        let _max_age = self.max_age;
+        let _until = self.until;
+    }
 }
 
 /// The certificate of a domain.
@@ -55,4 +72,20 @@ impl Model for Cert {
     ghost Value = { Certificate };
 
     ghost view = { λ c. record { name = c.name; serial = c.serial; previous = c.previous; subject = c.subject; policy = c.policy; revoked = c.revoked } };
+}
+
+impl Cert {
+    ghost use Rattle.ar_cert.specs.Certificate.{IsCertificate};
+
+    /// That each field is in its range.
+    pub fn told(&self)
+        ensures { IsCertificate self.now }
+    {
+        let _name = self.name.text();
+        let _serial = self.serial;
+        are_bytes(&self.previous);
+        are_bytes(&self.subject.id);
+        are_bytes(&self.subject.root);
+        self.policy.told();
+    }
 }

@@ -32,17 +32,33 @@ pub struct Change {
     pub endorsements: Items<Endorsement>,
     /// The signature by which the key of the certificate before agrees, at most 65,535 bytes.
     pub handover: Option<Items<u8>>,
+    /// The signature by which the key of the certificate before objects to this one, at most 65,535
+    /// bytes. With it there are no endorsements and no handover.
+    pub objection: Option<Items<u8>>,
 }
 
-// Clauses see the three fields.
+// Clauses see the four fields.
 impl Model for Change {
     ghost use Rattle.std.specs.Prelude.{◌≤◌, length, IfSome};
-    ghost use Rattle.ar_cert.specs.Lists.{Ascend};
-    ghost use Rattle.ar_cert.specs.Changes.{Change, IsSignature, IsEndorsement};
+    ghost use Rattle.ar_bytes.specs.Ascending.{Ascend};
+    ghost use Rattle.ar_cert.specs.Changes.{Change, IsSignature, IsEndorsement, StandsAlone};
 
     ghost Value = { Change };
 
-    ghost view = { λ c. record { cert = c.cert; endorsements = c.endorsements; handover = c.handover } };
+    ghost view = { λ c. record { cert = c.cert; endorsements = c.endorsements; handover = c.handover; objection = c.objection } };
 
-    ghost invariant = { λ c. (length c.endorsements ≤ 8) × Ascend (λ v. v.authority) IsEndorsement 0 c.endorsements × IfSome c.handover IsSignature };
+    ghost invariant = { λ c. (length c.endorsements ≤ 8) × Ascend (λ v. v.authority) IsEndorsement 0 c.endorsements
+        × IfSome c.handover IsSignature × IfSome c.objection IsSignature
+        × IfSome c.objection (λ _. StandsAlone c.endorsements c.handover) };
+}
+
+impl Change {
+    ghost use Rattle.ar_cert.specs.Changes.{IsChange};
+
+    /// That each field is in its range, and that an objection stands alone.
+    pub fn told(&self)
+        ensures { IsChange self.now }
+    {
+        self.cert.told();
+    }
 }

@@ -51,6 +51,7 @@ impl Cert {
                 max_age: policy.max_age,
                 until: policy.until,
                 trusted: Items::from_vec(trusted),
+                wait: policy.wait,
             },
             revoked: self.revoked,
         })
@@ -81,6 +82,19 @@ fn copies(alloc: Global, endorsements: &[Endorsement]) -> Result<Vec<Endorsement
     Ok(list)
 }
 
+/// A signature of its own, where there is one.
+fn signature_of(
+    alloc: Global,
+    signature: &Option<Items<u8>>,
+) -> Result<Option<Items<u8>>, AllocError>
+    ensures { IfOk result (λ copy. copy ≡ signature.now) }
+{
+    match signature {
+        None => Ok(None),
+        Some(signature) => Ok(Some(Items::from_vec(Vec::from_slice(alloc, signature.as_slice())?))),
+    }
+}
+
 impl Change {
     /// A second value that says the same.
     pub fn copy(&self, alloc: Global) -> Result<Change, AllocError>
@@ -88,14 +102,13 @@ impl Change {
     {
         let cert = self.cert.copy(alloc)?;
         let endorsements = copies(alloc, self.endorsements.as_slice())?;
-        let handover = match &self.handover {
-            None => None,
-            Some(signature) => Some(Items::from_vec(Vec::from_slice(alloc, signature.as_slice())?)),
-        };
+        let handover = signature_of(alloc, &self.handover)?;
+        let objection = signature_of(alloc, &self.objection)?;
         Ok(Change {
             cert,
             endorsements: Items::from_vec(endorsements),
             handover,
+            objection,
         })
     }
 }

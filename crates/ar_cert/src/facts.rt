@@ -23,7 +23,7 @@ impl Cert {
                 max_age: policy.max_age,
                 until: policy.until,
                 trusted: policy.trusted.as_slice(),
-                wait: None,
+                wait: policy.wait,
             },
         }
     }

@@ -3,7 +3,8 @@
 
 ghost use Rattle.std.specs.Prelude.{◌≡◌, ◌++◌, ◌↔◌, List, ℕ, Ok};
 ghost use Rattle.ar_bytes.specs.Reading.{whole};
-ghost use Rattle.ar_bytes.specs.RoundTrip.{AreBytes, ReadsBack, IsSpelledBy, counted_text};
+ghost use Rattle.ar_base.specs.Bytes.{AreBytes};
+ghost use Rattle.ar_bytes.specs.RoundTrip.{ReadsBack, IsSpelledBy, counted_text};
 ghost use Rattle.ar_cert.specs.Certificate.{Certificate, IsCertificate, certificate_at, counted_certificate_at, certificate_text};
 ghost use Rattle.ar_cert.specs.Changes.{Change, IsChange, change_at, change_text};
 

@@ -8,8 +8,8 @@
 
 mod cert;
 mod change;
+mod change_view;
 mod copies;
-mod digest;
 mod facts;
 mod fault;
 mod fields;

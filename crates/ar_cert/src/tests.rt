@@ -96,7 +96,7 @@ fn a_wrong_field_fails_at_its_first_byte(rt: HostRuntime) -> Result<(), Fail> {
         (1, 254, 1),
         (4, b'-', 2),
         (54, 10, 51),
-        (107, 2, 107),
+        (107, 3, 107),
         (109, 2, 109),
         (122, 17, 122),
         (126, 0, 125),
@@ -180,5 +180,59 @@ fn a_change_is_read_copied_and_written_again(rt: HostRuntime) -> Result<(), Fail
         Change::read(alloc, &again).err(),
         Some(CertFault::Form(154))
     );
+    Ok(())
+}
+
+/// The same certificate, whose policy has version 2 and this wait.
+fn waiting(alloc: Global, wait: [u8; 2]) -> Result<Vec<u8>, Fail> {
+    let mut text = Vec::from_slice(alloc, &certificate()[..129])?;
+    if let Some(version) = text.get_mut(107) {
+        *version = 2;
+    }
+    text.extend_from_slice(&wait)?;
+    text.push(0)?;
+    Ok(text)
+}
+
+#[test]
+fn a_policy_of_version_2_has_a_wait(rt: HostRuntime) -> Result<(), Fail> {
+    let alloc = rt.alloc();
+    let text = waiting(alloc, [1, 44])?;
+    let view = CertView::read(&text).ok_or("a certificate")?;
+    assert_eq!(rt; view.wait(), Some(300));
+    let cert = Cert::read(alloc, &text).ok().ok_or("a certificate")?;
+    let digest = [
+        0x0b, 0xa2, 0x82, 0x94, 0x42, 0xd3, 0x11, 0x54, 0x33, 0x44, 0x9b, 0x0e, 0x10, 0xd3, 0x9a,
+        0x04, 0x97, 0x62, 0xbd, 0x78, 0xd9, 0x3b, 0x8d, 0x7a, 0x70, 0x26, 0x63, 0xce, 0x73, 0x68,
+        0x71, 0xb7,
+    ];
+    assert_eq!(rt; (view.digest(), cert.digest()), (digest, digest));
+    let mut again = Vec::new(alloc);
+    cert.copy(alloc)?.write(alloc, &mut again)?;
+    assert_eq!(rt; again.as_slice(), text.as_slice());
+
+    for wait in [[0, 0], [39, 17]] {
+        let text = waiting(alloc, wait)?;
+        let fault = Cert::read(alloc, &text).err();
+        assert_eq!(rt; fault, Some(CertFault::Form(129)), "{wait:?}");
+    }
+    Ok(())
+}
+
+#[test]
+fn an_objection_stands_alone(rt: HostRuntime) -> Result<(), Fail> {
+    let alloc = rt.alloc();
+    let mut text = [0, 130].to_vec(alloc)?;
+    text.extend_from_slice(certificate())?;
+    text.extend_from_slice(b"\x00\x02\x00\x02no")?;
+    let change = Change::read(alloc, &text).ok().ok_or("a change")?;
+    assert!(rt; change.handover.is_none());
+    let mut again = Vec::new(alloc);
+    change.copy(alloc)?.write(alloc, &mut again)?;
+    assert_eq!(rt; again.as_slice(), text.as_slice());
+
+    let endorsed = changed(&rt, alloc, &change_text(alloc)?, 149, 2)?;
+    let fault = Change::read(alloc, &endorsed).err();
+    assert_eq!(rt; fault, Some(CertFault::Form(149)));
     Ok(())
 }

@@ -1,199 +1,287 @@
-ghost use Rattle.std.specs.Prelude.{◌≡◌, ◌+◌, ◌≤◌, ◌++◌, length, OnOk, OnErr, IfOk, IfSome};
+ghost use Rattle.std.specs.Prelude.{◌≡◌, ◌+◌, ◌*◌, ◌≤◌, ◌++◌, length, take, is_some, vec_len, vec_capacity, IsOk, OnOk, OnErr, IfSome};
 ghost use Rattle.std.specs.List.{flat_map};
+ghost use Rattle.ar_bytes.specs.RoundTrip.{counted_text, number_text};
 ghost use Rattle.std.specs.Int.{w8};
-ghost use Rattle.ar_bytes.specs.RoundTrip.{number_text, counted_text};
-ghost use Rattle.ar_cert.specs.Lists.{numbers_text};
-ghost use Rattle.ar_cert.specs.Certificate.{front_text, rules_text, terms_text, certificate_text};
-ghost use Rattle.ar_cert.specs.Changes.{endorsement_text, handover_text, change_text, IsSignature};
+ghost use Rattle.ar_bytes.specs.Ascending.{numbers_text};
+ghost use Rattle.ar_cert.specs.Certificate.{front_text, rules_text, terms_text, wait_text, certificate_text, digest_of};
+ghost use Rattle.ar_cert.specs.Changes.{endorsement_text, consent_text, change_text, IsSignature};
 
 use crate::cert::{Cert, Policy};
 use crate::change::{Change, Endorsement};
 use ar_base::Items;
-use ar_bytes::{put_bytes, put_u8, put_u16, put_u32, put_u64};
-use lms_tree::LmsPublic;
+use ar_bytes::{write_bytes, write_u8, write_u16, write_u32, write_u64};
+use sha2::{Digest, Sha256};
 use std::alloc::{AllocError, Global};
 
+/// The most bytes of a certificate's text.
+const TEXT_LEN: usize = 402;
 /// The first byte of a text.
 const TAG: u8 = 1;
-/// The first byte of the terms.
-const VERSION: u8 = 1;
+/// The byte before a text whose digest is the certificate's.
+const DIGEST_TAG: u8 = 0x10;
 
-// Each of these appends to a text that is thrown away where memory runs out.
-
-/// All of an array.
-fn put_array<const N: usize>(
-    alloc: Global,
-    out: &mut Vec<u8>,
-    bytes: &[u8; N],
-) -> Result<(), AllocError>
-    ensures text { OnOk result (out.new.items ≡ out.old.items ++ bytes.now) }
-    ensures len { length bytes.now ≡ N }
-{
-    put_bytes(alloc, out, bytes)
-}
+// ---- a certificate, in the front of an array
 
 /// All that stands before the terms.
-#[tactic(auto, unfolding(crate::specs::Certificate::front_text))]
-fn put_front(
-    alloc: Global,
-    out: &mut Vec<u8>,
-    name: &[u8],
-    serial: u64,
-    previous: &[u8; 32],
-    subject: &LmsPublic,
-) -> Result<(), AllocError>
-    requires { length name.now ≤ 253 }
-    ensures text { OnOk result (out.new.items ≡ out.old.items ++ front_text name.now serial previous.now subject.now) }
-    ensures len { OnOk result (length (front_text name.now serial previous.now subject.now) ≡ 98 + length name.now) }
+#[tactic(auto, using(ar_names::proofs::Least::short), unfolding(crate::specs::Certificate::front_text))]
+fn put_front(out: &mut [u8; TEXT_LEN], cert: &Cert) -> usize
+    ensures len { result ≡ 98 + length cert.now.name }
+    ensures short { length cert.now.name ≤ 253 }
+    ensures front { take result out.new ≡ front_text cert.now.name cert.now.serial cert.now.previous cert.now.subject }
 {
-    put_u8(alloc, out, TAG)?;
-    put_u8(alloc, out, name.len() as u8)?;
-    put_bytes(alloc, out, name)?;
-    put_u64(alloc, out, serial)?;
-    put_array(alloc, out, previous)?;
-    put_array(alloc, out, &subject.bytes())
+    let name = cert.name.text();
+    let place = write_u8(out, 0, TAG);
+    let place = write_u8(out, place, name.len() as u8);
+    let place = write_bytes(out, place, name);
+    let place = write_u64(out, place, cert.serial);
+    let place = write_bytes(out, place, &cert.previous);
+    write_bytes(out, place, &cert.subject.bytes())
 }
 
-/// The terms up to the list of authorities.
+/// The version, and the terms up to the list of authorities.
 #[tactic(auto, unfolding(crate::specs::Certificate::rules_text))]
-fn put_rules(alloc: Global, out: &mut Vec<u8>, policy: &Policy) -> Result<(), AllocError>
-    ensures { OnOk result (out.new.items ≡ out.old.items
-        ++ rules_text policy.now.threshold policy.now.keyed policy.now.max_age policy.now.until) }
+fn put_rules(out: &mut [u8; TEXT_LEN], place: usize, policy: &Policy) -> usize
+    requires { place ≤ 351 }
+    ensures len { result ≡ place + 15 }
+    ensures front { take result out.new ≡ take place out.old
+        ++ rules_text (is_some policy.now.wait) policy.now.threshold policy.now.keyed policy.now.max_age policy.now.until }
 {
-    put_u8(alloc, out, VERSION)?;
-    put_u8(alloc, out, policy.threshold)?;
-    put_u8(alloc, out, policy.keyed as u8)?;
-    put_u32(alloc, out, policy.max_age)?;
-    put_u64(alloc, out, policy.until)
+    let version = if policy.wait.is_some() { 2 } else { 1 };
+    let place = write_u8(out, place, version);
+    let place = write_u8(out, place, policy.threshold);
+    let place = write_u8(out, place, policy.keyed as u8);
+    let place = write_u32(out, place, policy.max_age);
+    write_u64(out, place, policy.until)
 }
 
 /// Numbers, two bytes for each.
-fn put_numbers(alloc: Global, out: &mut Vec<u8>, numbers: &[u16]) -> Result<(), AllocError>
-    ensures { OnOk result (out.new.items ≡ out.old.items ++ numbers_text numbers.now) }
+fn put_numbers(out: &mut [u8; TEXT_LEN], place: usize, numbers: &[u16]) -> usize
+    requires { place + 2 * length numbers.now ≤ 402 }
+    ensures len { result ≡ place + 2 * length numbers.now }
+    ensures front { take result out.new ≡ take place out.old ++ numbers_text numbers.now }
 {
+    let mut end = place;
     for number in numbers {
-        put_u16(alloc, out, *number)?;
+        end = write_u16(out, end, *number);
     }
-    Ok(())
+    end
+}
+
+/// The wait, where there is one.
+#[tactic(auto, unfolding(crate::specs::Certificate::wait_text))]
+fn put_wait(out: &mut [u8; TEXT_LEN], place: usize, wait: Option<u16>) -> usize
+    requires { place ≤ 399 }
+    ensures len { result ≤ place + 2 }
+    ensures front { take result out.new ≡ take place out.old ++ wait_text wait }
+{
+    match wait {
+        Some(wait) => write_u16(out, place, wait),
+        None => place,
+    }
 }
 
 /// The terms.
-fn put_terms(alloc: Global, out: &mut Vec<u8>, policy: &Policy) -> Result<(), AllocError>
-    ensures text { OnOk result (out.new.items ≡ out.old.items ++ terms_text policy.now) }
-    ensures few { OnOk result (length policy.now.trusted ≤ 16) }
+fn put_terms(out: &mut [u8; TEXT_LEN], place: usize, policy: &Policy) -> usize
+    requires { place ≤ 351 }
+    ensures len { result ≤ 401 }
+    ensures front { take result out.new ≡ take place out.old ++ terms_text policy.now }
 {
-    put_rules(alloc, out, policy)?;
-    put_u8(alloc, out, policy.trusted.len() as u8)?;
-    put_numbers(alloc, out, policy.trusted.as_slice())
-}
-
-/// A signature behind its length.
-fn put_signature(alloc: Global, out: &mut Vec<u8>, signature: &[u8]) -> Result<(), AllocError>
-    requires { IsSignature signature.now }
-    ensures { OnOk result (out.new.items ≡ out.old.items ++ counted_text signature.now) }
-{
-    put_u16(alloc, out, signature.len() as u16)?;
-    put_bytes(alloc, out, signature)
-}
-
-/// An endorsement.
-fn put_endorsement(
-    alloc: Global,
-    out: &mut Vec<u8>,
-    endorsement: &Endorsement,
-) -> Result<(), AllocError>
-    ensures { OnOk result (out.new.items ≡ out.old.items ++ endorsement_text endorsement.now) }
-{
-    put_u16(alloc, out, endorsement.authority)?;
-    put_signature(alloc, out, endorsement.signature.as_slice())
+    let place = put_rules(out, place, policy);
+    let place = write_u8(out, place, policy.trusted.len() as u8);
+    let place = put_numbers(out, place, policy.trusted.as_slice());
+    put_wait(out, place, policy.wait)
 }
 
 impl Cert {
-    /// The text as bytes of its own.
+    /// Writes the text into the front of `out`, and tells how many bytes it has.
     #[tactic(auto, unfolding(crate::specs::Certificate::certificate_text))]
-    fn text(&self, alloc: Global) -> Result<Vec<u8>, AllocError>
-        ensures text { IfOk result (λ text. text.items ≡ certificate_text self.now) }
-        ensures len { IfOk result (λ text. length text.items ≤ 400) }
+    fn put(&self, out: &mut [u8; TEXT_LEN]) -> usize
+        ensures len { result ≤ 402 }
+        ensures text { take result out.new ≡ certificate_text self.now }
     {
-        let mut text = Vec::new(alloc);
-        put_front(
-            alloc,
-            &mut text,
-            self.name.text(),
-            self.serial,
-            &self.previous,
-            &self.subject,
-        )?;
-        put_terms(alloc, &mut text, &self.policy)?;
-        put_u8(alloc, &mut text, self.revoked as u8)?;
-        Ok(text)
+        let place = put_front(out, self);
+        let place = put_terms(out, place, &self.policy);
+        write_u8(out, place, self.revoked as u8)
     }
 
-    /// Appends the text. For want of memory `out` is as it was.
-    pub fn write(&self, alloc: Global, out: &mut Vec<u8>) -> Result<(), AllocError>
+    /// SHA-256 (FIPS 180-4) of the byte 0x10 and the certificate's text.
+    #[tactic(auto, unfolding(crate::specs::Certificate::digest_of))]
+    pub fn digest(&self) -> [u8; 32]
+        ensures { result ≡ digest_of self.now }
+    {
+        let mut text = [0; TEXT_LEN];
+        let len = self.put(&mut text);
+        let mut hasher = Sha256::new();
+        hasher.update(&[DIGEST_TAG]);
+        hasher.update(&text[..len]);
+        hasher.finalize()
+    }
+
+    /// Appends the text. The one error is want of memory: it leaves the bytes of `out` as they were, and
+    /// does not come where `out` has room for the text.
+    pub fn write(&self, _alloc: Global, out: &mut Vec<u8>) -> Result<(), AllocError>
         ensures ok { OnOk result (out.new.items ≡ out.old.items ++ certificate_text self.now) }
         ensures err { OnErr result (out.new.items ≡ out.old.items) }
+        ensures room { vec_len out.old + length (certificate_text self.now) ≤ vec_capacity out.old → IsOk result }
+        ensures capacity { vec_capacity out.old ≤ vec_capacity out.new }
     {
-        let text = self.text(alloc)?;
-        out.extend_from_slice(&text)
+        let mut text = [0; TEXT_LEN];
+        let len = self.put(&mut text);
+        out.extend_from_slice(&text[..len])
     }
+}
+
+// ---- a change, behind what stands in a vector that has room
+
+/// Appends bytes, for which there is room.
+fn append(out: &mut Vec<u8>, bytes: &[u8])
+    requires { vec_len out.old + length bytes.now ≤ vec_capacity out.old }
+    ensures text { out.new.items ≡ out.old.items ++ bytes.now }
+    ensures capacity { vec_capacity out.old ≤ vec_capacity out.new }
+{
+    match out.extend_from_slice(bytes) {
+        Ok(()) => (),
+        Err(_) => unreachable!(),
+    }
+}
+
+/// Bytes behind their count.
+#[tactic(auto, unfolding(ar_bytes::specs::RoundTrip::number_text))]
+fn append_counted(out: &mut Vec<u8>, bytes: &[u8])
+    requires fits { IsSignature bytes.now }
+    requires room { vec_len out.old + (2 + length bytes.now) ≤ vec_capacity out.old }
+    ensures text { out.new.items ≡ out.old.items ++ counted_text bytes.now }
+    ensures capacity { vec_capacity out.old ≤ vec_capacity out.new }
+{
+    append(out, &(bytes.len() as u16).to_be_bytes());
+    append(out, bytes);
+}
+
+/// How many bytes the endorsements have.
+fn endorsements_len(endorsements: &[Endorsement]) -> usize
+    requires { length endorsements.now ≤ 8 }
+    ensures len { result ≡ length (flat_map endorsement_text endorsements.now) }
+    ensures few { result ≤ 8 * 65539 }
+{
+    let mut len = 0;
+    for endorsement in endorsements {
+        len += 4 + endorsement.signature.len();
+    }
+    len
 }
 
 /// Endorsements, one behind the other.
-fn put_endorsements(
-    alloc: Global,
-    out: &mut Vec<u8>,
-    endorsements: &[Endorsement],
-) -> Result<(), AllocError>
-    ensures { OnOk result (out.new.items ≡ out.old.items ++ flat_map endorsement_text endorsements.now) }
+fn append_endorsements(out: &mut Vec<u8>, endorsements: &[Endorsement])
+    requires { vec_len out.old + length (flat_map endorsement_text endorsements.now) ≤ vec_capacity out.old }
+    ensures text { out.new.items ≡ out.old.items ++ flat_map endorsement_text endorsements.now }
+    ensures capacity { vec_capacity out.old ≤ vec_capacity out.new }
 {
     for endorsement in endorsements {
-        put_endorsement(alloc, out, endorsement)?;
+        append_endorsement(out, endorsement);
     }
-    Ok(())
 }
 
-/// A flag, and behind 1 the signature.
-#[tactic(auto, unfolding(crate::specs::Changes::handover_text))]
-fn put_handover(
-    alloc: Global,
-    out: &mut Vec<u8>,
-    handover: &Option<Items<u8>>,
-) -> Result<(), AllocError>
-    requires { IfSome handover.now IsSignature }
-    ensures { OnOk result (out.new.items ≡ out.old.items ++ handover_text handover.now) }
+/// An endorsement.
+#[tactic(auto, unfolding(ar_bytes::specs::RoundTrip::number_text))]
+fn append_endorsement(out: &mut Vec<u8>, endorsement: &Endorsement)
+    requires { vec_len out.old + (4 + length endorsement.now.signature) ≤ vec_capacity out.old }
+    ensures text { out.new.items ≡ out.old.items ++ endorsement_text endorsement.now }
+    ensures capacity { vec_capacity out.old ≤ vec_capacity out.new }
 {
-    match handover {
-        None => put_u8(alloc, out, 0),
-        Some(signature) => {
-            put_u8(alloc, out, 1)?;
-            put_signature(alloc, out, signature.as_slice())
+    append(out, &endorsement.authority.to_be_bytes());
+    append_counted(out, endorsement.signature.as_slice());
+}
+
+/// How many bytes the flag has, and the signature that it tells of.
+#[tactic(auto, unfolding(crate::specs::Changes::consent_text, ar_bytes::specs::RoundTrip::number_text))]
+fn consent_len(handover: &Option<Items<u8>>, objection: &Option<Items<u8>>) -> usize
+    requires handover { IfSome handover.now IsSignature }
+    requires objection { IfSome objection.now IsSignature }
+    ensures len { result ≡ length (consent_text handover.now objection.now) }
+    ensures few { result ≤ 65538 }
+{
+    match (handover, objection) {
+        (None, None) => 1,
+        (Some(signature), _) => 3 + signature.len(),
+        (None, Some(signature)) => 3 + signature.len(),
+    }
+}
+
+/// The flag, and the signature that it tells of.
+#[tactic(auto, unfolding(crate::specs::Changes::consent_text, ar_bytes::specs::RoundTrip::number_text))]
+fn append_consent(out: &mut Vec<u8>, handover: &Option<Items<u8>>, objection: &Option<Items<u8>>)
+    requires handover { IfSome handover.now IsSignature }
+    requires objection { IfSome objection.now IsSignature }
+    requires room { vec_len out.old + length (consent_text handover.now objection.now) ≤ vec_capacity out.old }
+    ensures text { out.new.items ≡ out.old.items ++ consent_text handover.now objection.now }
+    ensures capacity { vec_capacity out.old ≤ vec_capacity out.new }
+{
+    match (handover, objection) {
+        (None, None) => append(out, &[0]),
+        (Some(signature), _) => {
+            append(out, &[1]);
+            append_counted(out, signature.as_slice());
+        }
+        (None, Some(signature)) => {
+            append(out, &[2]);
+            append_counted(out, signature.as_slice());
         }
     }
 }
 
+/// What stands in a change behind its certificate.
+#[tactic(auto, unfolding(ar_bytes::specs::RoundTrip::number_text))]
+fn append_consents(
+    out: &mut Vec<u8>,
+    endorsements: &[Endorsement],
+    handover: &Option<Items<u8>>,
+    objection: &Option<Items<u8>>,
+)
+    requires few { length endorsements.now ≤ 8 }
+    requires handover { IfSome handover.now IsSignature }
+    requires objection { IfSome objection.now IsSignature }
+    requires room { vec_len out.old + (1 + length (flat_map endorsement_text endorsements.now)
+        + length (consent_text handover.now objection.now)) ≤ vec_capacity out.old }
+    ensures text { out.new.items ≡ out.old.items ++ (number_text w8 (length endorsements.now)
+        ++ (flat_map endorsement_text endorsements.now ++ consent_text handover.now objection.now)) }
+    ensures capacity { vec_capacity out.old ≤ vec_capacity out.new }
+{
+    append(out, &[endorsements.len() as u8]);
+    append_endorsements(out, endorsements);
+    append_consent(out, handover, objection);
+}
+
 impl Change {
-    /// The text as bytes of its own.
-    #[tactic(auto, unfolding(crate::specs::Changes::change_text))]
-    fn text(&self, alloc: Global) -> Result<Vec<u8>, AllocError>
-        ensures { IfOk result (λ text. text.items ≡ change_text self.now) }
+    /// How many bytes the text has, where its certificate's has so many.
+    #[tactic(auto, using(crate::proofs::Lengths::change_lengths))]
+    fn text_len(&self, cert: usize) -> usize
+        requires is { cert ≡ length (certificate_text self.now.cert) }
+        requires few { cert ≤ 402 }
+        ensures { result ≡ length (change_text self.now) }
     {
-        let cert = self.cert.text(alloc)?;
-        let mut text = Vec::new(alloc);
-        put_u16(alloc, &mut text, cert.len() as u16)?;
-        put_bytes(alloc, &mut text, &cert)?;
-        put_u8(alloc, &mut text, self.endorsements.len() as u8)?;
-        put_endorsements(alloc, &mut text, self.endorsements.as_slice())?;
-        put_handover(alloc, &mut text, &self.handover)?;
-        Ok(text)
+        let endorsements = endorsements_len(self.endorsements.as_slice());
+        3 + cert + endorsements + consent_len(&self.handover, &self.objection)
     }
 
-    /// Appends the text. For want of memory `out` is as it was.
-    pub fn write(&self, alloc: Global, out: &mut Vec<u8>) -> Result<(), AllocError>
+    /// Appends the text. The one error is want of memory: it leaves the bytes of `out` as they were, and
+    /// does not come where `out` has room for the text.
+    #[tactic(auto, using(crate::proofs::Lengths::change_lengths), unfolding(crate::specs::Changes::change_text))]
+    pub fn write(&self, _alloc: Global, out: &mut Vec<u8>) -> Result<(), AllocError>
         ensures ok { OnOk result (out.new.items ≡ out.old.items ++ change_text self.now) }
         ensures err { OnErr result (out.new.items ≡ out.old.items) }
+        ensures room { vec_len out.old + length (change_text self.now) ≤ vec_capacity out.old → IsOk result }
+        ensures capacity { vec_capacity out.old ≤ vec_capacity out.new }
     {
-        let text = self.text(alloc)?;
-        out.extend_from_slice(&text)
+        let mut cert = [0; TEXT_LEN];
+        let len = self.cert.put(&mut cert);
+        out.reserve(self.text_len(len))?;
+        append_counted(out, &cert[..len]);
+        append_consents(
+            out,
+            self.endorsements.as_slice(),
+            &self.handover,
+            &self.objection,
+        );
+        Ok(())
     }
 }

@@ -4,7 +4,8 @@ use Rattle.std.specs.Prelude.{ℕ, ◌+◌, ◌*◌, ◌/◌, nat_lt, nat_le, if
 use Rattle.std.specs.Int.{w16}
 use Rattle.ar_bytes.specs.Reading.{Cursor, Reading, ◌>>=◌, behind, counted_at, number_at, such_that}
 use Rattle.ar_statement.specs.Fields.{digest_at, epoch_at, name_at}
-use Rattle.ar_cert.specs.Certificate.{Certificate, byte_at, counted_certificate_at}
+use Rattle.ar_bytes.specs.Tested.{byte_at}
+use Rattle.ar_cert.specs.Certificate.{Certificate, counted_certificate_at}
 
 -- ---- what a confirmation says
 

@@ -1,6 +1,6 @@
 ghost use Rattle.std.specs.Prelude.{◌≡◌, ◌+◌, ◌*◌, ◌/◌, ◌≤◌, length, IfOk};
 ghost use Rattle.ar_bytes.specs.Reading.{Tells, counted_at};
-ghost use Rattle.ar_cert.specs.Certificate.{byte_at};
+ghost use Rattle.ar_bytes.specs.Tested.{byte_at};
 ghost use Rattle.client_rule.specs.Confirmation.{path_at, signed_at, steps_at, subject_at};
 ghost use Rattle.client_rule.specs.Views.{signed_of, subject_of};
 

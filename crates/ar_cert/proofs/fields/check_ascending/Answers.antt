@@ -1,6 +1,6 @@
 use Rattle.std.proofs.Common.{[], ◌∷◌, ◌++◌}
-use Rattle.ar_cert.specs.Lists.{number_from}
-use Rattle.ar_cert.proofs.Lists.{entry_more}
+use Rattle.ar_bytes.specs.Ascending.{number_from}
+use Rattle.ar_bytes.proofs.Ascending.{entry_more}
 use Rattle.ar_cert.proofs.fields.check_ascending.Goals as goal
 
 pub loop-preserved : goal.loop-preserved

@@ -1,5 +1,5 @@
 use Rattle.std.proofs.Common.{◌≡◌, ℕ, ◌-◌, List}
-use Rattle.ar_cert.specs.Lists.{numbers_at, with_front}
+use Rattle.ar_bytes.specs.Ascending.{numbers_at, with_front}
 use Rattle.ar_cert.proofs.fields.check_ascending.Given as goal
 
 -- the numbers that were read, and what is read from here on, are what is read from the start

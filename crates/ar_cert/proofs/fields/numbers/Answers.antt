@@ -1,35 +1,31 @@
-use Rattle.std.proofs.Common.{◌≡◌, ℕ, ◌+◌, ◌-◌, ◌*◌, ◌<◌, length, List, Err, refl, arith, ap, ◌∙◌}
-use Rattle.ar_bytes.specs.Reading.{Cursor, Reading}
-use Rattle.ar_bytes.proofs.Passing.{bytes_pass}
-use Rattle.ar_cert.proofs.Numbers.{numbers_need}
+use Rattle.std.proofs.Common.{◌≡◌, ◌*◌, List, ℕ, length, take, Ok, subst, sym, ap, ◌∙◌, arith}
+use Rattle.std.proofs.lemmas.List.{length-take}
+use Rattle.ar_bytes.specs.Ascending.{numbers_text}
+use Rattle.ar_cert.specs.Lists.{numbers_in}
+use Rattle.ar_base.specs.Bytes.{AreBytes}
+use Rattle.ar_cert.proofs.Numbers.{numbers_here}
 use Rattle.ar_cert.proofs.fields.numbers.Goals as goal
 
-pub overflow_sub-start : goal.overflow_sub-start
-overflow_sub-start c =
-    let p = bytes_pass (2 * c.args.count) c.args.fields.now c.bytes.new.self c.in-Some.bytes.now c.in-Some.ensures.field in
-    omega (arith, p.0.place, c.place.ensures)
+pub slice_bounds-result-end : goal.slice_bounds-result-end
+slice_bounds-result-end c =
+    let are = subst AreBytes c.left-left.ensures c.are_bytes.ensures in
+    let read = c.in_ok-check_ascending.ensures.ok in
+    let here = numbers_here c.args.count c.args.fields.now c.check_ascending.new.fields read.0 are read.1 in
+    omega (arith, here.0, ap length c.left-left.ensures, length-take (2 * c.args.count) c.left-left.result.now)
 
-pub overflow_add-result : goal.overflow_add-result
-overflow_add-result c =
-    let p = bytes_pass (2 * c.args.count) c.args.fields.now c.bytes.new.self c.in-Some.bytes.now c.in-Some.ensures.field in
-    omega (arith, p.0.place, c.place.ensures, c.in-Err.ensures.inside, c.place.type_inv)
+pub returns-clause-tells : goal.returns-clause-tells
+returns-clause-tells c =
+    let are = subst AreBytes c.left-left.ensures c.are_bytes.ensures in
+    let read = c.in_ok-check_ascending.ensures.ok in
+    let here = numbers_here c.args.count c.args.fields.now c.check_ascending.new.fields read.0 are read.1 in
+    let front = ap (take (2 * c.args.count)) c.left-left.ensures ∙ here.1 in
+    let numbers : numbers_in (take (2 * c.args.count) c.left-left.result.now) ≡ read.0 = ap numbers_in front ∙ here.2 in
+    read.1 ∙ ap (λ (ns : List ℕ). Ok (ns, c.check_ascending.new.fields)) (sym numbers)
 
-pub unreachable-requires : goal.unreachable-requires
-unreachable-requires c =
-    let read = c.in-Ok-check_ascending.ensures.ok in
-    let needs = numbers_need c.args.count 0 c.bytes.new.self c.check_ascending.new.fields read.0 read.1 in
-    let few : length c.args.fields.now.ahead < 2 * c.args.count = c.in-None.ensures.none.0 refl in
-    let same : length c.bytes.new.self.ahead ≡ length c.args.fields.now.ahead = ap (λ (at : Cursor). length at.ahead) c.in-None.ensures.field.1 in
-    omega (arith, needs, few, same)
-
-pub returns-in-Ok-clause-tells : goal.returns-in-Ok-clause-tells
-returns-in-Ok-clause-tells c =
-    let p = bytes_pass (2 * c.args.count) c.args.fields.now c.bytes.new.self c.in-Some.bytes.now c.in-Some.ensures.field in
-    c.in-Ok.ensures.ok c.args.fields.now c.bytes.new.self p.0
-
-pub returns-in-Err-clause-tells : goal.returns-in-Err-clause-tells
-returns-in-Err-clause-tells c =
-    let p = bytes_pass (2 * c.args.count) c.args.fields.now c.bytes.new.self c.in-Some.bytes.now c.in-Some.ensures.field in
-    let place : c.args.fields.now.place + c.in-Err.inner ≡ c.place.result - length c.in-Some.bytes.now + c.in-Err.inner = omega (arith, p.0.place, c.place.ensures) in
-    let fault : ℕ → Reading (List ℕ) = λ n. Err n in
-    c.in-Err.ensures.fault c.args.fields.now c.bytes.new.self p.0 ∙ ap fault place
+pub returns-clause-numbers : goal.returns-clause-numbers
+returns-clause-numbers c =
+    let are = subst AreBytes c.left-left.ensures c.are_bytes.ensures in
+    let read = c.in_ok-check_ascending.ensures.ok in
+    let here = numbers_here c.args.count c.args.fields.now c.check_ascending.new.fields read.0 are read.1 in
+    let front = ap (take (2 * c.args.count)) c.left-left.ensures ∙ here.1 in
+    ap (λ (bytes : List ℕ). numbers_text (numbers_in bytes)) front ∙ ap numbers_text here.2 ∙ sym front

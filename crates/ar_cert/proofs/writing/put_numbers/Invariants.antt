@@ -1,7 +1,7 @@
-use Rattle.std.proofs.Common.{◌≡◌, ◌++◌, drop}
-use Rattle.ar_cert.specs.Lists.{numbers_text}
+use Rattle.std.proofs.Common.{◌≡◌, ◌+◌, ◌*◌, ◌++◌, take}
+use Rattle.ar_bytes.specs.Ascending.{numbers_text}
 use Rattle.ar_cert.proofs.writing.put_numbers.Given as goal
 
--- what was written, and the text of the numbers that are left, are the whole
+-- the numbers so far were written, and end here
 abbrev pub invariant-loop-number : goal.invariant-loop-number
-invariant-loop-number l = l.out.items ++ numbers_text (drop l.number-index l.numbers) ≡ l.initial.out.items ++ numbers_text l.numbers
+invariant-loop-number l = (l.end ≡ l.place + 2 * l.number-index) × (take l.end l.out ≡ take l.place l.initial.out ++ numbers_text (take l.number-index l.numbers))

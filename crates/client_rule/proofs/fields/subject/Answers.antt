@@ -1,5 +1,5 @@
 use Rattle.ar_names.proofs.Least.{short}
-use Rattle.ar_cert.proofs.Views.{name_named}
+use Rattle.client_rule.proofs.Names.{name_named}
 use Rattle.client_rule.proofs.fields.subject.Goals as goal
 
 pub returns-clause-short : goal.returns-clause-short
