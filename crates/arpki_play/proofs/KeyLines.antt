@@ -3,51 +3,45 @@ use Rattle.std.proofs.Common.{◌≡◌, ℕ, ◌+◌, ◌-◌, ◌<◌, ◌≤�
 use Rattle.std.proofs.lemmas.List.{append-nil}
 use Rattle.lms_tree.specs.declared.public_key.LmsPublic.{LmsPublic}
 use Rattle.arpki_play.specs.Check.{key_at, keys_at}
-use Rattle.arpki_play.specs.Refusals.{Cursor, Reading, ◌>>=◌, FailsBy}
-use Rattle.arpki_play.specs.declared.refusal.LineFault.{LineFault}
-use Rattle.arpki_play.specs.declared.refusal.LineFault.TheVariants.{Refused, Memory}
-use Rattle.arpki_play.specs.declared.refusal.Refusal.{Refusal}
+use Rattle.ar_base.specs.Chaining.{◌>>=◌}
+use Rattle.ar_lines.specs.Readings.{LineCursor, LineReading}
+use Rattle.ar_lines.specs.declared.refusal.LineFault.{LineFault}
+use Rattle.ar_lines.proofs.Faults.{GivesUp, gives_up-behind}
 
 -- what is read behind the keys in front
-abbrev pub with_front : List LmsPublic → Reading (List LmsPublic) → Reading (List LmsPublic)
+abbrev pub with_front : List LmsPublic → LineReading (List LmsPublic) → LineReading (List LmsPublic)
 with_front front read = read >>= λ x. Ok (front ++ x.0, x.1)
 
-keys-none : (count : ℕ) (at : Cursor) → count ≡ 0 → keys_at count at ≡ Ok ([], at)
+keys-none : (count : ℕ) (at : LineCursor) → count ≡ 0 → keys_at count at ≡ Ok ([], at)
 unfolding keys_at
 keys-none count at e = rw e refl
 
-keys-more : (count more : ℕ) (at : Cursor) → count ≡ more + 1 → keys_at count at ≡ (key_at at >>= λ key. with_front (key.0 ∷ []) (keys_at more key.1))
+keys-more : (count more : ℕ) (at : LineCursor) → count ≡ more + 1 → keys_at count at ≡ (key_at at >>= λ key. with_front (key.0 ∷ []) (keys_at more key.1))
 unfolding keys_at
 keys-more count more at e = rw (e, add-one) refl
 
-with_front-front : (front more : List LmsPublic) (read : Reading (List LmsPublic)) → with_front front (with_front more read) ≡ with_front (front ++ more) read
+with_front-front : (front more : List LmsPublic) (read : LineReading (List LmsPublic)) → with_front front (with_front more read) ≡ with_front (front ++ more) read
 with_front-front front more (Ok x) = ap (λ l. Ok (l, x.1)) (sym (append_assoc front more x.0))
 with_front-front front more (Err refusal) = refl
 
 -- the loop's next key
-pub key_more : (front : List LmsPublic) (count i : ℕ) (at new : Cursor) (x : LmsPublic) (all : Reading (List LmsPublic)) → i < count → key_at at ≡ Ok (x, new) → with_front front (keys_at (count - i) at) ≡ all → with_front (front ++ x ∷ []) (keys_at (count - (i + 1)) new) ≡ all
+pub key_more : (front : List LmsPublic) (count i : ℕ) (at new : LineCursor) (x : LmsPublic) (all : LineReading (List LmsPublic)) → i < count → key_at at ≡ Ok (x, new) → with_front front (keys_at (count - i) at) ≡ all → with_front (front ++ x ∷ []) (keys_at (count - (i + 1)) new) ≡ all
 key_more front count i at new x all lt read so_far =
     let rest = keys_at (count - (i + 1)) new in
     let step = keys-more (count - i) (count - (i + 1)) at (omega arith) in
     let here : keys_at (count - i) at ≡ with_front (x ∷ []) rest = rw (step, read) refl in
-    sym (with_front-front front (x ∷ []) rest) ∙ ap (λ (r : Reading (List LmsPublic)). with_front front r) (sym here) ∙ so_far
-
--- the loop's key that is refused
-key_refused : (front : List LmsPublic) (count i : ℕ) (at : Cursor) (refusal : Refusal) (all : Reading (List LmsPublic)) → i < count → key_at at ≡ Err refusal → with_front front (keys_at (count - i) at) ≡ all → all ≡ Err refusal
-key_refused front count i at refusal all lt read so_far =
-    let step = keys-more (count - i) (count - (i + 1)) at (omega arith) in
-    let here : keys_at (count - i) at ≡ Err refusal = rw (step, read) refl in
-    sym so_far ∙ ap (λ (r : Reading (List LmsPublic)). with_front front r) here
+    sym (with_front-front front (x ∷ []) rest) ∙ ap (λ (r : LineReading (List LmsPublic)). with_front front r) (sym here) ∙ so_far
 
 -- the loop's key that is refused, or finds no memory
-pub key_gives_up : (front : List LmsPublic) (count i : ℕ) (at : Cursor) (fault : LineFault) (all : Reading (List LmsPublic)) → i < count → FailsBy fault (key_at at) → with_front front (keys_at (count - i) at) ≡ all → FailsBy fault all
-key_gives_up front count i at (Refused refusal) all lt fails so_far = key_refused front count i at refusal all lt fails so_far
-key_gives_up front count i at Memory all lt fails so_far = tt
+pub key_gives_up : (front : List LmsPublic) (count i : ℕ) (at : LineCursor) (fault : LineFault) (all : LineReading (List LmsPublic)) → i < count → GivesUp fault (key_at at) → with_front front (keys_at (count - i) at) ≡ all → GivesUp fault all
+key_gives_up front count i at fault all lt fails so_far =
+    let step = keys-more (count - i) (count - (i + 1)) at (omega arith) in
+    gives_up-behind (key_at at) _ _ all fault fails (sym so_far ∙ ap (λ (r : LineReading (List LmsPublic)). with_front front r) step)
 
 -- the loop's end
-pub keys_all : (front : List LmsPublic) (count i : ℕ) (at : Cursor) (all : Reading (List LmsPublic)) → count ≤ i → with_front front (keys_at (count - i) at) ≡ all → all ≡ Ok (front, at)
+pub keys_all : (front : List LmsPublic) (count i : ℕ) (at : LineCursor) (all : LineReading (List LmsPublic)) → count ≤ i → with_front front (keys_at (count - i) at) ≡ all → all ≡ Ok (front, at)
 keys_all front count i at all le so_far =
     let here = keys-none (count - i) at (omega arith) in
-    sym so_far ∙ ap (λ (r : Reading (List LmsPublic)). with_front front r) here ∙ ap (λ (l : List LmsPublic). Ok (l, at)) (append-nil front)
+    sym so_far ∙ ap (λ (r : LineReading (List LmsPublic)). with_front front r) here ∙ ap (λ (l : List LmsPublic). Ok (l, at)) (append-nil front)
 
 pub ruleset key_lines = (key_more, key_gives_up, keys_all)

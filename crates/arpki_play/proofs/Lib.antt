@@ -1,9 +1,3 @@
 pub mod KeyLines
-pub mod LineLaws
-pub mod Numerals
 pub mod Readings
-pub mod Respelled
-pub mod Spelled
-pub mod TextLaws
-pub mod WordLaws
 pub mod Writings

@@ -2,37 +2,24 @@
 use Rattle.std.proofs.Common.{◌≡◌, ℕ, suc, ◌+◌, ◌*◌, ◌<◌, ◌≤◌, ◌^◌, true, List, [], ◌∷◌, ◌++◌, length, map, Option, Some, Ok, refl, ap, ◌∙◌, All, codes, append_assoc, le-leb, lt-ltb, arith}
 use Rattle.std.specs.Fmt.{decimal}
 use Rattle.std.specs.List.{list_all}
-use Rattle.std.specs.Str.{bytes_eq}
 use Rattle.std.proofs.lemmas.List.Folds.{list_all-append}
-use Rattle.std.proofs.lemmas.Slice.Eq.{bytes_eq-Decides}
 use Rattle.hex.specs.Hex.{IsBytes, encode_lower}
 use Rattle.std.proofs.lemmas.List.Elements.{All-head, All-tail}
 use Rattle.ar_names.specs.Names.{IsName}
 use Rattle.party_keys.specs.Directory.{IsDirectory, PartyKeys, is_party_count, is_quorum}
 use Rattle.lms_tree.specs.declared.public_key.LmsPublic.{LmsPublic}
-use Rattle.arpki_play.specs.Forms.{bytes_of_hex, key_of_hex}
-use Rattle.arpki_play.specs.Lines.{is_text, words_of}
+use Rattle.ar_lines.specs.Forms.{bytes_of_hex, key_of_hex, name_of, number_of}
+use Rattle.ar_lines.specs.Lines.{is_text}
 use Rattle.arpki_play.specs.Check.{Inquiry, authorities_at, confirmation_at, directory_at, inquiry_at, key_at, keys_at, logs_at, name_at, number_at, party_count_of, quorum_of}
-use Rattle.arpki_play.specs.Refusals.{Cursor, line_at, start_of}
-use Rattle.arpki_play.specs.Rows.{field_at, row_at, two_fields_at}
-use Rattle.arpki_play.specs.Sig.{Question, question_at, word_at}
-use Rattle.arpki_play.specs.Written.{IsInquiry, IsKey, IsQuestion, asked_lines, authorities_line, directory_lines, hex_of_key, inquiry_lines, inquiry_text, key_line, logs_line, question_lines, question_text, text_of_lines}
-use Rattle.arpki_play.proofs.Spelled.{bytes_of_hex-encode, decimal_is_word, hex_is_word, key_is_word, key_of_hex-key, name_is_word, name_of-name, number_of-decimal}
-use Rattle.arpki_play.proofs.TextLaws.{is_word, lines_of-text, text_joined, word_is_text, words_of-first, words_of-last}
-
--- a cursor before these lines, of which the first has this number
-abbrev before : ℕ → List (List ℕ) → Cursor
-before next ahead = record { next = next; ahead = ahead }
-
--- lines of text are ahead of an input that they make
-start_of-text : (lines : List (List ℕ)) → list_all is_text lines ≡ true → start_of (text_of_lines lines) ≡ before 1 lines
-start_of-text lines h = ap (before 1) (lines_of-text lines h)
+use Rattle.ar_lines.specs.Readings.{start_of_lines}
+use Rattle.arpki_play.specs.Sig.{Question, question_at}
+use Rattle.ar_lines.specs.Written.{IsKey, hex_of_key}
+use Rattle.arpki_play.specs.Written.{IsInquiry, IsQuestion, asked_lines, authorities_line, directory_lines, inquiry_lines, inquiry_text, key_line, logs_line, question_lines, question_text}
+use Rattle.ar_lines.proofs.Spelled.{bytes_of_hex-encode, decimal_is_word, hex_is_word, key_is_word, key_of_hex-key, name_is_word, name_of-name, number_of-decimal}
+use Rattle.ar_lines.proofs.TextLaws.{is_word, text_joined, word_is_text}
+use Rattle.ar_lines.proofs.RowsRead.{before, field_reads, named_is_text, start_of-text, two_fields_read, value_reads, word_reads}
 
 -- ---- the question of `sig`
-
-word_reads : {T : Type 0} (form : List ℕ → Option T) (next : ℕ) (line : List ℕ) (ahead : List (List ℕ)) (value : T) → form line ≡ Some value → word_at form (before next (line ∷ ahead)) ≡ Ok (value, before (next + 1) ahead)
-unfolding word_at line_at
-word_reads form next line ahead value h = rw h refl
 
 lines_are_text : (question : Question) → IsQuestion question → list_all is_text (question_lines question) ≡ true
 lines_are_text question h =
@@ -41,7 +28,7 @@ lines_are_text question h =
     let signature = word_is_text (encode_lower question.signature) (hex_is_word question.signature h.signature) in
     rw (key, message, signature) refl
 
-pub question_reads : (question : Question) → IsQuestion question → question_at (start_of (question_text question)) ≡ Ok question
+pub question_reads : (question : Question) → IsQuestion question → question_at (start_of_lines (question_text question)) ≡ Ok question
 unfolding question_at
 question_reads question h =
     let message = encode_lower question.message in
@@ -52,33 +39,10 @@ question_reads question h =
     ap question_at (start_of-text (question_lines question) (lines_are_text question h))
     ∙ rw (key, second, third) refl
 
--- ---- named lines
-
-named_is_text : (name field : List ℕ) → is_word name ≡ true → is_word field ≡ true → is_text (name ++ (32 ∷ field)) ≡ true
-named_is_text name field n f = text_joined name field (word_is_text name n) (word_is_text field f)
-
-row_reads : (name rest : List ℕ) (next : ℕ) (ahead : List (List ℕ)) → is_word name ≡ true → is_text rest ≡ true → row_at name (before next ((name ++ (32 ∷ rest)) ∷ ahead)) ≡ Ok (record { line = next; fields = words_of rest }, before (next + 1) ahead)
-unfolding row_at line_at
-row_reads name rest next ahead n r =
-    let same : bytes_eq name name ≡ true = (bytes_eq-Decides name name).1 refl in
-    rw (text_joined name rest (word_is_text name n) r, words_of-first name rest n, same) refl
-
-field_reads : (name field : List ℕ) (next : ℕ) (ahead : List (List ℕ)) → is_word name ≡ true → is_word field ≡ true → field_at name (before next ((name ++ (32 ∷ field)) ∷ ahead)) ≡ Ok (record { line = next; number = 1; text = field }, before (next + 1) ahead)
-unfolding field_at
-field_reads name field next ahead n f =
-    rw (row_reads name field next ahead n (word_is_text field f), words_of-last field f) refl
-
-two_fields_read : (name first second : List ℕ) (next : ℕ) (ahead : List (List ℕ)) → is_word name ≡ true → is_word first ≡ true → is_word second ≡ true → two_fields_at name (before next ((name ++ (32 ∷ (first ++ (32 ∷ second)))) ∷ ahead)) ≡ Ok ((record { line = next; number = 1; text = first }, record { line = next; number = 2; text = second }), before (next + 1) ahead)
-unfolding two_fields_at
-two_fields_read name first second next ahead n f s =
-    rw (row_reads name (first ++ (32 ∷ second)) next ahead n (named_is_text first second f s), words_of-first first second f, words_of-last second s) refl
-
 -- ---- the inquiry of `check`
 
 key_reads : (key : LmsPublic) (next : ℕ) (ahead : List (List ℕ)) → IsKey key → key_at (before next (key_line key ∷ ahead)) ≡ Ok (key, before (next + 1) ahead)
-unfolding key_at
-key_reads key next ahead h =
-    rw (field_reads (codes "key") (hex_of_key key) next ahead refl (key_is_word key h), key_of_hex-key key h) refl
+key_reads key next ahead h = value_reads (codes "key") (hex_of_key key) key_of_hex key next ahead refl (key_is_word key h) (key_of_hex-key key h)
 
 keys_read : (keys : List LmsPublic) (next : ℕ) (ahead : List (List ℕ)) → All IsKey keys → keys_at (length keys) (before next (map key_line keys ++ ahead)) ≡ Ok (keys, before (next + length keys) ahead)
 unfolding keys_at
@@ -94,25 +58,21 @@ unfolding logs_at party_count_of quorum_of
 logs_read count quorum next ahead c q n m =
     rw (two_fields_read (codes "logs") (decimal count) (decimal quorum) next ahead refl (decimal_is_word count n) (decimal_is_word quorum m), number_of-decimal count n, c, number_of-decimal quorum m, q) refl
 
+count_spelled : (count : ℕ) → is_party_count count ≡ true → count < 2 ^ 64 → party_count_of (decimal count) ≡ Some count
+unfolding party_count_of
+count_spelled count c n = rw (number_of-decimal count n, c) refl
+
 authorities_read : (count next : ℕ) (ahead : List (List ℕ)) → is_party_count count ≡ true → count < 2 ^ 64 → authorities_at (before next (authorities_line count ∷ ahead)) ≡ Ok (count, before (next + 1) ahead)
-unfolding authorities_at party_count_of
-authorities_read count next ahead c n =
-    rw (field_reads (codes "authorities") (decimal count) next ahead refl (decimal_is_word count n), number_of-decimal count n, c) refl
+authorities_read count next ahead c n = value_reads (codes "authorities") (decimal count) party_count_of count next ahead refl (decimal_is_word count n) (count_spelled count c n)
 
 name_reads : (name : List ℕ) (next : ℕ) (ahead : List (List ℕ)) → IsName name → name_at (before next ((codes "name " ++ name) ∷ ahead)) ≡ Ok (name, before (next + 1) ahead)
-unfolding name_at
-name_reads name next ahead h =
-    rw (field_reads (codes "name") name next ahead refl (name_is_word name h), name_of-name name h) refl
+name_reads name next ahead h = value_reads (codes "name") name name_of name next ahead refl (name_is_word name h) (name_of-name name h)
 
 number_reads : (name : List ℕ) (n next : ℕ) (ahead : List (List ℕ)) → is_word name ≡ true → n < 2 ^ 64 → number_at name (before next ((name ++ (32 ∷ decimal n)) ∷ ahead)) ≡ Ok (n, before (next + 1) ahead)
-unfolding number_at
-number_reads name n next ahead w h =
-    rw (field_reads name (decimal n) next ahead w (decimal_is_word n h), number_of-decimal n h) refl
+number_reads name n next ahead w h = value_reads name (decimal n) number_of n next ahead w (decimal_is_word n h) (number_of-decimal n h)
 
 confirmation_reads : (bytes : List ℕ) (next : ℕ) (ahead : List (List ℕ)) → IsBytes bytes → confirmation_at (before next ((codes "confirmation " ++ encode_lower bytes) ∷ ahead)) ≡ Ok (bytes, before (next + 1) ahead)
-unfolding confirmation_at
-confirmation_reads bytes next ahead h =
-    rw (field_reads (codes "confirmation") (encode_lower bytes) next ahead refl (hex_is_word bytes h), bytes_of_hex-encode bytes h) refl
+confirmation_reads bytes next ahead h = value_reads (codes "confirmation") (encode_lower bytes) bytes_of_hex bytes next ahead refl (hex_is_word bytes h) (bytes_of_hex-encode bytes h)
 
 -- the tests of the bounds that a directory keeps
 party_count : (n : ℕ) → 3 ≤ n → n ≤ 16 → is_party_count n ≡ true
@@ -166,7 +126,7 @@ inquiry_is_text inquiry h =
     list_all-append is_text (directory_lines inquiry.keys) (asked_lines inquiry)
     ∙ rw (directory_is_text inquiry.keys h.directory h.logs h.authorities, asked_are_text inquiry h) refl
 
-pub inquiry_reads : (inquiry : Inquiry) → IsInquiry inquiry → inquiry_at (start_of (inquiry_text inquiry)) ≡ Ok inquiry
+pub inquiry_reads : (inquiry : Inquiry) → IsInquiry inquiry → inquiry_at (start_of_lines (inquiry_text inquiry)) ≡ Ok inquiry
 unfolding inquiry_at
 inquiry_reads inquiry h =
     let next = behind_directory inquiry.keys in

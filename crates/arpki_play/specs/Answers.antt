@@ -6,14 +6,15 @@ use Rattle.lms_tree.specs.declared.validity.Verdict.{Verdict}
 use Rattle.lms_tree.specs.declared.validity.Verdict.TheVariants.{Valid, Invalid}
 use Rattle.lms_tree.specs.Validity.{verdict_of}
 use Rattle.arpki_play.specs.Check.{Inquiry, finding_of, inquiry_at}
-use Rattle.arpki_play.specs.Refusals.{refusal_text, start_of}
+use Rattle.ar_lines.specs.Readings.{start_of_lines}
+use Rattle.ar_lines.specs.Refusals.{refusal_text}
 use Rattle.arpki_play.specs.Sig.{Question, question_at}
 use Rattle.arpki_play.specs.declared.answer.Answer.{Answer}
 use Rattle.arpki_play.specs.declared.answer.Answer.TheVariants as answer
 use Rattle.arpki_play.specs.declared.finding.Finding.{Finding}
 use Rattle.arpki_play.specs.declared.finding.Finding.TheVariants as finding
-use Rattle.arpki_play.specs.declared.refusal.Reason.TheVariants.{Limit}
-use Rattle.arpki_play.specs.declared.refusal.Refusal.{Refusal}
+use Rattle.ar_lines.specs.declared.refusal.Reason.TheVariants.{Limit}
+use Rattle.ar_lines.specs.declared.refusal.Refusal.{Refusal}
 use Rattle.arpki_play.specs.declared.command.Command.{Command}
 use Rattle.arpki_play.specs.declared.command.Command.TheVariants.{Sig, Check}
 
@@ -86,8 +87,8 @@ found inquiry = answer.Found (finding_of inquiry)
 
 -- the answer of a command to an input that is not too long
 abbrev pub answer_of : Command → List ℕ → Answer
-answer_of Sig input = unless_refused judged (question_at (start_of input))
-answer_of Check input = unless_refused found (inquiry_at (start_of input))
+answer_of Sig input = unless_refused judged (question_at (start_of_lines input))
+answer_of Check input = unless_refused found (inquiry_at (start_of_lines input))
 
 -- the answer of a command to an input, or to words of no form
 abbrev pub answer_to : Option Command → List ℕ → Answer

@@ -5,10 +5,11 @@ use Rattle.party_keys.specs.Directory.{PartyKeys, is_party_count, is_quorum}
 use Rattle.client_rule.specs.Rule.{judgement}
 use Rattle.client_rule.specs.declared.judgement.Judgement.{Judgement}
 use Rattle.client_rule.specs.declared.judgement.Judgement.TheVariants as judged
-use Rattle.arpki_play.specs.Forms.{bytes_of_hex, key_of_hex, name_of, number_of, such_that}
-use Rattle.arpki_play.specs.Refusals.{Cursor, Reading, ◌>>=◌, spelled}
-use Rattle.arpki_play.specs.Rows.{field_at, two_fields_at, no_row_at}
-use Rattle.arpki_play.specs.declared.refusal.Refusal.{Refusal}
+use Rattle.ar_lines.specs.Forms.{bytes_of_hex, key_of_hex, name_of, number_of, passing}
+use Rattle.ar_base.specs.Chaining.{◌>>=◌}
+use Rattle.ar_lines.specs.Readings.{LineCursor, LineReading, spelled}
+use Rattle.ar_lines.specs.Rows.{two_fields_at, no_row_at, value_at}
+use Rattle.ar_lines.specs.declared.refusal.Refusal.{Refusal}
 use Rattle.arpki_play.specs.declared.check.CheckInput.{CheckInput}
 use Rattle.arpki_play.specs.declared.finding.Finding.{Finding}
 use Rattle.arpki_play.specs.declared.finding.Finding.TheVariants.{Accepted, Refused}
@@ -26,14 +27,14 @@ pub record Inquiry : Type 0 where
 
 -- how many logs, or authorities, a word says that there are
 unfoldable pub party_count_of : List ℕ → Option ℕ
-party_count_of word = such_that is_party_count (number_of word)
+party_count_of word = passing is_party_count (number_of word)
 
 -- how many of so many logs make a quorum, as a word says
 unfoldable pub quorum_of : ℕ → List ℕ → Option ℕ
-quorum_of logs word = such_that (λ q. is_quorum q logs) (number_of word)
+quorum_of logs word = passing (λ q. is_quorum q logs) (number_of word)
 
 -- `logs <N> <q>`: how many logs, and how many of them make a quorum
-unfoldable pub logs_at : Cursor → Reading (ℕ × ℕ)
+unfoldable pub logs_at : LineCursor → LineReading (ℕ × ℕ)
 logs_at at = do
   fields ← two_fields_at (codes "logs") at
   count ← spelled fields.0.0 (party_count_of fields.0.0.text)
@@ -41,21 +42,15 @@ logs_at at = do
   Ok ((count, quorum), fields.1)
 
 -- `authorities <M>`: how many authorities
-unfoldable pub authorities_at : Cursor → Reading ℕ
-authorities_at at = do
-  field ← field_at (codes "authorities") at
-  count ← spelled field.0 (party_count_of field.0.text)
-  Ok (count, field.1)
+abbrev pub authorities_at : LineCursor → LineReading ℕ
+authorities_at at = value_at (codes "authorities") party_count_of at
 
 -- `key <112 hex>`: the key of the next party
-unfoldable pub key_at : Cursor → Reading LmsPublic
-key_at at = do
-  field ← field_at (codes "key") at
-  key ← spelled field.0 (key_of_hex field.0.text)
-  Ok (key, field.1)
+abbrev pub key_at : LineCursor → LineReading LmsPublic
+key_at at = value_at (codes "key") key_of_hex at
 
 -- so many keys, a line each
-unfoldable pub keys_at : ℕ → Cursor → Reading (List LmsPublic)
+unfoldable pub keys_at : ℕ → LineCursor → LineReading (List LmsPublic)
 keys_at zero at = Ok ([], at)
 keys_at (suc count) at = do
   key ← key_at at
@@ -63,7 +58,7 @@ keys_at (suc count) at = do
   Ok (key.0 ∷ others.0, others.1)
 
 -- the logs and their keys, and the authorities and theirs
-unfoldable pub directory_at : Cursor → Reading PartyKeys
+unfoldable pub directory_at : LineCursor → LineReading PartyKeys
 directory_at at = do
   logs ← logs_at at
   log_keys ← keys_at logs.0.0 logs.1
@@ -74,28 +69,19 @@ directory_at at = do
 -- ---- the question
 
 -- `name <name>`
-unfoldable pub name_at : Cursor → Reading (List ℕ)
-name_at at = do
-  field ← field_at (codes "name") at
-  name ← spelled field.0 (name_of field.0.text)
-  Ok (name, field.1)
+abbrev pub name_at : LineCursor → LineReading (List ℕ)
+name_at at = value_at (codes "name") name_of at
 
 -- a line of this name with a number
-unfoldable pub number_at : List ℕ → Cursor → Reading ℕ
-number_at name at = do
-  field ← field_at name at
-  number ← spelled field.0 (number_of field.0.text)
-  Ok (number, field.1)
+abbrev pub number_at : List ℕ → LineCursor → LineReading ℕ
+number_at name at = value_at name number_of at
 
 -- `confirmation <hex>`
-unfoldable pub confirmation_at : Cursor → Reading (List ℕ)
-confirmation_at at = do
-  field ← field_at (codes "confirmation") at
-  bytes ← spelled field.0 (bytes_of_hex field.0.text)
-  Ok (bytes, field.1)
+abbrev pub confirmation_at : LineCursor → LineReading (List ℕ)
+confirmation_at at = value_at (codes "confirmation") bytes_of_hex at
 
 -- the directory, the name, the epoch, the age and the confirmation, and no line more
-unfoldable pub inquiry_at : Cursor → Result Inquiry Refusal
+unfoldable pub inquiry_at : LineCursor → Result Inquiry Refusal
 inquiry_at at = do
   keys ← directory_at at
   name ← name_at keys.1

@@ -1,11 +1,6 @@
 pub mod Answers
 pub mod Check
-pub mod Forms
-pub mod Lines
-pub mod Refusals
-pub mod Rows
 pub mod Runs
 pub mod Sig
-pub mod Views
 pub mod Words
 pub mod Written

@@ -1,28 +1,13 @@
 -- Inputs as they are written: the lines that put a question to `sig`, and an inquiry to `check`.
 use Rattle.std.specs.Prelude.{◌<◌, ◌^◌, ℕ, List, [], ◌∷◌, ◌++◌, codes, length, map, All}
 use Rattle.std.specs.Fmt.{decimal}
-use Rattle.std.specs.List.{flat_map}
 use Rattle.hex.specs.Hex.{IsBytes, encode_lower}
 use Rattle.ar_names.specs.Names.{IsName}
-use Rattle.lms_tree.specs.PublicKey.{HasWidths, key_text}
 use Rattle.lms_tree.specs.declared.public_key.LmsPublic.{LmsPublic}
 use Rattle.party_keys.specs.Directory.{PartyKeys, IsDirectory}
+use Rattle.ar_lines.specs.Written.{IsKey, hex_of_key, text_of_lines}
 use Rattle.arpki_play.specs.Check.{Inquiry}
 use Rattle.arpki_play.specs.Sig.{Question}
-
--- the text of these lines: each is ended by a newline
-abbrev pub text_of_lines : List (List ℕ) → List ℕ
-text_of_lines lines = flat_map (λ line. line ++ (10 ∷ [])) lines
-
--- the hex of a key's text
-abbrev pub hex_of_key : LmsPublic → List ℕ
-hex_of_key key = encode_lower (key_text key)
-
--- a key as a program holds one: I is 16 bytes, and T[1] is 32
-pub record IsKey (key : LmsPublic) : Type 0 where
-  pub widths : HasWidths key
-  pub id : IsBytes key.id
-  pub root : IsBytes key.root
 
 -- ---- the question of `sig`
 

@@ -2,7 +2,7 @@ ghost use Rattle.std.specs.Prelude.{◌≡◌, ◌<◌, IfOk, Some, string_bytes
 ghost use Rattle.arpki_play.specs.Answers.{line_of, output_of, status_of};
 
 use crate::finding::Finding;
-use crate::refusal::Refusal;
+use ar_lines::Refusal;
 use lms_tree::Verdict;
 use std::alloc::{AllocError, Global};
 

@@ -1,15 +1,13 @@
 ghost use Rattle.std.specs.Prelude.{◌≡◌, true, IfOk, IfErr, length};
 ghost use Rattle.arpki_play.specs.Answers.{found, unless_refused};
 ghost use Rattle.arpki_play.specs.Check.{authorities_at, confirmation_at, directory_at, finding_of, inquiry_at, inquiry_in, key_at, keys_at, logs_at, name_at, number_at, party_count_of, quorum_of};
-ghost use Rattle.arpki_play.specs.Refusals.{Gives, Reads, Tells, spelled, start_of};
+ghost use Rattle.ar_lines.specs.Readings.{Follows, ReadsUnless, FollowsUnless, spelled, start_of_lines};
 ghost use Rattle.party_keys.specs.Directory.{is_party_count, is_quorum};
 
 use crate::answer::Answer;
 use crate::fault::Fault;
 use crate::finding::Finding;
-use crate::lines::Lines;
-use crate::refusal::{LineFault, Refusal};
-use crate::word::Word;
+use ar_lines::{LineFault, Lines, Refusal, Word};
 use ar_names::Name;
 use client_rule::judge;
 use lms_tree::LmsPublic;
@@ -55,7 +53,7 @@ fn quorum_of(word: &Word, logs: usize) -> Result<usize, Refusal>
 /// `logs <N> <q>`: how many logs there are, and how many of them make a quorum.
 #[tactic(auto, unfolding(crate::specs::Check::logs_at))]
 fn logs(lines: &mut Lines) -> Result<(usize, usize), Refusal>
-    ensures tells { Gives (λ x. x) result lines.new (logs_at lines.old) }
+    ensures tells { Follows (λ x. x) result lines.new (logs_at lines.old) }
     ensures count { IfOk result (λ x. is_party_count x.0 ≡ true) }
     ensures quorum { IfOk result (λ x. is_quorum x.1 x.0 ≡ true) }
 {
@@ -66,9 +64,9 @@ fn logs(lines: &mut Lines) -> Result<(usize, usize), Refusal>
 }
 
 /// `authorities <M>`: how many authorities there are.
-#[tactic(auto, unfolding(crate::specs::Check::authorities_at))]
+#[tactic(auto, unfolding(ar_lines::specs::Rows::value_at))]
 fn authorities(lines: &mut Lines) -> Result<usize, Refusal>
-    ensures tells { Gives (λ n. n) result lines.new (authorities_at lines.old) }
+    ensures tells { Follows (λ n. n) result lines.new (authorities_at lines.old) }
     ensures count { IfOk result (λ n. is_party_count n ≡ true) }
 {
     let field = lines.field(b"authorities")?;
@@ -76,9 +74,9 @@ fn authorities(lines: &mut Lines) -> Result<usize, Refusal>
 }
 
 /// `key <112 hex>`: the key of the next party.
-#[tactic(auto, unfolding(crate::specs::Check::key_at))]
+#[tactic(auto, unfolding(ar_lines::specs::Rows::value_at))]
 fn key(alloc: Global, lines: &mut Lines) -> Result<LmsPublic, LineFault>
-    ensures { Tells (λ key. key) result lines.new (key_at lines.old) }
+    ensures { FollowsUnless (λ key. key) result lines.new (key_at lines.old) }
 {
     let field = lines.field(b"key")?;
     field.key(alloc)
@@ -87,7 +85,7 @@ fn key(alloc: Global, lines: &mut Lines) -> Result<LmsPublic, LineFault>
 /// So many keys, a line each.
 #[tactic(auto, using(crate::proofs::KeyLines::key_lines))]
 fn keys(alloc: Global, lines: &mut Lines, count: usize) -> Result<Vec<LmsPublic>, LineFault>
-    ensures tells { Tells (λ keys. keys.items) result lines.new (keys_at count lines.old) }
+    ensures tells { FollowsUnless (λ keys. keys.items) result lines.new (keys_at count lines.old) }
     ensures count { IfOk result (λ keys. length keys.items ≡ count) }
 {
     let mut keys = Vec::new(alloc);
@@ -101,7 +99,7 @@ fn keys(alloc: Global, lines: &mut Lines, count: usize) -> Result<Vec<LmsPublic>
 /// The lines of the logs, of the authorities, and of their keys.
 #[tactic(auto, unfolding(crate::specs::Check::directory_at))]
 fn directory(alloc: Global, lines: &mut Lines) -> Result<Directory, LineFault>
-    ensures { Tells (λ directory. directory) result lines.new (directory_at lines.old) }
+    ensures { FollowsUnless (λ directory. directory) result lines.new (directory_at lines.old) }
 {
     let (count, quorum) = logs(lines)?;
     let logs = keys(alloc, lines, count)?;
@@ -115,27 +113,27 @@ fn directory(alloc: Global, lines: &mut Lines) -> Result<Directory, LineFault>
 }
 
 /// `name <name>`
-#[tactic(auto, unfolding(crate::specs::Check::name_at))]
+#[tactic(auto, unfolding(ar_lines::specs::Rows::value_at))]
 fn name(alloc: Global, lines: &mut Lines) -> Result<Name, LineFault>
-    ensures { Tells (λ name. name) result lines.new (name_at lines.old) }
+    ensures { FollowsUnless (λ name. name) result lines.new (name_at lines.old) }
 {
     let field = lines.field(b"name")?;
     field.name(alloc)
 }
 
 /// A line of this name with a number.
-#[tactic(auto, unfolding(crate::specs::Check::number_at))]
+#[tactic(auto, unfolding(ar_lines::specs::Rows::value_at))]
 fn number(lines: &mut Lines, name: &[u8]) -> Result<u64, Refusal>
-    ensures { Gives (λ n. n) result lines.new (number_at name.now lines.old) }
+    ensures { Follows (λ n. n) result lines.new (number_at name.now lines.old) }
 {
     let field = lines.field(name)?;
     field.number()
 }
 
 /// `confirmation <hex>`
-#[tactic(auto, unfolding(crate::specs::Check::confirmation_at))]
+#[tactic(auto, unfolding(ar_lines::specs::Rows::value_at))]
 fn confirmation(alloc: Global, lines: &mut Lines) -> Result<Vec<u8>, LineFault>
-    ensures { Tells (λ bytes. bytes.items) result lines.new (confirmation_at lines.old) }
+    ensures { FollowsUnless (λ bytes. bytes.items) result lines.new (confirmation_at lines.old) }
 {
     let field = lines.field(b"confirmation")?;
     field.bytes(alloc)
@@ -144,7 +142,7 @@ fn confirmation(alloc: Global, lines: &mut Lines) -> Result<Vec<u8>, LineFault>
 /// The lines of an input.
 #[tactic(auto, unfolding(crate::specs::Check::inquiry_at))]
 fn read(alloc: Global, input: &[u8]) -> Result<CheckInput, LineFault>
-    ensures { Reads inquiry_in result (inquiry_at (start_of input.now)) }
+    ensures { ReadsUnless inquiry_in result (inquiry_at (start_of_lines input.now)) }
 {
     let mut lines = Lines::new(input);
     let directory = directory(alloc, &mut lines)?;
@@ -179,7 +177,7 @@ fn finding(input: CheckInput) -> Finding
 
 /// The answer to an input that is not too long.
 pub fn answer(alloc: Global, input: &[u8]) -> Result<Answer, Fault>
-    ensures answer { IfOk result (λ answer. answer ≡ unless_refused found (inquiry_at (start_of input.now))) }
+    ensures answer { IfOk result (λ answer. answer ≡ unless_refused found (inquiry_at (start_of_lines input.now))) }
     ensures memory { IfErr result (λ fault. fault ≡ Fault.Memory) }
 {
     match read(alloc, input) {

@@ -15,11 +15,8 @@ mod command;
 mod fault;
 mod finding;
 pub mod laws;
-mod lines;
 mod program;
-mod refusal;
 mod run;
 mod sig;
 #[cfg(test)]
 mod tests;
-mod word;

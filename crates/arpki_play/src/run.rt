@@ -7,8 +7,8 @@ ghost use Rattle.arpki_play.specs.Runs.{Answers, BreaksOff, TakesAll, TakesAtMos
 use crate::answer::Answer;
 use crate::command::Command;
 use crate::fault::Fault;
-use crate::refusal::{Reason, Refusal};
 use crate::{check, sig};
+use ar_lines::{Reason, Refusal};
 use ar_io::{ReadFault, Sink, Source, read_all, write_all};
 use std::alloc::Global;
 

@@ -1,13 +1,13 @@
 ghost use Rattle.std.specs.Prelude.{◌≡◌, IfOk, IfErr};
 ghost use Rattle.arpki_play.specs.Answers.{judged, unless_refused};
-ghost use Rattle.arpki_play.specs.Forms.{bytes_of_hex, key_of_hex};
-ghost use Rattle.arpki_play.specs.Refusals.{Reads, Tells, start_of};
-ghost use Rattle.arpki_play.specs.Sig.{question_at, question_in, word_at};
+ghost use Rattle.ar_lines.specs.Forms.{bytes_of_hex, key_of_hex};
+ghost use Rattle.ar_lines.specs.Readings.{ReadsUnless, FollowsUnless, start_of_lines};
+ghost use Rattle.ar_lines.specs.Readings.{word_at};
+ghost use Rattle.arpki_play.specs.Sig.{question_at, question_in};
 
 use crate::answer::Answer;
 use crate::fault::Fault;
-use crate::lines::Lines;
-use crate::refusal::LineFault;
+use ar_lines::{LineFault, Lines};
 use lms_tree::{LmsPublic, valid};
 use std::alloc::Global;
 
@@ -20,18 +20,18 @@ pub struct SigInput {
 }
 
 /// A line with a public key.
-#[tactic(auto, unfolding(crate::specs::Sig::word_at))]
+#[tactic(auto, unfolding(ar_lines::specs::Readings::word_at))]
 fn key(alloc: Global, lines: &mut Lines) -> Result<LmsPublic, LineFault>
-    ensures { Tells (λ key. key) result lines.new (word_at key_of_hex lines.old) }
+    ensures { FollowsUnless (λ key. key) result lines.new (word_at key_of_hex lines.old) }
 {
     let word = lines.line()?;
     word.key(alloc)
 }
 
 /// A line with the hex of some bytes.
-#[tactic(auto, unfolding(crate::specs::Sig::word_at))]
+#[tactic(auto, unfolding(ar_lines::specs::Readings::word_at))]
 fn bytes(alloc: Global, lines: &mut Lines) -> Result<Vec<u8>, LineFault>
-    ensures { Tells (λ bytes. bytes.items) result lines.new (word_at bytes_of_hex lines.old) }
+    ensures { FollowsUnless (λ bytes. bytes.items) result lines.new (word_at bytes_of_hex lines.old) }
 {
     let word = lines.line()?;
     word.bytes(alloc)
@@ -40,7 +40,7 @@ fn bytes(alloc: Global, lines: &mut Lines) -> Result<Vec<u8>, LineFault>
 /// The three lines of an input.
 #[tactic(auto, unfolding(crate::specs::Sig::question_at))]
 fn read(alloc: Global, input: &[u8]) -> Result<SigInput, LineFault>
-    ensures { Reads question_in result (question_at (start_of input.now)) }
+    ensures { ReadsUnless question_in result (question_at (start_of_lines input.now)) }
 {
     let mut lines = Lines::new(input);
     let key = key(alloc, &mut lines)?;
@@ -56,7 +56,7 @@ fn read(alloc: Global, input: &[u8]) -> Result<SigInput, LineFault>
 
 /// The answer to an input that is not too long.
 pub fn answer(alloc: Global, input: &[u8]) -> Result<Answer, Fault>
-    ensures answer { IfOk result (λ answer. answer ≡ unless_refused judged (question_at (start_of input.now))) }
+    ensures answer { IfOk result (λ answer. answer ≡ unless_refused judged (question_at (start_of_lines input.now))) }
     ensures memory { IfErr result (λ fault. fault ≡ Fault.Memory) }
 {
     match read(alloc, input) {

@@ -1,10 +1,13 @@
-use Rattle.std.proofs.Common.{rules, [], ◌∷◌, length-append, arith}
+use Rattle.std.proofs.Common.{rules, [], ◌∷◌, ap, length-append, arith}
+use Rattle.ar_lines.specs.Readings.{or_fault}
+use Rattle.ar_lines.proofs.Faults.{or_fault-ok}
+use Rattle.arpki_play.specs.Check.{key_at}
 use Rattle.arpki_play.proofs.KeyLines.{key_more, key_gives_up, keys_all}
 use Rattle.arpki_play.proofs.check.keys.Goals as goal
 
 pub loop-preserved : goal.loop-preserved
 loop-preserved c = record {
-  reads = rw c.in_ok-push.ensures.items (key_more c.loop.keys.items c.args.count c.loop.counter c.loop.lines c.key.new.lines c.in_ok-next.next _ c.loop-test.true c.in_ok-next.ensures c.loop.invariant.reads);
+  reads = rw c.in_ok-push.ensures.items (key_more c.loop.keys.items c.args.count c.loop.counter c.loop.lines c.key.new.lines c.in_ok-next.next _ c.loop-test.true (or_fault-ok (key_at c.loop.lines) (c.in_ok-next.next, c.key.new.lines) c.in_ok-next.ensures) c.loop.invariant.reads);
   len = rw c.in_ok-push.ensures.items (omega (arith, length-append c.loop.keys.items (c.in_ok-next.next ∷ []), c.loop.invariant.len));
 }
 
@@ -14,4 +17,4 @@ returns-in_err-next-clause-tells c =
     search (rules, fails)
 
 pub returns-clause-tells : goal.returns-clause-tells
-returns-clause-tells c = keys_all c.loop.keys.items c.args.count c.loop.counter c.loop.lines _ c.loop-test.false c.loop.invariant.reads
+returns-clause-tells c = ap or_fault (keys_all c.loop.keys.items c.args.count c.loop.counter c.loop.lines _ c.loop-test.false c.loop.invariant.reads)

@@ -1,10 +1,12 @@
 -- Named lines: text whose first word says what the line is, with its fields behind it.
-use Rattle.std.specs.Prelude.{ℕ, if◌then◌else◌, List, [], ◌∷◌, Result, Ok}
+use Rattle.std.specs.Prelude.{ℕ, if◌then◌else◌, List, [], ◌∷◌, Option, Result, Ok}
 use Rattle.std.specs.Str.{bytes_eq}
-use Rattle.arpki_play.specs.Lines.{is_text, words_of}
-use Rattle.arpki_play.specs.Refusals.{Cursor, Reading, WordAt, ◌>>=◌, line_at, refused}
-use Rattle.arpki_play.specs.declared.refusal.Reason.TheVariants.{Text, Word, Words}
-use Rattle.arpki_play.specs.declared.refusal.Refusal.{Refusal}
+use Rattle.ar_lines.specs.Lines.{is_text, words_of}
+use Rattle.ar_base.specs.Chaining.{◌>>=◌}
+use Rattle.ar_lines.specs.Readings.{LineCursor, LineReading, WordAt, line_at, spelled}
+use Rattle.ar_lines.specs.Refusals.{refused}
+use Rattle.ar_lines.specs.declared.refusal.Reason.TheVariants.{Text, Word, Words}
+use Rattle.ar_lines.specs.declared.refusal.Refusal.{Refusal}
 
 -- a named line: its number, and its words behind the first
 pub record Row : Type 0 where
@@ -18,7 +20,7 @@ row_of name line (word ∷ fields) =
     if bytes_eq word name then Ok (record { line = line; fields = fields }) else refused line Word
 
 -- the next line, which has to be text and to begin with this word
-unfoldable pub row_at : List ℕ → Cursor → Reading Row
+unfoldable pub row_at : List ℕ → LineCursor → LineReading Row
 row_at name at = do
   line ← line_at at
   row ← (if is_text line.0.text then row_of name line.0.line (words_of line.0.text) else refused line.0.line Text)
@@ -39,24 +41,31 @@ both_of line (first ∷ second ∷ []) =
 both_of line (first ∷ second ∷ next ∷ more) = refused line Words
 
 -- the next line, which has this name and one field
-unfoldable pub field_at : List ℕ → Cursor → Reading WordAt
+unfoldable pub field_at : List ℕ → LineCursor → LineReading WordAt
 field_at name at = do
   row ← row_at name at
   field ← only_of row.0.line row.0.fields
   Ok (field, row.1)
 
+-- the next line, which has this name and one field, of this form
+unfoldable pub value_at : {T : Type 0} → List ℕ → (List ℕ → Option T) → LineCursor → LineReading T
+value_at name form at = do
+  field ← field_at name at
+  value ← spelled field.0 (form field.0.text)
+  Ok (value, field.1)
+
 -- the next line, which has this name and two fields
-unfoldable pub two_fields_at : List ℕ → Cursor → Reading (WordAt × WordAt)
+unfoldable pub two_fields_at : List ℕ → LineCursor → LineReading (WordAt × WordAt)
 two_fields_at name at = do
   row ← row_at name at
   fields ← both_of row.0.line row.0.fields
   Ok (fields, row.1)
 
--- no line is left of these: one too many has no name that could stand there
+-- no line is left of these; one too many is refused as `text` or as `word`, since it has no name that could stand there
 abbrev pub no_row_of : ℕ → List (List ℕ) → Result (Unit {0}) Refusal
 no_row_of next [] = Ok tt
 no_row_of next (line ∷ ahead) = if is_text line then refused next Word else refused next Text
 
 -- no line is left
-abbrev pub no_row_at : Cursor → Result (Unit {0}) Refusal
+abbrev pub no_row_at : LineCursor → Result (Unit {0}) Refusal
 no_row_at at = no_row_of at.next at.ahead

@@ -5,9 +5,9 @@ use Rattle.std.proofs.lemmas.Bool.{and_parts}
 use Rattle.std.proofs.lemmas.List.Folds.{list_all-append}
 use Rattle.std.proofs.lemmas.List.Splits.{slice_split_at, slice_split_none}
 use Rattle.std.proofs.lemmas.List.Sums.{AllPass-from_list_all, list_all-from_AllPass}
-use Rattle.arpki_play.specs.Lines.{is_newline, is_space, is_text, is_text_byte, lines_of, lines_of_pieces, words_of}
-use Rattle.arpki_play.specs.Written.{text_of_lines}
-use Rattle.arpki_play.proofs.LineLaws.{line_before, pieces_are_some}
+use Rattle.ar_lines.specs.Lines.{is_newline, is_space, is_text, is_text_byte, lines_of, lines_of_pieces, words_of}
+use Rattle.ar_lines.specs.Written.{text_of_lines}
+use Rattle.ar_lines.proofs.LineLaws.{line_before, pieces_are_some}
 
 -- where one test passes, so does another
 pub all_pass : (p q : ℕ → Bool) → ((byte : ℕ) → p byte ≡ true → q byte ≡ true) → (text : List ℕ) → list_all p text ≡ true → list_all q text ≡ true

@@ -1,9 +1,9 @@
 -- A row that is read in place, as contracts see it.
 use Rattle.std.specs.Prelude.{ℕ, List, [], Option, Some, None}
 use Rattle.std.specs.Option.{option_copied}
-use Rattle.arpki_play.specs.Lines.{words_of}
-use Rattle.arpki_play.specs.Rows.{Row}
-use Rattle.arpki_play.specs.declared.lines.RowText.{RowText}
+use Rattle.ar_lines.specs.Lines.{words_of}
+use Rattle.ar_lines.specs.Rows.{Row}
+use Rattle.ar_lines.specs.declared.lines.RowText.{RowText}
 
 -- the words of what stands behind a word and its space, where there is something
 abbrev pub words_behind : Option (List ℕ) → List (List ℕ)

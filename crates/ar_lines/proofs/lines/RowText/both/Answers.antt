@@ -1,7 +1,7 @@
 -- A row of more than two fields is refused.
 use Rattle.std.proofs.Common.{refl}
-use Rattle.arpki_play.proofs.WordLaws.{words_some}
-use Rattle.arpki_play.proofs.lines.RowText.both.Goals as goal
+use Rattle.ar_lines.proofs.WordLaws.{words_some}
+use Rattle.ar_lines.proofs.lines.RowText.both.Goals as goal
 
 pub returns-in-Some-more : goal.returns-in-Some-more
 returns-in-Some-more c =

@@ -1,7 +1,7 @@
 ghost use Rattle.std.specs.Prelude.{◌≡◌, ◌<◌, [], ◌∷◌, MatchOption, length, position};
 ghost use Rattle.std.specs.Option.{option_copied};
-ghost use Rattle.arpki_play.specs.Lines.{is_newline, is_space, is_text, lines_of, words_of};
-ghost use Rattle.arpki_play.specs.Views.{words_behind};
+ghost use Rattle.ar_lines.specs.Lines.{is_newline, is_space, is_text, lines_of, words_of};
+ghost use Rattle.ar_lines.specs.Views.{words_behind};
 
 use crate::refusal::{Reason, Refusal};
 use crate::word::Word;
@@ -19,10 +19,10 @@ pub struct Lines<'a> {
 // Clauses see the number of the next line, and the lines that are still ahead.
 impl<'a> Model for Lines<'a> {
     ghost use Rattle.std.specs.Prelude.{◌+◌, ◌<◌, ◌^◌, length};
-    ghost use Rattle.arpki_play.specs.Lines.{lines_of};
-    ghost use Rattle.arpki_play.specs.Refusals.{Cursor};
+    ghost use Rattle.ar_lines.specs.Lines.{lines_of};
+    ghost use Rattle.ar_lines.specs.Readings.{LineCursor};
 
-    ghost Value = { Cursor };
+    ghost Value = { LineCursor };
 
     ghost view = { λ l. record { next = l.next; ahead = lines_of l.input.now } };
 
@@ -86,8 +86,8 @@ fn is_text(line: &[u8]) -> bool
 }
 
 impl<'a> RowText<'a> {
-    ghost use Rattle.arpki_play.specs.Rows.{both_of, only_of};
-    ghost use Rattle.arpki_play.specs.Views.{row_in};
+    ghost use Rattle.ar_lines.specs.Rows.{both_of, only_of};
+    ghost use Rattle.ar_lines.specs.Views.{row_in};
 
     /// Its one field.
     fn only(&self) -> Result<Word<'a>, Refusal>
@@ -125,22 +125,22 @@ impl<'a> RowText<'a> {
 }
 
 impl<'a> Lines<'a> {
-    ghost use Rattle.arpki_play.specs.Refusals.{Gives, line_at, start_of};
-    ghost use Rattle.arpki_play.specs.Rows.{field_at, no_row_at, row_at, two_fields_at};
-    ghost use Rattle.arpki_play.specs.Sig.{no_line_at};
-    ghost use Rattle.arpki_play.specs.Views.{row_in};
+    ghost use Rattle.ar_lines.specs.Readings.{Follows, line_at, start_of_lines};
+    ghost use Rattle.ar_lines.specs.Rows.{field_at, no_row_at, row_at, two_fields_at};
+    ghost use Rattle.ar_lines.specs.Readings.{no_line_at};
+    ghost use Rattle.ar_lines.specs.Views.{row_in};
 
     /// A reader that stands before the first line.
     pub fn new(input: &'a [u8]) -> Lines<'a>
-        ensures { result ≡ start_of input.now }
+        ensures { result ≡ start_of_lines input.now }
     {
         Lines { next: 1, input }
     }
 
     /// The next line, as one word; a missing one is refused as `words`.
-    #[tactic(auto, unfolding(crate::specs::Refusals::line_at))]
+    #[tactic(auto, unfolding(crate::specs::Readings::line_at))]
     pub fn line(&mut self) -> Result<Word<'a>, Refusal>
-        ensures { Gives (λ word. word) result self.new (line_at self.old) }
+        ensures { Follows (λ word. word) result self.new (line_at self.old) }
     {
         let line = self.next;
         let Some((text, rest)) = first_line(self.input) else {
@@ -164,7 +164,7 @@ impl<'a> Lines<'a> {
     /// The next line, which has to be text and to begin with this word.
     #[tactic(auto, unfolding(crate::specs::Rows::row_at))]
     fn row(&mut self, name: &[u8]) -> Result<RowText<'a>, Refusal>
-        ensures { Gives row_in result self.new (row_at name.now self.old) }
+        ensures { Follows row_in result self.new (row_at name.now self.old) }
     {
         let line = self.line()?;
         if !is_text(line.text()) {
@@ -183,7 +183,7 @@ impl<'a> Lines<'a> {
     /// The next line, which has to be text of two words: this one, and the field that is given.
     #[tactic(auto, unfolding(crate::specs::Rows::field_at))]
     pub fn field(&mut self, name: &[u8]) -> Result<Word<'a>, Refusal>
-        ensures { Gives (λ word. word) result self.new (field_at name.now self.old) }
+        ensures { Follows (λ word. word) result self.new (field_at name.now self.old) }
     {
         let row = self.row(name)?;
         row.only()
@@ -192,7 +192,7 @@ impl<'a> Lines<'a> {
     /// The next line, which has to be text of three words: this one, and the two fields that are given.
     #[tactic(auto, unfolding(crate::specs::Rows::two_fields_at))]
     pub fn two_fields(&mut self, name: &[u8]) -> Result<(Word<'a>, Word<'a>), Refusal>
-        ensures { Gives (λ words. words) result self.new (two_fields_at name.now self.old) }
+        ensures { Follows (λ words. words) result self.new (two_fields_at name.now self.old) }
     {
         let row = self.row(name)?;
         row.both()

@@ -1,7 +1,7 @@
 -- A row of more than one field is refused.
 use Rattle.std.proofs.Common.{refl}
-use Rattle.arpki_play.proofs.WordLaws.{words_some}
-use Rattle.arpki_play.proofs.lines.RowText.only.Goals as goal
+use Rattle.ar_lines.proofs.WordLaws.{words_some}
+use Rattle.ar_lines.proofs.lines.RowText.only.Goals as goal
 
 pub returns-in-Some-more : goal.returns-in-Some-more
 returns-in-Some-more c =

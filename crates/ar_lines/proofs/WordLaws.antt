@@ -1,8 +1,8 @@
 -- The first word of a line, by where its first space stands.
 use Rattle.std.proofs.Common.{◌≡◌, ℕ, ◌+◌, ◌-◌, List, [], ◌∷◌, length, take, drop, Some, None}
 use Rattle.std.specs.Prelude.{position}
-use Rattle.arpki_play.specs.Lines.{is_space, words_of}
-use Rattle.arpki_play.proofs.LineLaws.{AtLeastOne, cut_at, pieces_are_some, uncut}
+use Rattle.ar_lines.specs.Lines.{is_space, words_of}
+use Rattle.ar_lines.proofs.LineLaws.{AtLeastOne, cut_at, pieces_are_some, uncut}
 
 pub words_of-space : (line : List ℕ) (end : ℕ) → position is_space line ≡ Some end → words_of line ≡ take end line ∷ words_of (take (length line - (end + 1)) (drop (end + 1) line))
 unfolding words_of

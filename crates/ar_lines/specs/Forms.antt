@@ -10,9 +10,9 @@ use Rattle.lms_tree.specs.PublicKey.{key_of_text}
 use Rattle.lms_tree.specs.declared.public_key.LmsPublic.{LmsPublic}
 
 -- the value, where it passes the test
-abbrev pub such_that : {T : Type 0} → (T → Bool) → Option T → Option T
-such_that test None = None
-such_that test (Some value) = if test value then Some value else None
+abbrev pub passing : {T : Type 0} → (T → Bool) → Option T → Option T
+passing test None = None
+passing test (Some value) = if test value then Some value else None
 
 -- ---- hex: two lower-case digits for each byte
 

@@ -1,6 +1,6 @@
 ghost use Rattle.std.specs.Prelude.{◌≡◌, Some};
-ghost use Rattle.arpki_play.specs.Refusals.{reason_text, refusal_text};
-ghost use Rattle.arpki_play.specs.declared.refusal.LineFault.TheVariants as line_fault;
+ghost use Rattle.ar_lines.specs.Refusals.{reason_text, refusal_text};
+ghost use Rattle.ar_lines.specs.declared.refusal.LineFault.TheVariants as line_fault;
 
 use std::alloc::{AllocError, AllocFailed};
 use std::fmt;

@@ -9,7 +9,7 @@ use Rattle.std.proofs.lemmas.Str.{IsUtf8-from_ascii}
 use Rattle.std.proofs.lemmas.Str.Parse.{IsNumeralModel, numerals_by_value, tells_all_ascii_digits, parse_digits}
 use Rattle.std.proofs.lemmas.Fmt.{IsAscii-from_digits}
 use Rattle.std.proofs.lemmas.Bool.{and_parts, eqb-false, le-ltb, lt-ltb, not-true}
-use Rattle.arpki_play.specs.Forms.{is_numeral, number_of}
+use Rattle.ar_lines.specs.Forms.{is_numeral, number_of}
 
 pub digits_alone : (word : List ℕ) → list_all is_ascii_digit word ≡ all_ascii_digits word
 digits_alone [] = refl

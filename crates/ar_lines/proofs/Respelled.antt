@@ -15,9 +15,9 @@ use Rattle.hex.proofs.HexLemmas.{decode_of-even, decode_of-ok}
 use Rattle.lms_tree.specs.declared.public_key.LmsPublic.{LmsPublic}
 use Rattle.lms_tree.specs.PublicKey.{key_of_text}
 use Rattle.lms_tree.proofs.KeyLemmas.{key_text-key_of_text}
-use Rattle.arpki_play.specs.Forms.{bytes_of_hex, is_lower_hex_digit, is_numeral, key_of_hex, name_of, number_of, such_that}
-use Rattle.arpki_play.specs.Written.{hex_of_key}
-use Rattle.arpki_play.proofs.Numerals.{numeral_digits, own}
+use Rattle.ar_lines.specs.Forms.{bytes_of_hex, is_lower_hex_digit, is_numeral, key_of_hex, name_of, number_of, passing}
+use Rattle.ar_lines.specs.Written.{hex_of_key}
+use Rattle.ar_lines.proofs.Numerals.{numeral_digits, own}
 
 -- ---- what a value shows
 
@@ -35,11 +35,11 @@ gave : {A E : Type 0} (r : Result A E) (y : A) → result_ok r ≡ Some y → r 
 gave (Ok x) y e = ap Ok (same_Some x y e)
 gave (Err f) y e = absurd cc
 
-pub such_that_some : {T : Type 0} (test : T → Bool) (o : Option T) (y : T) → such_that test o ≡ Some y → (o ≡ Some y) × (test y ≡ true)
-such_that_some test (Some x) y e =
+pub passing_some : {T : Type 0} (test : T → Bool) (o : Option T) (y : T) → passing test o ≡ Some y → (o ≡ Some y) × (test y ≡ true)
+passing_some test (Some x) y e =
     let p = cond_some (test x) x y e in
     (ap Some p.1, ap test (sym p.1) ∙ p.0)
-such_that_some test None y e = absurd cc
+passing_some test None y e = absurd cc
 
 -- ---- hex
 

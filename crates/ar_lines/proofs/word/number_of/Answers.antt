@@ -1,8 +1,8 @@
 -- A numeral is text, and `parse` reads its number.
 use Rattle.std.proofs.Common.{◌≡◌, true, ◌∙◌}
-use Rattle.arpki_play.specs.Forms.{is_numeral}
-use Rattle.arpki_play.proofs.Numerals.{numeral_is_text, numeral_read}
-use Rattle.arpki_play.proofs.word.number_of.Goals as goal
+use Rattle.ar_lines.specs.Forms.{is_numeral}
+use Rattle.ar_lines.proofs.Numerals.{numeral_is_text, numeral_read}
+use Rattle.ar_lines.proofs.word.number_of.Goals as goal
 
 pub unreachable-requires : goal.unreachable-requires
 unreachable-requires c =

@@ -7,7 +7,7 @@ use Rattle.std.proofs.lemmas.List.Elements.{All-from_get_or}
 use Rattle.std.proofs.lemmas.List.Splits.{slice_split_first, slice_split_none}
 use Rattle.std.proofs.lemmas.List.Sums.{fails_before_first}
 use borrow.Author.Tests.{ltb-true, ltb-false}
-use Rattle.arpki_play.specs.Lines.{is_newline, lines_of, lines_of_pieces}
+use Rattle.ar_lines.specs.Lines.{is_newline, lines_of, lines_of_pieces}
 
 -- a cut gives at least one piece
 abbrev pub AtLeastOne : List (List ℕ) → Type 0

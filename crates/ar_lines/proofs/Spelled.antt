@@ -15,10 +15,10 @@ use Rattle.ar_names.proofs.Least.{name_is_right}
 use Rattle.lms_tree.specs.declared.public_key.LmsPublic.{LmsPublic}
 use Rattle.lms_tree.specs.PublicKey.{key_text}
 use Rattle.lms_tree.proofs.KeyLemmas.{bytes-key_text, key_of_text-key_text}
-use Rattle.arpki_play.specs.Forms.{bytes_of_hex, is_lower_hex_digit, is_numeral, key_of_hex, name_of, number_of}
-use Rattle.arpki_play.specs.Written.{IsKey, hex_of_key}
-use Rattle.arpki_play.proofs.Numerals.{digits_alone, own}
-use Rattle.arpki_play.proofs.TextLaws.{all_pass, is_word, is_word_byte, within_range}
+use Rattle.ar_lines.specs.Forms.{bytes_of_hex, is_lower_hex_digit, is_numeral, key_of_hex, name_of, number_of}
+use Rattle.ar_lines.specs.Written.{IsKey, hex_of_key}
+use Rattle.ar_lines.proofs.Numerals.{digits_alone, own}
+use Rattle.ar_lines.proofs.TextLaws.{all_pass, is_word, is_word_byte, within_range}
 
 -- ---- hex
 

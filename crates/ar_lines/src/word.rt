@@ -1,9 +1,9 @@
 ghost use Rattle.std.specs.Prelude.{◌≡◌, Option, List, ℕ};
 ghost use Rattle.std.specs.List.{list_all};
-ghost use Rattle.arpki_play.specs.Forms.{bytes_of_hex, is_lower_hex_digit, is_numeral, key_of_hex, name_of, number_of};
+ghost use Rattle.ar_lines.specs.Forms.{bytes_of_hex, is_lower_hex_digit, is_numeral, key_of_hex, name_of, number_of};
 ghost use Rattle.std.specs.Char.{is_ascii_digit};
-ghost use Rattle.arpki_play.specs.Refusals.{Reads, spelled};
-ghost use Rattle.arpki_play.specs.declared.refusal.Reason.TheVariants.{Field};
+ghost use Rattle.ar_lines.specs.Readings.{ReadsUnless, spelled};
+ghost use Rattle.ar_lines.specs.declared.refusal.Reason.TheVariants.{Field};
 
 use crate::refusal::{LineFault, Reason, Refusal};
 use ar_names::{Name, NameFault};
@@ -26,7 +26,7 @@ pub struct Word<'a> {
 
 // Clauses see the three fields.
 impl<'a> Model for Word<'a> {
-    ghost use Rattle.arpki_play.specs.Refusals.{WordAt};
+    ghost use Rattle.ar_lines.specs.Readings.{WordAt};
 
     ghost Value = { WordAt };
 
@@ -72,7 +72,7 @@ impl<'a> Word<'a> {
 
     /// The bytes that a hex word spells: two lower-case digits for each byte.
     pub fn bytes(&self, alloc: Global) -> Result<Vec<u8>, LineFault>
-        ensures { Reads (λ bytes. bytes.items) result (spelled self.now (bytes_of_hex self.now.text)) }
+        ensures { ReadsUnless (λ bytes. bytes.items) result (spelled self.now (bytes_of_hex self.now.text)) }
     {
         if !has_lower_hex_digits(self.text) {
             return Err(LineFault::Refused(self.refusal()));
@@ -86,7 +86,7 @@ impl<'a> Word<'a> {
 
     /// The public key whose text a hex word of 112 digits spells.
     pub fn key(&self, alloc: Global) -> Result<LmsPublic, LineFault>
-        ensures { Reads (λ key. key) result (spelled self.now (key_of_hex self.now.text)) }
+        ensures { ReadsUnless (λ key. key) result (spelled self.now (key_of_hex self.now.text)) }
     {
         let bytes = self.bytes(alloc)?;
         let key = LmsPublic::read(&bytes).ok_or(self.refusal())?;
@@ -103,7 +103,7 @@ impl<'a> Word<'a> {
 
     /// The name that the word is.
     pub fn name(&self, alloc: Global) -> Result<Name, LineFault>
-        ensures { Reads (λ name. name) result (spelled self.now (name_of self.now.text)) }
+        ensures { ReadsUnless (λ name. name) result (spelled self.now (name_of self.now.text)) }
     {
         match Name::read(alloc, self.text) {
             Ok(name) => Ok(name),

@@ -1,0 +1,9 @@
+pub mod Faults
+pub mod LineLaws
+pub mod Numerals
+pub mod Respelled
+pub mod RowsRead
+pub mod RowsWritten
+pub mod Spelled
+pub mod TextLaws
+pub mod WordLaws

@@ -1,0 +1,7 @@
+pub mod Forms
+pub mod Lines
+pub mod Readings
+pub mod Refusals
+pub mod Rows
+pub mod Views
+pub mod Written

@@ -1,0 +1,32 @@
+//! Laws on what is read of lines and of words, over the definitions alone: each is the contract of a
+//! function without a body.
+
+ghost use Rattle.std.specs.Prelude.{◌≡◌, ◌<◌, ◌^◌, ℕ, List, true};
+ghost use Rattle.std.specs.Fmt.{decimal};
+ghost use Rattle.std.specs.List.{list_all};
+ghost use Rattle.hex.specs.Hex.{IsBytes, encode_lower};
+ghost use Rattle.ar_names.specs.Names.{IsName};
+ghost use Rattle.ar_lines.specs.Forms.{bytes_of_hex, key_of_hex, name_of, number_of};
+ghost use Rattle.ar_lines.specs.Lines.{is_text, lines_of};
+ghost use Rattle.ar_lines.specs.Written.{IsKey, ReadsBack, Writes, hex_of_key, text_of_lines};
+
+/// Lines of text that are written are read as just these lines.
+pub fn lines_are_read_as_they_are_written()
+    ensures { (lines : List (List ℕ)) → list_all is_text lines ≡ true → lines_of (text_of_lines lines) ≡ lines }
+{}
+
+/// What is written as a word spells what was written.
+pub fn words_are_read_as_they_are_written()
+    ensures hex { ReadsBack bytes_of_hex encode_lower IsBytes }
+    ensures number { ReadsBack number_of decimal (λ n. n < 2 ^ 64) }
+    ensures name { ReadsBack name_of (λ name. name) IsName }
+    ensures key { ReadsBack key_of_hex hex_of_key IsKey }
+{}
+
+/// A word spells only what is written as it, so that no two words spell the same.
+pub fn only_written_words_are_read()
+    ensures hex { Writes bytes_of_hex encode_lower }
+    ensures number { Writes number_of decimal }
+    ensures name { Writes name_of (λ name. name) }
+    ensures key { Writes key_of_hex hex_of_key }
+{}

@@ -1,0 +1,23 @@
+//! Lines of an input, the words of a line, and which line is refused first: what each command that reads
+//! lines stands on.
+//!
+//! `Lines` gives the lines of an input one after the other, as a `Word` or as the fields of a named line,
+//! and a `Word` is read as hex, as a number, as a name or as a key. `Refusal` says which line is refused,
+//! and why.
+//!
+//! In `specs/`, `Lines` says how an input is cut, `Forms` what a word spells, `Refusals` how a refused
+//! line is told, `Readings` and `Rows` what is read of lines and of named lines, `Views` how a row that is
+//! read in place is seen, and `Written` how lines and words are written. `laws` says that what is written
+//! is read, and that it is read from nothing else.
+#![tactic(auto)]
+
+pub use lines::Lines;
+pub use refusal::{LineFault, Reason, Refusal};
+pub use word::Word;
+
+pub mod laws;
+mod lines;
+mod refusal;
+#[cfg(test)]
+mod tests;
+mod word;
