@@ -3,3 +3,11 @@ pub mod Maps
 pub mod ByCount
 pub mod DigestBytes
 pub mod Ascending
+pub mod Few
+pub mod Paths
+pub mod Changed
+pub mod Kept
+pub mod Two
+pub mod Put
+pub mod Take
+pub mod Set

@@ -1,3 +1,5 @@
 pub mod Strings
 pub mod Entries
 pub mod Root
+pub mod Path
+pub mod Kept

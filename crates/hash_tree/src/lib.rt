@@ -11,9 +11,14 @@
 pub use bits::key_bit;
 pub use digests::{empty_digest, entry_digest, node_digest, value_digest};
 pub use roots::{digest_at, halves, root_of};
+pub use steps::Steps;
+pub use trie::{Trie, Walk};
 
 mod bits;
 mod digests;
+mod node;
 mod roots;
+mod steps;
 #[cfg(test)]
 mod tests;
+mod trie;

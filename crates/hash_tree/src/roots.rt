@@ -4,6 +4,7 @@ ghost use Rattle.hash_tree.specs.Entries.{entries_of, HasAscendingKeys, AgreeAmo
 ghost use Rattle.hash_tree.specs.Strings as strings;
 ghost use Rattle.hash_tree.specs.Root as tree;
 
+use crate::bits::read_key;
 use crate::digests::{NODE_TAG, hash};
 use crate::{empty_digest, entry_digest, key_bit};
 
@@ -101,10 +102,4 @@ fn read_keys(entries: &[([u8; 32], [u8; 32])])
     for (key, _) in entries {
         read_key(key);
     }
-}
-
-fn read_key(key: &[u8; 32])
-    ensures { IsDigest key.now }
-{
-    let _bytes = key.as_slice();
 }

@@ -11,13 +11,15 @@ use Rattle.hash_tree.proofs.Maps.{one_at, agree-half, key-half}
 use Rattle.hash_tree.proofs.ByCount.{string-none, string-one, string-more}
 use Rattle.tree_proof.specs.declared.path.Bottom.TheVariants.{Empty, Other}
 use Rattle.tree_proof.specs.Fold.{joined}
-use Rattle.tree_proof.specs.Path.{steps_below, bottom_below, steps_of, bottom_of}
+use Rattle.hash_tree.specs.Path.{steps_below, steps_of}
+use Rattle.tree_proof.specs.Path.{bottom_below, bottom_of}
 use Rattle.tree_proof.specs.Membership.{On, Off, LeadsTo, SpeaksOf, bottom_string}
 use Rattle.tree_proof.proofs.Down.{turned, turned-push, value_down, path_value-down}
-use Rattle.tree_proof.proofs.Few.{get-none, get-one, get-one_inverse, few_left}
+use Rattle.hash_tree.proofs.Few.{get-none, get-one, get-one_inverse, few_left}
 use Rattle.tree_proof.proofs.Lands.{Count, none, one, more, count_of, same-half}
 use Rattle.tree_proof.proofs.Bind.{digests-half}
-use Rattle.tree_proof.proofs.Walk.{steps-few, bottom-none, bottom-one, steps-end, steps-more, bottom-more}
+use Rattle.hash_tree.proofs.Paths.{steps-few, steps-end, steps-more}
+use Rattle.tree_proof.proofs.Walk.{bottom-none, bottom-one, bottom-more}
 
 -- the two halves joined, whichever side the key's is on
 joined-halves : (key : List ℕ) (depth : ℕ) (f : ℕ → List ℕ) → joined key depth (f (bit key depth)) (f (1 - bit key depth)) ≡ node_string (f 0) (f 1)

@@ -16,7 +16,7 @@ use Rattle.tree_proof.specs.declared.path.Bottom.{Bottom}
 use Rattle.tree_proof.specs.declared.path.Bottom.TheVariants.{Empty, Other}
 use Rattle.tree_proof.specs.Membership.{On, Off, LeadsTo, HasDigestKey, bottom_string, path_strings}
 use Rattle.tree_proof.proofs.Down.{turned, path_value-down, strings_down-above}
-use Rattle.tree_proof.proofs.Few.{get-none, get-one, get-other, few_left}
+use Rattle.hash_tree.proofs.Few.{get-none, get-one, get-other, few_left}
 use Rattle.tree_proof.proofs.Lands.{Count, none, one, more, count_of, Foot, lands, same_parts, same-half, within-half, strings-half}
 
 -- the string of no entry is that of the empty set alone

@@ -2,7 +2,6 @@ pub mod Walk
 pub mod Down
 pub mod Tested
 pub mod Lands
-pub mod Few
 pub mod Bind
 pub mod Accepted
 pub mod TestTables

@@ -9,7 +9,8 @@ ghost use Rattle.ar_base.specs.Apart.{none_collide};
 ghost use Rattle.hash_tree.specs.Entries.{Entries, IsDigest, HoldsDigests};
 ghost use Rattle.hash_tree.specs.Root.{root, strings_of};
 ghost use Rattle.hash_tree.specs.Strings.{entry_string};
-ghost use Rattle.tree_proof.specs.Path.{steps_of, bottom_of};
+ghost use Rattle.hash_tree.specs.Path.{steps_of};
+ghost use Rattle.tree_proof.specs.Path.{bottom_of};
 ghost use Rattle.tree_proof.specs.declared.path.Bottom.{Bottom};
 ghost use Rattle.tree_proof.specs.Membership.{On, Off, OnBytes, OffBytes, HasDigestKey, bottom_string, is_on, is_off, path_strings};
 

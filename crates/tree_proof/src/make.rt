@@ -1,7 +1,8 @@
 ghost use Rattle.std.specs.Prelude.{◌≡◌, ◌-◌, ◌++◌, ◌<◌, ◌≤◌, None, IfOk, IsSome, length};
 ghost use Rattle.std.specs.FinMap.{get};
 ghost use Rattle.hash_tree.specs.Entries.{entries_of, HasAscendingKeys, AgreeAmong, bit, of_side};
-ghost use Rattle.tree_proof.specs.Path.{steps_of, bottom_of, steps_below, bottom_below};
+ghost use Rattle.hash_tree.specs.Path.{steps_of, steps_below};
+ghost use Rattle.tree_proof.specs.Path.{bottom_of, bottom_below};
 
 use crate::{Bottom, Path};
 use ar_base::Items;

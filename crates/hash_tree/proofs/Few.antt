@@ -16,6 +16,9 @@ get-none m q none = get-entries m q ∙ ap (find key_cmp q) none
 pub get-one : (m : Entries) (e : Entry) → entries m ≡ e ∷ [] → get m e.0 ≡ Some e.1
 get-one m e one = get-entries m e.0 ∙ ap (find key_cmp e.0) one ∙ ap (λ b. cond b (Some e.1) None) (ap is_eq (tied_itself total e.0))
 
+pub get-one_key : (m : Entries) (e : Entry) (q : List ℕ) → entries m ≡ e ∷ [] → e.0 ≡ q → get m q ≡ Some e.1
+get-one_key m e q one same = ap (get m) (sym same) ∙ get-one m e one
+
 pub equal_is : (o : Ordering) → is_eq o ≡ true → o ≡ Equal
 equal_is Less h = absurd (cc)
 equal_is Equal h = refl
