@@ -5,3 +5,4 @@ pub mod Faults
 pub mod FirstFailing
 pub mod Gives
 pub mod Shares
+pub mod Places

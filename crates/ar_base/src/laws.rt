@@ -50,7 +50,7 @@ pub fn the_first_that_fails<E>()
     ensures none { (tests : List (E × Bool)) → (first_failing tests ≡ Ok tt) ↔ All (λ t. IsTrue t.1) tests }
     ensures fault { (tests : List (E × Bool)) (error : E) → first_failing tests ≡ Err error
         → (place : ℕ) × ((place < length tests) × (((d : E × Bool) → get_or tests place d ≡ (error, false))
-            × ((k : ℕ) (d : E × Bool) → k < place → IsTrue (get_or tests k d).1))) }
+        × ((k : ℕ) (d : E × Bool) → k < place → IsTrue (get_or tests k d).1))) }
 {}
 
 /// Where want of memory never stands in a refusal's place, each refusal that is expected is given, and

@@ -1,5 +1,6 @@
 -- The book of a key: the statements that its leaves serve, in the order of their leaves.
-use Rattle.std.specs.Prelude.{◌≢◌, ◌≤◌, ℕ, List, length, AllPairs}
+use Rattle.std.specs.Prelude.{◌≤◌, ℕ, List, length}
+use Rattle.ar_base.specs.Places.{HasNoneTwice}
 
 -- The texts of the statements that have a leaf: the text at place k, from 0, has leaf k. Beside them how
 -- many leaves the key has, and for how many more texts there is room.
@@ -7,10 +8,6 @@ pub record Book : Type 0 where
   pub texts : List (List ℕ)
   pub leaves : ℕ
   pub room : ℕ
-
--- no text stands at two places
-abbrev pub HasNoneTwice : List (List ℕ) → Type 0
-HasNoneTwice texts = AllPairs (λ text later. text ≢ later) texts
 
 -- what is true of each book: no text stands twice, and none stands past the last leaf
 pub record IsSound (book : Book) : Type 0 where

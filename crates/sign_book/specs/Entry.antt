@@ -1,13 +1,10 @@
 -- What it means to enter a statement into a book.
-use Rattle.std.specs.Prelude.{ℕ, ◌-◌, nat_lt, if◌then◌else◌, List, [], ◌∷◌, ◌++◌, length, position, bytes_eq, Option, Some, None, Result, Ok, Err}
+use Rattle.std.specs.Prelude.{ℕ, ◌-◌, nat_lt, if◌then◌else◌, List, [], ◌∷◌, ◌++◌, length, Option, Some, None, Result, Ok, Err}
+use Rattle.ar_base.specs.Places.{place_of}
 use Rattle.sign_book.specs.Book.{Book}
 use Rattle.sign_book.specs.Due.{DueParts}
 use Rattle.sign_book.specs.declared.fault.BookFault.{BookFault}
 use Rattle.sign_book.specs.declared.fault.BookFault.TheVariants.{Spent}
-
--- the place of a text in a list, from 0, where it stands there
-abbrev pub place_of : List (List ℕ) → List ℕ → Option ℕ
-place_of texts text = position (bytes_eq text) texts
 
 -- the next place, where there is a leaf left
 abbrev pub next_leaf : Book → Result ℕ BookFault

@@ -2,7 +2,8 @@ ghost use Rattle.std.specs.Prelude.{◌≡◌, ◌≢◌, ◌<◌, ◌-◌, ◌�
 ghost use Rattle.ar_base.specs.Gives.{GivesUnless};
 ghost use Rattle.ar_statement.specs.Claims.{NameFits, claim_of, text_of};
 ghost use Rattle.sign_book.specs.Book.{IsSound};
-ghost use Rattle.sign_book.specs.Entry.{after_entry, due_at, due_of, next_leaf, place_of, with_text};
+ghost use Rattle.sign_book.specs.Entry.{after_entry, due_at, due_of, next_leaf, with_text};
+ghost use Rattle.ar_base.specs.Places.{place_of};
 ghost use Rattle.sign_book.specs.declared.fault.BookFault.TheVariants.{Memory, Spent};
 
 use crate::places::place_of;

@@ -5,7 +5,7 @@ use std::alloc::AllocError;
 use thiserror::Error;
 
 /// Why a statement got no leaf.
-#[derive(Debug, Drop, Error)]
+#[derive(Clone, Copy, Debug, Error, PartialEq, Eq)]
 pub enum BookFault {
     /// Each leaf serves another statement.
     #[error("no leaf is left")]

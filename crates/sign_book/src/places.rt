@@ -1,5 +1,5 @@
 ghost use Rattle.std.specs.Prelude.{◌≡◌};
-ghost use Rattle.sign_book.specs.Entry.{place_of};
+ghost use Rattle.ar_base.specs.Places.{place_of};
 
 use ar_statement::Text;
 

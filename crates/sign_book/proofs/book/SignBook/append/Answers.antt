@@ -1,6 +1,7 @@
 use Rattle.std.proofs.Common.{rules, arith, ◌≡◌, ◌<◌, ap, ◌∙◌, sym, subst, length, None, ◌++◌, ◌∷◌, []}
-use Rattle.sign_book.specs.Book.{Book, IsSound, HasNoneTwice}
-use Rattle.sign_book.specs.Entry.{place_of}
+use Rattle.ar_base.specs.Places.{HasNoneTwice}
+use Rattle.sign_book.specs.Book.{Book, IsSound}
+use Rattle.ar_base.specs.Places.{place_of}
 use Rattle.sign_book.proofs.Entries.{sound-push}
 use Rattle.sign_book.proofs.book.SignBook.append.Goals as goal
 

@@ -1,7 +1,7 @@
 use Rattle.std.proofs.Common.{◌≡◌, ◌∙◌, ap, sym, Some, None}
 use Rattle.ar_statement.specs.Claims.{claim_of, text_of}
-use Rattle.sign_book.specs.Entry.{place_of}
-use Rattle.sign_book.proofs.Entries.{contained, not-contained}
+use Rattle.ar_base.specs.Places.{place_of}
+use Rattle.ar_base.proofs.Places.{contained, not-contained}
 use Rattle.sign_book.proofs.book.SignBook.enter.Goals as goal
 
 pub returns-in-Some-clause-spent : goal.returns-in-Some-clause-spent

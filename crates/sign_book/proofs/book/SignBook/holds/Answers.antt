@@ -1,8 +1,8 @@
 use Rattle.std.proofs.Common.{◌≡◌, ap, ◌∙◌}
 use Rattle.std.specs.Prelude.{is_some}
 use Rattle.ar_statement.specs.Claims.{claim_of, text_of}
-use Rattle.sign_book.specs.Entry.{place_of}
-use Rattle.sign_book.proofs.Entries.{has-place}
+use Rattle.ar_base.specs.Places.{place_of}
+use Rattle.ar_base.proofs.Places.{has-place}
 use Rattle.sign_book.proofs.book.SignBook.holds.Goals as goal
 
 pub returns : goal.returns
