@@ -1,2 +1,4 @@
 pub mod TotalsLemmas
 pub mod NumbersLemmas
+pub mod RisingLemmas
+pub mod PrefixLemmas

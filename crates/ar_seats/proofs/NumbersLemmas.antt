@@ -25,6 +25,9 @@ one_if_same a b same = rw (eq-eqb a b same)
 none_if_other : (a b : ℕ) → a ≢ b → one_if (a == b) ≡ 0
 none_if_other a b other = rw (ne_eqb a b other)
 
+pub times-here : (x y : ℕ) → x ≡ y → times x (y ∷ []) ≡ 1
+times-here x y same = omega (arith, one_if_same x y same)
+
 -- the limit itself comes in where the limit rises by 1
 pub once_below-suc : (limit number : ℕ) → once_below (limit + 1) number ≡ once_below limit number + times number (limit ∷ [])
 once_below-suc limit number =

@@ -1,6 +1,8 @@
 -- Totals over the views of seats, where one view changes, is split, or takes in another.
-use Rattle.std.proofs.Common.{◌≡◌, ◌≢◌, ℕ, zero, suc, ◌+◌, ◌≤◌, List, [], ◌∷◌, ◌++◌, set, ap, sym, refl, zero-add, arith}
+use Rattle.std.proofs.Common.{◌≡◌, ◌≢◌, ℕ, zero, suc, ◌+◌, ◌<◌, ◌≤◌, List, [], ◌∷◌, ◌++◌, set, ap, sym, refl, zero-add, arith}
 use mathlib.Core.Option.{some, some-injective, some-ne-none}
+use mathlib.Core.Logic.{dite}
+use native.Mathlib.Decide.{dec_lt}
 use lib.ListN.{get_elem?}
 use Rattle.ar_seats.specs.Totals.{total}
 
@@ -44,7 +46,20 @@ module _ {V : Type 0} (f : V → ℕ) where
   total_nothing [] none = refl
   total_nothing (x ∷ xs) none = omega (arith, none 0 x refl, total_nothing xs (λ i v at. none (suc i) v at))
 
+  -- where there is some of it, a view has some
+  pub one_of_total : (views : List V) → 0 < total f views → (i : ℕ) × (v : V) × (get_elem? views i ≡ some v) × (0 < f v)
+  one_of_total [] some_there = absurd (omega arith)
+  one_of_total (x ∷ xs) some_there =
+      dite (dec_lt 0 (f x))
+      (λ here. (0, x, refl, here))
+      (λ none. let there = one_of_total xs (omega arith) in (suc there.0, there.1, there.2, there.3))
+
 module _ {V : Type 0} (share f : V → ℕ) where
+  -- where no view has more of the one than of the other, nor have all
+  pub total_le : (views : List V) → ((i : ℕ) (v : V) → get_elem? views i ≡ some v → f v ≤ share v) → total f views ≤ total share views
+  total_le [] each = omega arith
+  total_le (x ∷ xs) each = omega (arith, each 0 x refl, total_le xs (λ i v at. each (suc i) v at))
+
   -- a view with all shares has all, where a view without a share has nothing
   pub total_owner : (views : List V) (i : ℕ) (v : V) → get_elem? views i ≡ some v → total share views ≡ share v
       → ((j : ℕ) (w : V) → get_elem? views j ≡ some w → share w ≡ 0 → f w ≡ 0) → total f views ≡ f v

@@ -1,5 +1,5 @@
 -- Numbers that are handed out, each once.
-use Rattle.std.specs.Prelude.{◌≡◌, ℕ, ◌+◌, ◌==◌, nat_lt, Bool, true, false, List, [], ◌∷◌}
+use Rattle.std.specs.Prelude.{◌≡◌, ℕ, ◌+◌, ◌<◌, ◌==◌, nat_lt, Bool, true, false, if◌then◌else◌, List, [], ◌∷◌}
 
 -- 1 where it is so, 0 where it is not
 abbrev pub one_if : Bool → ℕ
@@ -18,3 +18,23 @@ once_below limit number = one_if (nat_lt number limit)
 -- the list has each number below the limit once, and no other
 abbrev pub HasEachBelow : ℕ → List ℕ → Type 0
 HasEachBelow limit numbers = (number : ℕ) → times number numbers ≡ once_below limit number
+
+-- a number is below each of a list
+abbrev pub IsBelowEach : ℕ → List ℕ → Type 0
+IsBelowEach number [] = Unit {0}
+IsBelowEach number (first ∷ numbers) = (number < first) × IsBelowEach number numbers
+
+-- each number is below those behind it
+abbrev pub IsRising : List ℕ → Type 0
+IsRising [] = Unit {0}
+IsRising (first ∷ numbers) = IsBelowEach first numbers × IsRising numbers
+
+-- a rising list with one more number at its place
+abbrev pub inserted : ℕ → List ℕ → List ℕ
+inserted number [] = number ∷ []
+inserted number (first ∷ numbers) = if nat_lt number first then number ∷ (first ∷ numbers) else first ∷ inserted number numbers
+
+-- two rising lists in one
+abbrev pub merged : List ℕ → List ℕ → List ℕ
+merged numbers [] = numbers
+merged numbers (other ∷ others) = merged (inserted other numbers) others
