@@ -1,7 +1,7 @@
 ghost use Rattle.std.specs.Prelude.{◌≡◌, ◌<◌, ◌^◌, length};
 ghost use Rattle.lms_tree.specs.Key.{signature_of};
 ghost use Rattle.lms_tree.specs.LmsKind.{height_of};
-ghost use Rattle.lms_tree.specs.Validity.{lms_signature_len_of};
+ghost use Rattle.lms_tree.specs.Signature.{lms_signature_len_of};
 
 use lms_tree::LmsKey;
 use std::marker::Model;

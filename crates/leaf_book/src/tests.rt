@@ -1,6 +1,6 @@
 ghost use Rattle.std.specs.Prelude.{◌≡◌, ◌^◌, All, IfOk};
 ghost use Rattle.lms_tree.specs.LmsKind.{height_of};
-ghost use Rattle.lms_tree.specs.Validity.{lms_signature_len_of};
+ghost use Rattle.lms_tree.specs.Signature.{lms_signature_len_of};
 
 use crate::{Exhausted, LeafBook, LeafSeat, SplitFault, sign_leaf};
 use lms_tree::{LmsKey, Verdict, valid};
