@@ -7,7 +7,7 @@
 --       Ok (record { epoch = epoch.0; text = text.0 }, text.1)
 use Rattle.std.specs.Prelude.{◌≡◌, ℕ, ◌+◌, List, [], ◌∷◌, Option, Some, None, Result, Ok, Err}
 use Rattle.ar_base.specs.Chaining.{◌>>=◌}
-use Rattle.ar_base.specs.Gives.{GivesUnless}
+use Rattle.ar_base.specs.Gives.{GivesOrWants, GivesUnless}
 use Rattle.ar_lines.specs.Lines.{lines_of}
 use Rattle.ar_lines.specs.Refusals.{refused}
 use Rattle.ar_lines.specs.declared.refusal.LineFault.{LineFault}
@@ -82,6 +82,10 @@ or_fault (Err refusal) = Err (Refused refusal)
 abbrev pub ReadsUnless : {T V : Type 0} → (T → V) → Result T LineFault → Result V Refusal → Type 0
 ReadsUnless view result reading = GivesUnless Memory view result (or_fault reading)
 
--- The same of a reader that stands behind the lines then.
+-- The same, where memory is taken only for a value: want of memory never stands in a refusal's place.
+abbrev pub ReadsOrWants : {T V : Type 0} → (T → V) → Result T LineFault → Result V Refusal → Type 0
+ReadsOrWants view result reading = GivesOrWants Memory view result (or_fault reading)
+
+-- What a reader gave that stands behind the lines then, or memory ran out.
 abbrev pub FollowsUnless : {T V : Type 0} → (T → V) → Result T LineFault → LineCursor → LineReading V → Type 0
 FollowsUnless view result new reading = GivesUnless Memory (λ value. (view value, new)) result (or_fault reading)

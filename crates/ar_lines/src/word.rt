@@ -2,7 +2,7 @@ ghost use Rattle.std.specs.Prelude.{◌≡◌, Option, List, ℕ};
 ghost use Rattle.std.specs.List.{list_all};
 ghost use Rattle.ar_lines.specs.Forms.{bytes_of_hex, is_lower_hex_digit, is_numeral, key_of_hex, name_of, number_of};
 ghost use Rattle.std.specs.Char.{is_ascii_digit};
-ghost use Rattle.ar_lines.specs.Readings.{ReadsUnless, spelled};
+ghost use Rattle.ar_lines.specs.Readings.{ReadsOrWants, ReadsUnless, spelled};
 ghost use Rattle.ar_lines.specs.declared.refusal.Reason.TheVariants.{Field};
 
 use crate::refusal::{LineFault, Reason, Refusal};
@@ -103,7 +103,7 @@ impl<'a> Word<'a> {
 
     /// The name that the word is.
     pub fn name(&self, alloc: Global) -> Result<Name, LineFault>
-        ensures { ReadsUnless (λ name. name) result (spelled self.now (name_of self.now.text)) }
+        ensures { ReadsOrWants (λ name. name) result (spelled self.now (name_of self.now.text)) }
     {
         match Name::read(alloc, self.text) {
             Ok(name) => Ok(name),
