@@ -1,3 +1,3 @@
 pub mod AsSet
-pub mod Counting
 pub mod Least
+pub mod Meaning

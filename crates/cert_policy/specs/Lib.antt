@@ -1,3 +1,3 @@
 pub mod Clauses
-pub mod FirstFailing
+pub mod Refusals
 pub mod Terms

@@ -1,17 +1,19 @@
-//! The rule of policies: when a certificate follows the one before it, and when it registers a name.
+//! The rule of policies: how a certificate follows the one before it, at once or as a recovery that waits,
+//! and when it registers a name.
 //!
-//! `specs/Clauses.antt` lists the clauses of both with the test that each makes, in order of number,
-//! `specs/FirstFailing.antt` says which of a list is the least that fails, and `specs/Terms.antt` how
-//! borrowed facts are seen as data.
+//! `specs/Clauses.antt` lists the clauses with the test that each makes, in order of number, and says what
+//! it is that they hold; the answer is the first that fails. `specs/Refusals.antt` has their numbers, and
+//! `specs/Terms.antt` how borrowed facts are seen as data.
 #![tactic(auto)]
 
 pub use facts::{Facts, PolicyFacts};
+pub use manner::Manner;
 pub use refusal::PolicyRefusal;
-pub use rules::{follows, registrable};
+pub use rules::{follows, registrable, update};
 
-mod endorsers;
 mod facts;
 pub mod laws;
+mod manner;
 mod refusal;
 mod rules;
 #[cfg(test)]

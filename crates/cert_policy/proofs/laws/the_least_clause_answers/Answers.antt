@@ -1,8 +1,5 @@
-use Rattle.cert_policy.proofs.Least.{all_hold, one_fails, least_fails}
+use Rattle.cert_policy.proofs.Least.{one_fails, least_fails}
 use Rattle.cert_policy.proofs.laws.the_least_clause_answers.Goals as goal
-
-pub returns-clause-holds : goal.returns-clause-holds
-returns-clause-holds c = all_hold
 
 pub returns-clause-fails : goal.returns-clause-fails
 returns-clause-fails c = one_fails

@@ -1,6 +1,0 @@
-use Rattle.std.proofs.Common.{◌≡◌, ◌≤◌, take}
-use Rattle.vote_quorum.specs.Numbers.{shared_count}
-use Rattle.cert_policy.proofs.endorsers.count_among.Given as goal
-
-abbrev pub invariant-loop-i : goal.invariant-loop-i
-invariant-loop-i l = (l.count ≤ l.i) × (l.count ≡ shared_count (take l.i l.numbers) l.others)
