@@ -9,7 +9,7 @@ use Rattle.lms_tree.specs.declared.validity.Verdict.TheVariants.{Valid, Invalid}
 use Rattle.lms_tree.specs.Validity.{verdict_of}
 use Rattle.cert_policy.specs.declared.refusal.PolicyRefusal.{PolicyRefusal}
 use Rattle.cert_policy.specs.Terms.{CertTerms}
-use Rattle.cert_policy.specs.Clauses.{update_answer, registration_answer, Follows, Registers}
+use Rattle.cert_policy.specs.Clauses.{follow_answer, registration_answer, Follows, Registers}
 use Rattle.ar_cert.specs.Certificate.{Certificate, digest_of}
 use Rattle.ar_cert.specs.Changes.{Change}
 
@@ -43,7 +43,7 @@ is_handed_over old change = is_signed old.subject (digest_of change.cert) change
 -- the least clause that fails.
 abbrev pub judgement : Option Certificate → Change → Result (Unit {0}) PolicyRefusal
 judgement None change = registration_answer (cert_terms_of change.cert) (endorsers_of change)
-judgement (Some old) change = update_answer (cert_terms_of old) (cert_terms_of change.cert) (endorsers_of change) (is_handed_over old change)
+judgement (Some old) change = follow_answer (cert_terms_of old) (cert_terms_of change.cert) (endorsers_of change) (is_handed_over old change)
 
 -- what it is that a change registers its name, or follows the old certificate
 unfoldable pub IsAccepted : Option Certificate → Change → Type 0
