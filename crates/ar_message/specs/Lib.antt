@@ -1,0 +1,2 @@
+pub mod Confirmation
+pub mod Views
