@@ -1,4 +1,5 @@
 pub mod Apart
+pub mod Digests
 pub mod Failing
 pub mod Giving
 pub mod Places

@@ -1,5 +1,7 @@
 //! Laws on the definitions of `specs/`: each is the contract of a function with an empty body.
 ghost use Rattle.std.specs.Prelude.{◌≡◌, ◌+◌, ◌<◌, ◌≤◌, ◌↔◌, ℕ, Bool, false, List, length, get_or, Result, Ok, Err, All, IsTrue};
+ghost use Rattle.sha2.specs.Sha256.{sha256};
+ghost use Rattle.ar_base.specs.Bytes.{IsDigest};
 ghost use Rattle.ar_base.specs.Apart.{Apart, IsIn, none_collide};
 ghost use Rattle.ar_base.specs.Faults.{HasRisen, most_faults, one_more};
 ghost use Rattle.ar_base.specs.FirstFailing.{first_failing};
@@ -60,4 +62,9 @@ pub fn a_refusal_is_given<T, V, E>()
         → GivesOrWants memory view result expected → expected ≡ Err error → result ≡ Err error }
     ensures given { (memory : E) (view : T → V) (result : Result T E) (expected : Result V E)
         → GivesOrWants memory view result expected → GivesUnless memory view result expected }
+{}
+
+/// A digest under SHA-256 has 32 bytes.
+pub fn a_digest_has_32_bytes()
+    ensures { (string : List ℕ) → IsDigest (sha256 string) }
 {}

@@ -7,7 +7,8 @@ use Rattle.std.specs.Ordering.{eq_by_cmp, is_eq}
 use Rattle.std.specs.Cmp.{tied_itself}
 use Rattle.std.specs.FinMap.{get, contains_key, entries, find, get-entries, same_entries_map, entries_sorted}
 use lib.Ieee.Bits.{is_true}
-use Rattle.hash_tree.specs.Entries.{Entry, Entries, key_cmp, entries_of, HasAscendingKeys, IsDigest, HoldsDigests, AgreeAmong}
+use Rattle.ar_base.specs.Bytes.{IsDigest}
+use Rattle.hash_tree.specs.Entries.{Entry, Entries, key_cmp, entries_of, HasAscendingKeys, HoldsDigests, AgreeAmong}
 use Rattle.hash_tree.proofs.Maps.{total, exact, entries-entries_of, key_there, depth_below}
 
 pub get-none : (m : Entries) (q : List ℕ) → entries m ≡ [] → get m q ≡ None

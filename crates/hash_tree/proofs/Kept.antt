@@ -6,7 +6,8 @@ use Rattle.std.specs.FinMap.{get, contains_key, insert, remove, entries, find, s
 use Rattle.std.proofs.lemmas.Nat.Bits.{bit_at-lt}
 use Rattle.sha2.specs.Sha256.{sha256}
 use Rattle.hash_tree.specs.Strings.{node_digest}
-use Rattle.hash_tree.specs.Entries.{Entry, Entries, key_cmp, bit, half, IsDigest, HoldsDigests}
+use Rattle.ar_base.specs.Bytes.{IsDigest}
+use Rattle.hash_tree.specs.Entries.{Entry, Entries, key_cmp, bit, half, HoldsDigests}
 use Rattle.hash_tree.specs.Root.{by_count, digest_at, digest_below}
 use Rattle.hash_tree.specs.Path.{same_half, other_half, steps_below, bottom_below}
 use Rattle.hash_tree.specs.Kept.{listing, map_of, map_both, digest_of, Keeps, IsKept, HasHalves, AreHalves, IsStored, entry_of}

@@ -1,7 +1,6 @@
 pub mod KeyBits
 pub mod Maps
 pub mod ByCount
-pub mod DigestBytes
 pub mod Ascending
 pub mod Few
 pub mod Paths

@@ -11,10 +11,11 @@ use Rattle.std.proofs.lemmas.Cmp.{nat_list_cmp_total}
 use Rattle.std.proofs.lemmas.Nat.Bits.{bit_at-lt}
 use Rattle.std.proofs.lemmas.Bool.{cases_lt, eqb-true}
 use Rattle.std.proofs.lemmas.Float.{T_from_true}
-use Rattle.std.proofs.lemmas.List.Elements.{recursion_from_All}
+use Rattle.ar_base.proofs.Digests.{bytes_by_recursion}
 use lib.Dec.{T}
 use lib.Ieee.Bits.{is_true}
-use Rattle.hash_tree.specs.Entries.{Entry, Entries, key_cmp, entries_of, HasAscendingKeys, IsDigest, bit, Agree, AgreeAmong, half, of_side}
+use Rattle.ar_base.specs.Bytes.{IsDigest}
+use Rattle.hash_tree.specs.Entries.{Entry, Entries, key_cmp, entries_of, HasAscendingKeys, bit, Agree, AgreeAmong, half, of_side}
 use Rattle.hash_tree.proofs.KeyBits.{same_keys, lesser_key}
 
 pub total : IsTotalOrder key_cmp
@@ -105,7 +106,7 @@ in_order (e ∷ es) h (suc i) (suc j) d l m = in_order es (both-second _ _ h) i 
 -- two keys that agree in all 256 bits are one
 pub same_digests : (x y : List ℕ) → IsDigest x → IsDigest y → Agree 256 x y → x ≡ y
 same_digests x y dx dy same =
-    same_keys x y (recursion_from_All _ x dx.1) (recursion_from_All _ y dy.1) (dx.0 ∙ sym dy.0) (λ i l. same i (omega (arith, dx.0)))
+    same_keys x y (bytes_by_recursion x dx.bytes) (bytes_by_recursion y dy.bytes) (dx.len ∙ sym dy.len) (λ i l. same i (omega (arith, dx.len)))
 
 -- so two or more entries are left only before the last bit
 pub depth_below : (es : List Entry) (depth : ℕ) → HasAscendingKeys es → All (λ e. IsDigest e.0) es → AgreeAmong depth (entries_of es) → 2 ≤ length es → depth ≤ 256 → depth < 256
@@ -130,7 +131,7 @@ partitioned es t ascending digests agree i j d le l zero_there =
     (λ (before : i < j).
     let di : IsDigest (get_or es i d).0 = digests i d (omega arith) in
     let dj : IsDigest (get_or es j d).0 = digests j d l in
-    eq-eqb _ _ (lesser_key (get_or es i d).0 (get_or es j d).0 (recursion_from_All _ _ di.1) (recursion_from_All _ _ dj.1) (di.0 ∙ sym dj.0)
+    eq-eqb _ _ (lesser_key (get_or es i d).0 (get_or es j d).0 (bytes_by_recursion _ di.bytes) (bytes_by_recursion _ dj.bytes) (di.len ∙ sym dj.len)
     (in_order es ascending i j d before l) t (agree _ _ (key_there es i d (omega arith)) (key_there es j d l)) (eqb-true _ _ zero_there)))
     (λ (after : j ≤ i). let at : i ≡ j = omega arith in rw at zero_there)
     (cases_lt i j)

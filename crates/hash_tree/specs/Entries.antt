@@ -4,6 +4,7 @@ use Rattle.std.specs.declared.cmp.Ordering.{Ordering}
 use Rattle.std.specs.Ordering.{nat_cmp}
 use Rattle.std.specs.Int.{bit_at}
 use Rattle.std.specs.Cmp.Lexicographic.{slice_cmp}
+use Rattle.ar_base.specs.Bytes.{IsDigest}
 use Rattle.std.specs.FinMap.{FinMap, get, contains_key, retain_keys, from_entries, is_sorted}
 
 -- a key with its value
@@ -25,10 +26,6 @@ entries_of = from_entries
 -- the keys of a list rise strictly
 abbrev pub HasAscendingKeys : List Entry → Type 0
 HasAscendingKeys entries = IsTrue (is_sorted key_cmp entries)
-
--- 32 bytes
-abbrev pub IsDigest : List ℕ → Type 0
-IsDigest bytes = (length bytes ≡ 32) × All (λ byte. byte < 256) bytes
 
 -- each key and each value is of 32 bytes
 abbrev pub HoldsDigests : Entries → Type 0

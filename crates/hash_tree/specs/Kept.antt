@@ -2,7 +2,8 @@
 -- entries kept beside it.
 use Rattle.std.specs.Prelude.{◌≡◌, ◌≢◌, ℕ, ◌+◌, ◌<◌, ◌≤◌, List, [], ◌∷◌, ◌++◌, length, IsTrue, Option, Some, None}
 use Rattle.std.specs.FinMap.{entries, contains_key}
-use Rattle.hash_tree.specs.Entries.{Entry, Entries, entries_of, half, Agree, IsDigest}
+use Rattle.ar_base.specs.Bytes.{IsDigest}
+use Rattle.hash_tree.specs.Entries.{Entry, Entries, entries_of, half, Agree}
 use Rattle.hash_tree.specs.Strings.{empty_digest, entry_digest}
 use Rattle.hash_tree.specs.Root.{digest_at}
 use Rattle.hash_tree.specs.declared.node.Stored.{Stored}

@@ -20,6 +20,14 @@ node_string left right = 0x02 ∷ left ++ right
 abbrev pub value_string : ℕ → List ℕ → List ℕ
 value_string serial certificate = 0x03 ∷ to_be_bytes w64 serial ++ certificate
 
+-- of a pending certificate: the epoch since which it waits as 8 bytes, the highest first, and its digest
+abbrev pub pending_string : ℕ → List ℕ → List ℕ
+pending_string since certificate = 0x04 ∷ to_be_bytes w64 since ++ certificate
+
+-- of the name that a pending certificate is for
+abbrev pub pending_key_string : List ℕ → List ℕ
+pending_key_string name = 0x12 ∷ name
+
 -- the digest of a set with no entry
 abbrev pub empty_digest : List ℕ
 empty_digest = sha256 empty_string
@@ -35,3 +43,11 @@ node_digest left right = sha256 (node_string left right)
 -- the value of a domain, by its newest certificate
 abbrev pub value_digest : ℕ → List ℕ → List ℕ
 value_digest serial certificate = sha256 (value_string serial certificate)
+
+-- the value of a pending certificate
+abbrev pub pending_digest : ℕ → List ℕ → List ℕ
+pending_digest since certificate = sha256 (pending_string since certificate)
+
+-- the key that the pending certificate of a name has in the tree
+abbrev pub pending_key : List ℕ → List ℕ
+pending_key name = sha256 (pending_key_string name)

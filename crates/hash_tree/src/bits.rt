@@ -1,5 +1,6 @@
 ghost use Rattle.std.specs.Prelude.{◌≡◌, ◌<◌};
-ghost use Rattle.hash_tree.specs.Entries.{IsDigest, bit};
+ghost use Rattle.ar_base.specs.Bytes.{IsDigest};
+ghost use Rattle.hash_tree.specs.Entries.{bit};
 
 /// The bit of a key at a depth, 0 or 1. Bit 0 is the highest bit of byte 0.
 pub fn key_bit(key: &[u8; 32], depth: usize) -> u8

@@ -52,6 +52,28 @@ pub fn value_digest(serial: u64, certificate: &[u8; 32]) -> [u8; 32]
     Sha256::digest(&bytes)
 }
 
+/// The value of a pending certificate in the tree: SHA-256 of the byte 0x04, the epoch since which it
+/// waits as 8 bytes, the highest first, and the certificate's digest.
+pub fn pending_digest(since: u64, certificate: &[u8; 32]) -> [u8; 32]
+    ensures { result ≡ strings.pending_digest since certificate.now }
+{
+    let mut bytes = [0x04; 41];
+    bytes[1..9].copy_from_slice(&since.to_be_bytes());
+    bytes[9..].copy_from_slice(certificate);
+    Sha256::digest(&bytes)
+}
+
+/// The key that the pending certificate of a name has in the tree: SHA-256 of the byte 0x12 and the
+/// name's bytes.
+pub fn pending_key(name: &[u8]) -> [u8; 32]
+    ensures { result ≡ strings.pending_key name.now }
+{
+    let mut hasher = Sha256::new();
+    hasher.update(&[0x12]);
+    hasher.update(name);
+    hasher.finalize()
+}
+
 // SHA-256 of a tag byte and two digests.
 #[inline(always)]
 pub(crate) fn hash(bytes: &[u8; 65]) -> [u8; 32]

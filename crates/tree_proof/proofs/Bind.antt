@@ -6,7 +6,8 @@ use Rattle.std.proofs.lemmas.Bool.{eqb-true}
 use Rattle.sha2.specs.Sha256.{sha256}
 use Rattle.sha2.proofs.Facts256.{length-sha256}
 use Rattle.hash_tree.specs.Strings.{empty_string, entry_string}
-use Rattle.hash_tree.specs.Entries.{Entry, Entries, bit, half, IsDigest, HoldsDigests, AgreeAmong}
+use Rattle.ar_base.specs.Bytes.{IsDigest}
+use Rattle.hash_tree.specs.Entries.{Entry, Entries, bit, half, HoldsDigests, AgreeAmong}
 use Rattle.hash_tree.specs.Root.{string_below, digest_below, strings_below, root, strings_of}
 use Rattle.ar_base.specs.Apart.{none_collide, IsIn, Apart}
 use Rattle.hash_tree.proofs.Maps.{total, exact, one_at, agree-half}
@@ -31,8 +32,8 @@ entry_inverse : (bits : ℕ) (m : Entries) (key value : List ℕ) → HoldsDiges
     → (f : Entry) × (entries m ≡ f ∷ []) × (f.0 ≡ key) × (f.1 ≡ value)
 entry_inverse bits m key value digests dk e (none n) = absurd (omega (arith, ap (λ s. get_or s 0 0) (sym (string-none bits m n) ∙ e)))
 entry_inverse bits m key value digests dk e (one f n) =
-    let long = (digests f.0 f.1 (get-one m f n)).0.0 in
-    let parts = same_parts f.0 f.1 key value (ap (drop 1) (sym (string-one bits m f n) ∙ e)) (long ∙ sym dk.0) in
+    let long = (digests f.0 f.1 (get-one m f n)).0.len in
+    let parts = same_parts f.0 f.1 key value (ap (drop 1) (sym (string-one bits m f n) ∙ e)) (long ∙ sym dk.len) in
     (f, n, parts.0, parts.1)
 entry_inverse zero m key value digests dk e (more n) = absurd (omega (arith, ap length (sym (string-end m n) ∙ e)))
 entry_inverse (suc bits) m key value digests dk e (more n) = absurd (omega (arith, ap (λ s. get_or s 0 0) (sym (string-several bits m n) ∙ e)))

@@ -3,7 +3,8 @@ use Rattle.std.specs.Prelude.{◌≡◌, ◌≢◌, ℕ, zero, suc, ◌≤◌, �
 use Rattle.std.specs.Str.{bytes_eq}
 use Rattle.sha2.specs.Sha256.{sha256}
 use Rattle.hash_tree.specs.Strings.{empty_string, entry_string}
-use Rattle.hash_tree.specs.Entries.{bit, Agree, IsDigest}
+use Rattle.ar_base.specs.Bytes.{IsDigest}
+use Rattle.hash_tree.specs.Entries.{bit, Agree}
 use Rattle.tree_proof.specs.declared.path.Bottom.{Bottom}
 use Rattle.tree_proof.specs.declared.path.Bottom.TheVariants.{Empty, Other}
 use Rattle.tree_proof.specs.Fold.{digests_in, path_value, strings_above}

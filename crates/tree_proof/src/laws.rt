@@ -6,7 +6,8 @@
 ghost use Rattle.std.specs.Prelude.{◌≡◌, ◌↔◌, ℕ, List, ◌++◌, None, Some, IsTrue};
 ghost use Rattle.std.specs.FinMap.{get};
 ghost use Rattle.ar_base.specs.Apart.{none_collide};
-ghost use Rattle.hash_tree.specs.Entries.{Entries, IsDigest, HoldsDigests};
+ghost use Rattle.ar_base.specs.Bytes.{IsDigest};
+ghost use Rattle.hash_tree.specs.Entries.{Entries, HoldsDigests};
 ghost use Rattle.hash_tree.specs.Root.{root, strings_of};
 ghost use Rattle.hash_tree.specs.Strings.{entry_string};
 ghost use Rattle.hash_tree.specs.Path.{steps_of};

@@ -7,10 +7,12 @@
 #![tactic(auto)]
 
 pub use check::{check_absent, check_present};
+pub use kept::path_of;
 pub use make::{make_absent, make_present};
-pub use path::{Bottom, Path};
+pub use path::{Bottom, Found, Path};
 
 mod check;
+mod kept;
 pub mod laws;
 mod make;
 mod path;

@@ -15,3 +15,12 @@ pub enum Bottom {
     /// The entry of another key.
     Other { key: [u8; 32], value: [u8; 32] },
 }
+
+/// What the path of a key shows.
+#[derive(Clone, Copy, Debug, PartialEq, Eq)]
+pub enum Found {
+    /// The key has this value.
+    Present { value: [u8; 32] },
+    /// The key has no value, and this is at the foot of the path.
+    Absent { bottom: Bottom },
+}
