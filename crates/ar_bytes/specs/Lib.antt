@@ -2,3 +2,4 @@ pub mod Reading
 pub mod RoundTrip
 pub mod Tested
 pub mod Ascending
+pub mod Joined

@@ -9,8 +9,10 @@ mod name;
 mod rule;
 #[cfg(test)]
 mod tests;
+mod view;
 
 pub use fault::NameFault;
 pub use key::name_digest;
 pub use name::Name;
 pub use rule::first_fault;
+pub use view::NameView;

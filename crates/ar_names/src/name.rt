@@ -7,6 +7,7 @@ ghost use Rattle.ar_names.specs.declared.fault.NameFault.TheVariants as faults;
 use crate::fault::NameFault;
 use crate::key::name_digest;
 use crate::rule::first_fault;
+use crate::view::NameView;
 use std::alloc::Global;
 use std::marker::Model;
 use std::str;
@@ -48,6 +49,13 @@ impl Name {
         ensures name { IsName self.now }
     {
         self.text.as_slice()
+    }
+
+    /// The name, borrowed.
+    pub fn view(&self) -> NameView<'_>
+        ensures { result ≡ self.now }
+    {
+        NameView::from_name(&self.text)
     }
 
     /// The name as text.
