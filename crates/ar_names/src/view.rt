@@ -1,4 +1,4 @@
-ghost use Rattle.std.specs.Prelude.{◌≡◌, Some, None, if◌then◌else◌};
+ghost use Rattle.std.specs.Prelude.{◌≡◌, ◌<◌, ◌≤◌, length, Some, None, if◌then◌else◌};
 ghost use Rattle.ar_names.specs.Names.{IsName, is_name, name_digest_of};
 
 use crate::key::name_digest;
@@ -46,6 +46,7 @@ impl<'a> NameView<'a> {
     pub fn text(&self) -> &'a [u8]
         ensures text { result.now ≡ self.now }
         ensures name { IsName self.now }
+        ensures short { (0 < length self.now) × (length self.now ≤ 253) }
     {
         self.text
     }

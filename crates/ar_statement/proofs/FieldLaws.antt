@@ -4,13 +4,15 @@ use Rattle.std.specs.Prelude.{is_none}
 use Rattle.std.specs.Int.{w8, w64}
 use Rattle.std.proofs.lemmas.Bool.{le-leb, leb-true, and_parts, and_from}
 use Rattle.ar_bytes.specs.Reading.{Cursor, bytes_at, number_at, such_that}
-use Rattle.ar_bytes.specs.RoundTrip.{AreBytes, Passes, ReadsBack, number_text}
+use Rattle.ar_base.specs.Bytes.{AreBytes, IsDigest}
+use Rattle.ar_bytes.specs.RoundTrip.{Passes, ReadsBack, number_text}
 use Rattle.ar_bytes.proofs.Steps.{bind_ok, between, Passes-then, Passes-first, Passes-second, AreBytes-behind}
 use Rattle.ar_bytes.proofs.Passing.{bytes_again, bytes_pass, number_again, number_pass, wide8, wide64, AreBytes-front}
 use Rattle.ar_bytes.proofs.Parts.{such_that_again, such_that_pass}
 use Rattle.ar_names.specs.Names.{first_fault_of, IsName, is_name}
 use Rattle.ar_names.proofs.Least.{short}
-use Rattle.ar_statement.specs.Claims.{name_text, IsDigest, IsEpoch}
+use Rattle.ar_statement.specs.Claims.{name_text}
+use Rattle.ar_statement.specs.Ranges.{IsEpoch}
 use Rattle.ar_statement.specs.Fields.{is_epoch, is_name_len, digest_at, epoch_at, name_at}
 
 pub digest_again : (digest : List ℕ) → IsDigest digest → ReadsBack digest_at digest digest

@@ -1,5 +1,5 @@
 pub mod Rooms
 pub mod FieldLaws
-pub mod Again
-pub mod Spelled
+pub mod FieldsByKind
+pub mod Statements
 pub mod OneText

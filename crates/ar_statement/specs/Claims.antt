@@ -1,17 +1,19 @@
 -- What parties sign, and the one text of each statement.
-use Rattle.std.specs.Prelude.{◌≡◌, ℕ, ◌^◌, ◌<◌, ◌≤◌, ◌⊎◌, List, ◌++◌, length}
-use Rattle.std.specs.Int.{w8, w16, w64}
-pub use Rattle.ar_base.specs.Bytes.{IsDigest}
+use Rattle.std.specs.Prelude.{ℕ, ◌==◌, Bool, ◌&&◌, List, ◌++◌, length, Option}
+use Rattle.std.specs.Int.{w8, w16, w32, w64}
 use Rattle.ar_bytes.specs.RoundTrip.{number_text}
-use Rattle.ar_names.specs.Names.{IsName}
+use Rattle.ar_bytes.specs.Joined.{optional_text}
 use Rattle.ar_statement.specs.declared.party.Role.{Role}
 use Rattle.ar_statement.specs.declared.party.Role.TheVariants.{LogServer, Authority, Owner, Client}
 use Rattle.ar_statement.specs.declared.party.Party.{Party}
 use Rattle.ar_statement.specs.declared.statement.Statement.{Statement}
 use Rattle.ar_statement.specs.declared.statement.Statement.TheVariants as variants
 
--- What a statement says, without where it lies in memory. Digests are lists of 32 bytes; an epoch is from
--- 1 to 2 ^ 63. The signer of the last two is a log or an authority.
+-- the roots of a ballot: the table with the root `base` leads to the one with the root `root`
+abbrev pub Roots : Type 0
+Roots = List ℕ × List ℕ
+
+-- What a statement says, without where it lies in memory. Digests are lists of 32 bytes.
 pub data Claim : Type 0 where
   -- the authority vouches that the certificate's subject owns its name
   endorse : (authority : ℕ) (certificate : List ℕ) → Claim
@@ -21,12 +23,18 @@ pub data Claim : Type 0 where
   propose : (log : ℕ) (epoch : ℕ) (base root : List ℕ) → Claim
   -- the log votes for this
   vote : (log : ℕ) (epoch : ℕ) (base root : List ℕ) → Claim
-  -- the log passes over the epoch
-  pass : (log : ℕ) (epoch : ℕ) → Claim
   -- at the end of the epoch the name has this certificate, in the table with this root
   confirm : (signer : Party) (epoch : ℕ) (name certificate root : List ℕ) → Claim
   -- at the end of the epoch the name has none
   confirm_absent : (signer : Party) (epoch : ℕ) (name root : List ℕ) → Claim
+  -- the owner of the name has the key of the certificate, and answers the challenge
+  answer : (name certificate challenge : List ℕ) → Claim
+  -- the log voted in the epoch for the base and the root, or for nothing and will not
+  status : (log : ℕ) (epoch : ℕ) (value : Option Roots) → Claim
+  -- the key behind the signer's key of this generation is this one
+  roll : (signer : Party) (generation : ℕ) (key : List ℕ) → Claim
+  -- the owner whose key the certificate would replace objects to it
+  object : (certificate : List ℕ) → Claim
 
 -- a statement of the program as contracts compare it
 abbrev pub claim_of : Statement → Claim
@@ -34,11 +42,14 @@ claim_of (variants.Endorse authority certificate) = endorse authority certificat
 claim_of (variants.Handover certificate) = handover certificate
 claim_of (variants.Propose log epoch base root) = propose log epoch base root
 claim_of (variants.Vote log epoch base root) = vote log epoch base root
-claim_of (variants.Pass log epoch) = pass log epoch
-claim_of (variants.Confirm signer epoch name certificate root) = confirm signer epoch name.now certificate root
-claim_of (variants.ConfirmAbsent signer epoch name root) = confirm_absent signer epoch name.now root
+claim_of (variants.Confirm signer epoch name certificate root) = confirm signer epoch name certificate root
+claim_of (variants.ConfirmAbsent signer epoch name root) = confirm_absent signer epoch name root
+claim_of (variants.Answer name certificate challenge) = answer name certificate challenge
+claim_of (variants.Status log epoch value) = status log epoch value
+claim_of (variants.Roll signer generation key) = roll signer generation key
+claim_of (variants.Object certificate) = object certificate
 
--- ---- texts
+-- ---- parties
 
 -- the number of a role in texts
 abbrev pub role_number : Role → ℕ
@@ -51,50 +62,67 @@ role_number Client = 4
 abbrev pub party : Role → ℕ → Party
 party role number = record { role = role; number = number }
 
--- the front of a text: its kind, and the role and number of its signer
-abbrev pub head : ℕ → Party → List ℕ
-head kind signer = number_text w8 kind ++ (number_text w8 (role_number signer.role) ++ number_text w16 signer.number)
+-- a party in a text: the number of its role, and its own
+abbrev pub party_text : Party → List ℕ
+party_text signer = number_text w8 (role_number signer.role) ++ number_text w16 signer.number
+
+-- both are one party
+abbrev pub is_party : Party → Party → Bool
+is_party one other = role_number one.role == role_number other.role && one.number == other.number
+
+-- ---- texts: the kind, the signer, and the fields
+
+-- the number of a statement's kind; 5 is none
+abbrev pub kind_of : Claim → ℕ
+kind_of (endorse authority certificate) = 1
+kind_of (handover certificate) = 2
+kind_of (propose log epoch base root) = 3
+kind_of (vote log epoch base root) = 4
+kind_of (confirm signer epoch name certificate root) = 6
+kind_of (confirm_absent signer epoch name root) = 7
+kind_of (answer name certificate challenge) = 8
+kind_of (status log epoch value) = 9
+kind_of (roll signer generation key) = 10
+kind_of (object certificate) = 11
+
+-- who signs a statement. An owner's number is 0, since its key names it.
+abbrev pub signer_of : Claim → Party
+signer_of (endorse authority certificate) = party Authority authority
+signer_of (handover certificate) = party Owner 0
+signer_of (propose log epoch base root) = party LogServer log
+signer_of (vote log epoch base root) = party LogServer log
+signer_of (confirm signer epoch name certificate root) = signer
+signer_of (confirm_absent signer epoch name root) = signer
+signer_of (answer name certificate challenge) = party Owner 0
+signer_of (status log epoch value) = party LogServer log
+signer_of (roll signer generation key) = signer
+signer_of (object certificate) = party Owner 0
 
 -- a name behind its length
 abbrev pub name_text : List ℕ → List ℕ
 name_text name = number_text w8 (length name) ++ name
 
--- The one text of a statement. An owner's number is 0, since its key names it.
+-- two digests, one behind the other
+abbrev pub roots_text : Roots → List ℕ
+roots_text roots = roots.0 ++ roots.1
+
+-- what stands behind the signer
+abbrev pub fields_text : Claim → List ℕ
+fields_text (endorse authority certificate) = certificate
+fields_text (handover certificate) = certificate
+fields_text (propose log epoch base root) = number_text w64 epoch ++ (base ++ root)
+fields_text (vote log epoch base root) = number_text w64 epoch ++ (base ++ root)
+fields_text (confirm signer epoch name certificate root) = number_text w64 epoch ++ (name_text name ++ (certificate ++ root))
+fields_text (confirm_absent signer epoch name root) = number_text w64 epoch ++ (name_text name ++ root)
+fields_text (answer name certificate challenge) = name_text name ++ (certificate ++ challenge)
+fields_text (status log epoch value) = number_text w64 epoch ++ optional_text roots_text value
+fields_text (roll signer generation key) = number_text w32 generation ++ key
+fields_text (object certificate) = certificate
+
+-- the front of a text: its kind, and its signer
+abbrev pub head : ℕ → Party → List ℕ
+head kind signer = number_text w8 kind ++ party_text signer
+
+-- the one text of a statement
 unfoldable pub text_of : Claim → List ℕ
-text_of (endorse authority certificate) = head 1 (party Authority authority) ++ certificate
-text_of (handover certificate) = head 2 (party Owner 0) ++ certificate
-text_of (propose log epoch base root) = head 3 (party LogServer log) ++ (number_text w64 epoch ++ (base ++ root))
-text_of (vote log epoch base root) = head 4 (party LogServer log) ++ (number_text w64 epoch ++ (base ++ root))
-text_of (pass log epoch) = head 5 (party LogServer log) ++ number_text w64 epoch
-text_of (confirm signer epoch name certificate root) = head 6 signer ++ (number_text w64 epoch ++ (name_text name ++ (certificate ++ root)))
-text_of (confirm_absent signer epoch name root) = head 7 signer ++ (number_text w64 epoch ++ (name_text name ++ root))
-
--- ---- ranges
-
--- a log or an authority
-abbrev pub IsWitness : Party → Type 0
-IsWitness signer = (signer.number < 2 ^ 16) × ((signer.role ≡ LogServer) ⊎ (signer.role ≡ Authority))
-
--- an epoch's number
-abbrev pub IsEpoch : ℕ → Type 0
-IsEpoch epoch = (1 ≤ epoch) × (epoch ≤ 2 ^ 63)
-
--- the fields have values that a statement may have
-abbrev pub IsValid : Claim → Type 0
-IsValid (endorse authority certificate) = (authority < 2 ^ 16) × IsDigest certificate
-IsValid (handover certificate) = IsDigest certificate
-IsValid (propose log epoch base root) = (log < 2 ^ 16) × IsEpoch epoch × IsDigest base × IsDigest root
-IsValid (vote log epoch base root) = (log < 2 ^ 16) × IsEpoch epoch × IsDigest base × IsDigest root
-IsValid (pass log epoch) = (log < 2 ^ 16) × IsEpoch epoch
-IsValid (confirm signer epoch name certificate root) = IsWitness signer × IsEpoch epoch × IsName name × IsDigest certificate × IsDigest root
-IsValid (confirm_absent signer epoch name root) = IsWitness signer × IsEpoch epoch × IsName name × IsDigest root
-
--- the name, where there is one, is no longer than names are
-abbrev pub NameFits : Claim → Type 0
-NameFits (confirm signer epoch name certificate root) = length name ≤ 253
-NameFits (confirm_absent signer epoch name root) = length name ≤ 253
-NameFits (endorse authority certificate) = Unit {0}
-NameFits (handover certificate) = Unit {0}
-NameFits (propose log epoch base root) = Unit {0}
-NameFits (vote log epoch base root) = Unit {0}
-NameFits (pass log epoch) = Unit {0}
+text_of claim = head (kind_of claim) (signer_of claim) ++ fields_text claim

@@ -1,7 +1,8 @@
 -- The fields that statements, certificates and messages share.
 use Rattle.std.specs.Prelude.{ℕ, ◌^◌, Bool, ◌&&◌, nat_le, List}
 use Rattle.std.specs.Int.{w8, w64}
-use Rattle.ar_bytes.specs.Reading.{Cursor, Reading, ◌>>=◌, bytes_at, number_at, such_that}
+use Rattle.ar_base.specs.Chaining.{◌>>=◌}
+use Rattle.ar_bytes.specs.Reading.{Cursor, Reading, bytes_at, number_at, such_that}
 use Rattle.ar_names.specs.Names.{is_name}
 
 -- epochs count from 1, and the last is 2 ^ 63

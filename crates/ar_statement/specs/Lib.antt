@@ -1,4 +1,5 @@
 pub mod Claims
 pub mod Fields
+pub mod Ranges
 pub mod Texts
 pub mod Padding

@@ -1,91 +1,94 @@
--- How the text of a statement is read, field by field.
-use Rattle.std.specs.Prelude.{ℕ, ◌&&◌, ◌||◌, ◌==◌, if◌then◌else◌, List, Ok, Err}
-use Rattle.std.specs.Int.{w8, w16}
-use Rattle.ar_bytes.specs.Reading.{Cursor, Reading, ◌>>=◌, number_at}
+-- How the text of a statement is read, field by field: its kind, its signer, and the fields that the kind
+-- has.
+use Rattle.std.specs.Prelude.{ℕ, Bool, ◌==◌, if◌then◌else◌, List, Option, Some, None, Ok, Err}
+use Rattle.std.specs.Int.{w8, w16, w32, w64}
+use Rattle.std.specs.Option.{option_map, ok_or}
+use Rattle.ar_base.specs.Chaining.{◌>>=◌}
+use Rattle.ar_bytes.specs.Reading.{Cursor, Reading, bytes_at, number_at, such_that}
+use Rattle.ar_bytes.specs.Joined.{pair_at, optional_at, mapped_at}
 use Rattle.ar_statement.specs.declared.party.Role.{Role}
-use Rattle.ar_statement.specs.declared.party.Role.TheVariants.{LogServer, Authority}
-use Rattle.ar_statement.specs.Claims.{Claim, endorse, handover, propose, vote, pass, confirm, confirm_absent, party}
-use Rattle.ar_statement.specs.Fields.{digest_at, epoch_at, name_at}
+use Rattle.ar_statement.specs.declared.party.Role.TheVariants.{LogServer, Authority, Owner, Client}
+use Rattle.ar_statement.specs.declared.party.Party.{Party}
+use Rattle.ar_statement.specs.Claims.{Claim, endorse, handover, propose, vote, confirm, confirm_absent, answer, status, roll, object, party, is_party, signer_of, Roots}
+use Rattle.ar_statement.specs.Fields.{digest_at, name_at}
 
--- an epoch and two roots
-unfoldable pub ballot_at : Cursor → Reading (ℕ × List ℕ × List ℕ)
-ballot_at at = do
-  epoch ← epoch_at at
-  base ← digest_at epoch.1
-  root ← digest_at base.1
-  Ok ((epoch.0, base.0, root.0), root.1)
+-- the role with this number
+abbrev pub role_with : ℕ → Option Role
+role_with n =
+    if n == 1 then Some LogServer else
+    if n == 2 then Some Authority else
+    if n == 3 then Some Owner else
+    if n == 4 then Some Client else
+    None
 
--- the role with the number 1 or 2
-abbrev pub witness_role : ℕ → Role
-witness_role role = if role == 1 then LogServer else Authority
+-- the number of a role
+unfoldable pub role_at : Cursor → Reading Role
+role_at at = do
+  n ← number_at w8 at
+  ok_or (option_map (λ role. (role, n.1)) (role_with n.0)) at.place
 
--- the fields behind the signer, by kind, role and number
+-- a party: its role and its number
+unfoldable pub party_at : Cursor → Reading Party
+party_at = mapped_at (λ f. party f.0 f.1) (pair_at role_at (number_at w16))
 
-unfoldable pub endorse_at : ℕ → ℕ → Cursor → Reading Claim
-endorse_at role number at =
-    if role == 2
-    then (digest_at at >>= λ certificate. Ok (endorse number certificate.0, certificate.1))
-    else Err at.place
+-- two digests
+abbrev pub roots_at : Cursor → Reading Roots
+roots_at = pair_at digest_at digest_at
 
-unfoldable pub handover_at : ℕ → ℕ → Cursor → Reading Claim
-handover_at role number at =
-    if role == 3 && number == 0
-    then (digest_at at >>= λ certificate. Ok (handover certificate.0, certificate.1))
-    else Err at.place
+-- the fields of each kind, behind its signer
 
-unfoldable pub propose_at : ℕ → ℕ → Cursor → Reading Claim
-propose_at role number at =
-    if role == 1
-    then (ballot_at at >>= λ b. Ok (propose number b.0.0 b.0.1 b.0.2, b.1))
-    else Err at.place
+unfoldable pub endorse_at : Party → Cursor → Reading Claim
+endorse_at signer = mapped_at (endorse signer.number) digest_at
 
-unfoldable pub vote_at : ℕ → ℕ → Cursor → Reading Claim
-vote_at role number at =
-    if role == 1
-    then (ballot_at at >>= λ b. Ok (vote number b.0.0 b.0.1 b.0.2, b.1))
-    else Err at.place
+unfoldable pub handover_at : Cursor → Reading Claim
+handover_at = mapped_at handover digest_at
 
-unfoldable pub pass_at : ℕ → ℕ → Cursor → Reading Claim
-pass_at role number at =
-    if role == 1
-    then (epoch_at at >>= λ epoch. Ok (pass number epoch.0, epoch.1))
-    else Err at.place
+unfoldable pub propose_at : Party → Cursor → Reading Claim
+propose_at signer = mapped_at (λ f. propose signer.number f.0 f.1.0 f.1.1) (pair_at (number_at w64) roots_at)
 
-unfoldable pub confirm_fields_at : ℕ → ℕ → Cursor → Reading Claim
-confirm_fields_at role number at = do
-  epoch ← epoch_at at
-  name ← name_at epoch.1
-  certificate ← digest_at name.1
-  root ← digest_at certificate.1
-  Ok (confirm (party (witness_role role) number) epoch.0 name.0 certificate.0 root.0, root.1)
+unfoldable pub vote_at : Party → Cursor → Reading Claim
+vote_at signer = mapped_at (λ f. vote signer.number f.0 f.1.0 f.1.1) (pair_at (number_at w64) roots_at)
 
-unfoldable pub absent_fields_at : ℕ → ℕ → Cursor → Reading Claim
-absent_fields_at role number at = do
-  epoch ← epoch_at at
-  name ← name_at epoch.1
-  root ← digest_at name.1
-  Ok (confirm_absent (party (witness_role role) number) epoch.0 name.0 root.0, root.1)
+unfoldable pub confirm_at : Party → Cursor → Reading Claim
+confirm_at signer = mapped_at (λ f. confirm signer f.0 f.1.0 f.1.1.0 f.1.1.1) (pair_at (number_at w64) (pair_at name_at roots_at))
 
-unfoldable pub confirm_at : ℕ → ℕ → Cursor → Reading Claim
-confirm_at role number at = if role == 1 || role == 2 then confirm_fields_at role number at else Err at.place
+unfoldable pub absent_at : Party → Cursor → Reading Claim
+absent_at signer = mapped_at (λ f. confirm_absent signer f.0 f.1.0 f.1.1) (pair_at (number_at w64) (pair_at name_at digest_at))
 
-unfoldable pub absent_at : ℕ → ℕ → Cursor → Reading Claim
-absent_at role number at = if role == 1 || role == 2 then absent_fields_at role number at else Err at.place
+unfoldable pub answer_at : Cursor → Reading Claim
+answer_at = mapped_at (λ f. answer f.0 f.1.0 f.1.1) (pair_at name_at roots_at)
 
-unfoldable pub claim_at : ℕ → ℕ → ℕ → Cursor → Reading Claim
-claim_at kind role number at =
-    if kind == 1 then endorse_at role number at else
-    if kind == 2 then handover_at role number at else
-    if kind == 3 then propose_at role number at else
-    if kind == 4 then vote_at role number at else
-    if kind == 5 then pass_at role number at else
-    if kind == 6 then confirm_at role number at else
-    if kind == 7 then absent_at role number at else
+unfoldable pub status_at : Party → Cursor → Reading Claim
+status_at signer = mapped_at (λ f. status signer.number f.0 f.1) (pair_at (number_at w64) (optional_at roots_at))
+
+unfoldable pub roll_at : Party → Cursor → Reading Claim
+roll_at signer = mapped_at (λ f. roll signer f.0 f.1) (pair_at (number_at w32) (bytes_at 56))
+
+unfoldable pub object_at : Cursor → Reading Claim
+object_at = mapped_at object digest_at
+
+-- the fields of the kind with this number
+unfoldable pub fields_at : ℕ → Party → Cursor → Reading Claim
+fields_at kind signer at =
+    if kind == 1 then endorse_at signer at else
+    if kind == 2 then handover_at at else
+    if kind == 3 then propose_at signer at else
+    if kind == 4 then vote_at signer at else
+    if kind == 6 then confirm_at signer at else
+    if kind == 7 then absent_at signer at else
+    if kind == 8 then answer_at at else
+    if kind == 9 then status_at signer at else
+    if kind == 10 then roll_at signer at else
+    if kind == 11 then object_at at else
     Err at.place
 
+-- the signer is one that the kind has
+abbrev pub is_signed_by : Party → Claim → Bool
+is_signed_by signer claim = is_party (signer_of claim) signer
+
+-- a statement: its kind, its signer, and the fields
 unfoldable pub statement_at : Cursor → Reading Claim
 statement_at at = do
   kind ← number_at w8 at
-  role ← number_at w8 kind.1
-  number ← number_at w16 role.1
-  claim_at kind.0 role.0 number.0 number.1
+  signer ← party_at kind.1
+  such_that (is_signed_by signer.0) (fields_at kind.0 signer.0) signer.1

@@ -11,6 +11,7 @@ mod statement;
 #[cfg(test)]
 mod tests;
 mod text;
+mod told;
 mod writing;
 
 pub use party::{Party, Role};

@@ -21,18 +21,43 @@ pub struct Party {
 impl Role {
     ghost use Rattle.std.specs.Prelude.{◌≡◌};
     ghost use Rattle.ar_statement.specs.Claims.{party, role_number};
+    ghost use Rattle.ar_statement.specs.Ranges.{is_witness};
+    ghost use Rattle.ar_statement.specs.Texts.{role_with};
+
+    /// The role with this number in texts.
+    pub fn with_number(number: u8) -> Option<Role>
+        ensures { result ≡ role_with number }
+    {
+        match number {
+            1 => Some(Role::LogServer),
+            2 => Some(Role::Authority),
+            3 => Some(Role::Owner),
+            4 => Some(Role::Client),
+            _ => None,
+        }
+    }
+
+    /// The number of the role in texts.
+    pub fn number(self) -> u8
+        ensures { result ≡ role_number self }
+    {
+        self as u8
+    }
 
     /// The party of this role with the number.
-    pub(crate) fn party(self, number: u16) -> Party
+    pub fn party(self, number: u16) -> Party
         ensures { result ≡ party self number }
     {
         Party { role: self, number }
     }
 
-    /// The number of the role in texts.
-    pub(crate) fn number(self) -> u8
-        ensures { result ≡ role_number self }
+    /// Whether parties of this role confirm, and have keys of several generations: logs and authorities.
+    pub fn is_witness(self) -> bool
+        ensures { result ≡ is_witness self }
     {
-        self as u8
+        match self {
+            Role::LogServer | Role::Authority => true,
+            Role::Owner | Role::Client => false,
+        }
     }
 }

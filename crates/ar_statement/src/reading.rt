@@ -1,72 +1,84 @@
 ghost use Rattle.std.specs.Prelude.{◌≡◌, Some, IfSome};
 ghost use Rattle.std.specs.Option.{option_map};
 ghost use Rattle.std.specs.Result.{result_ok};
-ghost use Rattle.ar_bytes.specs.Reading.{Tells, whole};
-ghost use Rattle.ar_statement.specs.Claims.{Claim, IsValid, claim_of, text_of};
-ghost use Rattle.ar_statement.specs.Texts.{ballot_at, endorse_at, handover_at, propose_at, vote_at, pass_at, confirm_fields_at, confirm_at, absent_fields_at, absent_at, claim_at, statement_at, witness_role};
+ghost use Rattle.std.specs.Int.{w64};
+ghost use Rattle.ar_bytes.specs.Joined.{optional_at, pair_at};
+ghost use Rattle.ar_bytes.specs.Reading.{Tells, number_at, whole};
+ghost use Rattle.ar_statement.specs.Claims.{Claim, claim_of, text_of};
+ghost use Rattle.ar_statement.specs.Ranges.{IsValid};
+ghost use Rattle.ar_statement.specs.Texts.{party_at, role_at, roots_at, endorse_at, handover_at, propose_at, vote_at, confirm_at, absent_at, answer_at, status_at, roll_at, object_at, fields_at, statement_at};
 
-use crate::fields::{digest, epoch, name};
-use crate::party::Role;
+use crate::fields::{digest, name};
+use crate::party::{Party, Role};
 use crate::statement::Statement;
 use ar_bytes::Fields;
 
-/// An epoch and two roots.
-#[tactic(auto, unfolding(crate::specs::Texts::ballot_at))]
-fn ballot(fields: &mut Fields) -> Result<(u64, [u8; 32], [u8; 32]), usize>
-    ensures { Tells (λ b. b) result fields.new (ballot_at fields.old) }
+#[tactic(auto, unfolding(crate::specs::Texts::role_at))]
+fn role(fields: &mut Fields) -> Result<Role, usize>
+    ensures { Tells (λ role. role) result fields.new (role_at fields.old) }
 {
-    let epoch = epoch(fields)?;
-    let base = digest(fields)?;
-    let root = digest(fields)?;
-    Ok((epoch, base, root))
+    let place = fields.place();
+    let number = fields.take_u8()?;
+    Role::with_number(number).ok_or(place)
 }
 
-/// The role with the number 1 or 2.
-fn witness(role: u8) -> Role
-    ensures { result ≡ witness_role role }
+#[tactic(auto, unfolding(crate::specs::Texts::party_at))]
+fn party(fields: &mut Fields) -> Result<Party, usize>
+    ensures { Tells (λ party. party) result fields.new (party_at fields.old) }
 {
-    if role == 1 {
-        Role::LogServer
-    } else {
-        Role::Authority
+    let role = role(fields)?;
+    let number = fields.take_u16()?;
+    Ok(role.party(number))
+}
+
+/// Two digests.
+fn roots(fields: &mut Fields) -> Result<([u8; 32], [u8; 32]), usize>
+    ensures { Tells (λ roots. roots) result fields.new (roots_at fields.old) }
+{
+    let first = digest(fields)?;
+    let second = digest(fields)?;
+    Ok((first, second))
+}
+
+/// A flag, and for 1 two digests.
+#[tactic(auto, unfolding(ar_bytes::specs::Joined::optional_at))]
+fn value(fields: &mut Fields) -> Result<Option<([u8; 32], [u8; 32])>, usize>
+    ensures { Tells (λ value. value) result fields.new (optional_at roots_at fields.old) }
+{
+    if !fields.take_flag()? {
+        return Ok(None);
     }
+    let roots = roots(fields)?;
+    Ok(Some(roots))
 }
 
 #[tactic(auto, unfolding(crate::specs::Texts::endorse_at))]
-fn endorse<'a>(role: u8, authority: u16, fields: &mut Fields) -> Result<Statement<'a>, usize>
-    ensures { Tells claim_of result fields.new (endorse_at role authority fields.old) }
+fn endorse<'a>(signer: Party, fields: &mut Fields) -> Result<Statement<'a>, usize>
+    ensures { Tells claim_of result fields.new (endorse_at signer fields.old) }
 {
-    if role != 2 {
-        return Err(fields.place());
-    }
     let certificate = digest(fields)?;
     Ok(Statement::Endorse {
-        authority,
+        authority: signer.number,
         certificate,
     })
 }
 
 #[tactic(auto, unfolding(crate::specs::Texts::handover_at))]
-fn handover<'a>(role: u8, number: u16, fields: &mut Fields) -> Result<Statement<'a>, usize>
-    ensures { Tells claim_of result fields.new (handover_at role number fields.old) }
+fn handover<'a>(fields: &mut Fields) -> Result<Statement<'a>, usize>
+    ensures { Tells claim_of result fields.new (handover_at fields.old) }
 {
-    if role != 3 || number != 0 {
-        return Err(fields.place());
-    }
     let certificate = digest(fields)?;
     Ok(Statement::Handover { certificate })
 }
 
 #[tactic(auto, unfolding(crate::specs::Texts::propose_at))]
-fn propose<'a>(role: u8, log: u16, fields: &mut Fields) -> Result<Statement<'a>, usize>
-    ensures { Tells claim_of result fields.new (propose_at role log fields.old) }
+fn propose<'a>(signer: Party, fields: &mut Fields) -> Result<Statement<'a>, usize>
+    ensures { Tells claim_of result fields.new (propose_at signer fields.old) }
 {
-    if role != 1 {
-        return Err(fields.place());
-    }
-    let (epoch, base, root) = ballot(fields)?;
+    let epoch = fields.take_u64()?;
+    let (base, root) = roots(fields)?;
     Ok(Statement::Propose {
-        log,
+        log: signer.number,
         epoch,
         base,
         root,
@@ -74,45 +86,28 @@ fn propose<'a>(role: u8, log: u16, fields: &mut Fields) -> Result<Statement<'a>,
 }
 
 #[tactic(auto, unfolding(crate::specs::Texts::vote_at))]
-fn vote<'a>(role: u8, log: u16, fields: &mut Fields) -> Result<Statement<'a>, usize>
-    ensures { Tells claim_of result fields.new (vote_at role log fields.old) }
+fn vote<'a>(signer: Party, fields: &mut Fields) -> Result<Statement<'a>, usize>
+    ensures { Tells claim_of result fields.new (vote_at signer fields.old) }
 {
-    if role != 1 {
-        return Err(fields.place());
-    }
-    let (epoch, base, root) = ballot(fields)?;
+    let epoch = fields.take_u64()?;
+    let (base, root) = roots(fields)?;
     Ok(Statement::Vote {
-        log,
+        log: signer.number,
         epoch,
         base,
         root,
     })
 }
 
-#[tactic(auto, unfolding(crate::specs::Texts::pass_at))]
-fn pass<'a>(role: u8, log: u16, fields: &mut Fields) -> Result<Statement<'a>, usize>
-    ensures { Tells claim_of result fields.new (pass_at role log fields.old) }
+#[tactic(auto, unfolding(crate::specs::Texts::confirm_at))]
+fn confirm<'a>(signer: Party, fields: &mut Fields<'a>) -> Result<Statement<'a>, usize>
+    ensures { Tells claim_of result fields.new (confirm_at signer fields.old) }
 {
-    if role != 1 {
-        return Err(fields.place());
-    }
-    let epoch = epoch(fields)?;
-    Ok(Statement::Pass { log, epoch })
-}
-
-#[tactic(auto, unfolding(crate::specs::Texts::confirm_at, crate::specs::Texts::confirm_fields_at))]
-fn confirm<'a>(role: u8, number: u16, fields: &mut Fields<'a>) -> Result<Statement<'a>, usize>
-    ensures { Tells claim_of result fields.new (confirm_at role number fields.old) }
-{
-    if role != 1 && role != 2 {
-        return Err(fields.place());
-    }
-    let epoch = epoch(fields)?;
+    let epoch = fields.take_u64()?;
     let name = name(fields)?;
-    let certificate = digest(fields)?;
-    let root = digest(fields)?;
+    let (certificate, root) = roots(fields)?;
     Ok(Statement::Confirm {
-        signer: witness(role).party(number),
+        signer,
         epoch,
         name,
         certificate,
@@ -120,73 +115,112 @@ fn confirm<'a>(role: u8, number: u16, fields: &mut Fields<'a>) -> Result<Stateme
     })
 }
 
-#[tactic(auto, unfolding(crate::specs::Texts::absent_at, crate::specs::Texts::absent_fields_at))]
-fn confirm_absent<'a>(
-    role: u8,
-    number: u16,
-    fields: &mut Fields<'a>,
-) -> Result<Statement<'a>, usize>
-    ensures { Tells claim_of result fields.new (absent_at role number fields.old) }
+#[tactic(auto, unfolding(crate::specs::Texts::absent_at))]
+fn confirm_absent<'a>(signer: Party, fields: &mut Fields<'a>) -> Result<Statement<'a>, usize>
+    ensures { Tells claim_of result fields.new (absent_at signer fields.old) }
 {
-    if role != 1 && role != 2 {
-        return Err(fields.place());
-    }
-    let epoch = epoch(fields)?;
+    let epoch = fields.take_u64()?;
     let name = name(fields)?;
     let root = digest(fields)?;
     Ok(Statement::ConfirmAbsent {
-        signer: witness(role).party(number),
+        signer,
         epoch,
         name,
         root,
     })
 }
 
-/// The fields behind the signer, by the kind of the statement.
-#[tactic(auto, unfolding(crate::specs::Texts::claim_at))]
-fn by_kind<'a>(
-    kind: u8,
-    role: u8,
-    number: u16,
-    fields: &mut Fields<'a>,
-) -> Result<Statement<'a>, usize>
-    ensures { Tells claim_of result fields.new (claim_at kind role number fields.old) }
+#[tactic(auto, unfolding(crate::specs::Texts::answer_at))]
+fn answer<'a>(fields: &mut Fields<'a>) -> Result<Statement<'a>, usize>
+    ensures { Tells claim_of result fields.new (answer_at fields.old) }
+{
+    let name = name(fields)?;
+    let (certificate, challenge) = roots(fields)?;
+    Ok(Statement::Answer {
+        name,
+        certificate,
+        challenge,
+    })
+}
+
+#[tactic(auto, unfolding(crate::specs::Texts::status_at))]
+fn status<'a>(signer: Party, fields: &mut Fields) -> Result<Statement<'a>, usize>
+    ensures { Tells claim_of result fields.new (status_at signer fields.old) }
+{
+    let epoch = fields.take_u64()?;
+    let value = value(fields)?;
+    Ok(Statement::Status {
+        log: signer.number,
+        epoch,
+        value,
+    })
+}
+
+#[tactic(auto, unfolding(crate::specs::Texts::roll_at))]
+fn roll<'a>(signer: Party, fields: &mut Fields) -> Result<Statement<'a>, usize>
+    ensures { Tells claim_of result fields.new (roll_at signer fields.old) }
+{
+    let generation = fields.take_u32()?;
+    let key = fields.take_array()?;
+    Ok(Statement::Roll {
+        signer,
+        generation,
+        key,
+    })
+}
+
+#[tactic(auto, unfolding(crate::specs::Texts::object_at))]
+fn object<'a>(fields: &mut Fields) -> Result<Statement<'a>, usize>
+    ensures { Tells claim_of result fields.new (object_at fields.old) }
+{
+    let certificate = digest(fields)?;
+    Ok(Statement::Object { certificate })
+}
+
+/// The fields behind the signer, by the number of the statement's kind.
+#[tactic(auto, unfolding(crate::specs::Texts::fields_at))]
+fn by_kind<'a>(kind: u8, signer: Party, fields: &mut Fields<'a>) -> Result<Statement<'a>, usize>
+    ensures { Tells claim_of result fields.new (fields_at kind signer fields.old) }
 {
     match kind {
-        1 => endorse(role, number, fields),
-        2 => handover(role, number, fields),
-        3 => propose(role, number, fields),
-        4 => vote(role, number, fields),
-        5 => pass(role, number, fields),
-        6 => confirm(role, number, fields),
-        7 => confirm_absent(role, number, fields),
+        1 => endorse(signer, fields),
+        2 => handover(fields),
+        3 => propose(signer, fields),
+        4 => vote(signer, fields),
+        6 => confirm(signer, fields),
+        7 => confirm_absent(signer, fields),
+        8 => answer(fields),
+        9 => status(signer, fields),
+        10 => roll(signer, fields),
+        11 => object(fields),
         _ => Err(fields.place()),
     }
 }
 
-#[tactic(auto, unfolding(crate::specs::Texts::statement_at))]
+/// A statement with fields of any value.
+#[tactic(auto, unfolding(crate::specs::Texts::statement_at, ar_bytes::specs::Reading::such_that))]
 fn statement<'a>(fields: &mut Fields<'a>) -> Result<Statement<'a>, usize>
     ensures { Tells claim_of result fields.new (statement_at fields.old) }
 {
+    let kind = fields.take_u8()?;
+    let signer = party(fields)?;
     let place = fields.place();
-    let kind = fields.u8().ok_or(place)?;
-    let place = fields.place();
-    let role = fields.u8().ok_or(place)?;
-    let place = fields.place();
-    let number = fields.u16().ok_or(place)?;
-    by_kind(kind, role, number, fields)
+    let statement = by_kind(kind, signer, fields)?;
+    let by = statement.signer();
+    if by.role.number() != signer.role.number() || by.number != signer.number {
+        return Err(place);
+    }
+    Ok(statement)
 }
 
-/// A statement that is all of the bytes.
+/// A statement with fields of any value that is all of the bytes.
 #[tactic(auto, unfolding(ar_bytes::specs::Reading::whole))]
 fn whole(bytes: &[u8]) -> Option<Statement>
     ensures { option_map claim_of result ≡ result_ok (whole statement_at bytes.now) }
 {
     let mut fields = Fields::new(bytes);
     let statement = statement(&mut fields).ok()?;
-    if !fields.at_end() {
-        return None;
-    }
+    fields.take_end().ok()?;
     Some(statement)
 }
 
@@ -198,6 +232,11 @@ impl<'a> Statement<'a> {
         // A statement with this text is read.
         ensures only { (claim : Claim) → IsValid claim → text_of claim ≡ bytes.now → option_map claim_of result ≡ Some claim }
     {
-        whole(bytes)
+        let statement = whole(bytes)?;
+        if statement.is_in_range() {
+            Some(statement)
+        } else {
+            None
+        }
     }
 }

@@ -1,10 +1,16 @@
-use crate::party::Party;
+ghost use Rattle.std.specs.Prelude.{◌≡◌, length};
+ghost use Rattle.std.specs.Int.{w32, from_be_bytes};
+ghost use Rattle.ar_statement.specs.Ranges.{is_readable};
+
+use crate::fields::is_epoch;
+use crate::party::{Party, Role};
+use ar_names::NameView;
 
 /// The most bytes that the text of a statement has.
 pub const TEXT_LEN: usize = 330;
 
 /// What a party signs. Digests have 32 bytes, and epochs are from 1 to 2^63.
-#[derive(Clone, Copy, Debug, PartialEq, Eq)]
+#[derive(Debug, Drop)]
 pub enum Statement<'a> {
     /// The authority vouches for the certificate with this digest.
     Endorse {
@@ -29,17 +35,12 @@ pub enum Statement<'a> {
         base: [u8; 32],
         root: [u8; 32],
     },
-    /// The log passes over the epoch.
-    Pass {
-        log: u16,
-        epoch: u64,
-    },
     /// At the end of the epoch the name has the certificate with this digest, in the table with this
     /// root. The signer is a log or an authority.
     Confirm {
         signer: Party,
         epoch: u64,
-        name: &'a [u8],
+        name: NameView<'a>,
         certificate: [u8; 32],
         root: [u8; 32],
     },
@@ -48,7 +49,92 @@ pub enum Statement<'a> {
     ConfirmAbsent {
         signer: Party,
         epoch: u64,
-        name: &'a [u8],
+        name: NameView<'a>,
         root: [u8; 32],
     },
+    /// The owner of the name has the key of the certificate with this digest, and answers the challenge.
+    Answer {
+        name: NameView<'a>,
+        certificate: [u8; 32],
+        challenge: [u8; 32],
+    },
+    /// What the log did in the epoch: it voted for a base and a root, or for nothing, and will not.
+    Status {
+        log: u16,
+        epoch: u64,
+        value: Option<([u8; 32], [u8; 32])>,
+    },
+    /// The log's or authority's key behind that of this generation: the text of an LMS public key
+    /// (RFC 8554, section 5.3).
+    Roll {
+        signer: Party,
+        generation: u32,
+        key: [u8; 56],
+    },
+    /// The owner whose key the certificate with this digest would replace objects to it.
+    Object {
+        certificate: [u8; 32],
+    },
+}
+
+impl Statement<'_> {
+    ghost use Rattle.std.specs.Prelude.{◌≡◌};
+    ghost use Rattle.ar_statement.specs.Claims.{claim_of, signer_of};
+    ghost use Rattle.ar_statement.specs.Ranges.{IsHeld, is_in_range};
+
+    /// Who signs the statement. An owner's number is 0, since its key names it.
+    pub fn signer(&self) -> Party
+        ensures { result ≡ signer_of (claim_of self.now) }
+    {
+        match self {
+            Statement::Endorse { authority, .. } => Role::Authority.party(*authority),
+            Statement::Handover { .. } | Statement::Answer { .. } | Statement::Object { .. } => {
+                Role::Owner.party(0)
+            }
+            Statement::Propose { log, .. }
+            | Statement::Vote { log, .. }
+            | Statement::Status { log, .. } => Role::LogServer.party(*log),
+            Statement::Confirm { signer, .. }
+            | Statement::ConfirmAbsent { signer, .. }
+            | Statement::Roll { signer, .. } => *signer,
+        }
+    }
+
+    /// Whether the fields say what a statement may say.
+    pub(crate) fn is_in_range(&self) -> bool
+        ensures { result ≡ is_in_range (claim_of self.now) }
+    {
+        match self {
+            Statement::Propose { epoch, .. }
+            | Statement::Vote { epoch, .. }
+            | Statement::Status { epoch, .. } => is_epoch(*epoch),
+            Statement::Confirm { signer, epoch, .. }
+            | Statement::ConfirmAbsent { signer, epoch, .. } => {
+                signer.role.is_witness() && is_epoch(*epoch)
+            }
+            Statement::Roll { signer, key, .. } => signer.role.is_witness() && is_readable(key),
+            Statement::Endorse { .. }
+            | Statement::Handover { .. }
+            | Statement::Answer { .. }
+            | Statement::Object { .. } => true,
+        }
+    }
+}
+
+/// The number that four bytes are.
+fn number_in(bytes: &[u8]) -> u32
+    requires { length bytes.now ≡ 4 }
+    ensures { result ≡ from_be_bytes w32 bytes.now }
+{
+    u32::from_be_bytes([bytes[0], bytes[1], bytes[2], bytes[3]])
+}
+
+/// Whether a key begins with the numbers of an LMS type and of an LM-OTS type.
+#[tactic(auto, unfolding(crate::specs::Ranges::is_readable))]
+fn is_readable(key: &[u8; 56]) -> bool
+    ensures { result ≡ is_readable key.now }
+{
+    let lms = number_in(&key[..4]);
+    let ots = number_in(&key[4..8]);
+    5 <= lms && lms <= 9 && 1 <= ots && ots <= 4
 }

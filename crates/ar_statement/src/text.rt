@@ -1,5 +1,5 @@
 ghost use Rattle.std.specs.Prelude.{◌≡◌};
-ghost use Rattle.ar_statement.specs.Claims.{NameFits, claim_of, text_of};
+ghost use Rattle.ar_statement.specs.Claims.{claim_of, text_of};
 
 use crate::party::Party;
 use crate::statement::{Statement, TEXT_LEN};
@@ -33,7 +33,6 @@ impl Model for Text {
 impl Text {
     /// The text of the statement.
     pub fn of(statement: &Statement) -> Text
-        requires { NameFits (claim_of statement.now) }
         ensures { result ≡ text_of (claim_of statement.now) }
     {
         let mut bytes = [0; TEXT_LEN];
