@@ -104,7 +104,7 @@ impl<'a> FieldsView<'a> {
         ensures trusted { IfOk result (λ fields. SpellsNumbers fields.terms.trusted.now) }
     {
         fields.take_byte(TAG)?;
-        let name = name(fields)?;
+        let name = name(fields)?.text();
         let serial = fields.take_u64()?;
         let previous = digest(fields)?;
         let subject = key(fields)?;

@@ -14,8 +14,8 @@ use Rattle.ar_bytes.proofs.Passing.{bytes_again, bytes_pass, counted_again, coun
 use Rattle.ar_bytes.proofs.Parts.{such_that_again, such_that_pass}
 use Rattle.ar_bytes.proofs.TestedFields.{byte_again, byte_pass, flag_again, flag_pass}
 use Rattle.ar_names.specs.Names.{IsName}
-use Rattle.ar_statement.specs.Claims.{name_text, IsEpoch}
-use Rattle.ar_statement.specs.Fields.{digest_at, epoch_at, name_at}
+use Rattle.ar_statement.specs.Claims.{name_text}
+use Rattle.ar_statement.specs.Fields.{IsEpoch, digest_at, epoch_at, name_at}
 use Rattle.ar_statement.proofs.FieldLaws.{digest_again, digest_pass, epoch_again, epoch_pass, name_again, name_pass}
 use Rattle.ar_cert.specs.Certificate.{Certificate, IsCertificate, certificate_text, counted_certificate_at}
 use Rattle.ar_cert.proofs.CertificateLaws.{split, next, counted_certificate_again, counted_certificate_pass}

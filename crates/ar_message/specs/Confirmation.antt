@@ -8,8 +8,8 @@ use Rattle.ar_bytes.specs.Reading.{Cursor, Reading, behind, counted_at, number_a
 use Rattle.ar_bytes.specs.RoundTrip.{number_text, counted_text}
 use Rattle.ar_bytes.specs.Tested.{byte_at, flag_at, flag_text}
 use Rattle.ar_names.specs.Names.{IsName}
-use Rattle.ar_statement.specs.Claims.{name_text, IsEpoch}
-use Rattle.ar_statement.specs.Fields.{digest_at, epoch_at, name_at}
+use Rattle.ar_statement.specs.Claims.{name_text}
+use Rattle.ar_statement.specs.Fields.{IsEpoch, digest_at, epoch_at, name_at}
 use Rattle.ar_cert.specs.Certificate.{Certificate, IsCertificate, certificate_text, counted_certificate_at}
 use Rattle.tree_proof.specs.declared.path.Bottom.{Bottom}
 use Rattle.tree_proof.specs.declared.path.Bottom.TheVariants.{Empty, Other}

@@ -5,6 +5,7 @@ ghost use Rattle.ar_message.specs.Views.{body_of, signed_of, subject_of};
 
 use ar_bytes::Fields;
 use ar_cert::CertView;
+use ar_names::NameView;
 use ar_statement::fields::{digest, epoch, name};
 use tree_proof::Bottom;
 
@@ -20,7 +21,7 @@ const MOST_STEPS: u16 = 256;
 pub(crate) struct SubjectView<'a> {
     pub(crate) client: u16,
     pub(crate) epoch: u64,
-    pub(crate) name: &'a [u8],
+    pub(crate) name: NameView<'a>,
     pub(crate) root: [u8; 32],
 }
 

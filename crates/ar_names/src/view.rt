@@ -51,6 +51,13 @@ impl<'a> NameView<'a> {
         self.text
     }
 
+    /// The same view once more.
+    pub fn copy(&self) -> NameView<'a>
+        ensures { result ≡ self.now }
+    {
+        NameView { text: self.text }
+    }
+
     /// The key of the name in the integrity tree, as `name_digest` gives it.
     pub fn digest(&self) -> [u8; 32]
         ensures { result ≡ name_digest_of self.now }

@@ -12,8 +12,7 @@ use Rattle.ar_bytes.proofs.Parts.{such_that_again, such_that_pass}
 use Rattle.ar_names.specs.Names.{first_fault_of, IsName, is_name}
 use Rattle.ar_names.proofs.Least.{short}
 use Rattle.ar_statement.specs.Claims.{name_text}
-use Rattle.ar_statement.specs.Ranges.{IsEpoch}
-use Rattle.ar_statement.specs.Fields.{is_epoch, is_name_len, digest_at, epoch_at, name_at}
+use Rattle.ar_statement.specs.Fields.{IsEpoch, is_epoch, is_name_len, digest_at, epoch_at, name_at}
 
 pub digest_again : (digest : List ℕ) → IsDigest digest → ReadsBack digest_at digest digest
 digest_again digest d at new p = bytes_again 32 digest at new d.len p

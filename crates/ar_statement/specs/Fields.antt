@@ -1,11 +1,15 @@
 -- The fields that statements, certificates and messages share.
-use Rattle.std.specs.Prelude.{ℕ, ◌^◌, Bool, ◌&&◌, nat_le, List}
+use Rattle.std.specs.Prelude.{ℕ, ◌^◌, ◌≤◌, Bool, ◌&&◌, nat_le, List}
 use Rattle.std.specs.Int.{w8, w64}
 use Rattle.ar_base.specs.Chaining.{◌>>=◌}
 use Rattle.ar_bytes.specs.Reading.{Cursor, Reading, bytes_at, number_at, such_that}
 use Rattle.ar_names.specs.Names.{is_name}
 
 -- epochs count from 1, and the last is 2 ^ 63
+abbrev pub IsEpoch : ℕ → Type 0
+IsEpoch epoch = (1 ≤ epoch) × (epoch ≤ 2 ^ 63)
+
+-- the test of it
 abbrev pub is_epoch : ℕ → Bool
 is_epoch epoch = nat_le 1 epoch && nat_le epoch (2 ^ 63)
 

@@ -40,10 +40,6 @@ pub record IsHeld (claim : Claim) : Type 0 where
 
 -- ---- what a statement may say
 
--- an epoch's number
-abbrev pub IsEpoch : ℕ → Type 0
-IsEpoch epoch = (1 ≤ epoch) × (epoch ≤ 2 ^ 63)
-
 -- logs and authorities confirm, and have keys of several generations
 abbrev pub is_witness : Role → Bool
 is_witness LogServer = true

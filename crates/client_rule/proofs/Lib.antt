@@ -1,3 +1,2 @@
 pub mod Leads
 pub mod Steps
-pub mod Names

@@ -56,7 +56,7 @@ fn confirms(
     let text = Text::of(&Statement::Confirm {
         signer,
         epoch: view.epoch(),
-        name: view.name(),
+        name: view.name_view(),
         certificate: *digest,
         root: view.root(),
     });

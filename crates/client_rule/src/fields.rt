@@ -5,6 +5,7 @@ ghost use Rattle.client_rule.specs.Confirmation.{path_at, signed_at, steps_at, s
 ghost use Rattle.client_rule.specs.Views.{signed_of, subject_of};
 
 use ar_bytes::Fields;
+use ar_names::NameView;
 use ar_statement::fields::{digest, epoch, name};
 
 /// The bytes of a step.
@@ -17,7 +18,7 @@ const MOST_STEPS: u16 = 256;
 pub(crate) struct SubjectView<'a> {
     pub(crate) client: u16,
     pub(crate) epoch: u64,
-    pub(crate) name: &'a [u8],
+    pub(crate) name: NameView<'a>,
     pub(crate) root: [u8; 32],
 }
 
@@ -44,8 +45,7 @@ fn byte(fields: &mut Fields, value: u8) -> Result<u8, usize>
 /// The kind and the form of a confirmation, and what it is about.
 #[tactic(auto, unfolding(crate::specs::Confirmation::subject_at))]
 pub(crate) fn subject<'a>(fields: &mut Fields<'a>) -> Result<SubjectView<'a>, usize>
-    ensures tells { Tells subject_of result fields.new (subject_at fields.old) }
-    ensures short { IfOk result (λ about. length about.name.now ≤ 253) }
+    ensures { Tells subject_of result fields.new (subject_at fields.old) }
 {
     byte(fields, 12)?;
     byte(fields, 1)?;

@@ -3,6 +3,7 @@ ghost use Rattle.std.specs.Prelude.{◌≡◌};
 use crate::fields::{SignedView, SubjectView, path, signed, subject};
 use ar_bytes::Fields;
 use ar_cert::CertView;
+use ar_names::NameView;
 use std::marker::Model;
 
 /// A confirmation that is read in place: its name, its certificate, its path and its signatures are
@@ -23,11 +24,9 @@ impl<'a> Model for ConfView<'a> {
 
     ghost Value = { Confirmation };
 
-    ghost use Rattle.client_rule.specs.Views.{confirmation_of, IsConfView};
+    ghost use Rattle.client_rule.specs.Views.{confirmation_of};
 
     ghost view = { confirmation_of };
-
-    ghost invariant = { IsConfView };
 }
 
 impl<'a> ConfView<'a> {
@@ -90,7 +89,14 @@ impl<'a> ConfView<'a> {
         ensures value { result.now ≡ self.now.about.name }
         ensures short { length result.now ≤ 253 }
     {
-        self.about.name
+        self.about.name.text()
+    }
+
+    // The name, as a view of its own.
+    pub(crate) fn name_view(&self) -> NameView<'a>
+        ensures { result ≡ self.now.about.name }
+    {
+        self.about.name.copy()
     }
 
     /// The root of the table of certificates at the end of the epoch.

@@ -1,6 +1,6 @@
 ghost use Rattle.std.specs.Prelude.{◌≡◌, ◌≢◌, ◌<◌, ◌-◌, ◌↔◌, [], length, max, None, Err, Contains, IsTrue, OnOk, OnErr};
 ghost use Rattle.ar_base.specs.Gives.{GivesUnless};
-ghost use Rattle.ar_statement.specs.Claims.{NameFits, claim_of, text_of};
+ghost use Rattle.ar_statement.specs.Claims.{claim_of, text_of};
 ghost use Rattle.sign_book.specs.Book.{IsSound};
 ghost use Rattle.sign_book.specs.Entry.{after_entry, due_at, due_of, next_leaf, with_text};
 ghost use Rattle.ar_base.specs.Places.{place_of};
@@ -70,8 +70,6 @@ impl SignBook {
     /// statement is new and no room was reserved for it. After an error the book is as it was. The
     /// allocator is the one that the book was made with.
     pub fn enter(&mut self, _alloc: Global, statement: &Statement) -> Result<Due, BookFault>
-        requires { NameFits (claim_of statement.now) }
-
         // The leaf, and when none is left.
         ensures answer { GivesUnless Memory (λ due. due) result (due_of self.old (text_of (claim_of statement.now))) }
         ensures spent { result ≡ Err Spent ↔ ((length self.old.texts ≡ self.old.leaves)
@@ -124,7 +122,6 @@ impl SignBook {
 
     /// Whether the statement has a leaf.
     pub fn holds(&self, statement: &Statement) -> bool
-        requires { NameFits (claim_of statement.now) }
         ensures { IsTrue result ↔ Contains self.now.texts (text_of (claim_of statement.now)) }
     {
         place_of(&self.texts, &Text::of(statement)).is_some()

@@ -1,7 +1,8 @@
 //! Laws on books, over the definitions alone: each is the contract of a function that does nothing.
 
 ghost use Rattle.std.specs.Prelude.{◌≡◌, ◌<◌, ◌↔◌, ℕ, List, [], ◌++◌, length, slice_index_or, Contains, Ok, Err};
-ghost use Rattle.ar_statement.specs.Claims.{Claim, IsValid, text_of};
+ghost use Rattle.ar_statement.specs.Claims.{Claim, text_of};
+ghost use Rattle.ar_statement.specs.Ranges.{IsHeld};
 ghost use Rattle.sign_book.specs.Book.{Book, IsSound};
 ghost use Rattle.sign_book.specs.Entry.{after_entry, leaf_of};
 ghost use Rattle.sign_book.specs.declared.fault.BookFault.TheVariants.{Spent};
@@ -16,11 +17,11 @@ pub fn a_leaf_is_the_place_of_its_text()
         × (slice_index_or (after_entry book text).texts leaf [] ≡ text) }
 {}
 
-/// No leaf serves two statements: where a book gives one leaf to a statement, and later, with
+/// No leaf serves two statements, of all that the types can hold: where a book gives one leaf to a statement, and later, with
 /// whatever texts behind those that it had then, to a statement again, the two statements are one.
 pub fn no_leaf_serves_two_statements()
     ensures { (book later : Book) (more : List (List ℕ)) (first second : Claim) (leaf : ℕ)
-        → IsValid first → IsValid second
+        → IsHeld first → IsHeld second
         → leaf_of book (text_of first) ≡ Ok leaf
         → later.texts ≡ (after_entry book (text_of first)).texts ++ more
         → leaf_of later (text_of second) ≡ Ok leaf

@@ -1,5 +1,4 @@
 ghost use Rattle.std.specs.Prelude.{◌≡◌, ◌^◌};
-ghost use Rattle.ar_statement.specs.Claims.{NameFits, claim_of};
 ghost use Rattle.lms_tree.specs.LmsKind.{height_of};
 
 use crate::{BookFault, SignBook, sign};
@@ -10,12 +9,11 @@ use std::test::Fail;
 
 const SEED: [u8; 32] = [0x5a; 32];
 
-fn pass(epoch: u8) -> Statement<'static>
-    ensures { NameFits (claim_of result) }
-{
-    Statement::Pass {
+fn status(epoch: u8) -> Statement<'static> {
+    Statement::Status {
         log: 7,
         epoch: epoch as u64,
+        value: None,
     }
 }
 
@@ -31,9 +29,9 @@ fn serve(
     ensures { book.new.leaves ≡ book.old.leaves }
 {
     let mut signature = vec![in alloc; 0u8; key.signature_len()]?;
-    let due = book.enter(alloc, &pass(epoch))?;
+    let due = book.enter(alloc, &status(epoch))?;
     sign(key, due, &mut signature);
-    let text = [5, 1, 0, 7, 0, 0, 0, 0, 0, 0, 0, epoch];
+    let text = [9, 1, 0, 7, 0, 0, 0, 0, 0, 0, 0, epoch, 0];
     let verdict = valid(&key.public(), &text, &signature);
     Ok((signature.get(3).copied(), verdict))
 }
@@ -43,14 +41,14 @@ fn a_book_is_filled_asked_again_and_spent(rt: HostRuntime) -> Result<(), Fail> {
     let key = LmsKey::make(rt.alloc(), &SEED, 5, 3)?;
     let mut book = SignBook::new(rt.alloc(), key.leaves());
     assert_eq!(rt; book.free(), 32);
-    assert!(rt; !book.holds(&pass(1)));
+    assert!(rt; !book.holds(&status(1)));
     for leaf in 0..32u8 {
         let served = serve(rt.alloc(), &key, &mut book, leaf + 1)?;
         assert_eq!(rt; served, (Some(leaf), Verdict::Valid), "leaf {leaf}");
     }
     assert_eq!(rt; book.free(), 0);
     assert_eq!(rt; book.texts().len(), 32);
-    assert!(rt; book.holds(&pass(32)) && !book.holds(&pass(33)));
+    assert!(rt; book.holds(&status(32)) && !book.holds(&status(33)));
 
     let again = serve(rt.alloc(), &key, &mut book, 9)?;
     assert_eq!(rt; again, (Some(8), Verdict::Valid), "a leaf is given again");
