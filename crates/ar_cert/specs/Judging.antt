@@ -1,6 +1,6 @@
 -- How the policy rule judges changes: what it reads of a certificate, who endorses, and when the key before
 -- hands over; and which lists of changes are the chain of a name.
-use Rattle.std.specs.Prelude.{ℕ, ◌+◌, ◌<◌, Bool, true, false, List, map, length, get_or, Option, Some, None, Result}
+use Rattle.std.specs.Prelude.{ℕ, ◌+◌, ◌<◌, Bool, true, false, ◌&&◌, List, map, length, get_or, Option, Some, None, Result}
 use Rattle.ar_statement.specs.Claims.{text_of}
 use Rattle.ar_statement.specs.Claims as claims
 use Rattle.lms_tree.specs.declared.public_key.LmsPublic.{LmsPublic}
@@ -33,9 +33,10 @@ abbrev pub is_signed : LmsPublic → List ℕ → Option (List ℕ) → Bool
 is_signed key digest None = false
 is_signed key digest (Some signature) = is_valid (verdict_of key (text_of (claims.handover digest)) signature)
 
--- whether the subject key of the old certificate hands over to the change's
+-- whether the old policy asks for a handover, and the subject key of the old certificate hands over to the
+-- change's
 abbrev pub is_handed_over : Certificate → Change → Bool
-is_handed_over old change = is_signed old.subject (digest_of change.cert) change.handover
+is_handed_over old change = old.policy.keyed && is_signed old.subject (digest_of change.cert) change.handover
 
 -- ---- the answer
 

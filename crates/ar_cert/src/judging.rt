@@ -1,12 +1,13 @@
-ghost use Rattle.std.specs.Prelude.{◌≡◌, ◌≤◌, ◌↔◌, length, map, take, Some, None, IsOk, IsTrue};
+ghost use Rattle.std.specs.Prelude.{◌≡◌, ◌≤◌, ◌↔◌, ◌&&◌, length, map, take, Some, None, IsOk, IsTrue};
 ghost use Rattle.std.specs.Option.{option_map};
+ghost use Rattle.cert_policy.specs.Terms.{cert_terms};
 ghost use Rattle.ar_cert.specs.Judging.{is_signed, judgement, EachFollows, IsAccepted, IsChain};
 
 use crate::cert::Cert;
 use crate::change::{Change, Endorsement};
 use ar_base::Items;
 use ar_statement::{Statement, Text};
-use cert_policy::{PolicyRefusal, follows, registrable};
+use cert_policy::{Facts, PolicyRefusal, follows, registrable};
 use lms_tree::{LmsPublic, Verdict, valid};
 
 /// The numbers of the authorities that endorse, in the front of an array.
@@ -35,20 +36,24 @@ fn is_signed(key: &LmsPublic, digest: &[u8; 32], handover: &Option<Items<u8>>) -
     valid(key, text.as_bytes(), signature.as_slice()) == Verdict::Valid
 }
 
-/// Whether a change by these endorsers follows the old certificate. A handover is verified only where
-/// the answer depends on it.
+/// Whether the old policy asks for a handover and there is one under this key. The signature is verified
+/// only where it is asked for.
+fn hands_over(old: &Facts, new: &Facts, key: &LmsPublic, handover: &Option<Items<u8>>) -> bool
+    ensures { result ≡ (cert_terms old.now).policy.keyed && is_signed key.now (cert_terms new.now).digest handover.now }
+{
+    old.policy.keyed && is_signed(key, &new.digest, handover)
+}
+
+/// Whether a change by these endorsers follows the old certificate.
 #[tactic(auto, unfolding(crate::specs::Judging::IsAccepted))]
-fn judge_update(old: &Cert, change: &Change, endorsers: &[u16]) -> Result<(), PolicyRefusal>
+fn judge_follow(old: &Cert, change: &Change, endorsers: &[u16]) -> Result<(), PolicyRefusal>
     requires { endorsers.now ≡ map (λ v. v.authority) change.now.endorsements }
     ensures answer { result ≡ judgement (Some old.now) change.now }
     ensures ok { IsOk result ↔ IsAccepted (Some old.now) change.now }
 {
     let before = old.facts();
     let after = change.cert.facts();
-    let handover = match follows(&before, &after, endorsers, false) {
-        Err(PolicyRefusal::Handover) => { is_signed(&old.subject, &after.digest, &change.handover) }
-        answer => return answer,
-    };
+    let handover = hands_over(&before, &after, &old.subject, &change.handover);
     follows(&before, &after, endorsers, handover)
 }
 
@@ -58,7 +63,7 @@ fn judge_update(old: &Cert, change: &Change, endorsers: &[u16]) -> Result<(), Po
 /// The endorsers are the authorities of its endorsements, whose signatures are not looked at. The old
 /// key hands over where the change carries a signature that is valid under it (RFC 8554, section 5.4.2)
 /// for the statement that hands over to the new certificate; this is verified only where the old policy
-/// is keyed and the clauses before hold. It takes no memory.
+/// is keyed. It takes no memory.
 #[tactic(auto, unfolding(crate::specs::Judging::IsAccepted))]
 pub fn judge_change(old: Option<&Cert>, change: &Change) -> Result<(), PolicyRefusal>
     ensures answer { result ≡ judgement (option_map (λ cert. cert.now) old.entry) change.now }
@@ -68,7 +73,7 @@ pub fn judge_change(old: Option<&Cert>, change: &Change) -> Result<(), PolicyRef
     let endorsers = &numbers[..change.endorsements.len()];
     match old {
         None => registrable(&change.cert.facts(), endorsers),
-        Some(old) => judge_update(old, change, endorsers),
+        Some(old) => judge_follow(old, change, endorsers),
     }
 }
 
