@@ -1,0 +1,12 @@
+//! Texts that are appended to a vector part by part, without memory of their own.
+//!
+//! `specs/Parts.antt` says what the text of a part is, and what it is that a call appends a text.
+#![tactic(auto)]
+
+pub use appending::append;
+pub use part::Part;
+
+mod appending;
+mod part;
+#[cfg(test)]
+mod tests;

@@ -1,0 +1,12 @@
+//! The maker of scripts: for a number of domains, a script that registers them, updates every fourth,
+//! and asks for each of them and for some names that are not there.
+//!
+//! `specs/Script.antt` says what the script is.
+#![tactic(auto)]
+
+pub use making::make;
+
+mod making;
+mod rows;
+#[cfg(test)]
+mod tests;
