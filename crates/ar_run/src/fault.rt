@@ -1,10 +1,10 @@
 ghost use Rattle.std.specs.Prelude.{◌≡◌, ◌≤◌};
-ghost use Rattle.arpki_play.specs.Runs.{fault_status};
-ghost use Rattle.arpki_play.specs.declared.fault.Fault.TheVariants.{Source, Sink, Memory};
+ghost use Rattle.ar_run.specs.Runs.{fault_status};
+ghost use Rattle.ar_run.specs.declared.fault.Fault.TheVariants.{Source, Sink, Memory};
 
 use std::alloc::AllocError;
 
-/// Why the program gives no answer, or not the whole of it.
+/// Why a run gives no answer, or not the whole of it.
 #[derive(Clone, Copy, Debug, PartialEq, Eq)]
 pub enum Fault {
     /// A read of the source failed.
@@ -16,7 +16,7 @@ pub enum Fault {
 }
 
 impl Fault {
-    /// The program's status.
+    /// The status of the run.
     pub fn status(&self) -> u8
         ensures status { result ≡ fault_status self.now }
         ensures bounds { (4 ≤ result) × (result ≤ 6) }

@@ -1,0 +1,20 @@
+-- What a command answers, where nothing fails.
+use Rattle.std.specs.Prelude.{ℕ, List, [], ◌∷◌, ◌++◌}
+use Rattle.std.specs.List.{flat_map}
+
+-- the lines that are written, each with the newline that ends it, and the status, which is 0 to 3
+pub record Answer : Type 0 where
+  pub lines : List (List ℕ)
+  pub status : ℕ
+
+-- a line of this text, with its newline
+abbrev pub line_of : List ℕ → List ℕ
+line_of text = text ++ (10 ∷ [])
+
+-- the answer of one line
+abbrev pub one_line : List ℕ → ℕ → Answer
+one_line text status = record { lines = line_of text ∷ []; status = status }
+
+-- all that is written of an answer
+abbrev pub written_of : Answer → List ℕ
+written_of answer = flat_map (λ line. line) answer.lines

@@ -1,0 +1,53 @@
+ghost use Rattle.std.specs.Prelude.{◌≡◌, ◌<◌, IfOk, map, string_bytes};
+ghost use Rattle.ar_run.specs.Answers.{one_line};
+
+use std::alloc::{AllocError, Global};
+use std::marker::Model;
+
+/// What a command answers, where nothing fails: the lines that are written, and a status from 0 to 3.
+#[derive(Debug, Drop)]
+pub struct Answer {
+    lines: Vec<String>,
+    status: u8,
+}
+
+// Clauses see the bytes of the lines, each with its newline, and the status.
+impl Model for Answer {
+    ghost use Rattle.std.specs.Prelude.{◌<◌, map, string_bytes};
+    ghost use Rattle.ar_run.specs.Answers.{Answer as Spec};
+
+    ghost Value = { Spec };
+
+    ghost view = { λ a. record { lines = map string_bytes a.lines.items; status = a.status } };
+
+    ghost invariant = { λ a. a.status < 4 };
+}
+
+impl Answer {
+    /// The answer of one line, which is given without its newline.
+    pub fn one_line(alloc: Global, text: String, status: u8) -> Result<Answer, AllocError>
+        requires { status < 4 }
+        ensures { IfOk result (λ answer. answer ≡ one_line (string_bytes text) status) }
+    {
+        let mut line = text;
+        line.push('\n')?;
+        let mut lines = Vec::new(alloc);
+        lines.push(line)?;
+        Ok(Answer { lines, status })
+    }
+
+    /// The lines that are written, each with its newline.
+    pub fn lines(&self) -> &[String]
+        ensures { map string_bytes result.now ≡ self.now.lines }
+    {
+        self.lines.as_slice()
+    }
+
+    /// The status.
+    pub fn status(&self) -> u8
+        ensures status { result ≡ self.now.status }
+        ensures bound { result < 4 }
+    {
+        self.status
+    }
+}

@@ -1,0 +1,19 @@
+//! A run of a command: it reads its whole input, and writes its answer, whatever the command is.
+//!
+//! What a command answers to an input, its lines and its status, it says by the trait `Respond`, and `run`
+//! does the rest over every source and every sink, with the cause of each status above those of
+//! answers. In `specs/`, `Answers` says what an answer is and what is written of it, and `Runs` what a run
+//! takes of its source and leaves in its sink.
+#![tactic(auto)]
+
+pub use answer::Answer;
+pub use fault::Fault;
+pub use respond::Respond;
+pub use running::{answer_from, run, status, write_answer, write_line};
+
+mod answer;
+mod fault;
+mod respond;
+mod running;
+#[cfg(test)]
+mod tests;
