@@ -22,10 +22,10 @@ cut_off wrote old mid new f xs i d lt so_far cut =
     let so = joined f (take i xs) in
     let behind = joined f (drop (suc i) xs) in
     let whole : joined f xs ≡ (so ++ cut.0) ++ (cut.1.0 ++ behind) =
-        joined-at f xs i d lt
-        ∙ ap (λ line. so ++ (line ++ behind)) cut.1.1
-        ∙ ap (λ l. so ++ l) (append_assoc cut.0 cut.1.0 behind)
-        ∙ sym (append_assoc so cut.0 (cut.1.0 ++ behind)) in (
+    joined-at f xs i d lt
+    ∙ ap (λ line. so ++ (line ++ behind)) cut.1.1
+    ∙ ap (λ l. so ++ l) (append_assoc cut.0 cut.1.0 behind)
+    ∙ sym (append_assoc so cut.0 (cut.1.0 ++ behind)) in (
       so ++ cut.0,
       (cut.1.0 ++ behind, whole, omega (arith, length-append cut.1.0 behind, cut.1.2), Appended-trans wrote old mid new so cut.0 so_far cut.1.3),
     )

@@ -4,7 +4,7 @@ ghost use Rattle.ar_io.specs.Wrote.{Appended, AppendedFront, Unchanged};
 ghost use Rattle.ar_run.specs.Answers.{written_of};
 ghost use Rattle.ar_run.specs.Runs.{Answers, BreaksOff, TakesAll, TakesAtMost, most_bytes};
 
-use crate::{Answer, Respond, Fault};
+use crate::{Answer, Fault, Respond};
 use ar_io::{ReadFault, Sink, Source, read_all, write_all};
 use std::alloc::Global;
 

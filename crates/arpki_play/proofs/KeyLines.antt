@@ -2,7 +2,7 @@
 use Rattle.std.proofs.Common.{◌≡◌, ℕ, ◌+◌, ◌-◌, ◌<◌, ◌≤◌, List, [], ◌∷◌, ◌++◌, Ok, Err, refl, sym, ap, ◌∙◌, append_assoc, add-one, arith}
 use Rattle.std.proofs.lemmas.List.{append-nil}
 use Rattle.lms_tree.specs.declared.public_key.LmsPublic.{LmsPublic}
-use Rattle.arpki_play.specs.Check.{key_at, keys_at}
+use Rattle.arpki_play.specs.Inquiries.{key_at, keys_at}
 use Rattle.ar_base.specs.Chaining.{◌>>=◌}
 use Rattle.ar_lines.specs.Readings.{LineCursor, LineReading}
 use Rattle.ar_lines.specs.declared.refusal.LineFault.{LineFault}

@@ -10,9 +10,9 @@ use Rattle.party_keys.specs.Directory.{IsDirectory, PartyKeys, is_party_count, i
 use Rattle.lms_tree.specs.declared.public_key.LmsPublic.{LmsPublic}
 use Rattle.ar_lines.specs.Forms.{bytes_of_hex, key_of_hex, name_of, number_of}
 use Rattle.ar_lines.specs.Lines.{is_text}
-use Rattle.arpki_play.specs.Check.{Inquiry, authorities_at, confirmation_at, directory_at, inquiry_at, key_at, keys_at, logs_at, name_at, number_at, party_count_of, quorum_of}
+use Rattle.arpki_play.specs.Inquiries.{Inquiry, authorities_at, confirmation_at, directory_at, inquiry_at, key_at, keys_at, logs_at, name_at, number_at, party_count_of, quorum_of}
 use Rattle.ar_lines.specs.Readings.{start_of_lines}
-use Rattle.arpki_play.specs.Sig.{Question, question_at}
+use Rattle.arpki_play.specs.Questions.{Question, question_at}
 use Rattle.ar_lines.specs.Written.{IsKey, hex_of_key}
 use Rattle.arpki_play.specs.Written.{IsInquiry, IsQuestion, asked_lines, authorities_line, directory_lines, inquiry_lines, inquiry_text, key_line, logs_line, question_lines, question_text}
 use Rattle.ar_lines.proofs.Spelled.{bytes_of_hex-encode, decimal_is_word, hex_is_word, key_is_word, key_of_hex-key, name_is_word, name_of-name, number_of-decimal}

@@ -4,12 +4,12 @@ use Rattle.std.specs.Fmt.{decimal}
 use Rattle.hex.specs.Hex.{encode_lower}
 use Rattle.lms_tree.specs.declared.public_key.LmsPublic.{LmsPublic}
 use Rattle.party_keys.specs.Directory.{PartyKeys, is_party_count, is_quorum}
-use Rattle.arpki_play.specs.Check.{Inquiry, authorities_at, confirmation_at, directory_at, inquiry_at, key_at, keys_at, logs_at, name_at, number_at, party_count_of, quorum_of}
+use Rattle.arpki_play.specs.Inquiries.{Inquiry, authorities_at, confirmation_at, directory_at, inquiry_at, key_at, keys_at, logs_at, name_at, number_at, party_count_of, quorum_of}
 use Rattle.ar_lines.specs.Forms.{bytes_of_hex, key_of_hex, name_of, number_of}
 use Rattle.ar_lines.specs.Lines.{lines_of}
 use Rattle.ar_lines.specs.Readings.{LineCursor, no_line_at, spelled, start_of_lines, word_at}
 use Rattle.ar_lines.specs.Rows.{no_row_at, two_fields_at}
-use Rattle.arpki_play.specs.Sig.{Question, question_at}
+use Rattle.arpki_play.specs.Questions.{Question, question_at}
 use Rattle.ar_lines.specs.Written.{Writes, hex_of_key, named}
 use Rattle.arpki_play.specs.Written.{authorities_line, directory_lines, inquiry_lines, key_line, logs_line, question_lines}
 use Rattle.ar_lines.proofs.RowsWritten.{behind, bind_ok, hex_writes, no_line_is, no_row_is, ok_is, spelled_some, two_fields_are, value_is, word_is}

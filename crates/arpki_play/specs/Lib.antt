@@ -1,6 +1,6 @@
 pub mod Answers
-pub mod Check
-pub mod Runs
-pub mod Sig
+pub mod Inquiries
+pub mod Program
+pub mod Questions
 pub mod Words
 pub mod Written

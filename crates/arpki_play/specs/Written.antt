@@ -6,8 +6,8 @@ use Rattle.ar_names.specs.Names.{IsName}
 use Rattle.lms_tree.specs.declared.public_key.LmsPublic.{LmsPublic}
 use Rattle.party_keys.specs.Directory.{PartyKeys, IsDirectory}
 use Rattle.ar_lines.specs.Written.{IsKey, hex_of_key, text_of_lines}
-use Rattle.arpki_play.specs.Check.{Inquiry}
-use Rattle.arpki_play.specs.Sig.{Question}
+use Rattle.arpki_play.specs.Inquiries.{Inquiry}
+use Rattle.arpki_play.specs.Questions.{Question}
 
 -- ---- the question of `sig`
 

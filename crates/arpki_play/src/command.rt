@@ -1,5 +1,11 @@
 ghost use Rattle.std.specs.Prelude.{◌≡◌};
 
+use crate::verdicts::refuse;
+use crate::{inquiry, question};
+use ar_lines::{Reason, Refusal};
+use ar_run::{Answer, Respond};
+use std::alloc::{AllocError, Global};
+
 /// What the program is asked to do.
 #[derive(Clone, Copy, Debug, PartialEq, Eq)]
 pub enum Command {
@@ -31,5 +37,28 @@ impl Command {
             "check" => Some(Command::Check),
             _ => None,
         }
+    }
+}
+
+/// The refusal of an input that is too long.
+const TOO_LONG: Refusal = Refusal {
+    line: 0,
+    reason: Reason::Limit,
+};
+
+impl Respond for Command {
+    ghost use Rattle.arpki_play.specs.Answers.{answer_to};
+
+    ghost answer_to = { answer_to };
+
+    fn answer(&self, alloc: Global, input: &[u8]) -> Result<Answer, AllocError> {
+        match self {
+            Command::Sig => question::answer(alloc, input),
+            Command::Check => inquiry::answer(alloc, input),
+        }
+    }
+
+    fn refuse(&self, alloc: Global) -> Result<Answer, AllocError> {
+        refuse(alloc, TOO_LONG)
     }
 }

@@ -1,10 +1,10 @@
 //! Laws on what is read, over the definitions alone: each is the contract of a function without a body.
 
 ghost use Rattle.std.specs.Prelude.{◌≡◌, ℕ, List, Ok};
-ghost use Rattle.arpki_play.specs.Check.{Inquiry, inquiry_at};
+ghost use Rattle.arpki_play.specs.Inquiries.{Inquiry, inquiry_at};
 ghost use Rattle.ar_lines.specs.Lines.{lines_of};
 ghost use Rattle.ar_lines.specs.Readings.{start_of_lines};
-ghost use Rattle.arpki_play.specs.Sig.{Question, question_at};
+ghost use Rattle.arpki_play.specs.Questions.{Question, question_at};
 ghost use Rattle.arpki_play.specs.Written.{IsInquiry, IsQuestion, inquiry_lines, inquiry_text, question_lines, question_text};
 
 /// A question that is written is read as just this question.

@@ -1,16 +1,19 @@
-ghost use Rattle.std.specs.Prelude.{◌≡◌, ◌+◌, ◌<◌, ◌≤◌, ◌⊎◌, None, IsOkAnd};
+ghost use Rattle.std.specs.Prelude.{◌≡◌, ◌≢◌, ◌+◌, ◌<◌, ◌≤◌, ◌⊎◌, None, IfErr, IfOk, OnErr, OnOk};
 ghost use Rattle.ar_base.specs.Faults.{HasRisen};
-ghost use Rattle.ar_io.specs.Wrote.{Unchanged};
-ghost use Rattle.arpki_play.specs.Answers.{most_bytes, status_of};
-ghost use Rattle.arpki_play.specs.Runs.{Answers, BreaksOff, TakesAtMost};
+ghost use Rattle.ar_io.specs.Wrote.{Appended, AppendedFront, Unchanged};
+ghost use Rattle.ar_run.specs.Answers.{written_of};
+ghost use Rattle.ar_run.specs.Runs.{TakesAtMost, most_bytes};
+ghost use Rattle.arpki_play.specs.Answers.{usage};
+ghost use Rattle.arpki_play.specs.Program.{Answers, BreaksOff};
 ghost use Rattle.arpki_play.specs.Words.{command_of, texts};
 
-use crate::answer::Answer;
 use crate::command::Command;
-use crate::fault::Fault;
-use crate::run::{run_command, show_usage};
 use ar_io::{Sink, Source};
+use ar_run::{Fault, run, status, write_line};
 use std::alloc::Global;
+
+/// The usage line.
+const USAGE: &[u8] = b"usage: arpki play | check | sig | make <number> [run]\n";
 
 /// The program `arpki`: it answers the words that follow its name, reads its input from `source` and
 /// writes its output to `sink`. It returns the exit status.
@@ -42,7 +45,8 @@ pub fn arpki_main<S: Source, K: Sink>(
     ensures usage { result ≡ 2 → command_of (texts words.now) ≡ None }
     ensures no_form { command_of (texts words.now) ≡ None → (source.new ≡ source.old) × ((result ≡ 2) ⊎ (result ≡ 5)) }
 
-    // A fault has its cause in a count of faults. Before it no more than a front of the answer was written.
+    // A fault has its cause in a count of faults, and none is hidden: at each other status the count stays.
+    // Before a fault no more than a front of the answer was written.
     ensures source_fault { result ≡ 4 → HasRisen (S.faults source.old) (S.faults source.new)
         × Unchanged K.wrote sink.old sink.new }
     ensures sink_fault { result ≡ 5 → HasRisen (K.faults sink.old) (K.faults sink.new)
@@ -53,26 +57,29 @@ pub fn arpki_main<S: Source, K: Sink>(
     ensures source_taken { result ≡ 4 → TakesAtMost most_bytes (S.left source.old) (S.left source.new) }
     ensures memory_taken { result ≡ 6 → TakesAtMost (most_bytes + 1) (S.left source.old) (S.left source.new) }
 
+    ensures source_uncounted { result ≢ 4 → S.faults source.new ≡ S.faults source.old }
+    ensures sink_uncounted { result ≢ 5 → K.faults sink.new ≡ K.faults sink.old }
+
     // The counts of faults never fall.
     ensures source_faults { S.faults source.old ≤ S.faults source.new }
     ensures sink_faults { K.faults sink.old ≤ K.faults sink.new }
 {
     match Command::read(words) {
-        Some(command) => status(run_command(alloc, command, source, sink)),
+        Some(command) => status(run(alloc, &command, source, sink)),
         None => status(show_usage(sink)),
     }
 }
 
-/// The status of an ending, which tells whether it is a fault and which.
-fn status(ending: Result<Answer, Fault>) -> u8
-    ensures bound { result ≤ 6 }
-    ensures answered { result < 4 → IsOkAnd ending (λ answer. result ≡ status_of answer) }
-    ensures source { result ≡ 4 → ending ≡ Err Fault.Source }
-    ensures sink { result ≡ 5 → ending ≡ Err Fault.Sink }
-    ensures memory { result ≡ 6 → ending ≡ Err Fault.Memory }
+/// Writes the usage line, and returns its status. It takes no memory.
+fn show_usage<K: Sink>(sink: &mut K) -> Result<u8, Fault>
+    ensures ok { IfOk result (λ status. status ≡ usage.status) }
+    ensures written { OnOk result (Appended K.wrote sink.old sink.new (written_of usage)) }
+    ensures sink { OnErr result (HasRisen (K.faults sink.old) (K.faults sink.new)
+        × AppendedFront K.wrote sink.old sink.new (written_of usage)) }
+    ensures only_sink { IfErr result (λ fault. fault ≡ Fault.Sink) }
+    ensures uncounted { OnOk result (K.faults sink.new ≡ K.faults sink.old) }
+    ensures faults { K.faults sink.old ≤ K.faults sink.new }
 {
-    match ending {
-        Ok(answer) => answer.status(),
-        Err(fault) => fault.status(),
-    }
+    write_line(sink, USAGE)?;
+    Ok(2)
 }

@@ -1,18 +1,12 @@
--- The command `check`: what it reads, and what it finds.
+-- What `check` is asked: an inquiry, and the lines that it is read from.
 use Rattle.std.specs.Prelude.{ℕ, zero, suc, List, [], ◌∷◌, codes, Option, Result, Ok}
 use Rattle.lms_tree.specs.declared.public_key.LmsPublic.{LmsPublic}
 use Rattle.party_keys.specs.Directory.{PartyKeys, is_party_count, is_quorum}
-use Rattle.client_rule.specs.Rule.{judgement}
-use Rattle.client_rule.specs.declared.judgement.Judgement.{Judgement}
-use Rattle.client_rule.specs.declared.judgement.Judgement.TheVariants as judged
 use Rattle.ar_lines.specs.Forms.{bytes_of_hex, key_of_hex, name_of, number_of, passing}
 use Rattle.ar_base.specs.Chaining.{◌>>=◌}
 use Rattle.ar_lines.specs.Readings.{LineCursor, LineReading, spelled}
 use Rattle.ar_lines.specs.Rows.{two_fields_at, no_row_at, value_at}
 use Rattle.ar_lines.specs.declared.refusal.Refusal.{Refusal}
-use Rattle.arpki_play.specs.declared.check.CheckInput.{CheckInput}
-use Rattle.arpki_play.specs.declared.finding.Finding.{Finding}
-use Rattle.arpki_play.specs.declared.finding.Finding.TheVariants.{Accepted, Refused}
 
 -- the directory that a client trusts, the name that it asks for, its epoch, the age that it allows, and
 -- the bytes of the confirmation that it was given
@@ -90,19 +84,3 @@ inquiry_at at = do
   confirmation ← confirmation_at age.1
   end ← no_row_at confirmation.1
   Ok (record { keys = keys.0; name = name.0; now = now.0; age = age.0; confirmation = confirmation.0 })
-
--- the inquiry that the program holds
-abbrev pub inquiry_in : CheckInput → Inquiry
-inquiry_in input = record { keys = input.directory; name = input.name; now = input.now; age = input.age; confirmation = input.confirmation.items }
-
--- ---- the verdict
-
--- what is told of a judgement on a name
-abbrev pub told : List ℕ → Judgement → Finding
-told name (judged.Accepted certificate digest epoch root) = Accepted name certificate.serial epoch root digest
-told name (judged.Refused check) = Refused check
-
--- what a client finds, by its rule
-abbrev pub finding_of : Inquiry → Finding
-finding_of inquiry =
-    told inquiry.name (judgement inquiry.keys inquiry.name inquiry.confirmation inquiry.now inquiry.age)

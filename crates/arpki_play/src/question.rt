@@ -1,22 +1,31 @@
-ghost use Rattle.std.specs.Prelude.{◌≡◌, IfOk, IfErr};
+ghost use Rattle.std.specs.Prelude.{◌≡◌, IfOk};
 ghost use Rattle.arpki_play.specs.Answers.{judged, unless_refused};
+ghost use Rattle.arpki_play.specs.Questions.{question_at};
 ghost use Rattle.ar_lines.specs.Forms.{bytes_of_hex, key_of_hex};
-ghost use Rattle.ar_lines.specs.Readings.{ReadsUnless, FollowsUnless, start_of_lines};
-ghost use Rattle.ar_lines.specs.Readings.{word_at};
-ghost use Rattle.arpki_play.specs.Sig.{question_at, question_in};
+ghost use Rattle.ar_lines.specs.Readings.{FollowsUnless, ReadsUnless, start_of_lines, word_at};
 
-use crate::answer::Answer;
-use crate::fault::Fault;
+use crate::verdicts::{refuse, tell};
 use ar_lines::{LineFault, Lines};
+use ar_run::Answer;
 use lms_tree::{LmsPublic, valid};
-use std::alloc::Global;
+use std::alloc::{AllocError, Global};
+use std::marker::Model;
 
 /// What `sig` is asked: whether the signature of the message is valid under the key.
 #[derive(Debug, Drop)]
-pub struct SigInput {
+pub struct Question {
     key: LmsPublic,
     message: Vec<u8>,
     signature: Vec<u8>,
+}
+
+// Clauses see the fields.
+impl Model for Question {
+    ghost use Rattle.arpki_play.specs.Questions.{Question as Spec};
+
+    ghost Value = { Spec };
+
+    ghost view = { λ q. record { key = q.key; message = q.message.items; signature = q.signature.items } };
 }
 
 /// A line with a public key.
@@ -38,16 +47,16 @@ fn bytes(alloc: Global, lines: &mut Lines) -> Result<Vec<u8>, LineFault>
 }
 
 /// The three lines of an input.
-#[tactic(auto, unfolding(crate::specs::Sig::question_at))]
-fn read(alloc: Global, input: &[u8]) -> Result<SigInput, LineFault>
-    ensures { ReadsUnless question_in result (question_at (start_of_lines input.now)) }
+#[tactic(auto, unfolding(crate::specs::Questions::question_at))]
+fn read(alloc: Global, input: &[u8]) -> Result<Question, LineFault>
+    ensures { ReadsUnless (λ question. question) result (question_at (start_of_lines input.now)) }
 {
     let mut lines = Lines::new(input);
     let key = key(alloc, &mut lines)?;
     let message = bytes(alloc, &mut lines)?;
     let signature = bytes(alloc, &mut lines)?;
     lines.no_line()?;
-    Ok(SigInput {
+    Ok(Question {
         key,
         message,
         signature,
@@ -55,17 +64,15 @@ fn read(alloc: Global, input: &[u8]) -> Result<SigInput, LineFault>
 }
 
 /// The answer to an input that is not too long.
-pub fn answer(alloc: Global, input: &[u8]) -> Result<Answer, Fault>
-    ensures answer { IfOk result (λ answer. answer ≡ unless_refused judged (question_at (start_of_lines input.now))) }
-    ensures memory { IfErr result (λ fault. fault ≡ Fault.Memory) }
+pub fn answer(alloc: Global, input: &[u8]) -> Result<Answer, AllocError>
+    ensures { IfOk result (λ answer. answer ≡ unless_refused judged (question_at (start_of_lines input.now))) }
 {
     match read(alloc, input) {
-        Ok(question) => Ok(Answer::Judged(valid(
-            &question.key,
-            &question.message,
-            &question.signature,
-        ))),
-        Err(LineFault::Refused(refusal)) => Ok(Answer::Refused(refusal)),
-        Err(LineFault::Memory) => Err(Fault::Memory),
+        Ok(question) => {
+            let verdict = valid(&question.key, &question.message, &question.signature);
+            tell(alloc, verdict)
+        }
+        Err(LineFault::Refused(refusal)) => refuse(alloc, refusal),
+        Err(LineFault::Memory) => Err(AllocError),
     }
 }

@@ -1,11 +1,10 @@
--- The command `sig`: what it reads.
+-- What `sig` is asked: a question, and the lines that it is read from.
 use Rattle.std.specs.Prelude.{ℕ, List, Result, Ok}
 use Rattle.lms_tree.specs.declared.public_key.LmsPublic.{LmsPublic}
 use Rattle.ar_lines.specs.Forms.{bytes_of_hex, key_of_hex}
 use Rattle.ar_base.specs.Chaining.{◌>>=◌}
 use Rattle.ar_lines.specs.Readings.{LineCursor, no_line_at, word_at}
 use Rattle.ar_lines.specs.declared.refusal.Refusal.{Refusal}
-use Rattle.arpki_play.specs.declared.sig.SigInput.{SigInput}
 
 -- a key, a message and a signature
 pub record Question : Type 0 where
@@ -21,7 +20,3 @@ question_at at = do
   signature ← word_at bytes_of_hex message.1
   end ← no_line_at signature.1
   Ok (record { key = key.0; message = message.0; signature = signature.0 })
-
--- the question that the program holds
-abbrev pub question_in : SigInput → Question
-question_in input = record { key = input.key; message = input.message.items; signature = input.signature.items }

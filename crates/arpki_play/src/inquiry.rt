@@ -1,22 +1,23 @@
-ghost use Rattle.std.specs.Prelude.{◌≡◌, true, IfOk, IfErr, length};
+ghost use Rattle.std.specs.Prelude.{◌≡◌, true, IfOk, length};
 ghost use Rattle.arpki_play.specs.Answers.{found, unless_refused};
-ghost use Rattle.arpki_play.specs.Check.{authorities_at, confirmation_at, directory_at, finding_of, inquiry_at, inquiry_in, key_at, keys_at, logs_at, name_at, number_at, party_count_of, quorum_of};
-ghost use Rattle.ar_lines.specs.Readings.{Follows, ReadsUnless, FollowsUnless, spelled, start_of_lines};
+ghost use Rattle.arpki_play.specs.Inquiries.{authorities_at, confirmation_at, directory_at, inquiry_at, key_at, keys_at, logs_at, name_at, number_at, party_count_of, quorum_of};
+ghost use Rattle.ar_lines.specs.Readings.{Follows, FollowsUnless, ReadsUnless, spelled, start_of_lines};
 ghost use Rattle.party_keys.specs.Directory.{is_party_count, is_quorum};
 
-use crate::answer::Answer;
-use crate::fault::Fault;
-use crate::finding::Finding;
+use crate::judgements::tell;
+use crate::verdicts::refuse;
 use ar_lines::{LineFault, Lines, Refusal, Word};
 use ar_names::Name;
+use ar_run::Answer;
 use client_rule::judge;
 use lms_tree::LmsPublic;
 use party_keys::{Directory, is_party_count, is_quorum};
-use std::alloc::Global;
+use std::alloc::{AllocError, Global};
+use std::marker::Model;
 
 /// What `check` is asked: what a client that trusts the directory makes of a confirmation of the name.
 #[derive(Debug, Drop)]
-pub struct CheckInput {
+pub struct Inquiry {
     directory: Directory,
     name: Name,
     now: u64,
@@ -24,8 +25,17 @@ pub struct CheckInput {
     confirmation: Vec<u8>,
 }
 
+// Clauses see the fields.
+impl Model for Inquiry {
+    ghost use Rattle.arpki_play.specs.Inquiries.{Inquiry as Spec};
+
+    ghost Value = { Spec };
+
+    ghost view = { λ i. record { keys = i.directory; name = i.name; now = i.now; age = i.age; confirmation = i.confirmation.items } };
+}
+
 /// How many logs or authorities a word says that there are.
-#[tactic(auto, unfolding(crate::specs::Check::party_count_of))]
+#[tactic(auto, unfolding(crate::specs::Inquiries::party_count_of))]
 fn party_count(word: &Word) -> Result<usize, Refusal>
     ensures reads { result ≡ spelled word.now (party_count_of word.now.text) }
     ensures fits { IfOk result (λ n. is_party_count n ≡ true) }
@@ -38,7 +48,7 @@ fn party_count(word: &Word) -> Result<usize, Refusal>
 }
 
 /// How many of so many logs make a quorum, as a word says.
-#[tactic(auto, unfolding(crate::specs::Check::quorum_of))]
+#[tactic(auto, unfolding(crate::specs::Inquiries::quorum_of))]
 fn quorum_of(word: &Word, logs: usize) -> Result<usize, Refusal>
     ensures reads { result ≡ spelled word.now (quorum_of logs word.now.text) }
     ensures fits { IfOk result (λ q. is_quorum q logs ≡ true) }
@@ -51,7 +61,7 @@ fn quorum_of(word: &Word, logs: usize) -> Result<usize, Refusal>
 }
 
 /// `logs <N> <q>`: how many logs there are, and how many of them make a quorum.
-#[tactic(auto, unfolding(crate::specs::Check::logs_at))]
+#[tactic(auto, unfolding(crate::specs::Inquiries::logs_at))]
 fn logs(lines: &mut Lines) -> Result<(usize, usize), Refusal>
     ensures tells { Follows (λ x. x) result lines.new (logs_at lines.old) }
     ensures count { IfOk result (λ x. is_party_count x.0 ≡ true) }
@@ -97,7 +107,7 @@ fn keys(alloc: Global, lines: &mut Lines, count: usize) -> Result<Vec<LmsPublic>
 }
 
 /// The lines of the logs, of the authorities, and of their keys.
-#[tactic(auto, unfolding(crate::specs::Check::directory_at))]
+#[tactic(auto, unfolding(crate::specs::Inquiries::directory_at))]
 fn directory(alloc: Global, lines: &mut Lines) -> Result<Directory, LineFault>
     ensures { FollowsUnless (λ directory. directory) result lines.new (directory_at lines.old) }
 {
@@ -140,9 +150,9 @@ fn confirmation(alloc: Global, lines: &mut Lines) -> Result<Vec<u8>, LineFault>
 }
 
 /// The lines of an input.
-#[tactic(auto, unfolding(crate::specs::Check::inquiry_at))]
-fn read(alloc: Global, input: &[u8]) -> Result<CheckInput, LineFault>
-    ensures { ReadsUnless inquiry_in result (inquiry_at (start_of_lines input.now)) }
+#[tactic(auto, unfolding(crate::specs::Inquiries::inquiry_at))]
+fn read(alloc: Global, input: &[u8]) -> Result<Inquiry, LineFault>
+    ensures { ReadsUnless (λ inquiry. inquiry) result (inquiry_at (start_of_lines input.now)) }
 {
     let mut lines = Lines::new(input);
     let directory = directory(alloc, &mut lines)?;
@@ -151,7 +161,7 @@ fn read(alloc: Global, input: &[u8]) -> Result<CheckInput, LineFault>
     let age = number(&mut lines, b"age")?;
     let confirmation = confirmation(alloc, &mut lines)?;
     lines.no_row()?;
-    Ok(CheckInput {
+    Ok(Inquiry {
         directory,
         name,
         now,
@@ -160,29 +170,28 @@ fn read(alloc: Global, input: &[u8]) -> Result<CheckInput, LineFault>
     })
 }
 
-/// What a client finds that judges the confirmation by its rule.
-fn finding(input: CheckInput) -> Finding
-    ensures { result ≡ finding_of (inquiry_in input) }
+/// The answer to an inquiry: what a client judges by its rule.
+fn judged(alloc: Global, inquiry: Inquiry) -> Result<Answer, AllocError>
+    ensures { IfOk result (λ answer. answer ≡ found inquiry) }
 {
-    let CheckInput {
+    let Inquiry {
         directory,
         name,
         now,
         age,
         confirmation,
-    } = input;
+    } = inquiry;
     let judgement = judge(&directory, name.text(), &confirmation, now, age);
-    Finding::of(name, &judgement)
+    tell(alloc, &name, &judgement)
 }
 
 /// The answer to an input that is not too long.
-pub fn answer(alloc: Global, input: &[u8]) -> Result<Answer, Fault>
-    ensures answer { IfOk result (λ answer. answer ≡ unless_refused found (inquiry_at (start_of_lines input.now))) }
-    ensures memory { IfErr result (λ fault. fault ≡ Fault.Memory) }
+pub fn answer(alloc: Global, input: &[u8]) -> Result<Answer, AllocError>
+    ensures { IfOk result (λ answer. answer ≡ unless_refused found (inquiry_at (start_of_lines input.now))) }
 {
     match read(alloc, input) {
-        Ok(inquiry) => Ok(Answer::Found(finding(inquiry))),
-        Err(LineFault::Refused(refusal)) => Ok(Answer::Refused(refusal)),
-        Err(LineFault::Memory) => Err(Fault::Memory),
+        Ok(inquiry) => judged(alloc, inquiry),
+        Err(LineFault::Refused(refusal)) => refuse(alloc, refusal),
+        Err(LineFault::Memory) => Err(AllocError),
     }
 }

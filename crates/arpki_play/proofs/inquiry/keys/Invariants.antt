@@ -1,7 +1,7 @@
 use Rattle.std.proofs.Common.{◌≡◌, ◌-◌, length}
-use Rattle.arpki_play.specs.Check.{keys_at}
+use Rattle.arpki_play.specs.Inquiries.{keys_at}
 use Rattle.arpki_play.proofs.KeyLines.{with_front}
-use Rattle.arpki_play.proofs.check.keys.Given as goal
+use Rattle.arpki_play.proofs.inquiry.keys.Given as goal
 
 -- the keys that were read, and those that are read from here on, are those that are read from the start
 abbrev pub invariant-loop : goal.invariant-loop

@@ -1,9 +1,9 @@
 use Rattle.std.proofs.Common.{rules, [], ◌∷◌, ap, length-append, arith}
 use Rattle.ar_lines.specs.Readings.{or_fault}
 use Rattle.ar_lines.proofs.Faults.{or_fault-ok}
-use Rattle.arpki_play.specs.Check.{key_at}
+use Rattle.arpki_play.specs.Inquiries.{key_at}
 use Rattle.arpki_play.proofs.KeyLines.{key_more, key_gives_up, keys_all}
-use Rattle.arpki_play.proofs.check.keys.Goals as goal
+use Rattle.arpki_play.proofs.inquiry.keys.Goals as goal
 
 pub loop-preserved : goal.loop-preserved
 loop-preserved c = record {

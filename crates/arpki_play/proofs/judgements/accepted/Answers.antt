@@ -2,7 +2,7 @@
 use Rattle.std.proofs.Common.{◌≡◌, ap, ◌∙◌}
 use Rattle.std.specs.Prelude.{string_bytes}
 use Rattle.hex.specs.Hex.{encode_lower}
-use Rattle.arpki_play.proofs.finding.accepted_line.Goals as goal
+use Rattle.arpki_play.proofs.judgements.accepted.Goals as goal
 
 pub returns : goal.returns
 returns c =

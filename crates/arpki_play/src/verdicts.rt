@@ -1,0 +1,27 @@
+ghost use Rattle.std.specs.Prelude.{◌≡◌, IfOk, string_bytes};
+ghost use Rattle.ar_run.specs.Answers.{one_line};
+ghost use Rattle.arpki_play.specs.Answers.{refused_line, verdict_status, verdict_text};
+
+use ar_lines::Refusal;
+use ar_run::Answer;
+use lms_tree::Verdict;
+use std::alloc::{AllocError, Global};
+
+/// The answer that tells a verdict on a signature.
+pub fn tell(alloc: Global, verdict: Verdict) -> Result<Answer, AllocError>
+    ensures { IfOk result (λ answer. answer ≡ one_line (verdict_text verdict) (verdict_status verdict)) }
+{
+    match verdict {
+        Verdict::Valid => Answer::one_line(alloc, format!(in alloc; "valid")?, 0),
+        Verdict::Invalid(condition) => {
+            Answer::one_line(alloc, format!(in alloc; "invalid {condition}")?, 1)
+        }
+    }
+}
+
+/// The answer that refuses a line.
+pub fn refuse(alloc: Global, refusal: Refusal) -> Result<Answer, AllocError>
+    ensures { IfOk result (λ answer. answer ≡ refused_line refusal) }
+{
+    Answer::one_line(alloc, format!(in alloc; "{refusal}")?, 3)
+}
