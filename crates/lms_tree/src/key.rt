@@ -1,5 +1,7 @@
-ghost use Rattle.std.specs.Prelude.{◌≡◌, ◌^◌, ◌<◌, length};
+ghost use Rattle.std.specs.Prelude.{◌≡◌, ◌^◌, ◌<◌, length, Ok};
 ghost use Rattle.ar_base.specs.Gives.{GivesOrWants};
+ghost use Rattle.lm_ots.specs.OtsKind as ots_kind;
+ghost use Rattle.lms_tree.specs.LmsKind as lms_kind;
 ghost use Rattle.lms_tree.specs.LmsKind.{height_of};
 ghost use Rattle.lms_tree.specs.Key.{made, public_of, signature_of, type_to_make};
 ghost use Rattle.lms_tree.specs.Signature.{lms_signature_len_of};
@@ -46,8 +48,11 @@ pub struct LmsKey {
 }
 
 impl Model for LmsKey {
-    ghost use Rattle.std.specs.Prelude.{◌≡◌, ◌*◌, ◌^◌, length};
+    ghost use Rattle.std.specs.Prelude.{◌≡◌, ◌*◌, ◌^◌, length, Ok};
+    ghost use Rattle.lm_ots.specs.OtsKind as ots_kind;
+    ghost use Rattle.lms_tree.specs.Key.{made};
     ghost use Rattle.lms_tree.specs.KeyParts.{KeyParts};
+    ghost use Rattle.lms_tree.specs.LmsKind as lms_kind;
     ghost use Rattle.lms_tree.specs.LmsKind.{height_of};
     ghost use Rattle.lms_tree.specs.Nodes.{HoldsFrom};
 
@@ -56,7 +61,8 @@ impl Model for LmsKey {
     ghost view = { λ key. key.parts };
 
     ghost invariant = { λ key. (length key.nodes.items ≡ 2 * 2 ^ height_of key.parts.lms)
-        × HoldsFrom key.parts 1 key.nodes.items };
+        × HoldsFrom key.parts 1 key.nodes.items
+        × (made key.parts.seed (lms_kind.number_of key.parts.lms) (ots_kind.number_of key.parts.ots) ≡ Ok key.parts) };
 }
 
 impl LmsKey {
@@ -87,9 +93,10 @@ impl LmsKey {
         }
     }
 
-    /// The seed that the key was made from.
+    /// The seed that the key was made from: with its types it makes the key again.
     pub fn seed(&self) -> &[u8; 32]
-        ensures { result.now ≡ self.now.seed }
+        ensures seed { result.now ≡ self.now.seed }
+        ensures again { made self.now.seed (lms_kind.number_of self.now.lms) (ots_kind.number_of self.now.ots) ≡ Ok self.now }
     {
         self.parts.seed()
     }

@@ -9,11 +9,9 @@ use std::test::Fail;
 
 const SEED: [u8; 32] = [0x5a; 32];
 
-fn status(epoch: u8) -> Statement<'static> {
-    Statement::Status {
-        log: 7,
-        epoch: epoch as u64,
-        value: None,
+fn object(epoch: u8) -> Statement<'static> {
+    Statement::Object {
+        certificate: [epoch; 32],
     }
 }
 
@@ -29,9 +27,10 @@ fn serve(
     ensures { book.new.leaves ≡ book.old.leaves }
 {
     let mut signature = vec![in alloc; 0u8; key.signature_len()]?;
-    let due = book.enter(alloc, &status(epoch))?;
+    let due = book.enter(alloc, &object(epoch))?;
     sign(key, due, &mut signature);
-    let text = [9, 1, 0, 7, 0, 0, 0, 0, 0, 0, 0, epoch, 0];
+    let mut text = [epoch; 36];
+    text[..4].copy_from_slice(&[11, 3, 0, 0]);
     let verdict = valid(&key.public(), &text, &signature);
     Ok((signature.get(3).copied(), verdict))
 }
@@ -41,14 +40,14 @@ fn a_book_is_filled_asked_again_and_spent(rt: HostRuntime) -> Result<(), Fail> {
     let key = LmsKey::make(rt.alloc(), &SEED, 5, 3)?;
     let mut book = SignBook::new(rt.alloc(), key.leaves());
     assert_eq!(rt; book.free(), 32);
-    assert!(rt; !book.holds(&status(1)));
+    assert!(rt; !book.holds(&object(1)));
     for leaf in 0..32u8 {
         let served = serve(rt.alloc(), &key, &mut book, leaf + 1)?;
         assert_eq!(rt; served, (Some(leaf), Verdict::Valid), "leaf {leaf}");
     }
     assert_eq!(rt; book.free(), 0);
     assert_eq!(rt; book.texts().len(), 32);
-    assert!(rt; book.holds(&status(32)) && !book.holds(&status(33)));
+    assert!(rt; book.holds(&object(32)) && !book.holds(&object(33)));
 
     let again = serve(rt.alloc(), &key, &mut book, 9)?;
     assert_eq!(rt; again, (Some(8), Verdict::Valid), "a leaf is given again");

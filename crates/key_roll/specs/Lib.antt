@@ -1,0 +1,5 @@
+pub mod Book
+pub mod Due
+pub mod Entry
+pub mod Rolls
+pub mod Ring

@@ -1,0 +1,56 @@
+//! Laws on books, over the definitions alone: each is the contract of a function that does nothing.
+
+ghost use Rattle.std.specs.Prelude.{◌≡◌, ◌++◌, ◌<◌, ◌^◌, ◌==◌, ◌⊎◌, ℕ, List, None, false, true, Contains};
+ghost use Rattle.ar_statement.specs.Claims.{Claim, kind_of, roll, text_of};
+ghost use Rattle.ar_statement.specs.Ranges.{IsHeld};
+ghost use Rattle.ar_statement.specs.declared.party.Party.{Party};
+ghost use Rattle.ar_base.specs.Places.{place_of};
+ghost use Rattle.key_roll.specs.Book.{RollBook, IsRollBook, texts_of};
+ghost use Rattle.key_roll.specs.Entry.{Serves, after_entry, with_roll};
+ghost use Rattle.key_roll.specs.Rolls.{is_roll, named_generation};
+ghost use Rattle.key_roll.specs.declared.signed.Signed.{Signed};
+
+use ar_statement::laws::a_text_is_of_one_statement;
+
+/// No generation's leaf serves two texts.
+pub fn no_leaf_serves_two_texts()
+    ensures { (book : RollBook) (generation leaf : ℕ) (first second : List ℕ) → IsRollBook book
+        → Serves book generation leaf first → Serves book generation leaf second → first ≡ second }
+{}
+
+/// No generation's leaf serves two statements, of all that the types can hold.
+pub fn no_leaf_serves_two_statements()
+    ensures { (book : RollBook) (generation leaf : ℕ) (first second : Claim) → IsRollBook book → IsHeld first → IsHeld second
+        → Serves book generation leaf (text_of first) → Serves book generation leaf (text_of second) → first ≡ second }
+{
+    a_text_is_of_one_statement()
+}
+
+/// The text of a statement is a Roll's exactly where the statement is a Roll, and names its generation.
+pub fn texts_tell_rolls()
+    ensures kind { (claim : Claim) → is_roll (text_of claim) ≡ (kind_of claim == 10) }
+    ensures named { (signer : Party) (generation : ℕ) (key : List ℕ) → generation < 2 ^ 32
+        → named_generation (text_of (roll signer generation key)) ≡ generation }
+{}
+
+/// What a leaf serves it serves in each later book: a text keeps its generation and leaf over entries and
+/// rolls.
+pub fn a_text_keeps_its_leaf()
+    ensures { (book later : RollBook) (more : List Signed) (generation leaf : ℕ) (text : List ℕ)
+        → later.leaves ≡ book.leaves → later.list ≡ book.list ++ more
+        → Serves book generation leaf text → Serves later generation leaf text }
+{}
+
+/// Entries keep a book sound, also where the book holds the text or has no room for it.
+pub fn entries_keep_a_book_sound()
+    ensures { (book : RollBook) (text : List ℕ) → IsRollBook book
+        → (is_roll text ≡ false) ⊎ Contains (texts_of book) text → IsRollBook (after_entry book text) }
+{}
+
+/// A Roll that names the newest generation is new to a book, and a roll keeps the book sound.
+pub fn rolls_keep_a_book_sound()
+    ensures new { (book : RollBook) (text : List ℕ) → IsRollBook book → is_roll text ≡ true
+        → named_generation text ≡ book.newest → place_of (texts_of book) text ≡ None }
+    ensures sound { (book : RollBook) (text : List ℕ) → IsRollBook book → is_roll text ≡ true
+        → named_generation text ≡ book.newest → book.newest < 999 → IsRollBook (with_roll book text) }
+{}

@@ -1,0 +1,22 @@
+//! The book and the keys of a party whose keys roll: each statement has one leaf of one generation, and
+//! the last leaf of each key is kept for the statement that announces the next one.
+//!
+//! `specs/Book.antt` says what a book is, `specs/Entry.antt` which leaf it gives to a statement,
+//! `specs/Ring.antt` which keys a party has, and `laws` that no generation's leaf serves two statements.
+#![tactic(auto)]
+
+pub use book::RollBook;
+pub use due::{RollDue, forgo};
+pub use fault::{BookFault, RollFault};
+pub use ring::KeyRing;
+pub use signed::Signed;
+
+mod book;
+mod due;
+mod entries;
+mod fault;
+pub mod laws;
+mod ring;
+mod signed;
+#[cfg(test)]
+mod tests;
