@@ -8,7 +8,7 @@ use Rattle.ar_message.specs.Confirmation.{Subject, Body, present, absent, Signed
 
 -- what it is about
 abbrev pub subject_of : SubjectView → Subject
-subject_of v = record { client = v.client; epoch = v.epoch; name = v.name; root = v.root }
+subject_of v = record { client = v.client; epoch = v.epoch; name = v.name.now; root = v.root }
 
 -- what the table has for the name
 abbrev pub body_of : BodyView → Body

@@ -5,7 +5,6 @@ ghost use Rattle.ar_message.specs.Views.{body_of, signed_of, subject_of};
 
 use ar_bytes::Fields;
 use ar_cert::CertView;
-use ar_names::NameView;
 use ar_statement::fields::{digest, epoch, name};
 use tree_proof::Bottom;
 
@@ -21,7 +20,7 @@ const MOST_STEPS: u16 = 256;
 pub(crate) struct SubjectView<'a> {
     pub(crate) client: u16,
     pub(crate) epoch: u64,
-    pub(crate) name: NameView<'a>,
+    pub(crate) name: &'a [u8],
     pub(crate) root: [u8; 32],
 }
 
@@ -62,7 +61,7 @@ pub(crate) fn subject<'a>(fields: &mut Fields<'a>) -> Result<SubjectView<'a>, us
 {
     let client = fields.take_u16()?;
     let epoch = epoch(fields)?;
-    let name = name(fields)?;
+    let name = name(fields)?.text();
     let root = digest(fields)?;
     Ok(SubjectView {
         client,

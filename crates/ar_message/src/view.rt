@@ -3,7 +3,6 @@ ghost use Rattle.std.specs.Prelude.{◌≡◌};
 use crate::fields::{BodyView, SignedView, SubjectView, body, form, path, signed, subject};
 use ar_bytes::{Fields, are_bytes};
 use ar_cert::CertView;
-use ar_names::NameView;
 use std::marker::Model;
 use tree_proof::Bottom;
 
@@ -101,7 +100,7 @@ impl<'a> ConfView<'a> {
         ensures value { result.now ≡ self.now.about.name }
         ensures name { IsName result.now }
     {
-        self.about.name.text()
+        self.about.name
     }
 
     /// The root of the table of certificates at the end of the epoch.
@@ -109,13 +108,6 @@ impl<'a> ConfView<'a> {
         ensures { result ≡ self.now.about.root }
     {
         self.about.root
-    }
-
-    /// The name, as a view of its own.
-    pub fn name_view(&self) -> NameView<'a>
-        ensures { result ≡ self.now.about.name }
-    {
-        self.about.name.copy()
     }
 
     /// The certificate of the name, or `None` exactly where the confirmation is of absence.

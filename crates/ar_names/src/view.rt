@@ -35,7 +35,7 @@ impl<'a> NameView<'a> {
     }
 
     /// A text that is known to be a name.
-    pub(crate) fn from_name(text: &'a [u8]) -> NameView<'a>
+    pub fn from_name(text: &'a [u8]) -> NameView<'a>
         requires { IsName text.now }
         ensures { result ≡ text.now }
     {
