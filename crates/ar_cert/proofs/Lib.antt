@@ -1,3 +1,4 @@
+pub mod Accepted
 pub mod Numbers
 pub mod Endorsements
 pub mod Lengths

@@ -1,13 +1,19 @@
-ghost use Rattle.std.specs.Prelude.{◌≡◌, ◌≤◌, ◌↔◌, ◌&&◌, length, map, take, Some, None, IsOk, IsTrue};
+ghost use Rattle.std.specs.Prelude.{◌≡◌, ◌≤◌, ◌↔◌, ◌&&◌, ◌∷◌, [], length, map, take, Some, None, IsTrue};
 ghost use Rattle.std.specs.Option.{option_map};
+ghost use Rattle.ar_base.specs.FirstFailing.{first_failing};
+ghost use Rattle.ar_statement.specs.Claims.{claim_of, text_of};
+ghost use Rattle.ar_statement.specs.Claims as claims;
+ghost use Rattle.cert_policy.specs.Clauses.{follow_answer, in_manner};
 ghost use Rattle.cert_policy.specs.Terms.{cert_terms};
-ghost use Rattle.ar_cert.specs.Judging.{is_signed, judgement, EachFollows, IsAccepted, IsChain};
+ghost use Rattle.cert_policy.specs.declared.manner.Manner.TheVariants.{Objected};
+ghost use Rattle.cert_policy.specs.declared.refusal.PolicyRefusal.TheVariants.{NotPending, Objection};
+ghost use Rattle.ar_cert.specs.Judging.{cert_terms_of, endorsers_of, is_handed_over, is_pending, is_signed, judgement, update_judgement, with_fourth_failed, EachFollows, IsAccepted, IsChain};
 
 use crate::cert::Cert;
 use crate::change::{Change, Endorsement};
 use ar_base::Items;
 use ar_statement::{Statement, Text};
-use cert_policy::{Facts, PolicyRefusal, follows, registrable};
+use cert_policy::{Facts, Manner, PolicyRefusal, follows, registrable, update};
 use lms_tree::{LmsPublic, Verdict, valid};
 
 /// The numbers of the authorities that endorse, in the front of an array.
@@ -22,34 +28,81 @@ fn authorities(endorsements: &[Endorsement]) -> [u16; 8]
     numbers
 }
 
-/// Whether there is a signature, and it is valid under the key for the statement that hands over to the
-/// certificate with this digest.
-fn is_signed(key: &LmsPublic, digest: &[u8; 32], handover: &Option<Items<u8>>) -> bool
-    ensures { result ≡ is_signed key.now digest.now handover.now }
+/// Whether there is a signature, and it is valid under the key for the statement.
+fn is_signed(key: &LmsPublic, statement: &Statement, signature: &Option<Items<u8>>) -> bool
+    ensures { result ≡ is_signed key.now (text_of (claim_of statement.now)) signature.now }
 {
-    let Some(signature) = handover else {
+    let Some(signature) = signature else {
         return false;
     };
-    let text = Text::of(&Statement::Handover {
-        certificate: *digest,
-    });
+    let text = Text::of(statement);
     valid(key, text.as_bytes(), signature.as_slice()) == Verdict::Valid
 }
 
 /// Whether the old policy asks for a handover and there is one under this key. The signature is verified
 /// only where it is asked for.
 fn hands_over(old: &Facts, new: &Facts, key: &LmsPublic, handover: &Option<Items<u8>>) -> bool
-    ensures { result ≡ (cert_terms old.now).policy.keyed && is_signed key.now (cert_terms new.now).digest handover.now }
+    ensures { result ≡ (cert_terms old.now).policy.keyed && is_signed key.now (text_of (claims.handover (cert_terms new.now).digest)) handover.now }
 {
-    old.policy.keyed && is_signed(key, &new.digest, handover)
+    let statement = Statement::Handover {
+        certificate: new.digest,
+    };
+    old.policy.keyed && is_signed(key, &statement, handover)
 }
 
-/// Whether a change by these endorsers follows the old certificate.
-#[tactic(auto, unfolding(crate::specs::Judging::IsAccepted))]
+/// Whether the key objects to the certificate with this digest, and that is what is pending; or else the least
+/// clause that fails.
+fn judge_objection(
+    key: &LmsPublic,
+    digest: &[u8; 32],
+    pending: Option<&[u8; 32]>,
+    objection: &Option<Items<u8>>,
+) -> Result<Manner, PolicyRefusal>
+    ensures { result ≡ in_manner Objected (first_failing ((NotPending, is_pending (option_map (λ d. d.now) pending.entry) digest.now)
+        ∷ ((Objection, is_signed key.now (text_of (claims.object digest.now)) objection.now) ∷ []))) }
+{
+    match pending {
+        Some(waiting) if *waiting == *digest => {}
+        _ => return Err(PolicyRefusal::NotPending),
+    }
+    let statement = Statement::Object {
+        certificate: *digest,
+    };
+    if is_signed(key, &statement, objection) {
+        Ok(Manner::Objected)
+    } else {
+        Err(PolicyRefusal::Objection)
+    }
+}
+
+/// How a change behind the certificate `old` is taken, by the digest of the certificate that is pending for the
+/// name, if one is; or the first clause of the policy rule that fails.
+///
+/// A change without an objection is taken as the rule says of an update, with its endorsers and its handover as
+/// for `judge_change`. One with an objection is `Objected` where its certificate is what is pending and the
+/// objection is valid under the old key. It takes no memory.
+pub fn judge_update(
+    old: &Cert,
+    pending: Option<&[u8; 32]>,
+    change: &Change,
+) -> Result<Manner, PolicyRefusal>
+    ensures answer { result ≡ update_judgement old.now (option_map (λ d. d.now) pending.entry) change.now }
+{
+    let before = old.facts();
+    let after = change.cert.facts();
+    if change.objection.is_some() {
+        return judge_objection(&old.subject, &after.digest, pending, &change.objection);
+    }
+    let numbers = authorities(change.endorsements.as_slice());
+    let endorsers = &numbers[..change.endorsements.len()];
+    let handover = hands_over(&before, &after, &old.subject, &change.handover);
+    update(&before, &after, endorsers, handover, pending.is_some())
+}
+
+/// Whether a change by these endorsers follows the old certificate, whatever it objects to.
 fn judge_follow(old: &Cert, change: &Change, endorsers: &[u16]) -> Result<(), PolicyRefusal>
     requires { endorsers.now ≡ map (λ v. v.authority) change.now.endorsements }
-    ensures answer { result ≡ judgement (Some old.now) change.now }
-    ensures ok { IsOk result ↔ IsAccepted (Some old.now) change.now }
+    ensures { result ≡ follow_answer (cert_terms_of old.now) (cert_terms_of change.now.cert) (endorsers_of change.now) (is_handed_over old.now change.now) }
 {
     let before = old.facts();
     let after = change.cert.facts();
@@ -57,33 +110,61 @@ fn judge_follow(old: &Cert, change: &Change, endorsers: &[u16]) -> Result<(), Po
     follows(&before, &after, endorsers, handover)
 }
 
+/// An answer, where the fourth clause counts as failed.
+fn with_fourth_failed(answer: Result<(), PolicyRefusal>) -> Result<(), PolicyRefusal>
+    ensures { result ≡ with_fourth_failed answer }
+{
+    match answer {
+        Err(refusal) if refusal.number() < 4 => Err(refusal),
+        _ => Err(PolicyRefusal::Previous),
+    }
+}
+
 /// Whether a change registers its name, where `old` is `None`, or else follows the old certificate; or
-/// the first clause of the policy rule that fails.
+/// the first clause of the policy rule that fails. For a change with an objection the fourth clause counts as
+/// failed.
 ///
 /// The endorsers are the authorities of its endorsements, whose signatures are not looked at. The old
 /// key hands over where the change carries a signature that is valid under it (RFC 8554, section 5.4.2)
 /// for the statement that hands over to the new certificate; this is verified only where the old policy
 /// is keyed. It takes no memory.
-#[tactic(auto, unfolding(crate::specs::Judging::IsAccepted))]
 pub fn judge_change(old: Option<&Cert>, change: &Change) -> Result<(), PolicyRefusal>
     ensures answer { result ≡ judgement (option_map (λ cert. cert.now) old.entry) change.now }
-    ensures ok { IsOk result ↔ IsAccepted (option_map (λ cert. cert.now) old.entry) change.now }
 {
     let numbers = authorities(change.endorsements.as_slice());
     let endorsers = &numbers[..change.endorsements.len()];
-    match old {
+    let answer = match old {
         None => registrable(&change.cert.facts(), endorsers),
         Some(old) => judge_follow(old, change, endorsers),
+    };
+    if change.objection.is_some() {
+        with_fourth_failed(answer)
+    } else {
+        answer
     }
 }
 
-/// Whether each change follows the one before it.
+/// Whether a change registers its name.
+fn is_first(change: &Change) -> bool
+    ensures { IsTrue result ↔ IsAccepted None change.now }
+{
+    judge_change(None, change).is_ok()
+}
+
+/// Whether a change is accepted behind the old certificate, with nothing pending.
+fn is_next(old: &Cert, change: &Change) -> bool
+    ensures { IsTrue result ↔ IsAccepted (Some old.now) change.now }
+{
+    judge_update(old, None, change).is_ok()
+}
+
+/// Whether each change is accepted behind the one before it.
 fn each_follows(chain: &[Change]) -> bool
     ensures { IsTrue result ↔ EachFollows chain.now }
 {
     for i in 1..chain.len() {
         let before = &chain[i - 1];
-        if judge_change(Some(&before.cert), &chain[i]).is_err() {
+        if !is_next(&before.cert, &chain[i]) {
             return false;
         }
     }
@@ -91,12 +172,13 @@ fn each_follows(chain: &[Change]) -> bool
 }
 
 /// Whether the changes are the chain of a name, the oldest first: there is one, the first registers the
-/// name, and each next one follows the one before it, as `judge_change` answers. It takes no memory.
+/// name, and each next one is taken behind the one before it with nothing pending, fully or as a recovery. It
+/// takes no memory.
 pub fn chain_ok(chain: &[Change]) -> bool
     ensures { IsTrue result ↔ IsChain chain.now }
 {
     let Some(first) = chain.first() else {
         return false;
     };
-    judge_change(None, first).is_ok() && each_follows(chain)
+    is_first(first) && each_follows(chain)
 }

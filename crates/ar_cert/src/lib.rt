@@ -26,5 +26,5 @@ mod writing;
 pub use cert::{Cert, Policy};
 pub use change::{Change, Endorsement};
 pub use fault::CertFault;
-pub use judging::{chain_ok, judge_change};
+pub use judging::{chain_ok, judge_change, judge_update};
 pub use view::CertView;
