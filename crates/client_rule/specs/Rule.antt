@@ -1,19 +1,22 @@
 -- What a client accepts: the checks of a confirmation in their order, and the first that fails.
-use Rattle.std.specs.Prelude.{ℕ, ◌+◌, ◌-◌, ◌%◌, ◌==◌, nat_le, nat_lt, Bool, not, ◌&&◌, if◌then◌else◌, List, [], ◌∷◌, length, Option, Some, None}
+use Rattle.std.specs.Prelude.{ℕ, ◌-◌, ◌==◌, nat_le, nat_lt, Bool, true, not, ◌&&◌, List, [], ◌∷◌, length, Option, Some, None, Result, Ok, Err}
 use Rattle.std.specs.Result.{is_ok, result_ok}
 use Rattle.std.specs.Str.{bytes_eq}
-use Rattle.hash_tree.specs.Strings.{entry_digest, value_digest}
-use Rattle.tree_proof.specs.Fold.{digests_in, path_value}
+use Rattle.hash_tree.specs.Strings.{value_digest}
+use Rattle.tree_proof.specs.Membership.{is_on, is_off}
+use Rattle.ar_base.specs.FirstFailing.{first_failing}
 use Rattle.ar_bytes.specs.Reading.{whole}
 use Rattle.ar_names.specs.Names.{name_digest_of}
-use Rattle.ar_statement.specs.Claims.{confirm, text_of, party}
+use Rattle.ar_statement.specs.Claims.{Claim, confirm, confirm_absent, text_of, party}
 use Rattle.ar_statement.specs.declared.party.Role.TheVariants.{LogServer, Authority}
 use Rattle.ar_statement.specs.declared.party.Party.{Party}
 use Rattle.ar_cert.specs.Certificate.{digest_of}
+use Rattle.ar_message.specs.Confirmation.{Subject, Body, present, absent, Signed, Confirmation, confirmation_at}
 use Rattle.party_keys.specs.Directory.{PartyKeys, verified}
-use Rattle.client_rule.specs.Confirmation.{Subject, Confirmation, confirmation_at}
 use Rattle.client_rule.specs.declared.judgement.Judgement.{Judgement}
-use Rattle.client_rule.specs.declared.judgement.Judgement.TheVariants.{Accepted, Refused}
+use Rattle.client_rule.specs.declared.judgement.Judgement.TheVariants.{Accepted, Absent, Refused}
+
+-- ---- the checks
 
 -- the directory has the log and both authorities, and the authorities are two
 abbrev pub has_parties : PartyKeys → Confirmation → Bool
@@ -23,56 +26,70 @@ has_parties keys c =
     && (nat_lt c.second.number (length keys.authorities)
     && not (c.first.number == c.second.number)))
 
--- the party signed its own statement that the name has the certificate with this digest
-unfoldable pub confirms : PartyKeys → Subject → List ℕ → Party → List ℕ → Bool
-confirms keys about digest signer signature =
-    is_ok (verified keys signer (text_of (confirm signer about.epoch about.name digest about.root)) signature)
+-- what each of the three signs: that at the end of the epoch the name has the certificate, or none
+abbrev pub claim_on : Subject → Body → Party → Claim
+claim_on about (present certificate) signer = confirm signer about.epoch about.name (digest_of certificate) about.root
+claim_on about (absent bottom) signer = confirm_absent signer about.epoch about.name about.root
 
--- at most 256 whole steps lead from the entry of the key and the value to the root
-unfoldable pub leads : List ℕ → List ℕ → List ℕ → List ℕ → Bool
-leads key value steps root =
-    length steps % 32 == 0
-    && (nat_le (length (digests_in steps)) 256
-    && bytes_eq (path_value key (entry_digest key value) (digests_in steps)) root)
+-- the party signed its own statement of it
+unfoldable pub confirms : PartyKeys → Subject → Body → Party → List ℕ → Bool
+confirms keys about body signer signature = is_ok (verified keys signer (text_of (claim_on about body signer)) signature)
 
--- the certificate is the name's, and the steps lead from the name's entry to the root
-unfoldable pub is_in_table : Confirmation → Bool
-is_in_table c =
-    bytes_eq c.certificate.name c.about.name
-    && leads (name_digest_of c.about.name) (value_digest c.certificate.serial (digest_of c.certificate)) c.steps c.about.root
+-- the table with the root has this for the name: the certificate is the name's, and the steps lead from
+-- the name's entry to the root; or they show that the name has no entry
+unfoldable pub is_shown : Subject → Body → List ℕ → Bool
+is_shown about (present certificate) steps =
+    bytes_eq certificate.name about.name
+    && is_on (name_digest_of about.name) (value_digest certificate.serial (digest_of certificate)) steps about.root
+is_shown about (absent bottom) steps = is_off (name_digest_of about.name) bottom steps about.root
 
 -- so many epochs after its own, the confirmation is not older than the client and the certificate allow
-abbrev pub is_young : ℕ → ℕ → Confirmation → Bool
-is_young after age c = nat_le after age && nat_le after c.certificate.policy.max_age
+abbrev pub is_young : ℕ → ℕ → Body → Bool
+is_young after age (present certificate) = nat_le after age && nat_le after certificate.policy.max_age
+is_young after age (absent bottom) = nat_le after age
 
--- the checks from the second on: 2 the name is the one that was asked for, 3 the parties, 4 the log's
--- signature, 5 the first authority's, 6 the second's, 7 the path, 8 the epoch is not in the future,
--- 9 the age
-abbrev pub checks : PartyKeys → List ℕ → ℕ → ℕ → Confirmation → List Bool
+-- the certificate, if there is one, is not revoked
+abbrev pub is_live : Body → Bool
+is_live (present certificate) = not certificate.revoked
+is_live (absent bottom) = true
+
+-- and has not expired
+abbrev pub is_current : ℕ → Body → Bool
+is_current now (present certificate) = nat_le now certificate.policy.until
+is_current now (absent bottom) = true
+
+-- the checks of what was read: 2 the name is the one that was asked for, 3 the parties, 4 the log's
+-- signature, 5 the first authority's, 6 the second's, 7 the path, 8 the epoch is not in the future, 9 the
+-- age, 10 the certificate is not revoked, 11 nor expired
+abbrev pub checks : PartyKeys → List ℕ → ℕ → ℕ → Confirmation → List (ℕ × Bool)
 checks keys name now age c =
-    bytes_eq c.about.name name
-    ∷ has_parties keys c
-    ∷ confirms keys c.about (digest_of c.certificate) (party LogServer c.log.number) c.log.signature
-    ∷ confirms keys c.about (digest_of c.certificate) (party Authority c.first.number) c.first.signature
-    ∷ confirms keys c.about (digest_of c.certificate) (party Authority c.second.number) c.second.signature
-    ∷ is_in_table c
-    ∷ nat_le c.about.epoch now
-    ∷ is_young (now - c.about.epoch) age c
+    (2, bytes_eq c.about.name name)
+    ∷ (3, has_parties keys c)
+    ∷ (4, confirms keys c.about c.body (party LogServer c.log.number) c.log.signature)
+    ∷ (5, confirms keys c.about c.body (party Authority c.first.number) c.first.signature)
+    ∷ (6, confirms keys c.about c.body (party Authority c.second.number) c.second.signature)
+    ∷ (7, is_shown c.about c.body c.steps)
+    ∷ (8, nat_le c.about.epoch now)
+    ∷ (9, is_young (now - c.about.epoch) age c.body)
+    ∷ (10, is_live c.body)
+    ∷ (11, is_current now c.body)
     ∷ []
 
--- the first check that fails, where the first of all has the number n
-abbrev pub first_failing : ℕ → List Bool → Option ℕ
-first_failing n [] = None
-first_failing n (check ∷ checks) = if check then first_failing (n + 1) checks else Some n
+-- ---- the judgement
 
--- the number of the check that refuses a confirmation
-unfoldable pub refusal_of : PartyKeys → List ℕ → ℕ → ℕ → Confirmation → Option ℕ
-refusal_of keys name now age c = first_failing 2 (checks keys name now age c)
+-- the number of the first check that refuses a confirmation
+unfoldable pub refusal_of : PartyKeys → List ℕ → ℕ → ℕ → Confirmation → Result (Unit {0}) ℕ
+refusal_of keys name now age c = first_failing (checks keys name now age c)
+
+-- what is accepted: the certificate, or that there is none
+abbrev pub taken : Subject → Body → Judgement
+taken about (present certificate) = Accepted certificate (digest_of certificate) about.epoch about.root
+taken about (absent bottom) = Absent about.epoch about.root
 
 -- refused, or accepted
-abbrev pub unless_refused : Option ℕ → Confirmation → Judgement
-unless_refused None c = Accepted c.certificate (digest_of c.certificate) c.about.epoch c.about.root
-unless_refused (Some k) c = Refused k
+abbrev pub unless_refused : Result (Unit {0}) ℕ → Confirmation → Judgement
+unless_refused (Ok _) c = taken c.about c.body
+unless_refused (Err number) c = Refused number
 
 -- the judgement of what was read, where it is a confirmation; what is none fails the first check
 abbrev pub judgement_on : PartyKeys → List ℕ → ℕ → ℕ → Option Confirmation → Judgement

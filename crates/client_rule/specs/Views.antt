@@ -1,17 +1,16 @@
--- A confirmation that is read in place, as contracts see it.
-use Rattle.client_rule.specs.declared.fields.SubjectView.{SubjectView}
-use Rattle.client_rule.specs.declared.fields.SignedView.{SignedView}
-use Rattle.client_rule.specs.declared.view.ConfView.TheInside.{Inside}
-use Rattle.client_rule.specs.Confirmation.{Subject, Signed, Confirmation}
+-- What a confirmation says of its name, as contracts see it.
+use Rattle.std.specs.Prelude.{◌≡◌}
+use Rattle.client_rule.specs.declared.shown.Shown.{Shown}
+use Rattle.client_rule.specs.declared.shown.Shown.TheVariants.{Present, Absent}
+use Rattle.ar_cert.specs.Certificate.{digest_of}
+use Rattle.ar_message.specs.Confirmation.{Body, present, absent}
 
--- what it is about
-abbrev pub subject_of : SubjectView → Subject
-subject_of v = record { client = v.client; epoch = v.epoch; name = v.name; root = v.root }
+-- what the table has for the name
+abbrev pub body_of : Shown → Body
+body_of (Present certificate digest) = present certificate
+body_of (Absent bottom) = absent bottom
 
--- who signed, and how
-abbrev pub signed_of : SignedView → Signed
-signed_of v = record { number = v.number; signature = v.signature.now }
-
--- the confirmation that is viewed
-abbrev pub confirmation_of : Inside → Confirmation
-confirmation_of v = record { about = subject_of v.about; certificate = v.certificate; steps = v.steps.now; log = signed_of v.log; first = signed_of v.first; second = signed_of v.second }
+-- the digest that is kept beside a certificate is its own
+abbrev pub HasDigest : Shown → Type 0
+HasDigest (Present certificate digest) = digest ≡ digest_of certificate
+HasDigest (Absent bottom) = Unit {0}

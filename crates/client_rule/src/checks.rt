@@ -1,36 +1,16 @@
-ghost use Rattle.std.specs.Prelude.{◌≡◌, ◌≤◌, ◌-◌, length};
-ghost use Rattle.ar_statement.specs.Claims.{party};
-ghost use Rattle.ar_statement.specs.declared.party.Role.TheVariants.{LogServer, Authority};
-ghost use Rattle.ar_cert.specs.Certificate.{digest_of};
-ghost use Rattle.client_rule.specs.Confirmation.{Subject};
-ghost use Rattle.client_rule.specs.Rule.{confirms, has_parties, is_in_table, is_young, leads, refusal_of};
+ghost use Rattle.std.specs.Prelude.{◌≡◌, ◌-◌};
+ghost use Rattle.tree_proof.specs.Membership.{is_off, is_on};
+ghost use Rattle.ar_statement.specs.Claims.{text_of};
+ghost use Rattle.client_rule.specs.Rule.{claim_on, confirms, has_parties, is_current, is_live, is_shown, is_young, refusal_of};
+ghost use Rattle.client_rule.specs.Views.{body_of, HasDigest};
 
-use crate::view::ConfView;
-use ar_names::name_digest;
+use crate::shown::Shown;
+use ar_message::ConfView;
+use ar_names::{NameView, name_digest};
 use ar_statement::{Party, Role, Statement, Text};
 use hash_tree::value_digest;
 use party_keys::Directory;
-use tree_proof::check_present;
-
-// The log with this number.
-fn log(number: u16) -> Party
-    ensures { result ≡ party LogServer number }
-{
-    Party {
-        role: Role::LogServer,
-        number,
-    }
-}
-
-// The authority with this number.
-fn authority(number: u16) -> Party
-    ensures { result ≡ party Authority number }
-{
-    Party {
-        role: Role::Authority,
-        number,
-    }
-}
+use tree_proof::{Bottom, check_absent, check_present};
 
 // Whether the directory has all parties, and the authorities are two.
 fn has_parties(directory: &Directory, view: &ConfView) -> bool
@@ -42,56 +22,108 @@ fn has_parties(directory: &Directory, view: &ConfView) -> bool
         && view.first() != view.second()
 }
 
-// Whether a party signed that the name has the certificate with this digest.
+// The text of what a party signs.
+fn text_on(view: &ConfView, shown: &Shown, signer: Party) -> Text
+    requires { HasDigest shown.now }
+    ensures { result ≡ text_of (claim_on view.now.about (body_of shown.now) signer) }
+{
+    let name = NameView::from_name(view.name());
+    match shown {
+        Shown::Present { digest, .. } => Text::of(&Statement::Confirm {
+            signer,
+            epoch: view.epoch(),
+            name,
+            certificate: *digest,
+            root: view.root(),
+        }),
+        Shown::Absent(_) => Text::of(&Statement::ConfirmAbsent {
+            signer,
+            epoch: view.epoch(),
+            name,
+            root: view.root(),
+        }),
+    }
+}
+
+// Whether a party signed what the confirmation says.
 #[tactic(auto, unfolding(crate::specs::Rule::confirms))]
 fn confirms(
     directory: &Directory,
     view: &ConfView,
-    digest: &[u8; 32],
+    shown: &Shown,
     signer: Party,
     signature: &[u8],
 ) -> bool
-    ensures { result ≡ confirms directory.now view.now.about digest.now signer signature.now }
+    requires { HasDigest shown.now }
+    ensures { result ≡ confirms directory.now view.now.about (body_of shown.now) signer signature.now }
 {
-    let text = Text::of(&Statement::Confirm {
-        signer,
-        epoch: view.epoch(),
-        name: view.name_view(),
-        certificate: *digest,
-        root: view.root(),
-    });
+    let text = text_on(view, shown, signer);
     directory.verify(signer, text.as_bytes(), signature).is_ok()
 }
 
-// Whether the steps lead from the entry of the key and the value to the root.
-fn leads(key: &[u8; 32], value: &[u8; 32], steps: &[u8], root: &[u8; 32]) -> bool
-    ensures { result ≡ leads key.now value.now steps.now root.now }
+// Whether the steps show that the key has the value under the root.
+fn is_on(key: &[u8; 32], value: &[u8; 32], steps: &[u8], root: &[u8; 32]) -> bool
+    ensures { result ≡ is_on key.now value.now steps.now root.now }
 {
     check_present(key, value, steps, root)
 }
 
-// Whether the certificate is the name's, and is in the table with the root.
-#[tactic(auto, unfolding(crate::specs::Rule::is_in_table))]
-fn is_in_table(view: &ConfView, digest: &[u8; 32]) -> bool
-    requires { digest.now ≡ digest_of view.now.certificate }
-    ensures { result ≡ is_in_table view.now }
+// Whether the steps show that the key has no value under the root.
+fn is_off(key: &[u8; 32], bottom: &Bottom, steps: &[u8], root: &[u8; 32]) -> bool
+    ensures { result ≡ is_off key.now bottom.now steps.now root.now }
 {
-    let cert = view.certificate();
-    let value = value_digest(cert.serial(), digest);
-    cert.name() == view.name()
-        && leads(
-            &name_digest(view.name()),
-            &value,
-            view.steps(),
-            &view.root(),
-        )
+    check_absent(key, bottom, steps, root)
+}
+
+// Whether the table with the root has this for the name.
+#[tactic(auto, unfolding(crate::specs::Rule::is_shown))]
+fn is_shown(view: &ConfView, shown: &Shown) -> bool
+    requires { HasDigest shown.now }
+    ensures { result ≡ is_shown view.now.about (body_of shown.now) view.now.steps }
+{
+    let key = name_digest(view.name());
+    match shown {
+        Shown::Present {
+            certificate,
+            digest,
+        } => {
+            let value = value_digest(certificate.serial(), digest);
+            certificate.name() == view.name() && is_on(&key, &value, view.steps(), &view.root())
+        }
+        Shown::Absent(bottom) => is_off(&key, bottom, view.steps(), &view.root()),
+    }
 }
 
 // Whether the confirmation is young enough so many epochs after its own.
-fn is_young(view: &ConfView, after: u64, age: u64) -> bool
-    ensures { result ≡ is_young after age view.now }
+fn is_young(shown: &Shown, after: u64, age: u64) -> bool
+    ensures { result ≡ is_young after age (body_of shown.now) }
 {
-    after <= age && after <= view.certificate().max_age() as u64
+    match shown {
+        Shown::Present { certificate, .. } => {
+            after <= age && after <= certificate.max_age() as u64
+        }
+        Shown::Absent(_) => after <= age,
+    }
+}
+
+// Whether the certificate, if there is one, is not revoked.
+fn is_live(shown: &Shown) -> bool
+    ensures { result ≡ is_live (body_of shown.now) }
+{
+    match shown {
+        Shown::Present { certificate, .. } => !certificate.revoked(),
+        Shown::Absent(_) => true,
+    }
+}
+
+// Whether the certificate, if there is one, has not expired.
+fn is_current(shown: &Shown, now: u64) -> bool
+    ensures { result ≡ is_current now (body_of shown.now) }
+{
+    match shown {
+        Shown::Present { certificate, .. } => now <= certificate.until(),
+        Shown::Absent(_) => true,
+    }
 }
 
 /// The number of the first check that refuses the confirmation.
@@ -100,39 +132,43 @@ pub(crate) fn refusal(
     directory: &Directory,
     name: &[u8],
     view: &ConfView,
-    digest: &[u8; 32],
+    shown: &Shown,
     now: u64,
     age: u64,
-) -> Option<u8>
-    requires { digest.now ≡ digest_of view.now.certificate }
+) -> Result<(), u8>
+    requires digest { HasDigest shown.now }
+    requires body { body_of shown.now ≡ view.now.body }
     ensures { result ≡ refusal_of directory.now name.now now age view.now }
 {
     if view.name() != name {
-        return Some(2);
+        return Err(2);
     }
     if !has_parties(directory, view) {
-        return Some(3);
+        return Err(3);
     }
-    let signer = log(view.log());
-    if !confirms(directory, view, digest, signer, view.log_signature()) {
-        return Some(4);
+    if !confirms(directory, view, shown, Role::LogServer.party(view.log()), view.log_signature()) {
+        return Err(4);
     }
-    let signer = authority(view.first());
-    if !confirms(directory, view, digest, signer, view.first_signature()) {
-        return Some(5);
+    if !confirms(directory, view, shown, Role::Authority.party(view.first()), view.first_signature()) {
+        return Err(5);
     }
-    let signer = authority(view.second());
-    if !confirms(directory, view, digest, signer, view.second_signature()) {
-        return Some(6);
+    if !confirms(directory, view, shown, Role::Authority.party(view.second()), view.second_signature()) {
+        return Err(6);
     }
-    if !is_in_table(view, digest) {
-        return Some(7);
+    if !is_shown(view, shown) {
+        return Err(7);
     }
     if view.epoch() > now {
-        return Some(8);
+        return Err(8);
     }
-    if !is_young(view, now - view.epoch(), age) {
-        return Some(9);
+    if !is_young(shown, now - view.epoch(), age) {
+        return Err(9);
     }
-    None
+    if !is_live(shown) {
+        return Err(10);
+    }
+    if !is_current(shown, now) {
+        return Err(11);
+    }
+    Ok(())
 }

@@ -1,9 +1,11 @@
 ghost use Rattle.std.specs.Prelude.{◌≡◌};
-ghost use Rattle.client_rule.specs.Rule.{judgement};
+ghost use Rattle.client_rule.specs.Rule.{judgement, taken};
+ghost use Rattle.client_rule.specs.Views.{body_of, HasDigest};
 
 use crate::checks::refusal;
-use crate::view::ConfView;
+use crate::shown::{Shown, shown_by};
 use ar_cert::CertView;
+use ar_message::ConfView;
 use party_keys::Directory;
 
 /// What a client answers to a confirmation.
@@ -17,12 +19,35 @@ pub enum Judgement<'a> {
         epoch: u64,
         root: [u8; 32],
     },
+    /// The name has no certificate at the end of the epoch, in the table with this root.
+    Absent { epoch: u64, root: [u8; 32] },
     /// The number of the first check that fails: 1 the bytes are no confirmation; 2 the name is not the
     /// one that was asked for; 3 the log or an authority is not known, or the two authorities are one;
     /// 4, 5, 6 the signature of the log, of the first, of the second authority is not valid; 7 the
-    /// certificate is of another name, or the path does not lead from it to the root; 8 the epoch is
-    /// later than `now`; 9 it is longer ago than the client or the certificate allows.
+    /// certificate is of another name, or the path does not lead from it to the root, or it does not
+    /// show that there is none; 8 the epoch is later than `now`; 9 it is longer ago than the client or
+    /// the certificate allows; 10 the certificate is revoked; 11 it has expired.
     Refused(u8),
+}
+
+// What the confirmation says, where no check refuses it.
+fn taken<'a>(view: &ConfView<'a>, shown: Shown<'a>) -> Judgement<'a>
+    requires { HasDigest shown.entry }
+    ensures { result ≡ taken view.now.about (body_of shown.entry) }
+{
+    let (epoch, root) = (view.epoch(), view.root());
+    match shown {
+        Shown::Present {
+            certificate,
+            digest,
+        } => Judgement::Accepted {
+            certificate,
+            digest,
+            epoch,
+            root,
+        },
+        Shown::Absent(_) => Judgement::Absent { epoch, root },
+    }
 }
 
 /// Judges the bytes of a confirmation of a name, in epoch `now`, for a client that accepts what is at
@@ -40,15 +65,9 @@ pub fn judge<'a>(
     let Some(view) = ConfView::read(bytes) else {
         return Judgement::Refused(1);
     };
-    let digest = view.certificate().digest();
-    if let Some(number) = refusal(directory, name, &view, &digest, now, age) {
-        return Judgement::Refused(number);
-    }
-    let (epoch, root) = (view.epoch(), view.root());
-    Judgement::Accepted {
-        certificate: view.into_cert(),
-        digest,
-        epoch,
-        root,
+    let shown = shown_by(&view);
+    match refusal(directory, name, &view, &shown, now, age) {
+        Err(number) => Judgement::Refused(number),
+        Ok(()) => taken(&view, shown),
     }
 }
