@@ -10,3 +10,4 @@ pub mod Two
 pub mod Put
 pub mod Take
 pub mod Set
+pub mod Longer

@@ -3,9 +3,12 @@
 //! The digest of a set of entries at a depth is that of no entry where there is none, that of the
 //! entry where there is one, and else that of the two halves of the set, by the key's bit at that
 //! depth. The root is the digest at depth 0. `specs/Root.antt` says this over finite maps: no tree is
-//! kept, and the order of the entries does not matter.
+//! in it, and the order of the entries does not matter.
 //!
-//! No function here takes memory.
+//! `root_of` computes it from a list of entries, without memory. `Trie` keeps the digests of a set
+//! that changes: contracts see the finite map of its entries, a change of one entry hashes the path of
+//! its key alone, and each hash call is a tick of the counter that the caller hands in (`Steps`).
+//! `specs/Kept.antt` says what the kept tree is.
 #![tactic(auto)]
 
 pub use bits::key_bit;
@@ -18,6 +21,7 @@ pub use trie::{Trie, Walk};
 
 mod bits;
 mod digests;
+pub mod laws;
 mod node;
 mod roots;
 mod steps;
