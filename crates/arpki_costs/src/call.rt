@@ -10,10 +10,12 @@ ghost use Rattle.lms_tree.specs.Signature.{lms_signature_len_of};
 ghost use Rattle.lms_tree.specs.declared.key.KeyFault.TheVariants.{Memory};
 
 use crate::table::table;
-use hash_tree::root_of;
+use hash_tree::{Steps, Trie, root_of};
 use lms_tree::{KeyFault, LmsKey};
-use std::alloc::Global;
+use std::alloc::{AllocError, Global};
 use std::io::{self, ErrorKind};
+use std::marker::Brand;
+use std::sync::ledger::{Blank, Ledger};
 
 const SEED: [u8; 32] = [
     0, 1, 2, 3, 4, 5, 6, 7, 8, 9, 10, 11, 12, 13, 14, 15, 16, 17, 18, 19, 20, 21, 22, 23, 24, 25,
@@ -46,6 +48,57 @@ pub(crate) fn root_of_table(alloc: Global, count: u32) -> io::Result<[u8; 32]> {
         Some(entries) => Ok(root(&entries)),
         None => Err(ErrorKind::InvalidInput.into()),
     }
+}
+
+/// The root of the kept tree of a table, whose entries are set one by one, and then the first of them
+/// once more with another value if that is asked for.
+pub(crate) fn root_kept(alloc: Global, count: u32, changed: bool) -> io::Result<[u8; 32]> {
+    match table(alloc, count)? {
+        Some(entries) => Ok(keep::<Brand>(alloc, &entries, changed, Blank::new(1))?),
+        None => Err(ErrorKind::InvalidInput.into()),
+    }
+}
+
+fn keep<L: Ledger>(
+    alloc: Global,
+    entries: &[([u8; 32], [u8; 32])],
+    changed: bool,
+    blank: Blank,
+) -> Result<[u8; 32], AllocError>
+    requires name { blank.name ≡ L.name }
+    requires parts { blank.parts ≡ L.parts }
+    requires some { 0 < L.parts }
+{
+    let mut steps = Steps::<L>::new(blank);
+    let mut trie = Trie::new();
+    fill(alloc, &mut trie, entries, &mut steps)?;
+    if changed && let [(key, _), ..] = entries {
+        change(alloc, &mut trie, key, &mut steps)?;
+    }
+    Ok(trie.root())
+}
+
+#[inline(never)]
+fn fill<L: Ledger>(
+    alloc: Global,
+    trie: &mut Trie,
+    entries: &[([u8; 32], [u8; 32])],
+    steps: &mut Steps<L>,
+) -> Result<(), AllocError> {
+    for (key, value) in entries {
+        trie.set(alloc, *key, *value, steps)?;
+    }
+    Ok(())
+}
+
+#[inline(never)]
+fn change<L: Ledger>(
+    alloc: Global,
+    trie: &mut Trie,
+    key: &[u8; 32],
+    steps: &mut Steps<L>,
+) -> Result<(), AllocError> {
+    trie.set(alloc, *key, [0; 32], steps)
 }
 
 #[inline(never)]

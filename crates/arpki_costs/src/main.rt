@@ -6,6 +6,8 @@
 //! | `key LMS OTS` | `LmsKey::make`, of these types | the public key |
 //! | `sign LMS OTS` | `LmsKey::sign_at`, by such a key | the signature |
 //! | `root COUNT` | `root_of`, over a table of so many entries | the root |
+//! | `fill COUNT` | `Trie::set`, of each entry of such a table | the root |
+//! | `change COUNT` | `Trie::set` once more in the filled tree, of the first entry with a value of zeros | the root |
 //!
 //! The seed of a key is the bytes 0 to 31, and what it signs is the message `abc`, at leaf 0. Entry n
 //! of a table has as its key the value of a domain with the serial n and a certificate digest of zeros,
@@ -19,7 +21,7 @@ use std::io::{self, ErrorKind};
 mod call;
 mod table;
 
-use call::{key_of, root_of_table, signature_of};
+use call::{key_of, root_kept, root_of_table, signature_of};
 
 /// What the call that the words name gave, in hex.
 fn answer(alloc: Global, words: &[String]) -> io::Result<String> {
@@ -34,6 +36,12 @@ fn answer(alloc: Global, words: &[String]) -> io::Result<String> {
         }
         [call, count] if call.as_str() == "root" => {
             Ok(hex::encode(alloc, &root_of_table(alloc, number(count)?)?)?)
+        }
+        [call, count] if call.as_str() == "fill" => {
+            Ok(hex::encode(alloc, &root_kept(alloc, number(count)?, false)?)?)
+        }
+        [call, count] if call.as_str() == "change" => {
+            Ok(hex::encode(alloc, &root_kept(alloc, number(count)?, true)?)?)
         }
         _ => Err(ErrorKind::InvalidInput.into()),
     }
