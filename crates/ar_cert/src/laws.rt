@@ -1,12 +1,15 @@
-//! Laws on the texts of certificates and changes, over the definitions alone: each is the contract of a
-//! function without a body.
+//! Laws on the texts of certificates and changes, and on how changes are judged, over the definitions alone:
+//! each is the contract of a function without a body.
 
-ghost use Rattle.std.specs.Prelude.{◌≡◌, ◌++◌, ◌↔◌, List, ℕ, Ok};
+ghost use Rattle.std.specs.Prelude.{◌≡◌, ◌<◌, ◌+◌, ◌++◌, ◌∷◌, [], ◌↔◌, List, ℕ, Ok, Option, Some, None, IsNone, IsSome, IsTrue, is_ok, is_some, get_or, length};
 ghost use Rattle.ar_bytes.specs.Reading.{whole};
 ghost use Rattle.ar_base.specs.Bytes.{AreBytes};
 ghost use Rattle.ar_bytes.specs.RoundTrip.{ReadsBack, IsSpelledBy, counted_text};
 ghost use Rattle.ar_cert.specs.Certificate.{Certificate, IsCertificate, certificate_at, counted_certificate_at, certificate_text};
 ghost use Rattle.ar_cert.specs.Changes.{Change, IsChange, change_at, change_text};
+ghost use Rattle.ar_cert.specs.Judging.{IsAccepted, IsChain, IsObjection, IsTaken, judgement, update_judgement};
+ghost use Rattle.cert_policy.specs.declared.manner.Manner.{Manner};
+ghost use Rattle.cert_policy.specs.declared.manner.Manner.TheVariants.{Objected};
 
 /// A certificate is read from exactly its own text, and so is a change.
 pub fn only_texts_are_read()
@@ -41,4 +44,34 @@ pub fn a_text_is_of_one_certificate()
 pub fn a_text_is_of_one_change()
     ensures { (a b : Change) (behind_a behind_b : List ℕ) → IsChange a → IsChange b
         → change_text a ++ behind_a ≡ change_text b ++ behind_b → (a ≡ b) × (behind_a ≡ behind_b) }
+{}
+
+/// A change is taken exactly where its facts hold: without an objection as the rule says of an update in that
+/// manner, and with one where its certificate is what is pending and the old key objects to it.
+pub fn a_change_is_taken_where_its_facts_hold()
+    ensures plain { (manner : Manner) (old : Certificate) (pending : Option (List ℕ)) (change : Change) → IsNone change.objection
+        → (update_judgement old pending change ≡ Ok manner) ↔ IsTaken manner old (is_some pending) change }
+    ensures objections { (old : Certificate) (pending : Option (List ℕ)) (change : Change) → IsSome change.objection
+        → (update_judgement old pending change ≡ Ok Objected) ↔ IsObjection old pending change }
+{}
+
+/// A change is accepted in a chain exactly where it is judged so: the first as a registration, and each next one
+/// behind the certificate before it, with nothing pending.
+pub fn a_change_is_accepted_where_it_is_judged_so()
+    ensures first { (change : Change) → IsTrue (is_ok (judgement None change)) ↔ IsAccepted None change }
+    ensures next { (old : Certificate) (change : Change)
+        → IsTrue (is_ok (update_judgement old None change)) ↔ IsAccepted (Some old) change }
+{}
+
+/// A change that registers a name is a chain, and a chain with one accepted change behind it is a chain.
+pub fn a_chain_grows_by_accepted_changes()
+    ensures one { (change : Change) → IsAccepted None change → IsChain (change ∷ []) }
+    ensures more { (chain : List Change) (change : Change) → IsChain chain
+        → ((k : ℕ) (d : Change) → k + 1 ≡ length chain → IsAccepted (Some (get_or chain k d).cert) change)
+        → IsChain (chain ++ change ∷ []) }
+{}
+
+/// The serial numbers of a chain count from 0.
+pub fn serials_count_a_chain()
+    ensures { (chain : List Change) → IsChain chain → (k : ℕ) (d : Change) → k < length chain → (get_or chain k d).cert.serial ≡ k }
 {}

@@ -1,4 +1,4 @@
-use Rattle.std.proofs.Common.{◌≡◌, sym, ap, ◌∙◌, subst, Some, None, ◌↔◌}
+use Rattle.std.proofs.Common.{sym, ap, ◌∙◌, subst, Some, ◌↔◌}
 use Rattle.std.specs.Prelude.{IsTrue, is_ok}
 use Rattle.ar_cert.specs.Judging.{IsAccepted}
 use Rattle.ar_cert.proofs.Accepted.{next_facts}
