@@ -1,26 +1,42 @@
-ghost use Rattle.std.specs.Prelude.{◌≡◌, ◌^◌};
-ghost use Rattle.ar_statement.specs.Claims.{claim_of, kind_of};
-ghost use Rattle.lms_tree.specs.LmsKind.{height_of};
+ghost use Rattle.std.specs.Prelude.{◌≡◌, false};
+ghost use Rattle.ar_statement.specs.Claims.{claim_of, text_of};
+ghost use Rattle.key_roll.specs.Rolls.{is_roll};
 
 use crate::{BookFault, KeyRing, RollBook, RollDue, RollFault, forgo};
 use ar_statement::{Party, Role, Statement};
-use lms_tree::LmsKey;
+use lm_ots::OtsType;
+use lms_tree::{LmsKey, LmsPublic, LmsType};
 use std::alloc::{AllocError, Global};
 use std::test::Fail;
 
-const SEED: [u8; 32] = [0x5a; 32];
+const NEXT: LmsPublic = LmsPublic {
+    lms: LmsType::H5,
+    ots: OtsType::W1,
+    id: [1; 16],
+    root: [2; 32],
+};
+
+// The identifier and the root of the next key of types 5 and 1 behind that of the secret 5a5a.
+const ID: [u8; 16] = [
+    0x80, 0x90, 0x84, 0x8a, 0x6c, 0x0b, 0xc2, 0x98, 0x4c, 0xd0, 0x75, 0xd1, 0xda, 0xda, 0xa4, 0xa9,
+];
+
+const ROOT: [u8; 32] = [
+    0x27, 0xf1, 0x7b, 0xfa, 0x4a, 0x58, 0x24, 0x26, 0x2f, 0xa3, 0x04, 0xe7, 0x8a, 0x36, 0x13, 0xdb,
+    0xb5, 0xff, 0x1d, 0xbb, 0xec, 0xbd, 0xdc, 0x4a, 0x0d, 0x52, 0x49, 0xff, 0xfd, 0xee, 0xb9, 0xfa,
+];
 
 const LOG: Party = Party {
     role: Role::LogServer,
     number: 2,
 };
 
-fn endorse(byte: u8) -> Statement<'static>
-    ensures { kind_of (claim_of result) ≡ 1 }
+fn endorse(certificate: [u8; 32]) -> Statement<'static>
+    ensures { is_roll (text_of (claim_of result)) ≡ false }
 {
     Statement::Endorse {
         authority: 7,
-        certificate: [byte; 32],
+        certificate,
     }
 }
 
@@ -33,20 +49,16 @@ fn places(due: RollDue) -> (u32, u32) {
 
 // Enters a statement: its generation and leaf, or that none is left.
 fn enter(alloc: Global, book: &mut RollBook, byte: u8) -> Result<Option<(u32, u32)>, AllocError> {
-    match book.enter(alloc, &endorse(byte)) {
+    match book.enter(alloc, &endorse([byte; 32])) {
         Ok(due) => Ok(Some(places(due))),
         Err(BookFault::Spent) => Ok(None),
         Err(BookFault::Memory) => Err(AllocError),
     }
 }
 
-// Rolls to the key of another secret, which stands for the next one.
-fn roll(
-    alloc: Global,
-    book: &mut RollBook,
-    key: &LmsKey,
-) -> Result<Option<(u32, u32)>, AllocError> {
-    match book.roll(alloc, LOG, &key.public()) {
+// Rolls to a key: the generation and leaf of the Roll, or that there is no next.
+fn roll(alloc: Global, book: &mut RollBook) -> Result<Option<(u32, u32)>, AllocError> {
+    match book.roll(alloc, LOG, &NEXT) {
         Ok(due) => Ok(Some(places(due))),
         Err(RollFault::Last) => Ok(None),
         Err(RollFault::Memory) => Err(AllocError),
@@ -55,7 +67,6 @@ fn roll(
 
 #[test]
 fn a_full_book_rolls(rt: HostRuntime) -> Result<(), Fail> {
-    let key = LmsKey::make(rt.alloc(), &SEED, 5, 4)?;
     let mut book = RollBook::new(rt.alloc(), 32);
     book.reserve(rt.alloc(), 40)?;
     for leaf in 0..31u8 {
@@ -66,11 +77,7 @@ fn a_full_book_rolls(rt: HostRuntime) -> Result<(), Fail> {
         None,
         "the 32nd statement"
     );
-    assert_eq!(rt;
-        roll(rt.alloc(), &mut book, &key)?,
-        Some((0, 31)),
-        "the Roll"
-    );
+    assert_eq!(rt; roll(rt.alloc(), &mut book)?, Some((0, 31)), "the Roll");
     assert_eq!(rt;
         enter(rt.alloc(), &mut book, 31)?,
         Some((1, 0)),
@@ -87,12 +94,24 @@ fn a_full_book_rolls(rt: HostRuntime) -> Result<(), Fail> {
 
 #[test]
 fn a_book_rolls_to_the_last_generation(rt: HostRuntime) -> Result<(), Fail> {
-    let key = LmsKey::make(rt.alloc(), &SEED, 5, 4)?;
     let mut book = RollBook::new(rt.alloc(), 32);
     for generation in 0..999u32 {
-        assert_eq!(rt; roll(rt.alloc(), &mut book, &key)?, Some((generation, 31)));
+        assert_eq!(rt; roll(rt.alloc(), &mut book)?, Some((generation, 31)));
     }
-    assert_eq!(rt; roll(rt.alloc(), &mut book, &key)?, None);
+    assert_eq!(rt; roll(rt.alloc(), &mut book)?, None);
     assert_eq!(rt; enter(rt.alloc(), &mut book, 0)?, Some((999, 0)));
+    Ok(())
+}
+
+// The next key of a secret, as another program makes it: its text begins with the types 5 and 1.
+#[test]
+fn a_ring_makes_the_next_key(rt: HostRuntime) -> Result<(), Fail> {
+    let key = LmsKey::make(rt.alloc(), &[0x5a; 32], 5, 1)?;
+    let Ok(ring) = KeyRing::new(rt.alloc(), key) else {
+        panic!(rt; "no memory")
+    };
+    let next = ring.next(rt.alloc())?;
+    assert_eq!(rt; next.public().id, ID);
+    assert_eq!(rt; next.public().root, ROOT);
     Ok(())
 }
