@@ -16,11 +16,13 @@ pub enum DirectoryFault {
 }
 
 /// Why a signature was not accepted.
-#[derive(Clone, Copy, Debug, PartialEq, Eq)]
+#[derive(Clone, Copy, Debug, Error, PartialEq, Eq)]
 pub enum VerifyFault {
     /// The party is no log and no authority of the directory.
+    #[error("the signer is not in the directory")]
     Unknown(Party),
     /// The signature is not valid under the party's key; the number is that of the condition of
     /// `lms_tree::valid` that fails first.
+    #[error("the signature is bad, by test {0}")]
     Bad(u8),
 }
