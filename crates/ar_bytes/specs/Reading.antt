@@ -18,7 +18,7 @@
 -- the whole input, and bytes left over in it fail at the first of them, as in a whole input (`whole`).
 use Rattle.std.specs.Prelude.{◌≡◌, ℕ, ◌+◌, List, length, take, drop, Option, Some, None, Result, Ok, Err, IsErr, Bool, nat_lt, ◌==◌, if◌then◌else◌}
 use Rattle.std.specs.Int.{Width, w16, byte_len, from_be_bytes}
-pub use Rattle.ar_base.specs.Chaining.{◌>>=◌}
+use Rattle.ar_base.specs.Chaining.{◌>>=◌}
 
 -- where a reading stands: the bytes still ahead, and how many bytes of the input lie before them
 pub record Cursor : Type 0 where

@@ -1,7 +1,7 @@
 -- The texts of fields: what is put is read again, and what is read is spelled so.
 use Rattle.std.specs.Prelude.{◌≡◌, ℕ, ◌+◌, ◌<◌, List, ◌++◌, length, Ok}
 use Rattle.std.specs.Int.{Width, w16, to_be_bytes}
-pub use Rattle.ar_base.specs.Bytes.{AreBytes}
+use Rattle.ar_base.specs.Bytes.{AreBytes}
 use Rattle.ar_bytes.specs.Reading.{Cursor, Reading, number_at}
 
 -- the text of a number: its bytes, the highest first

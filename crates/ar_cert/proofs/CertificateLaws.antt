@@ -4,15 +4,16 @@ use Rattle.std.proofs.lemmas.List.{append-nil}
 use Rattle.std.proofs.lemmas.Bool.{le-leb, leb-true, and_from}
 use Rattle.std.specs.Prelude.{Result, IfSome}
 use Rattle.std.specs.Int.{w8, w16, w32, w64}
-use Rattle.ar_bytes.specs.Reading.{Cursor, Reading, ◌>>=◌, number_at, such_that, within}
-use Rattle.ar_bytes.specs.RoundTrip.{AreBytes, Passes, ReadsBack, IsSpelledBy, number_text, counted_text}
+use Rattle.ar_base.specs.Chaining.{◌>>=◌}
+use Rattle.ar_bytes.specs.Reading.{Cursor, Reading, number_at, such_that, within}
+use Rattle.ar_base.specs.Bytes.{AreBytes, IsDigest}
+use Rattle.ar_bytes.specs.RoundTrip.{Passes, ReadsBack, IsSpelledBy, number_text, counted_text}
 use Rattle.ar_bytes.proofs.Steps.{bind_ok, ok_is, between, Passes-then, Passes-first, Passes-second, AreBytes-behind}
 use Rattle.ar_bytes.proofs.Passing.{number_again, number_pass, wide8, wide16, wide32, wide64}
 use Rattle.ar_bytes.proofs.Parts.{such_that_again, such_that_pass, within_again, within_pass}
 use Rattle.ar_names.specs.Names.{IsName}
 use Rattle.ar_names.proofs.Least.{short}
 use Rattle.ar_statement.specs.Claims.{name_text}
-use Rattle.ar_base.specs.Bytes.{IsDigest}
 use Rattle.ar_statement.specs.Fields.{digest_at, name_at}
 use Rattle.ar_statement.proofs.FieldLaws.{digest_again, digest_pass, name_again, name_pass}
 use Rattle.lms_tree.specs.PublicKey.{HasWidths, key_text}

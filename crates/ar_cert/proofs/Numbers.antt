@@ -5,7 +5,8 @@ use Rattle.std.proofs.lemmas.List.{append-nil, drop_more, take_more, take_at}
 use Rattle.std.proofs.lemmas.Grind.{flat_map-append}
 use Rattle.std.proofs.lemmas.Nat.{from_be_bytes-to_be_bytes_2}
 use Rattle.ar_bytes.specs.Reading.{Cursor}
-use Rattle.ar_bytes.specs.RoundTrip.{AreBytes, number_text}
+use Rattle.ar_base.specs.Bytes.{AreBytes}
+use Rattle.ar_bytes.specs.RoundTrip.{number_text}
 use Rattle.ar_bytes.specs.Ascending.{numbers_at, numbers_text}
 use Rattle.ar_bytes.proofs.Ascending.{AscendFrom, numbers_pass}
 use Rattle.ar_cert.specs.Lists.{numbers_in}

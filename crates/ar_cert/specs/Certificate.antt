@@ -5,7 +5,8 @@ use Rattle.std.specs.Option.{option_map, ok_or}
 use Rattle.std.specs.Int.{w8, w16, w32, w64}
 use Rattle.sha2.specs.Sha256.{sha256}
 use Rattle.ar_base.specs.Bytes.{IsDigest}
-use Rattle.ar_bytes.specs.Reading.{Cursor, Reading, ◌>>=◌, bytes_at, number_at, such_that, within}
+use Rattle.ar_base.specs.Chaining.{◌>>=◌}
+use Rattle.ar_bytes.specs.Reading.{Cursor, Reading, bytes_at, number_at, such_that, within}
 use Rattle.ar_bytes.specs.RoundTrip.{number_text}
 use Rattle.ar_bytes.specs.Tested.{byte_at, count_at, flag_at, flag_text}
 use Rattle.ar_bytes.specs.Ascending.{numbers_at, numbers_text, AreNumbers}

@@ -1,6 +1,7 @@
 -- A certificate and a change that are read in place, as contracts see it.
 use Rattle.std.specs.Prelude.{◌≡◌, ◌≤◌, ℕ, List, map, take, Some, None, Result}
-use Rattle.ar_bytes.specs.Reading.{Cursor, ◌>>=◌, all_of}
+use Rattle.ar_base.specs.Chaining.{◌>>=◌}
+use Rattle.ar_bytes.specs.Reading.{Cursor, all_of}
 use Rattle.cert_policy.specs.Terms.{PolicyTerms}
 use Rattle.ar_cert.specs.declared.view.TermsView.{TermsView}
 use Rattle.ar_cert.specs.declared.view.FieldsView.{FieldsView}

@@ -6,7 +6,7 @@ use Rattle.std.proofs.lemmas.List.Folds.{list_all-append}
 use Rattle.hex.specs.Hex.{IsBytes, encode_lower}
 use Rattle.std.proofs.lemmas.List.Elements.{All-head, All-tail}
 use Rattle.ar_names.specs.Names.{IsName}
-use Rattle.party_keys.specs.Directory.{IsDirectory, PartyKeys, is_party_count, is_quorum}
+use Rattle.party_keys.specs.Directory.{IsDirectory, Directory, is_party_count, is_quorum}
 use Rattle.lms_tree.specs.declared.public_key.LmsPublic.{LmsPublic}
 use Rattle.ar_lines.specs.Forms.{bytes_of_hex, key_of_hex, name_of, number_of}
 use Rattle.ar_lines.specs.Lines.{is_text}
@@ -82,10 +82,10 @@ quorum_test : (q n : ℕ) → n + 2 < 2 * q → q ≤ n → is_quorum q n ≡ tr
 quorum_test q n least most = rw (lt-ltb (n + 2) (2 * q) least, le-leb q n most) refl
 
 -- where the lines of a directory end
-abbrev behind_directory : PartyKeys → ℕ
+abbrev behind_directory : Directory → ℕ
 behind_directory keys = 1 + 1 + length keys.logs + 1 + length keys.authorities
 
-directory_reads : (keys : PartyKeys) (ahead : List (List ℕ)) → IsDirectory keys → All IsKey keys.logs → All IsKey keys.authorities → directory_at (before 1 (directory_lines keys ++ ahead)) ≡ Ok (keys, before (behind_directory keys) ahead)
+directory_reads : (keys : Directory) (ahead : List (List ℕ)) → IsDirectory keys → All IsKey keys.logs → All IsKey keys.authorities → directory_at (before 1 (directory_lines keys ++ ahead)) ≡ Ok (keys, before (behind_directory keys) ahead)
 unfolding directory_at
 directory_reads keys ahead d l a =
     let authority_lines = map key_line keys.authorities ++ ahead in
@@ -103,7 +103,7 @@ key_lines_are_text (key ∷ keys) h =
     let first : is_text (key_line key) ≡ true = named_is_text (codes "key") (hex_of_key key) refl (key_is_word key (All-head IsKey key keys h)) in
     rw first (key_lines_are_text keys (All-tail IsKey key keys h))
 
-directory_is_text : (keys : PartyKeys) → IsDirectory keys → All IsKey keys.logs → All IsKey keys.authorities → list_all is_text (directory_lines keys) ≡ true
+directory_is_text : (keys : Directory) → IsDirectory keys → All IsKey keys.logs → All IsKey keys.authorities → list_all is_text (directory_lines keys) ≡ true
 directory_is_text keys d l a =
     let count = decimal_is_word (length keys.logs) (omega (arith, d.logs_most)) in
     let quorum = decimal_is_word keys.quorum (omega (arith, d.logs_most, d.quorum_most)) in

@@ -3,7 +3,7 @@ use Rattle.std.proofs.Common.{◌≡◌, ℕ, zero, suc, ◌+◌, Bool, true, fa
 use Rattle.std.specs.Fmt.{decimal}
 use Rattle.hex.specs.Hex.{encode_lower}
 use Rattle.lms_tree.specs.declared.public_key.LmsPublic.{LmsPublic}
-use Rattle.party_keys.specs.Directory.{PartyKeys, is_party_count, is_quorum}
+use Rattle.party_keys.specs.Directory.{Directory, is_party_count, is_quorum}
 use Rattle.arpki_play.specs.Inquiries.{Inquiry, authorities_at, confirmation_at, directory_at, inquiry_at, key_at, keys_at, logs_at, name_at, number_at, party_count_of, quorum_of}
 use Rattle.ar_lines.specs.Forms.{bytes_of_hex, key_of_hex, name_of, number_of}
 use Rattle.ar_lines.specs.Lines.{lines_of}
@@ -90,25 +90,25 @@ keys_are (suc count) at new keys h =
     )
 
 -- the lines of a directory, one part behind the other
-directory_joined : (keys : PartyKeys) (logs authorities : ℕ) (whole log_keys behind_logs authority_keys rest : List (List ℕ)) → whole ≡ logs_line logs keys.quorum ∷ log_keys → log_keys ≡ map key_line keys.logs ++ behind_logs → length keys.logs ≡ logs → behind_logs ≡ authorities_line authorities ∷ authority_keys → authority_keys ≡ map key_line keys.authorities ++ rest → length keys.authorities ≡ authorities → whole ≡ directory_lines keys ++ rest
+directory_joined : (keys : Directory) (logs authorities : ℕ) (whole log_keys behind_logs authority_keys rest : List (List ℕ)) → whole ≡ logs_line logs keys.quorum ∷ log_keys → log_keys ≡ map key_line keys.logs ++ behind_logs → length keys.logs ≡ logs → behind_logs ≡ authorities_line authorities ∷ authority_keys → authority_keys ≡ map key_line keys.authorities ++ rest → length keys.authorities ≡ authorities → whole ≡ directory_lines keys ++ rest
 directory_joined keys logs authorities whole log_keys behind_logs authority_keys rest a b m c d n =
     let parts = append_assoc (map key_line keys.logs) (authorities_line (length keys.authorities) ∷ map key_line keys.authorities) rest in
     rw (a, b, c, d, parts, m, n) refl
 
-directory_is : (at new : LineCursor) (keys : PartyKeys) → directory_at at ≡ Ok (keys, new) → at.ahead ≡ directory_lines keys ++ new.ahead
+directory_is : (at new : LineCursor) (keys : Directory) → directory_at at ≡ Ok (keys, new) → at.ahead ≡ directory_lines keys ++ new.ahead
 unfolding directory_at
 directory_is at new keys h =
     let logs = bind_ok (logs_at at) _ (keys, new) h in
     let log_keys = bind_ok (keys_at logs.0.0.0 logs.0.1) _ (keys, new) logs.2 in
     let authorities = bind_ok (authorities_at log_keys.0.1) _ (keys, new) log_keys.2 in
     let authority_keys = bind_ok (keys_at authorities.0.0 authorities.0.1) _ (keys, new) authorities.2 in
-    let whole : PartyKeys = record { logs = log_keys.0.0; authorities = authority_keys.0.0; quorum = logs.0.0.1 } in
+    let whole : Directory = record { logs = log_keys.0.0; authorities = authority_keys.0.0; quorum = logs.0.0.1 } in
     let first = keys_are logs.0.0.0 logs.0.1 log_keys.0.1 log_keys.0.0 log_keys.1 in
     let second = keys_are authorities.0.0 authorities.0.1 authority_keys.0.1 authority_keys.0.0 authority_keys.1 in
     let counts = logs_are at logs.0.1 logs.0.0 logs.1 in
     let count = authorities_are log_keys.0.1 authorities.0.1 authorities.0.0 authorities.1 in
     directory_joined whole logs.0.0.0 authorities.0.0 _ _ _ _ _ counts first.0 first.1 count second.0 second.1
-    ∙ ap (λ (x : PartyKeys × LineCursor). directory_lines x.0 ++ x.1.ahead) (ok_is (whole, authority_keys.0.1) (keys, new) authority_keys.2)
+    ∙ ap (λ (x : Directory × LineCursor). directory_lines x.0 ++ x.1.ahead) (ok_is (whole, authority_keys.0.1) (keys, new) authority_keys.2)
 
 inquiry_is : (at : LineCursor) (inquiry : Inquiry) → inquiry_at at ≡ Ok inquiry → at.ahead ≡ inquiry_lines inquiry
 unfolding inquiry_at

@@ -1,7 +1,7 @@
 -- What `check` is asked: an inquiry, and the lines that it is read from.
 use Rattle.std.specs.Prelude.{ℕ, zero, suc, List, [], ◌∷◌, codes, Option, Result, Ok}
 use Rattle.lms_tree.specs.declared.public_key.LmsPublic.{LmsPublic}
-use Rattle.party_keys.specs.Directory.{PartyKeys, is_party_count, is_quorum}
+use Rattle.party_keys.specs.Directory.{Directory, is_party_count, is_quorum}
 use Rattle.ar_lines.specs.Forms.{bytes_of_hex, key_of_hex, name_of, number_of, passing}
 use Rattle.ar_base.specs.Chaining.{◌>>=◌}
 use Rattle.ar_lines.specs.Readings.{LineCursor, LineReading, spelled}
@@ -11,7 +11,7 @@ use Rattle.ar_lines.specs.declared.refusal.Refusal.{Refusal}
 -- the directory that a client trusts, the name that it asks for, its epoch, the age that it allows, and
 -- the bytes of the confirmation that it was given
 pub record Inquiry : Type 0 where
-  pub keys : PartyKeys
+  pub keys : Directory
   pub name : List ℕ
   pub now : ℕ
   pub age : ℕ
@@ -52,7 +52,7 @@ keys_at (suc count) at = do
   Ok (key.0 ∷ others.0, others.1)
 
 -- the logs and their keys, and the authorities and theirs
-unfoldable pub directory_at : LineCursor → LineReading PartyKeys
+unfoldable pub directory_at : LineCursor → LineReading Directory
 directory_at at = do
   logs ← logs_at at
   log_keys ← keys_at logs.0.0 logs.1

@@ -4,7 +4,7 @@ use Rattle.std.specs.Fmt.{decimal}
 use Rattle.hex.specs.Hex.{IsBytes, encode_lower}
 use Rattle.ar_names.specs.Names.{IsName}
 use Rattle.lms_tree.specs.declared.public_key.LmsPublic.{LmsPublic}
-use Rattle.party_keys.specs.Directory.{PartyKeys, IsDirectory}
+use Rattle.party_keys.specs.Directory.{Directory, IsDirectory}
 use Rattle.ar_lines.specs.Written.{IsKey, hex_of_key, text_of_lines}
 use Rattle.arpki_play.specs.Inquiries.{Inquiry}
 use Rattle.arpki_play.specs.Questions.{Question}
@@ -51,7 +51,7 @@ abbrev pub key_line : LmsPublic → List ℕ
 key_line key = codes "key " ++ hex_of_key key
 
 -- the lines of a directory: the logs and a line for each key, and then the authorities so
-abbrev pub directory_lines : PartyKeys → List (List ℕ)
+abbrev pub directory_lines : Directory → List (List ℕ)
 directory_lines keys =
     logs_line (length keys.logs) keys.quorum
     ∷ (map key_line keys.logs ++ (authorities_line (length keys.authorities) ∷ map key_line keys.authorities))

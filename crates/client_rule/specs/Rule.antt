@@ -12,14 +12,14 @@ use Rattle.ar_statement.specs.declared.party.Role.TheVariants.{LogServer, Author
 use Rattle.ar_statement.specs.declared.party.Party.{Party}
 use Rattle.ar_cert.specs.Certificate.{digest_of}
 use Rattle.ar_message.specs.Confirmation.{Subject, Body, present, absent, Signed, Confirmation, confirmation_at}
-use Rattle.party_keys.specs.Directory.{PartyKeys, verified}
+use Rattle.party_keys.specs.Directory.{Directory, verified}
 use Rattle.client_rule.specs.declared.judgement.Judgement.{Judgement}
 use Rattle.client_rule.specs.declared.judgement.Judgement.TheVariants.{Accepted, Absent, Refused}
 
 -- ---- the checks
 
 -- the directory has the log and both authorities, and the authorities are two
-abbrev pub has_parties : PartyKeys → Confirmation → Bool
+abbrev pub has_parties : Directory → Confirmation → Bool
 has_parties keys c =
     nat_lt c.log.number (length keys.logs)
     && (nat_lt c.first.number (length keys.authorities)
@@ -32,7 +32,7 @@ claim_on about (present certificate) signer = confirm signer about.epoch about.n
 claim_on about (absent bottom) signer = confirm_absent signer about.epoch about.name about.root
 
 -- the party signed its own statement of it
-unfoldable pub confirms : PartyKeys → Subject → Body → Party → List ℕ → Bool
+unfoldable pub confirms : Directory → Subject → Body → Party → List ℕ → Bool
 confirms keys about body signer signature = is_ok (verified keys signer (text_of (claim_on about body signer)) signature)
 
 -- the table with the root has this for the name: the certificate is the name's, and the steps lead from
@@ -61,7 +61,7 @@ is_current now (absent bottom) = true
 -- the checks of what was read: 2 the name is the one that was asked for, 3 the parties, 4 the log's
 -- signature, 5 the first authority's, 6 the second's, 7 the path, 8 the epoch is not in the future, 9 the
 -- age, 10 the certificate is not revoked, 11 nor expired
-abbrev pub checks : PartyKeys → List ℕ → ℕ → ℕ → Confirmation → List (ℕ × Bool)
+abbrev pub checks : Directory → List ℕ → ℕ → ℕ → Confirmation → List (ℕ × Bool)
 checks keys name now age c =
     (2, bytes_eq c.about.name name)
     ∷ (3, has_parties keys c)
@@ -78,7 +78,7 @@ checks keys name now age c =
 -- ---- the judgement
 
 -- the number of the first check that refuses a confirmation
-unfoldable pub refusal_of : PartyKeys → List ℕ → ℕ → ℕ → Confirmation → Result (Unit {0}) ℕ
+unfoldable pub refusal_of : Directory → List ℕ → ℕ → ℕ → Confirmation → Result (Unit {0}) ℕ
 refusal_of keys name now age c = first_failing (checks keys name now age c)
 
 -- what is accepted: the certificate, or that there is none
@@ -92,10 +92,10 @@ unless_refused (Ok _) c = taken c.about c.body
 unless_refused (Err number) c = Refused number
 
 -- the judgement of what was read, where it is a confirmation; what is none fails the first check
-abbrev pub judgement_on : PartyKeys → List ℕ → ℕ → ℕ → Option Confirmation → Judgement
+abbrev pub judgement_on : Directory → List ℕ → ℕ → ℕ → Option Confirmation → Judgement
 judgement_on keys name now age None = Refused 1
 judgement_on keys name now age (Some c) = unless_refused (refusal_of keys name now age c) c
 
 -- the judgement on bytes
-unfoldable pub judgement : PartyKeys → List ℕ → List ℕ → ℕ → ℕ → Judgement
+unfoldable pub judgement : Directory → List ℕ → List ℕ → ℕ → ℕ → Judgement
 judgement keys name bytes now age = judgement_on keys name now age (result_ok (whole confirmation_at bytes))

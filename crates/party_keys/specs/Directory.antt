@@ -14,7 +14,7 @@ use Rattle.party_keys.specs.declared.fault.VerifyFault.TheVariants.{Unknown, Bad
 
 -- what a directory says: the key of each log and of each authority by its number, and how many logs
 -- make a quorum
-pub record PartyKeys : Type 0 where
+pub record Directory : Type 0 where
   pub logs : List LmsPublic
   pub authorities : List LmsPublic
   pub quorum : ℕ
@@ -30,7 +30,7 @@ abbrev pub is_quorum : ℕ → ℕ → Bool
 is_quorum q n = nat_lt (n + 2) (2 * q) && nat_le q n
 
 -- the bounds that each directory keeps
-pub record IsDirectory (keys : PartyKeys) : Type 0 where
+pub record IsDirectory (keys : Directory) : Type 0 where
   pub logs_least : 3 ≤ length keys.logs
   pub logs_most : length keys.logs ≤ 16
   pub authorities_least : 3 ≤ length keys.authorities
@@ -39,7 +39,7 @@ pub record IsDirectory (keys : PartyKeys) : Type 0 where
   pub quorum_most : keys.quorum ≤ length keys.logs
 
 -- the directory of these keys, or the first bound that they do not keep
-abbrev pub directory_of : List LmsPublic → List LmsPublic → ℕ → Result PartyKeys DirectoryFault
+abbrev pub directory_of : List LmsPublic → List LmsPublic → ℕ → Result Directory DirectoryFault
 directory_of logs authorities q =
     if is_party_count (length logs) then
     (if is_party_count (length authorities) then
@@ -49,14 +49,14 @@ directory_of logs authorities q =
 -- ---- signatures
 
 -- the keys of the parties of a role; owners and clients have none in a directory
-abbrev pub keys_of : PartyKeys → Role → List LmsPublic
+abbrev pub keys_of : Directory → Role → List LmsPublic
 keys_of keys LogServer = keys.logs
 keys_of keys Authority = keys.authorities
 keys_of keys Owner = []
 keys_of keys Client = []
 
 -- the key of a party
-abbrev pub key_of : PartyKeys → Party → Option LmsPublic
+abbrev pub key_of : Directory → Party → Option LmsPublic
 key_of keys party = slice_get (keys_of keys party.role) party.number
 
 -- a verdict as an answer
@@ -71,5 +71,5 @@ answer_under (Some key) party text signature = answer_of (verdict_of key text si
 
 -- whether a party signed a text: it is unknown where the directory has no key for it, and else its
 -- signature is as bad as the verdict says
-unfoldable pub verified : PartyKeys → Party → List ℕ → List ℕ → Result (Unit {0}) VerifyFault
+unfoldable pub verified : Directory → Party → List ℕ → List ℕ → Result (Unit {0}) VerifyFault
 verified keys party text signature = answer_under (key_of keys party) party text signature

@@ -24,9 +24,9 @@ pub struct Directory {
 
 // Clauses see the keys and the quorum.
 impl Model for Directory {
-    ghost use Rattle.party_keys.specs.Directory.{PartyKeys, IsDirectory};
+    ghost use Rattle.party_keys.specs.Directory.{Directory, IsDirectory};
 
-    ghost Value = { PartyKeys };
+    ghost Value = { Directory };
 
     ghost view = { λ d. record { logs = d.logs; authorities = d.authorities; quorum = d.quorum } };
 
