@@ -44,14 +44,21 @@ accepted_text name serial epoch root certificate =
     codes "accepted " ++ (name ++ (codes " serial " ++ (decimal serial ++ (codes " epoch " ++ (decimal epoch
     ++ (codes " root " ++ (encode_lower root ++ (codes " certificate " ++ encode_lower certificate))))))))
 
+-- the name has none
+abbrev pub absent_text : List ℕ → ℕ → List ℕ → List ℕ
+absent_text name epoch root =
+    codes "absent " ++ (name ++ (codes " epoch " ++ (decimal epoch ++ (codes " root " ++ encode_lower root))))
+
 -- what is told of a judgement on a name
 abbrev pub judgement_text : List ℕ → Judgement → List ℕ
 judgement_text name (judgement.Accepted certificate digest epoch root) =
     accepted_text name certificate.serial epoch root digest
+judgement_text name (judgement.Absent epoch root) = absent_text name epoch root
 judgement_text name (judgement.Refused check) = codes "refused " ++ decimal check
 
 abbrev pub judgement_status : Judgement → ℕ
 judgement_status (judgement.Accepted certificate digest epoch root) = 0
+judgement_status (judgement.Absent epoch root) = 0
 judgement_status (judgement.Refused check) = 1
 
 -- what the client's rule makes of the confirmation

@@ -1,6 +1,6 @@
 ghost use Rattle.std.specs.Prelude.{◌≡◌, ◌<◌, IfOk, string_bytes};
 ghost use Rattle.ar_run.specs.Answers.{one_line};
-ghost use Rattle.arpki_play.specs.Answers.{accepted_text, judgement_status, judgement_text};
+ghost use Rattle.arpki_play.specs.Answers.{absent_text, accepted_text, judgement_status, judgement_text};
 
 use ar_names::Name;
 use ar_run::Answer;
@@ -20,7 +20,7 @@ fn status(judgement: &Judgement) -> u8
     ensures bound { result < 4 }
 {
     match judgement {
-        Judgement::Accepted { .. } => 0,
+        Judgement::Accepted { .. } | Judgement::Absent { .. } => 0,
         Judgement::Refused(_) => 1,
     }
 }
@@ -36,6 +36,7 @@ fn line(alloc: Global, name: &Name, judgement: &Judgement) -> Result<String, All
             epoch,
             root,
         } => accepted(alloc, name, certificate.serial(), *epoch, root, digest),
+        Judgement::Absent { epoch, root } => absent(alloc, name, *epoch, root),
         Judgement::Refused(check) => format!(in alloc; "refused {check}"),
     }
 }
@@ -57,4 +58,18 @@ fn accepted(
     format!(in alloc;
         "accepted {name} serial {serial} epoch {epoch} root {root} certificate {certificate}"
     )
+}
+
+/// The line of a confirmation that a name has no certificate.
+fn absent(
+    alloc: Global,
+    name: &Name,
+    epoch: u64,
+    root: &[u8; 32],
+) -> Result<String, AllocError>
+    ensures { IfOk result (λ text. string_bytes text ≡ absent_text name.now epoch root.now) }
+{
+    let root = hex::encode(alloc, root.as_slice())?;
+    let name = name.as_str();
+    format!(in alloc; "absent {name} epoch {epoch} root {root}")
 }

@@ -11,7 +11,7 @@ use Rattle.ar_statement.specs.Claims.{Claim, confirm, confirm_absent, text_of, p
 use Rattle.ar_statement.specs.declared.party.Role.TheVariants.{LogServer, Authority}
 use Rattle.ar_statement.specs.declared.party.Party.{Party}
 use Rattle.ar_cert.specs.Certificate.{digest_of}
-use Rattle.ar_message.specs.Confirmation.{Subject, Body, present, absent, Signed, Confirmation, confirmation_at}
+use Rattle.ar_message.specs.Confirmation.{Subject, Body, present, absent, Confirmation, confirmation_at}
 use Rattle.party_keys.specs.Directory.{Directory, verified}
 use Rattle.client_rule.specs.declared.judgement.Judgement.{Judgement}
 use Rattle.client_rule.specs.declared.judgement.Judgement.TheVariants.{Accepted, Absent, Refused}

@@ -146,13 +146,31 @@ pub(crate) fn refusal(
     if !has_parties(directory, view) {
         return Err(3);
     }
-    if !confirms(directory, view, shown, Role::LogServer.party(view.log()), view.log_signature()) {
+    if !confirms(
+        directory,
+        view,
+        shown,
+        Role::LogServer.party(view.log()),
+        view.log_signature(),
+    ) {
         return Err(4);
     }
-    if !confirms(directory, view, shown, Role::Authority.party(view.first()), view.first_signature()) {
+    if !confirms(
+        directory,
+        view,
+        shown,
+        Role::Authority.party(view.first()),
+        view.first_signature(),
+    ) {
         return Err(5);
     }
-    if !confirms(directory, view, shown, Role::Authority.party(view.second()), view.second_signature()) {
+    if !confirms(
+        directory,
+        view,
+        shown,
+        Role::Authority.party(view.second()),
+        view.second_signature(),
+    ) {
         return Err(6);
     }
     if !is_shown(view, shown) {

@@ -20,7 +20,10 @@ pub enum Judgement<'a> {
         root: [u8; 32],
     },
     /// The name has no certificate at the end of the epoch, in the table with this root.
-    Absent { epoch: u64, root: [u8; 32] },
+    Absent {
+        epoch: u64,
+        root: [u8; 32],
+    },
     /// The number of the first check that fails: 1 the bytes are no confirmation; 2 the name is not the
     /// one that was asked for; 3 the log or an authority is not known, or the two authorities are one;
     /// 4, 5, 6 the signature of the log, of the first, of the second authority is not valid; 7 the
@@ -32,7 +35,7 @@ pub enum Judgement<'a> {
 
 // What the confirmation says, where no check refuses it.
 fn taken<'a>(view: &ConfView<'a>, shown: Shown<'a>) -> Judgement<'a>
-    requires { HasDigest shown.entry }
+    requires { HasDigest shown }
     ensures { result ≡ taken view.now.about (body_of shown.entry) }
 {
     let (epoch, root) = (view.epoch(), view.root());

@@ -79,7 +79,7 @@ fn confirmation(alloc: Global, steps: u8) -> Result<Vec<u8>, AllocError> {
 // The number of the check that refuses, or 0.
 fn number(judgement: Judgement) -> u8 {
     match judgement {
-        Judgement::Accepted { .. } => 0,
+        Judgement::Accepted { .. } | Judgement::Absent { .. } => 0,
         Judgement::Refused(k) => k,
     }
 }
@@ -118,7 +118,7 @@ fn the_first_check_that_fails_is_told(rt: HostRuntime) -> Result<(), Fail> {
     for (steps, place, byte, name, now, age, answer) in [
         (0u8, 0usize, 12u8, b"a.example", 9u64, 4u64, 0u8),
         (0, 0, 11, b"b.example", 9, 4, 1),
-        (0, 1, 2, b"a.example", 9, 4, 1),
+        (0, 1, 3, b"a.example", 9, 4, 1),
         (0, 0, 12, b"b.example", 9, 4, 2),
         (0, 187, 3, b"a.example", 9, 4, 3),
         (0, 2779, 0, b"a.example", 9, 4, 3),
@@ -137,6 +137,127 @@ fn the_first_check_that_fails_is_told(rt: HostRuntime) -> Result<(), Fail> {
         }
         let judgement = judge(&directory, name, &bytes, now, age);
         assert_eq!(rt; number(judgement), answer, "{place} {byte} {now} {age}");
+    }
+    Ok(())
+}
+
+// What the other program wrote of absence: the root of a table, what stands at the foot of the path of
+// a.example in it, and the roots of the keys that fit the three statements of epoch 5 that a.example has
+// no certificate.
+struct Absence {
+    root: [u8; 32],
+    bottom: &'static [u8],
+    keys: [[u8; 32]; 3],
+}
+
+// The table is empty.
+fn empty_table() -> Absence {
+    Absence {
+        root: [
+            0x6e, 0x34, 0x0b, 0x9c, 0xff, 0xb3, 0x7a, 0x98, 0x9c, 0xa5, 0x44, 0xe6, 0xbb, 0x78,
+            0x0a, 0x2c, 0x78, 0x90, 0x1d, 0x3f, 0xb3, 0x37, 0x38, 0x76, 0x85, 0x11, 0xa3, 0x06,
+            0x17, 0xaf, 0xa0, 0x1d,
+        ],
+        bottom: &[0x00],
+        keys: [
+            [
+                0x4a, 0xe9, 0x90, 0xb7, 0x22, 0x0f, 0xfc, 0x7c, 0x56, 0xbf, 0x88, 0x85, 0x62, 0x32,
+                0x49, 0x35, 0x8a, 0x75, 0xa0, 0x55, 0xc2, 0xdc, 0x7d, 0x2b, 0xd1, 0xc8, 0xe1, 0x74,
+                0xb2, 0x1e, 0x59, 0xa2,
+            ],
+            [
+                0xc1, 0x5a, 0x67, 0x04, 0x49, 0x29, 0xd6, 0xa6, 0xd7, 0x8e, 0x28, 0xc4, 0x2e, 0xcb,
+                0x2a, 0x77, 0xea, 0x92, 0xd6, 0xf9, 0x41, 0x0b, 0xb1, 0x0b, 0xca, 0x34, 0x04, 0x1c,
+                0xa7, 0x2d, 0x6c, 0x8e,
+            ],
+            [
+                0xfc, 0x6e, 0xab, 0xa3, 0xe8, 0x93, 0x70, 0x04, 0x04, 0x4d, 0xda, 0xdf, 0x77, 0x2d,
+                0xa6, 0x1d, 0x8c, 0xef, 0x35, 0xf7, 0x54, 0xbd, 0xa7, 0xe3, 0x76, 0x2f, 0xe9, 0x26,
+                0x22, 0x63, 0x3f, 0x36,
+            ],
+        ],
+    }
+}
+
+// The table has one entry, of b.example.
+fn other_table() -> Absence {
+    Absence {
+        root: [
+            0x86, 0xff, 0x72, 0x9e, 0xcc, 0xa0, 0x3c, 0x24, 0x3f, 0x57, 0x6c, 0x49, 0x2a, 0x76,
+            0x50, 0xf8, 0xf1, 0xda, 0x7a, 0x5d, 0x41, 0x8a, 0x73, 0x39, 0x0f, 0x00, 0xcf, 0xac,
+            0x03, 0xb2, 0xe1, 0x16,
+        ],
+        bottom: &[
+            0x01, 0x44, 0xca, 0x4f, 0xc8, 0x9b, 0xad, 0xf2, 0x1f, 0xf3, 0xdf, 0xb7, 0x29, 0x42,
+            0xc0, 0x41, 0xb7, 0xb5, 0xf0, 0x71, 0xb5, 0xaf, 0x29, 0xf3, 0x67, 0x69, 0x4d, 0xd2,
+            0xec, 0x57, 0xb7, 0x53, 0xdd, 0x44, 0x44, 0x44, 0x44, 0x44, 0x44, 0x44, 0x44, 0x44,
+            0x44, 0x44, 0x44, 0x44, 0x44, 0x44, 0x44, 0x44, 0x44, 0x44, 0x44, 0x44, 0x44, 0x44,
+            0x44, 0x44, 0x44, 0x44, 0x44, 0x44, 0x44, 0x44, 0x44,
+        ],
+        keys: [
+            [
+                0x88, 0x6b, 0xbe, 0x32, 0x14, 0xc4, 0x2b, 0x3b, 0x8a, 0xff, 0xd1, 0xef, 0x60, 0x9d,
+                0x7e, 0x05, 0xee, 0xc8, 0x18, 0x8a, 0x65, 0x74, 0xc5, 0x09, 0x4a, 0xe7, 0x53, 0xf4,
+                0x0b, 0x97, 0xd1, 0xc0,
+            ],
+            [
+                0xf6, 0x78, 0x79, 0x91, 0xd9, 0x1c, 0x5e, 0xb3, 0xb0, 0x42, 0x91, 0x7c, 0xe0, 0xe6,
+                0xb7, 0xfc, 0x60, 0xb1, 0xb0, 0xfe, 0xea, 0xa7, 0xab, 0xee, 0x21, 0xec, 0x40, 0x1e,
+                0x54, 0x6f, 0xad, 0x4b,
+            ],
+            [
+                0x91, 0xaa, 0x24, 0x93, 0xfd, 0xd5, 0xaf, 0xa4, 0x67, 0x72, 0xe4, 0x32, 0xaf, 0x0e,
+                0x5e, 0xc4, 0x0a, 0x7d, 0x38, 0xe6, 0xb3, 0xd7, 0x2d, 0x1d, 0x4e, 0x93, 0x20, 0xc1,
+                0xb4, 0xc5, 0x9c, 0x80,
+            ],
+        ],
+    }
+}
+
+// The confirmation of absence, with the byte at this place changed.
+fn absent(alloc: Global, absence: &Absence, place: usize, byte: u8) -> Result<Vec<u8>, AllocError> {
+    let mut bytes = Vec::from_slice(alloc, &FRONT[..22])?;
+    bytes.extend_from_slice(&absence.root)?;
+    bytes.extend_from_slice(absence.bottom)?;
+    bytes.extend_from_slice(&[0, 0])?;
+    sign(&mut bytes, 2)?;
+    sign(&mut bytes, 0)?;
+    sign(&mut bytes, 1)?;
+    bytes[1] = 2;
+    bytes[place] = byte;
+    Ok(bytes)
+}
+
+#[test]
+fn absence_is_judged(rt: HostRuntime) -> Result<(), Fail> {
+    let alloc = rt.alloc();
+    for absence in [empty_table(), other_table()] {
+        let [log, first, second] = absence.keys;
+        let logs = [key(log); 3].to_vec(alloc)?;
+        let authorities = [key(first), key(second), key(log)].to_vec(alloc)?;
+        let Ok(directory) = Directory::new(logs, authorities, 3) else {
+            panic!(rt; "no directory")
+        };
+        let bytes = absent(alloc, &absence, 1, 2)?;
+        let view = ConfView::read(&bytes).ok_or("no confirmation")?;
+        assert!(rt; view.cert().is_none() && view.bottom().is_some());
+        let judgement = judge(&directory, b"a.example", &bytes, 9, 4);
+        let Judgement::Absent { epoch, root } = judgement else {
+            panic!(rt; "{judgement:?}")
+        };
+        assert_eq!(rt; (epoch, root), (5, absence.root));
+        // A place and the byte that stands there instead, and the check that refuses.
+        for (place, byte, name, now, age, check) in [
+            (1usize, 3u8, b"a.example", 9u64, 4u64, 1u8),
+            (1, 2, b"b.example", 9, 4, 2),
+            (1, 2, b"a.example", 4, 4, 8),
+            (1, 2, b"a.example", 10, 4, 9),
+            (1, 2, b"a.example", 1000, 2000, 0),
+        ] {
+            let bytes = absent(alloc, &absence, place, byte)?;
+            let judgement = judge(&directory, name, &bytes, now, age);
+            assert_eq!(rt; number(judgement), check, "{place} {byte} {now} {age}");
+        }
     }
     Ok(())
 }
