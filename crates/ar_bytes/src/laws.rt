@@ -77,7 +77,7 @@ pub fn ascending_entries_are_spelled<T>()
     ensures entries { (number : T → ℕ) (entry : ℕ → Cursor → Reading T) (text : T → List ℕ) (fits : T → Bool)
         → ((least : ℕ) → IsSpelledBy (entry least) text (λ x. (least ≤ number x) × (fits x ≡ true)))
         → (count least : ℕ) → IsSpelledBy (ascending_at number entry count least) (flat_map text)
-            (λ xs. Ascend number (λ x. fits x ≡ true) least xs × (length xs ≡ count)) }
+        (λ xs. Ascend number (λ x. fits x ≡ true) least xs × (length xs ≡ count)) }
     ensures numbers { (count : ℕ) → IsSpelledBy (numbers_at count 0) numbers_text
         (λ ns. AreNumbers ns × (length ns ≡ count)) }
 {}

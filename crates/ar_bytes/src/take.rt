@@ -134,6 +134,10 @@ impl<'a> Fields<'a> {
     pub fn take_end(&self) -> Result<(), usize>
         ensures { result ≡ all_of (tt, self.now) }
     {
-        if self.at_end() { Ok(()) } else { Err(self.place()) }
+        if self.at_end() {
+            Ok(())
+        } else {
+            Err(self.place())
+        }
     }
 }

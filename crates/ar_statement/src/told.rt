@@ -47,10 +47,16 @@ fn fields_told(statement: &Statement)
         | Statement::Handover { certificate }
         | Statement::Object { certificate } => digest_told(certificate),
         Statement::Propose {
-            epoch, base, root, ..
+            epoch,
+            base,
+            root,
+            ..
         }
         | Statement::Vote {
-            epoch, base, root, ..
+            epoch,
+            base,
+            root,
+            ..
         } => {
             epoch_told(*epoch);
             digest_told(base);
@@ -69,7 +75,10 @@ fn fields_told(statement: &Statement)
             digest_told(root);
         }
         Statement::ConfirmAbsent {
-            epoch, name, root, ..
+            epoch,
+            name,
+            root,
+            ..
         } => {
             epoch_told(*epoch);
             let _text = name.text();
@@ -89,7 +98,9 @@ fn fields_told(statement: &Statement)
             value_told(value);
         }
         Statement::Roll {
-            generation, key, ..
+            generation,
+            key,
+            ..
         } => {
             generation_told(*generation);
             key_told(key);

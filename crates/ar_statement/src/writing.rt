@@ -48,12 +48,7 @@ fn put_epoch(out: &mut [u8; TEXT_LEN], kind: u8, signer: Party, epoch: u64) -> u
 
 /// Two digests at a place.
 #[tactic(auto, using(crate::proofs::Rooms::same_later))]
-fn put_roots(
-    out: &mut [u8; TEXT_LEN],
-    place: usize,
-    first: &[u8; 32],
-    second: &[u8; 32],
-) -> usize
+fn put_roots(out: &mut [u8; TEXT_LEN], place: usize, first: &[u8; 32], second: &[u8; 32]) -> usize
     requires { place + 64 ≤ 330 }
     ensures len { result ≡ place + 64 }
     ensures front { take result out.new ≡ take place out.old ++ (first.now ++ second.now) }
@@ -174,12 +169,7 @@ fn put_status(
 
 /// The text that announces the next key.
 #[tactic(auto, using(crate::proofs::Rooms::same_later))]
-fn put_roll(
-    out: &mut [u8; TEXT_LEN],
-    signer: Party,
-    generation: u32,
-    key: &[u8; 56],
-) -> usize
+fn put_roll(out: &mut [u8; TEXT_LEN], signer: Party, generation: u32, key: &[u8; 56]) -> usize
     ensures len { result ≡ 64 }
     ensures front { take result out.new ≡ head 10 signer ++ (number_text w32 generation ++ key.now) }
     ensures behind { drop result out.new ≡ drop result out.old }

@@ -61,12 +61,7 @@ fn accepted(
 }
 
 /// The line of a confirmation that a name has no certificate.
-fn absent(
-    alloc: Global,
-    name: &Name,
-    epoch: u64,
-    root: &[u8; 32],
-) -> Result<String, AllocError>
+fn absent(alloc: Global, name: &Name, epoch: u64, root: &[u8; 32]) -> Result<String, AllocError>
     ensures { IfOk result (λ text. string_bytes text ≡ absent_text name.now epoch root.now) }
 {
     let root = hex::encode(alloc, root.as_slice())?;
