@@ -1,0 +1,181 @@
+-- The line of each happening. Its words stand with one space between them, and a newline ends it.
+use Rattle.std.specs.Prelude.{ℕ, ◌==◌, List, [], ◌∷◌, ◌++◌, codes, flat_map, Option, Some, None, if◌then◌else◌}
+use Rattle.std.specs.Fmt.{decimal}
+use Rattle.hex.specs.Hex.{encode_lower}
+use Rattle.ar_statement.specs.declared.party.Party.{Party}
+use Rattle.ar_statement.specs.declared.party.Role.{Role}
+use Rattle.ar_statement.specs.declared.party.Role.TheVariants.{LogServer, Authority, Owner, Client}
+use Rattle.report_text.specs.declared.happening.Code.{Code}
+use Rattle.report_text.specs.declared.happening.Happening.{Happening}
+use Rattle.report_text.specs.declared.happening.Happening.TheVariants as happening
+use Rattle.report_text.specs.declared.happening.Said.{Said}
+use Rattle.report_text.specs.declared.happening.Said.TheVariants as said
+use Rattle.report_text.specs.declared.happening.Shown.{Shown}
+use Rattle.report_text.specs.declared.happening.Shown.TheVariants as shown
+use Rattle.report_text.specs.declared.happening.Target.{Target}
+use Rattle.report_text.specs.declared.happening.Target.TheVariants as target
+use Rattle.report_text.specs.declared.happening.Unlearnt.{Unlearnt}
+use Rattle.report_text.specs.declared.happening.Unlearnt.TheVariants as unlearnt
+use Rattle.report_text.specs.declared.happening.What.{What}
+use Rattle.report_text.specs.declared.happening.What.TheVariants as what
+
+-- ---- words
+
+-- the letter of a role
+abbrev pub role_letter : Role → List ℕ
+role_letter LogServer = codes "L"
+role_letter Authority = codes "A"
+role_letter Owner = codes "D"
+role_letter Client = codes "C"
+
+-- a party: its letter and its number
+abbrev pub party_text : Party → List ℕ
+party_text party = role_letter party.role ++ decimal party.number
+
+-- the word of a kind of messages
+abbrev pub kind_text : ℕ → List ℕ
+kind_text kind =
+    if kind == 1 then codes "EndorseAsk"
+    else if kind == 2 then codes "Endorsed"
+    else if kind == 3 then codes "Submit"
+    else if kind == 4 then codes "Propose"
+    else if kind == 5 then codes "Ballot"
+    else if kind == 6 then codes "StatusNote"
+    else if kind == 7 then codes "Decision"
+    else if kind == 8 then codes "SkipNote"
+    else if kind == 9 then codes "ConfirmAsk"
+    else if kind == 10 then codes "LogConfirmed"
+    else if kind == 11 then codes "HalfConfirmed"
+    else if kind == 12 then codes "Confirmation"
+    else if kind == 13 then codes "RollNote"
+    else codes "Raw"
+
+-- who sent a message
+abbrev pub sender_text : Option Party → List ℕ
+sender_text (Some party) = party_text party
+sender_text None = codes "none"
+
+-- to whom a message goes
+abbrev pub target_text : Target → List ℕ
+target_text target.Nobody = codes "none"
+target_text target.Logs = codes "logs"
+target_text (target.One party) = party_text party
+
+-- what a party does
+abbrev pub what_text : What → List ℕ
+what_text (what.Take message) = codes "take " ++ decimal message
+what_text what.Propose = codes "propose"
+what_text what.Pass = codes "pass"
+what_text what.Roll = codes "roll"
+what_text (what.Submit draft) = codes "submit " ++ decimal draft
+what_text (what.Handover draft) = codes "handover " ++ decimal draft
+what_text (what.Object draft) = codes "object " ++ decimal draft
+
+-- a value of a code behind a space, where there is one
+abbrev pub value_text : Shown → List ℕ
+value_text shown.Nothing = []
+value_text (shown.Number number) = codes " " ++ decimal number
+value_text (shown.Party party) = codes " " ++ party_text party
+value_text (shown.Digest digest) = codes " " ++ encode_lower digest
+value_text shown.Full = codes " full"
+value_text shown.NoRoot = codes " none"
+
+-- the values of a code
+abbrev pub values_text : List Shown → List ℕ
+values_text values = flat_map value_text values
+
+-- a code: its letter, its number and its values
+abbrev pub code_text : Code → List ℕ
+code_text code = (code.letter ∷ []) ++ (decimal code.number ++ values_text code.values)
+
+-- ---- how a line ends
+
+-- whether a step succeeds
+abbrev pub outcome_text : Option Code → List ℕ
+outcome_text None = codes " ok\n"
+outcome_text (Some code) = codes " refused " ++ (code_text code ++ codes "\n")
+
+-- how an epoch ends
+abbrev pub ending_text : Option (List ℕ) → List ℕ
+ending_text (Some root) = codes " decided " ++ (encode_lower root ++ codes "\n")
+ending_text None = codes " skipped\n"
+
+-- whether a message is learnt
+abbrev pub learning_text : Option Unlearnt → List ℕ
+learning_text None = codes " ok\n"
+learning_text (Some unlearnt.Form) = codes " refused form\n"
+learning_text (Some unlearnt.Unknown) = codes " refused unknown\n"
+learning_text (Some (unlearnt.Bad condition)) = codes " refused bad " ++ (decimal condition ++ codes "\n")
+learning_text (Some unlearnt.Other) = codes " refused other\n"
+
+-- what a client says
+abbrev pub said_text : Said → List ℕ
+said_text (said.Accepted name serial epoch root certificate) =
+    codes " accepted " ++ (name ++ (codes " serial " ++ (decimal serial ++ (codes " epoch " ++ (decimal epoch
+    ++ (codes " root " ++ (encode_lower root ++ (codes " certificate " ++ (encode_lower certificate ++ codes "\n")))))))))
+said_text (said.Absent name epoch root) =
+    codes " absent " ++ (name ++ (codes " epoch " ++ (decimal epoch ++ (codes " root " ++ (encode_lower root ++ codes "\n")))))
+said_text (said.Refused check) = codes " refused " ++ (decimal check ++ codes "\n")
+
+-- the numbers of messages, each behind a space
+abbrev pub taken_text : List ℕ → List ℕ
+taken_text taken = flat_map (λ message. codes " " ++ decimal message) taken
+
+-- a digest at the end of a line
+abbrev pub digest_text : List ℕ → List ℕ
+digest_text digest = codes " " ++ (encode_lower digest ++ codes "\n")
+
+-- ---- lines
+
+-- a key of the party is made
+abbrev pub made_text : Party → List ℕ → List ℕ
+made_text party digest = codes "party " ++ (party_text party ++ digest_text digest)
+
+-- the check of an authority is changed
+abbrev pub check_text : ℕ → List ℕ → List ℕ
+check_text authority done = codes "A" ++ (decimal authority ++ done)
+
+-- a draft is made
+abbrev pub draft_text : ℕ → List ℕ → List ℕ
+draft_text draft digest = codes "draft " ++ (decimal draft ++ digest_text digest)
+
+-- a party makes a step
+abbrev pub step_text : Party → What → Option Code → List ℕ
+step_text party what refused = party_text party ++ (codes " " ++ (what_text what ++ outcome_text refused))
+
+-- an epoch ends
+abbrev pub ended_text : ℕ → ℕ → Option (List ℕ) → List ℕ
+ended_text log epoch root = codes "L" ++ (decimal log ++ (codes " ended " ++ (decimal epoch ++ ending_text root)))
+
+-- which message enters the pool
+abbrev pub message_text : ℕ → ℕ → List ℕ
+message_text message kind = codes "message " ++ (decimal message ++ (codes " " ++ kind_text kind))
+
+-- who sent it and to whom it goes
+abbrev pub route_text : Option Party → Target → List ℕ
+route_text from to = codes " from " ++ (sender_text from ++ (codes " to " ++ target_text to))
+
+-- a message enters the pool
+abbrev pub entry_text : ℕ → ℕ → Option Party → Target → ℕ → List ℕ → List ℕ
+entry_text message kind from to length digest =
+    message_text message kind ++ (route_text from to ++ (codes " " ++ (decimal length ++ digest_text digest)))
+
+-- a party took messages, in this order
+abbrev pub order_text : Party → List ℕ → List ℕ
+order_text party taken = codes "order " ++ (party_text party ++ (taken_text taken ++ codes "\n"))
+
+-- the line of a happening
+abbrev pub line_of : Happening → List ℕ
+line_of (happening.Made party digest) = made_text party digest
+line_of (happening.Dishonest party) = codes "dishonest " ++ (party_text party ++ codes "\n")
+line_of (happening.Taught authority) = check_text authority (codes " taught\n")
+line_of (happening.Forgot authority) = check_text authority (codes " forgot\n")
+line_of (happening.Retired authority) = check_text authority (codes " retired\n")
+line_of (happening.Draft draft digest) = draft_text draft digest
+line_of (happening.Step party what refused) = step_text party what refused
+line_of (happening.Ended log epoch root) = ended_text log epoch root
+line_of (happening.Learnt message refused) = codes "learn " ++ (decimal message ++ learning_text refused)
+line_of (happening.Entered message kind from to length digest) = entry_text message kind from to length digest
+line_of (happening.SignRefused party) = party_text party ++ codes " sign refused\n"
+line_of (happening.Judged message said) = codes "judge " ++ (decimal message ++ said_text said)
+line_of (happening.Order party taken) = order_text party taken

@@ -1,0 +1,164 @@
+use ar_base::Items;
+use ar_statement::Party;
+
+/// A value that stands behind the number of a refusal.
+#[derive(Clone, Copy, Debug, PartialEq, Eq)]
+pub enum Shown {
+    /// There is none.
+    Nothing,
+    /// A place, an epoch, a count, a log, or the number of a condition or clause.
+    Number(u64),
+    /// A party.
+    Party(Party),
+    /// A digest.
+    Digest([u8; 32]),
+    /// In place of a number: a list is full.
+    Full,
+    /// In place of a digest: there is no root.
+    NoRoot,
+}
+
+/// Why a step is refused: a letter, which says whose rule it is, the number of the refusal, and the
+/// values that belong to it, from the front.
+#[derive(Clone, Copy, Debug, PartialEq, Eq)]
+pub struct Code {
+    pub letter: u8,
+    pub number: u8,
+    pub values: [Shown; 2],
+}
+
+/// What a party does in a step.
+#[derive(Clone, Copy, Debug, PartialEq, Eq)]
+pub enum What {
+    /// It takes the message with this number.
+    Take(u64),
+    /// It proposes.
+    Propose,
+    /// It passes over the epoch.
+    Pass,
+    /// It goes on to its next key.
+    Roll,
+    /// It submits the draft with this number.
+    Submit(u64),
+    /// It hands that draft over.
+    Handover(u64),
+    /// It objects to that draft.
+    Object(u64),
+}
+
+/// Why a directory does not learn a message.
+#[derive(Clone, Copy, Debug, PartialEq, Eq)]
+pub enum Unlearnt {
+    /// It is no note of a key that rolled.
+    Form,
+    /// The party is not known.
+    Unknown,
+    /// The signature is not valid; the number of the condition.
+    Bad(u8),
+    /// The directory has another key of that generation.
+    Other,
+}
+
+/// To whom a message goes.
+#[derive(Clone, Copy, Debug, PartialEq, Eq)]
+pub enum Target {
+    /// To nobody.
+    Nobody,
+    /// To all logs.
+    Logs,
+    /// To this party.
+    One(Party),
+}
+
+/// What a client says of a confirmation.
+#[derive(Debug, Drop)]
+pub enum Said {
+    /// The name has this certificate.
+    Accepted {
+        name: Items<u8>,
+        serial: u64,
+        epoch: u64,
+        root: [u8; 32],
+        certificate: [u8; 32],
+    },
+    /// The name has none.
+    Absent {
+        name: Items<u8>,
+        epoch: u64,
+        root: [u8; 32],
+    },
+    /// The check with this number fails.
+    Refused(u8),
+}
+
+/// What happens in a world, as far as a line is printed of it.
+#[derive(Debug, Drop)]
+pub enum Happening {
+    /// A key is made; the digest of its text.
+    Made {
+        party: Party,
+        digest: [u8; 32],
+    },
+    /// The party is dishonest from here on.
+    Dishonest {
+        party: Party,
+    },
+    /// The check of an authority learnt a name.
+    Taught {
+        authority: u16,
+    },
+    /// The check of an authority forgot a name.
+    Forgot {
+        authority: u16,
+    },
+    /// An authority dropped its check.
+    Retired {
+        authority: u16,
+    },
+    /// A draft is made; the digest of its certificate.
+    Draft {
+        draft: u64,
+        digest: [u8; 32],
+    },
+    /// A party makes a step; `None` where it succeeds.
+    Step {
+        party: Party,
+        what: What,
+        refused: Option<Code>,
+    },
+    /// An epoch ends at a log, with this root, or with `None` as skipped.
+    Ended {
+        log: u16,
+        epoch: u64,
+        root: Option<[u8; 32]>,
+    },
+    /// The directory of the clients takes a message; `None` where it learns it.
+    Learnt {
+        message: u64,
+        refused: Option<Unlearnt>,
+    },
+    /// A message enters the pool. The kind is its number in the text of messages, and 0 for bytes that a
+    /// script composed.
+    Entered {
+        message: u64,
+        kind: u8,
+        from: Option<Party>,
+        to: Target,
+        length: u64,
+        digest: [u8; 32],
+    },
+    /// A dishonest party has no leaf left.
+    SignRefused {
+        party: Party,
+    },
+    /// A client judges a message.
+    Judged {
+        message: u64,
+        said: Said,
+    },
+    /// At the end of a burst: the messages that a party took, in the order in which it took them.
+    Order {
+        party: Party,
+        taken: Items<u64>,
+    },
+}
