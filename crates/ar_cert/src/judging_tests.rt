@@ -31,7 +31,7 @@ fn handover() -> &'static [u8] {
 }
 
 /// The number of bytes in two bytes.
-fn length(bytes: &[u8]) -> [u8; 2] {
+pub(crate) fn length(bytes: &[u8]) -> [u8; 2] {
     ((bytes.len() % 0x1_0000) as u16).to_be_bytes()
 }
 
@@ -70,7 +70,7 @@ fn altered(alloc: Global, place: usize) -> Result<Vec<u8>, Fail> {
 }
 
 /// The number of the clause that fails, or 0.
-fn number_of(answer: Result<(), PolicyRefusal>) -> u8 {
+pub(crate) fn number_of(answer: Result<(), PolicyRefusal>) -> u8 {
     match answer {
         Ok(()) => 0,
         Err(refusal) => refusal.number(),
