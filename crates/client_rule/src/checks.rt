@@ -1,6 +1,7 @@
 ghost use Rattle.std.specs.Prelude.{◌≡◌, ◌-◌};
 ghost use Rattle.tree_proof.specs.Membership.{is_off, is_on};
-ghost use Rattle.ar_statement.specs.Claims.{text_of};
+ghost use Rattle.ar_statement.specs.Claims.{party, text_of};
+ghost use Rattle.ar_statement.specs.declared.party.Role.TheVariants.{LogServer, Authority};
 ghost use Rattle.client_rule.specs.Rule.{claim_on, confirms, has_parties, is_current, is_live, is_shown, is_young, refusal_of};
 ghost use Rattle.client_rule.specs.Views.{body_of, HasDigest};
 
@@ -59,6 +60,33 @@ fn confirms(
 {
     let text = text_on(view, shown, signer);
     directory.verify(signer, text.as_bytes(), signature).is_ok()
+}
+
+// Whether the log signed what the confirmation says.
+fn log_confirms(directory: &Directory, view: &ConfView, shown: &Shown) -> bool
+    requires { HasDigest shown.now }
+    ensures { result ≡ confirms directory.now view.now.about (body_of shown.now) (party LogServer view.now.log.number) view.now.log.signature }
+{
+    let log = Role::LogServer.party(view.log());
+    confirms(directory, view, shown, log, view.log_signature())
+}
+
+// Whether the first authority signed what the confirmation says.
+fn first_confirms(directory: &Directory, view: &ConfView, shown: &Shown) -> bool
+    requires { HasDigest shown.now }
+    ensures { result ≡ confirms directory.now view.now.about (body_of shown.now) (party Authority view.now.first.number) view.now.first.signature }
+{
+    let first = Role::Authority.party(view.first());
+    confirms(directory, view, shown, first, view.first_signature())
+}
+
+// Whether the second authority signed what the confirmation says.
+fn second_confirms(directory: &Directory, view: &ConfView, shown: &Shown) -> bool
+    requires { HasDigest shown.now }
+    ensures { result ≡ confirms directory.now view.now.about (body_of shown.now) (party Authority view.now.second.number) view.now.second.signature }
+{
+    let second = Role::Authority.party(view.second());
+    confirms(directory, view, shown, second, view.second_signature())
 }
 
 // Whether the steps show that the key has the value under the root.
@@ -146,31 +174,13 @@ pub(crate) fn refusal(
     if !has_parties(directory, view) {
         return Err(3);
     }
-    if !confirms(
-        directory,
-        view,
-        shown,
-        Role::LogServer.party(view.log()),
-        view.log_signature(),
-    ) {
+    if !log_confirms(directory, view, shown) {
         return Err(4);
     }
-    if !confirms(
-        directory,
-        view,
-        shown,
-        Role::Authority.party(view.first()),
-        view.first_signature(),
-    ) {
+    if !first_confirms(directory, view, shown) {
         return Err(5);
     }
-    if !confirms(
-        directory,
-        view,
-        shown,
-        Role::Authority.party(view.second()),
-        view.second_signature(),
-    ) {
+    if !second_confirms(directory, view, shown) {
         return Err(6);
     }
     if !is_shown(view, shown) {

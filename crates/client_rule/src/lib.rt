@@ -5,6 +5,7 @@
 
 mod checks;
 mod judgement;
+pub mod laws;
 mod shown;
 #[cfg(test)]
 mod tests;

@@ -144,6 +144,7 @@ fn the_first_check_that_fails_is_told(rt: HostRuntime) -> Result<(), Fail> {
 // What the other program wrote of absence: the root of a table, what stands at the foot of the path of
 // a.example in it, and the roots of the keys that fit the three statements of epoch 5 that a.example has
 // no certificate.
+#[derive(Drop)]
 struct Absence {
     root: [u8; 32],
     bottom: &'static [u8],
@@ -214,17 +215,16 @@ fn other_table() -> Absence {
     }
 }
 
-// The confirmation of absence, with the byte at this place changed.
-fn absent(alloc: Global, absence: &Absence, place: usize, byte: u8) -> Result<Vec<u8>, AllocError> {
-    let mut bytes = Vec::from_slice(alloc, &FRONT[..22])?;
+// The confirmation of absence, with this number for its form, which is 2.
+fn absent(alloc: Global, absence: &Absence, form: u8) -> Result<Vec<u8>, AllocError> {
+    let mut bytes = Vec::from_slice(alloc, &[12, form])?;
+    bytes.extend_from_slice(&FRONT[2..22])?;
     bytes.extend_from_slice(&absence.root)?;
     bytes.extend_from_slice(absence.bottom)?;
     bytes.extend_from_slice(&[0, 0])?;
     sign(&mut bytes, 2)?;
     sign(&mut bytes, 0)?;
     sign(&mut bytes, 1)?;
-    bytes[1] = 2;
-    bytes[place] = byte;
     Ok(bytes)
 }
 
@@ -238,7 +238,7 @@ fn absence_is_judged(rt: HostRuntime) -> Result<(), Fail> {
         let Ok(directory) = Directory::new(logs, authorities, 3) else {
             panic!(rt; "no directory")
         };
-        let bytes = absent(alloc, &absence, 1, 2)?;
+        let bytes = absent(alloc, &absence, 2)?;
         let view = ConfView::read(&bytes).ok_or("no confirmation")?;
         assert!(rt; view.cert().is_none() && view.bottom().is_some());
         let judgement = judge(&directory, b"a.example", &bytes, 9, 4);
@@ -246,17 +246,17 @@ fn absence_is_judged(rt: HostRuntime) -> Result<(), Fail> {
             panic!(rt; "{judgement:?}")
         };
         assert_eq!(rt; (epoch, root), (5, absence.root));
-        // A place and the byte that stands there instead, and the check that refuses.
-        for (place, byte, name, now, age, check) in [
-            (1usize, 3u8, b"a.example", 9u64, 4u64, 1u8),
-            (1, 2, b"b.example", 9, 4, 2),
-            (1, 2, b"a.example", 4, 4, 8),
-            (1, 2, b"a.example", 10, 4, 9),
-            (1, 2, b"a.example", 1000, 2000, 0),
+        // The form, the question, and the check that refuses.
+        for (form, name, now, age, check) in [
+            (3, b"a.example", 9, 4, 1),
+            (2, b"b.example", 9, 4, 2),
+            (2, b"a.example", 4, 4, 8),
+            (2, b"a.example", 10, 4, 9),
+            (2, b"a.example", 1000, 2000, 0),
         ] {
-            let bytes = absent(alloc, &absence, place, byte)?;
+            let bytes = absent(alloc, &absence, form)?;
             let judgement = judge(&directory, name, &bytes, now, age);
-            assert_eq!(rt; number(judgement), check, "{place} {byte} {now} {age}");
+            assert_eq!(rt; number(judgement), check, "{form} {now} {age}");
         }
     }
     Ok(())

@@ -1,0 +1,23 @@
+//! Laws on judgements, over the definitions alone: each is the contract of a function without a body.
+
+ghost use Rattle.std.specs.Prelude.{◌≡◌, ◌↔◌, List, ℕ};
+ghost use Rattle.ar_cert.specs.Certificate.{Certificate};
+ghost use Rattle.client_rule.specs.Meaning.{Asked, Accepts, AcceptsNone, Refuses};
+ghost use Rattle.client_rule.specs.Rule.{judgement};
+ghost use Rattle.client_rule.specs.declared.judgement.Judgement.TheVariants.{Absent, Accepted, Refused};
+
+/// Bytes are accepted, with a certificate or with none, exactly where they are a confirmation of which
+/// all checks hold: the name that was asked for, three known parties, three signatures that are verified,
+/// steps that show it under the root, the ages, and a certificate that is neither revoked nor expired.
+/// They are refused by a number exactly where that check does not hold and all before it do.
+pub fn a_judgement_means_its_facts()
+    ensures accepted { (asked : Asked) (bytes : List ℕ) (certificate : Certificate) (digest : List ℕ) (epoch : ℕ) (root : List ℕ)
+        → (judgement asked.keys asked.name bytes asked.epoch asked.age ≡ Accepted certificate digest epoch root)
+        ↔ Accepts asked bytes certificate digest epoch root }
+    ensures absent { (asked : Asked) (bytes : List ℕ) (epoch : ℕ) (root : List ℕ)
+        → (judgement asked.keys asked.name bytes asked.epoch asked.age ≡ Absent epoch root)
+        ↔ AcceptsNone asked bytes epoch root }
+    ensures refused { (asked : Asked) (bytes : List ℕ) (number : ℕ)
+        → (judgement asked.keys asked.name bytes asked.epoch asked.age ≡ Refused number)
+        ↔ Refuses asked bytes number }
+{}
