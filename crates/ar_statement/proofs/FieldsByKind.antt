@@ -1,11 +1,11 @@
 -- The fields of each kind of statement: what was put is read again, and what is read is spelled so.
-use Rattle.std.proofs.Common.{◌≡◌, ℕ, ◌^◌, ◌<◌, ◌≤◌, Bool, true, false, eqb, List, ◌++◌, length, Option, Some, None, Ok, Err, cond, refl, sym, subst}
+use Rattle.std.proofs.Common.{◌≡◌, ℕ, ◌^◌, ◌<◌, eqb, List, ◌++◌, Option, Some, None, Err, cond, refl, sym, subst}
 use Rattle.std.specs.Prelude.{IfSome}
 use Rattle.std.specs.Int.{w32, w64}
 use Rattle.std.proofs.lemmas.Bool.{eqb-true}
-use Rattle.ar_base.specs.Bytes.{AreBytes, IsDigest}
+use Rattle.ar_base.specs.Bytes.{IsDigest}
 use Rattle.ar_bytes.specs.Reading.{Cursor, Reading, bytes_at, number_at}
-use Rattle.ar_bytes.specs.RoundTrip.{Passes, ReadsBack, IsSpelledBy, number_text}
+use Rattle.ar_bytes.specs.RoundTrip.{ReadsBack, IsSpelledBy, number_text}
 use Rattle.ar_bytes.specs.Joined.{pair_at, optional_at, optional_text}
 use Rattle.ar_bytes.proofs.Passing.{bytes_again, bytes_pass, number_again, number_pass, wide32, wide64, AreBytes-front}
 use Rattle.ar_bytes.proofs.JoinedFields.{pair_again, pair_pass, optional_again, optional_pass, mapped_again, mapped_pass, if_pass}

@@ -1,14 +1,11 @@
 -- A text is read as its statement and as no other.
-use Rattle.std.proofs.Common.{◌≡◌, ℕ, Bool, true, false, cond, List, [], ◌++◌, length, Option, Some, None, Result, Ok, Err, refl, sym, ap, subst, ◌∙◌, arith}
-use Rattle.std.specs.Prelude.{IfSome, IsTrue}
-use Rattle.std.specs.Option.{option_map}
+use Rattle.std.proofs.Common.{◌≡◌, ℕ, true, false, List, [], ◌++◌, length, Some, None, Result, Ok, Err, refl, sym, ap, subst, ◌∙◌, arith}
 use Rattle.std.specs.Result.{result_ok}
 use Rattle.ar_base.specs.Bytes.{AreBytes}
 use Rattle.ar_bytes.specs.Reading.{Cursor, whole}
 use Rattle.ar_bytes.proofs.Steps.{ok_is}
 use Rattle.ar_bytes.proofs.Parts.{whole_again, whole_pass}
-use Rattle.ar_statement.specs.declared.statement.Statement.{Statement}
-use Rattle.ar_statement.specs.Claims.{Claim, claim_of, text_of}
+use Rattle.ar_statement.specs.Claims.{Claim, text_of}
 use Rattle.ar_statement.specs.Ranges.{IsHeld, IsTextOf, IsValid, is_in_range}
 use Rattle.ar_statement.specs.Texts.{statement_at}
 use Rattle.ar_statement.proofs.Statements.{statement_again, statement_pass}

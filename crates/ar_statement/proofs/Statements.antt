@@ -1,14 +1,13 @@
 -- A whole statement: what was put is read again, and what is read is spelled so.
-use Rattle.std.proofs.Common.{◌≡◌, ℕ, ◌^◌, ◌<◌, Bool, true, ◌&&◌, eqb, List, ◌++◌, length, Option, Some, None, Ok, refl, sym, ap, subst, ◌∙◌, arith, eq-eqb, inl, inr}
+use Rattle.std.proofs.Common.{◌≡◌, ℕ, ◌^◌, ◌<◌, true, eqb, List, ◌++◌, Option, Some, None, Ok, refl, sym, ap, subst, ◌∙◌, arith, eq-eqb, inl, inr}
 use Rattle.std.specs.Option.{option_map, ok_or}
 use Rattle.std.specs.Int.{w8, w16}
 use Rattle.std.proofs.lemmas.Bool.{cases_eq, eqb-true, ne_eqb, and_parts, and_from}
-use Rattle.ar_base.specs.Bytes.{AreBytes}
 use Rattle.ar_base.specs.Chaining.{◌>>=◌}
-use Rattle.ar_bytes.specs.Reading.{Cursor, Reading, number_at, such_that}
+use Rattle.ar_bytes.specs.Reading.{Cursor, number_at, such_that}
 use Rattle.ar_bytes.specs.RoundTrip.{Passes, ReadsBack, IsSpelledBy, number_text}
 use Rattle.ar_bytes.specs.Joined.{pair_at}
-use Rattle.ar_bytes.proofs.Steps.{bind_ok, ok_is, between, Passes-then, Passes-first, Passes-second, AreBytes-behind}
+use Rattle.ar_bytes.proofs.Steps.{bind_ok, between, Passes-then, Passes-first, Passes-second, AreBytes-behind}
 use Rattle.ar_bytes.proofs.Passing.{number_again, number_pass, wide8, wide16}
 use Rattle.ar_bytes.proofs.Parts.{such_that_again, such_that_pass}
 use Rattle.ar_bytes.proofs.JoinedFields.{pair_again, pair_pass, mapped_again, mapped_pass}

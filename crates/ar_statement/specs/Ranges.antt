@@ -1,12 +1,11 @@
 -- Which values the fields of a statement have: what the types keep, and what a statement may say.
-use Rattle.std.specs.Prelude.{◌≡◌, ℕ, ◌^◌, ◌<◌, ◌≤◌, nat_le, Bool, true, false, ◌&&◌, List, length, take, drop, IsTrue, IfSome}
+use Rattle.std.specs.Prelude.{◌≡◌, ℕ, ◌^◌, ◌<◌, nat_le, Bool, true, false, ◌&&◌, List, length, take, drop, IsTrue, IfSome}
 use Rattle.std.specs.Int.{w32, from_be_bytes}
 use Rattle.ar_base.specs.Bytes.{AreBytes, IsDigest}
 use Rattle.ar_names.specs.Names.{IsName}
 use Rattle.ar_statement.specs.declared.party.Role.{Role}
 use Rattle.ar_statement.specs.declared.party.Role.TheVariants.{LogServer, Authority, Owner, Client}
-use Rattle.ar_statement.specs.declared.party.Party.{Party}
-use Rattle.ar_statement.specs.Claims.{Claim, endorse, handover, propose, vote, confirm, confirm_absent, answer, status, roll, object, kind_of, signer_of, text_of, Roots}
+use Rattle.ar_statement.specs.Claims.{Claim, endorse, handover, propose, vote, confirm, confirm_absent, answer, status, roll, object, signer_of, text_of, Roots}
 use Rattle.ar_statement.specs.Fields.{is_epoch}
 
 -- ---- what the types keep

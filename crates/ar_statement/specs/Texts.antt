@@ -1,6 +1,6 @@
 -- How the text of a statement is read, field by field: its kind, its signer, and the fields that the kind
 -- has.
-use Rattle.std.specs.Prelude.{ℕ, Bool, ◌==◌, if◌then◌else◌, List, Option, Some, None, Ok, Err}
+use Rattle.std.specs.Prelude.{ℕ, Bool, ◌==◌, if◌then◌else◌, Option, Some, None, Err}
 use Rattle.std.specs.Int.{w8, w16, w32, w64}
 use Rattle.std.specs.Option.{option_map, ok_or}
 use Rattle.ar_base.specs.Chaining.{◌>>=◌}

@@ -17,13 +17,10 @@ fn expect(rt: &impl Abort, statement: Statement, text: &[u8]) {
     let len = statement.write_into(&mut out);
     assert_eq!(rt; out.get(..len), Some(text), "of {statement:?}");
     assert_eq!(rt; out.get(len), Some(&0xee), "behind {statement:?}");
-    let read = Statement::read(text);
-    let again = read.map(|statement| Text::of(&statement));
-    assert_eq!(rt;
-        again,
-        Some(Text::of(&statement)),
-        "the text of {statement:?}"
-    );
+    match Statement::read(text) {
+        Some(again) => assert_eq!(rt; Text::of(&again), Text::of(&statement)),
+        None => panic!(rt; "the text of {statement:?} is not read"),
+    }
 }
 
 #[test]

@@ -1,4 +1,4 @@
-use Rattle.std.proofs.Common.{◌≡◌, ◌∙◌, sym, arith}
+use Rattle.std.proofs.Common.{◌∙◌, sym, arith}
 use Rattle.ar_statement.specs.Claims.{claim_of}
 use Rattle.ar_statement.proofs.OneText.{is_found, is_read, not_read, not_valid}
 use Rattle.ar_statement.proofs.statement.Statement.read.Goals as goal
