@@ -1,0 +1,4 @@
+pub mod HistoryLemmas
+pub mod Keeping
+pub mod StepsKeep
+pub mod LawsKeep

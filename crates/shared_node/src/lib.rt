@@ -1,0 +1,29 @@
+//! A core that many threads share, with one history of all calls.
+//!
+//! The core lies in the one slot of a table, with the list of the calls that it answered. A thread
+//! asks with a seat: under the lock it takes the core out, lets it make a step, and counts the call.
+//! What a seat has seen is a beginning of the history, and at every moment each call of the history is
+//! an own call of one seat (`specs/Rule.antt`). So the calls of all threads stand in one legal
+//! history, each once, in the order that each had seen.
+//!
+//! A seat can be split for another thread, and joined again. A seat that has the whole share is the
+//! only one: with it the node is closed, and gives back the core and the history.
+#![tactic(auto)]
+
+pub use answer::{Answer, Closed, Place};
+pub use core_trait::Core;
+pub use fault::SplitFault;
+pub use seat::Seat;
+pub use shared::SharedNode;
+
+mod answer;
+mod core_trait;
+mod fault;
+mod held;
+pub mod laws;
+mod node;
+mod seat;
+mod shared;
+mod steps;
+#[cfg(test)]
+mod tests;

@@ -1,0 +1,166 @@
+ghost use Rattle.std.specs.Prelude.{◌≡◌, ◌+◌, ℕ, All, IfOk};
+ghost use Rattle.shared_node.specs.Seats.{IsSeatOf};
+
+use crate::{Core, Seat, SharedNode, SplitFault};
+use std::alloc::{AllocError, Global};
+use std::sync::Wait;
+use std::test::Fail;
+use std::thread::map_vec;
+
+// It adds what it is asked, and answers the sum so far. It wants memory where it is asked 0.
+#[derive(Drop)]
+struct Counter {
+    sum: u64,
+}
+
+impl Core for Counter {
+    type Input = u64;
+
+    type Note = ();
+
+    type Reply = u64;
+
+    type State = u64;
+
+    ghost use Rattle.std.specs.Prelude.{◌+◌, ◌%◌, ◌^◌, ℕ};
+
+    ghost state = { λ counter. counter.sum };
+
+    ghost next = { λ sum more _. ((sum + more) % 2 ^ 64, (sum + more) % 2 ^ 64) };
+
+    ghost legal = { λ _ _ _. Unit {0} };
+
+    fn step(&mut self, _alloc: Global, input: &u64) -> Result<(u64, ()), AllocError> {
+        if *input == 0 {
+            return Err(AllocError);
+        }
+        self.sum = self.sum.wrapping_add(*input);
+        Ok((self.sum, ()))
+    }
+}
+
+#[test]
+fn two_seats_ask_in_turn(rt: HostRuntime) -> Result<(), Fail> {
+    let alloc = rt.alloc();
+    let Ok((node, mut one)) = SharedNode::new(alloc, Counter { sum: 7 }) else {
+        panic!(rt; "out of memory")
+    };
+    let first = node
+        .ask(alloc, &rt, &mut one, 1)
+        .map_err(|refused| refused.1)?;
+    let second = node
+        .ask(alloc, &rt, &mut one, 10)
+        .map_err(|refused| refused.1)?;
+    assert_eq!(rt; (first.place.number(), first.reply), (0, 8));
+    assert_eq!(rt; (second.place.number(), second.reply), (1, 18));
+    let mut two = node.split(alloc, &mut one)?;
+    assert_eq!(rt; (one.share(), two.share()), (1 << 31, 1 << 31));
+    let third = node
+        .ask(alloc, &rt, &mut two, 100)
+        .map_err(|refused| refused.1)?;
+    assert_eq!(rt; (third.place.number(), third.reply), (2, 118));
+    assert_eq!(rt; node.look(&mut one), 3);
+    node.join(&mut one, two);
+    assert_eq!(rt; one.share(), 1 << 32);
+    let closed = node.close(one);
+    assert_eq!(rt; closed.core.sum, 118);
+    assert_eq!(rt;
+        closed.history.as_slice(),
+        [(1, ()), (10, ()), (100, ())].as_slice()
+    );
+    Ok(())
+}
+
+#[test]
+fn an_ask_that_wants_memory_leaves_no_trace(rt: HostRuntime) -> Result<(), Fail> {
+    let alloc = rt.alloc();
+    let Ok((node, mut seat)) = SharedNode::new(alloc, Counter { sum: 7 }) else {
+        panic!(rt; "out of memory")
+    };
+    let refused = node
+        .ask(alloc, &rt, &mut seat, 0)
+        .err()
+        .map(|refused| refused.0);
+    assert_eq!(rt; refused, Some(0));
+    assert_eq!(rt; node.look(&mut seat), 0);
+    let closed = node.close(seat);
+    assert_eq!(rt; closed.core.sum, 7);
+    assert!(rt; closed.history.is_empty());
+    Ok(())
+}
+
+// Asks a thousand times: the places.
+fn ask_often<R: Wait>(
+    rt: &R,
+    alloc: Global,
+    node: &SharedNode<Counter>,
+    mut seat: Seat<Counter>,
+) -> Result<Vec<u64>, AllocError>
+    requires { IsSeatOf node.now seat }
+{
+    let mut places = Vec::new(alloc);
+    for _ in 0..1000 {
+        let answer = node
+            .ask(alloc, rt, &mut seat, 3)
+            .map_err(|refused| refused.1)?;
+        places.push(answer.place.number())?;
+    }
+    Ok(places)
+}
+
+// Four seats that are split from one.
+fn four_seats(
+    alloc: Global,
+    node: &SharedNode<Counter>,
+    seat: &mut Seat<Counter>,
+) -> Result<Vec<Seat<Counter>>, Fail>
+    requires { IsSeatOf node.now seat.old }
+    ensures own { IsSeatOf node.now seat.new }
+    ensures seats { IfOk result (λ seats. All (IsSeatOf node.now) seats.items) }
+{
+    let mut seats = Vec::new(alloc);
+    for _ in 0..4 {
+        seats.push(node.split(alloc, seat)?)?;
+    }
+    Ok(seats)
+}
+
+#[test]
+fn four_threads_ask_a_thousand_times_each(rt: HostRuntime) -> Result<(), Fail> {
+    let alloc = rt.alloc();
+    let Ok((node, mut seat)) = SharedNode::new(alloc, Counter { sum: 0 }) else {
+        panic!(rt; "out of memory")
+    };
+    let seats = four_seats(alloc, &node, &mut seat)?;
+    let asked = map_vec(&rt, seats, &|seat| ask_often(&rt, alloc, &node, seat))?;
+    let mut times = [0u8; 4000];
+    for places in asked {
+        for place in places? {
+            if let Some(times) = times.get_mut(place as usize) {
+                *times = times.saturating_add(1);
+            }
+        }
+    }
+    assert!(rt; times.iter().all(|times| *times == 1));
+    let last = node
+        .ask(alloc, &rt, &mut seat, 1)
+        .map_err(|refused| refused.1)?;
+    assert_eq!(rt; (last.place.number(), last.reply), (4000, 12001));
+    Ok(())
+}
+
+#[test]
+fn a_seat_is_split_32_times_and_then_narrow(rt: HostRuntime) -> Result<(), Fail> {
+    let alloc = rt.alloc();
+    let Ok((node, mut seat)) = SharedNode::new(alloc, Counter { sum: 0 }) else {
+        panic!(rt; "out of memory")
+    };
+    for _ in 0..32 {
+        let given = node.split(alloc, &mut seat)?;
+        drop(given);
+    }
+    assert_eq!(rt; seat.share(), 1);
+    let narrow = node.split(alloc, &mut seat);
+    assert!(rt; matches!(narrow, Err(SplitFault::Narrow)));
+    Ok(())
+}
