@@ -39,26 +39,34 @@ impl Core for Counter {
     }
 }
 
+// Asks once: the place and the reply.
+fn ask<R: Wait>(
+    rt: &R,
+    alloc: Global,
+    node: &SharedNode<Counter>,
+    seat: &mut Seat<Counter>,
+    input: u64,
+) -> Result<(u64, u64), AllocError>
+    requires { IsSeatOf node.now seat.old }
+    ensures { IsSeatOf node.now seat.new }
+{
+    match node.ask(alloc, rt, seat, input) {
+        Ok(answer) => Ok((answer.place.number(), answer.reply)),
+        Err((_, error)) => Err(error),
+    }
+}
+
 #[test]
 fn two_seats_ask_in_turn(rt: HostRuntime) -> Result<(), Fail> {
     let alloc = rt.alloc();
     let Ok((node, mut one)) = SharedNode::new(alloc, Counter { sum: 7 }) else {
         panic!(rt; "out of memory")
     };
-    let first = node
-        .ask(alloc, &rt, &mut one, 1)
-        .map_err(|refused| refused.1)?;
-    let second = node
-        .ask(alloc, &rt, &mut one, 10)
-        .map_err(|refused| refused.1)?;
-    assert_eq!(rt; (first.place.number(), first.reply), (0, 8));
-    assert_eq!(rt; (second.place.number(), second.reply), (1, 18));
+    assert_eq!(rt; ask(&rt, alloc, &node, &mut one, 1)?, (0, 8));
+    assert_eq!(rt; ask(&rt, alloc, &node, &mut one, 10)?, (1, 18));
     let mut two = node.split(alloc, &mut one)?;
     assert_eq!(rt; (one.share(), two.share()), (1 << 31, 1 << 31));
-    let third = node
-        .ask(alloc, &rt, &mut two, 100)
-        .map_err(|refused| refused.1)?;
-    assert_eq!(rt; (third.place.number(), third.reply), (2, 118));
+    assert_eq!(rt; ask(&rt, alloc, &node, &mut two, 100)?, (2, 118));
     assert_eq!(rt; node.look(&mut one), 3);
     node.join(&mut one, two);
     assert_eq!(rt; one.share(), 1 << 32);
@@ -100,10 +108,8 @@ fn ask_often<R: Wait>(
 {
     let mut places = Vec::new(alloc);
     for _ in 0..1000 {
-        let answer = node
-            .ask(alloc, rt, &mut seat, 3)
-            .map_err(|refused| refused.1)?;
-        places.push(answer.place.number())?;
+        let (place, _) = ask(rt, alloc, node, &mut seat, 3)?;
+        places.push(place)?;
     }
     Ok(places)
 }
@@ -142,10 +148,7 @@ fn four_threads_ask_a_thousand_times_each(rt: HostRuntime) -> Result<(), Fail> {
         }
     }
     assert!(rt; times.iter().all(|times| *times == 1));
-    let last = node
-        .ask(alloc, &rt, &mut seat, 1)
-        .map_err(|refused| refused.1)?;
-    assert_eq!(rt; (last.place.number(), last.reply), (4000, 12001));
+    assert_eq!(rt; ask(&rt, alloc, &node, &mut seat, 1)?, (4000, 12001));
     Ok(())
 }
 

@@ -1,5 +1,5 @@
 use Rattle.std.proofs.Common.{ap, sym, ◌∙◌, refl}
-use Rattle.shared_node.proofs.HistoryLemmas.{replays_on}
+use Rattle.shared_node.proofs.HistoryLemmas.{adds_replays}
 use Rattle.shared_node.proofs.shared.SharedNode.ask.Goals as goal
 
 pub count-requires-clause-call : goal.count-requires-clause-call
@@ -8,9 +8,7 @@ count-requires-clause-call g c κs within =
     ((c.args.input, adds.note), rw c.take-node.ensures.taken adds.history_is)
 
 pub count-requires-clause-replays : goal.count-requires-clause-replays
-count-requires-clause-replays g c κs within =
-    let adds = c.in-Ok.ensures.ok in
-    rw adds.history_is (replays_on _ _ _ _ _ _ _ _ _ c.take-node.ensures.replays adds.legally adds.next_is)
+count-requires-clause-replays g c κs within = adds_replays _ _ _ _ _ _ _ _ c.in-Ok.ensures.ok c.take-node.ensures.replays
 
 pub returns-in-Ok-clause-ok : goal.returns-in-Ok-clause-ok
 returns-in-Ok-clause-ok g c =
@@ -20,7 +18,7 @@ returns-in-Ok-clause-ok g c =
       note = adds.note;
       later = rw (← c.seat.view_is) took.later;
       place_is = rw (c.new-place.ensures, c.count.ensures.place, took.taken) refl;
-      legally = (replays_on _ _ _ _ _ _ _ _ _ took.replays adds.legally adds.next_is).legally;
+      legally = rw (← adds.history_is) (adds_replays _ _ _ _ _ _ _ _ adds took.replays).legally;
       reply_is = sym (ap (λ s. (g.C.Core.next s c.args.input adds.note).0) took.replays.state ∙ ap (λ made. made.0) adds.next_is);
       after = rw (← c.seat.view_is, c.new-place.ensures, c.count.ensures.own, c.count.ensures.left, took.own, took.taken, adds.history_is) refl;
     }
