@@ -1,6 +1,6 @@
 -- Fields that are joined: what was put is read again, and what is read is spelled so, where that holds of
 -- each of them.
-use Rattle.std.proofs.Common.{◌≡◌, ℕ, Bool, true, false, cond, List, ◌++◌, Option, Some, None, Ok, refl, subst}
+use Rattle.std.proofs.Common.{◌≡◌, ℕ, Bool, true, false, cond, List, ◌++◌, Option, Some, None, Ok, refl, sym, subst}
 use Rattle.std.specs.Prelude.{IfSome}
 use Rattle.ar_base.specs.Bytes.{AreBytes}
 use Rattle.ar_base.specs.Chaining.{◌>>=◌}
