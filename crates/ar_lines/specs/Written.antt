@@ -24,8 +24,8 @@ pub record IsKey (key : LmsPublic) : Type 0 where
   pub root : IsBytes key.root
 
 -- what is written of each of these values is of the form, and spells the value
-abbrev pub ReadsBack : {T : Type 0} → (List ℕ → Option T) → (T → List ℕ) → (T → Type 0) → Type 0
-ReadsBack {T = T} form write Is = (value : T) → Is value → form (write value) ≡ Some value
+abbrev pub IsReadAsWritten : {T : Type 0} → (List ℕ → Option T) → (T → List ℕ) → (T → Type 0) → Type 0
+IsReadAsWritten {T = T} form write Is = (value : T) → Is value → form (write value) ≡ Some value
 
 -- a word of the form is what is written of the value that it spells
 abbrev pub Writes : {T : Type 0} → (List ℕ → Option T) → (T → List ℕ) → Type 0

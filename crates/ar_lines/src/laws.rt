@@ -8,7 +8,7 @@ ghost use Rattle.hex.specs.Hex.{IsBytes, encode_lower};
 ghost use Rattle.ar_names.specs.Names.{IsName};
 ghost use Rattle.ar_lines.specs.Forms.{bytes_of_hex, key_of_hex, name_of, number_of};
 ghost use Rattle.ar_lines.specs.Lines.{is_text, lines_of};
-ghost use Rattle.ar_lines.specs.Written.{IsKey, ReadsBack, Writes, hex_of_key, text_of_lines};
+ghost use Rattle.ar_lines.specs.Written.{IsKey, IsReadAsWritten, Writes, hex_of_key, text_of_lines};
 
 /// Lines of text that are written are read as just these lines.
 pub fn lines_are_read_as_they_are_written()
@@ -17,10 +17,10 @@ pub fn lines_are_read_as_they_are_written()
 
 /// What is written as a word spells what was written.
 pub fn words_are_read_as_they_are_written()
-    ensures hex { ReadsBack bytes_of_hex encode_lower IsBytes }
-    ensures number { ReadsBack number_of decimal (λ n. n < 2 ^ 64) }
-    ensures name { ReadsBack name_of (λ name. name) IsName }
-    ensures key { ReadsBack key_of_hex hex_of_key IsKey }
+    ensures hex { IsReadAsWritten bytes_of_hex encode_lower IsBytes }
+    ensures number { IsReadAsWritten number_of decimal (λ n. n < 2 ^ 64) }
+    ensures name { IsReadAsWritten name_of (λ name. name) IsName }
+    ensures key { IsReadAsWritten key_of_hex hex_of_key IsKey }
 {}
 
 /// A word spells only what is written as it, so that no two words spell the same.

@@ -4,6 +4,7 @@ ghost use Rattle.ar_lines.specs.declared.refusal.LineFault.TheVariants as line_f
 
 use std::alloc::{AllocError, AllocFailed};
 use std::fmt;
+use thiserror::Error;
 
 /// Why a line is refused.
 #[derive(Clone, Copy, Debug, PartialEq, Eq)]
@@ -60,11 +61,13 @@ impl fmt::Display for Refusal {
 }
 
 /// Why an input is not read.
-#[derive(Clone, Copy, Debug, PartialEq, Eq)]
+#[derive(Clone, Copy, Debug, PartialEq, Eq, Error)]
 pub enum LineFault {
     /// A line is refused, the first one that is.
+    #[error("{0}")]
     Refused(Refusal),
     /// Memory ran out.
+    #[error("memory ran out")]
     Memory,
 }
 

@@ -3,15 +3,19 @@ ghost use Rattle.ar_run.specs.Runs.{fault_status};
 ghost use Rattle.ar_run.specs.declared.fault.Fault.TheVariants.{Source, Sink, Memory};
 
 use std::alloc::AllocError;
+use thiserror::Error;
 
 /// Why a run gives no answer, or not the whole of it.
-#[derive(Clone, Copy, Debug, PartialEq, Eq)]
+#[derive(Clone, Copy, Debug, PartialEq, Eq, Error)]
 pub enum Fault {
     /// A read of the source failed.
+    #[error("a read failed")]
     Source,
     /// A write to the sink failed.
+    #[error("a write failed")]
     Sink,
     /// Memory ran out.
+    #[error("memory ran out")]
     Memory,
 }
 

@@ -5,7 +5,7 @@ use std::alloc::AllocError;
 use thiserror::Error;
 
 /// No leaf is left: the word was seen at this number, which is none of a leaf.
-#[derive(Debug, Drop, Error)]
+#[derive(Clone, Copy, Debug, PartialEq, Eq, Error)]
 #[error("no leaf is left")]
 pub struct Exhausted {
     /// The number of leaves, or more.
@@ -13,7 +13,7 @@ pub struct Exhausted {
 }
 
 /// Why a seat was not split.
-#[derive(Debug, Drop, Error)]
+#[derive(Clone, Copy, Debug, PartialEq, Eq, Error)]
 pub enum SplitFault {
     /// The seat's share is 1.
     #[error("the share is too small to be split")]

@@ -117,9 +117,9 @@ said_text (said.Absent name epoch root) =
     codes " absent " ++ (name ++ (codes " epoch " ++ (decimal epoch ++ (codes " root " ++ (encode_lower root ++ codes "\n")))))
 said_text (said.Refused check) = codes " refused " ++ (decimal check ++ codes "\n")
 
--- the numbers of messages, each behind a space
+-- the numbers of deliveries in a burst, each behind a space
 abbrev pub taken_text : List ℕ → List ℕ
-taken_text taken = flat_map (λ message. codes " " ++ decimal message) taken
+taken_text taken = flat_map (λ delivery. codes " " ++ decimal delivery) taken
 
 -- a digest at the end of a line
 abbrev pub digest_text : List ℕ → List ℕ
@@ -160,7 +160,7 @@ abbrev pub entry_text : ℕ → ℕ → Option Party → Target → ℕ → List
 entry_text message kind from to length digest =
     message_text message kind ++ (route_text from to ++ (codes " " ++ (decimal length ++ digest_text digest)))
 
--- a party took messages, in this order
+-- a party took these deliveries of a burst, in this order
 abbrev pub order_text : Party → List ℕ → List ℕ
 order_text party taken = codes "order " ++ (party_text party ++ (taken_text taken ++ codes "\n"))
 

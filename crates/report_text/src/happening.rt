@@ -156,7 +156,8 @@ pub enum Happening {
         message: u64,
         said: Said,
     },
-    /// At the end of a burst: the messages that a party took, in the order in which it took them.
+    /// At the end of a burst: the deliveries of the burst that a party took, by their numbers in it from 0,
+    /// in the order in which it took them.
     Order {
         party: Party,
         taken: Items<u64>,

@@ -144,7 +144,7 @@ pub(crate) fn put_code(alloc: Global, out: &mut Vec<u8>, code: Code) -> Result<(
     put_values(alloc, out, &code.values)
 }
 
-/// Appends the numbers of messages, each behind a space.
+/// Appends the numbers of deliveries, each behind a space.
 pub(crate) fn put_taken(alloc: Global, out: &mut Vec<u8>, taken: &[u64]) -> Result<(), AllocError>
     ensures { Appends (taken_text taken.now) out.old out.new result }
 {
