@@ -93,11 +93,11 @@ fn each_statement_has_its_text(rt: HostRuntime) {
     expect(
         &rt,
         Statement::Status {
-            log: 65535,
-            epoch: 1,
+            log: 2,
+            epoch: 4,
             value: None,
         },
-        b"\x09\x01\xff\xff\x00\x00\x00\x00\x00\x00\x00\x01\x00",
+        b"\x09\x01\x00\x02\x00\x00\x00\x00\x00\x00\x00\x04\x00",
     );
     expect(
         &rt,
@@ -136,7 +136,7 @@ fn other_bytes_are_no_text(rt: HostRuntime) {
         ),
         (
             "longer",
-            b"\x09\x01\xff\xff\x00\x00\x00\x00\x00\x00\x00\x01\x00\x00".as_slice(),
+            b"\x09\x01\x00\x02\x00\x00\x00\x00\x00\x00\x00\x04\x00\x00".as_slice(),
         ),
         (
             "epoch 0",
@@ -176,7 +176,7 @@ fn other_bytes_are_no_text(rt: HostRuntime) {
         ),
         (
             "kind 5",
-            b"\x05\x01\x00\x07\x00\x00\x00\x00\x00\x00\x00\x01".as_slice(),
+            b"\x05\x01\x00\x02\x00\x00\x00\x00\x00\x00\x00\x04".as_slice(),
         ),
         (
             "kind 12",
