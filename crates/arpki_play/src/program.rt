@@ -20,7 +20,7 @@ const USAGE: &[u8] = b"usage: arpki play | check | sig | make <number> [run]\n";
 ///
 /// | status | comes |
 /// |---|---|
-/// | 0 | `sig` finds the signature valid, `check` accepts the confirmation |
+/// | 0 | `sig` finds the signature valid, `check` accepts the confirmation, of a certificate or of none |
 /// | 1 | `sig` finds the signature not valid, `check` refuses the confirmation |
 /// | 2 | the words are of no form: the usage line |
 /// | 3 | a line of the input is refused, or the input is too long |
