@@ -70,7 +70,7 @@ fn altered(alloc: Global, place: usize) -> Result<Vec<u8>, Fail> {
 }
 
 /// The number of the clause that fails, or 0.
-pub(crate) fn number_of(answer: Result<(), PolicyRefusal>) -> u8 {
+fn number_of(answer: Result<(), PolicyRefusal>) -> u8 {
     match answer {
         Ok(()) => 0,
         Err(refusal) => refusal.number(),

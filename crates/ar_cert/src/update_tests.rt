@@ -1,5 +1,5 @@
-use crate::judging_tests::{length, number_of};
-use crate::{Cert, Change, chain_ok, judge_change, judge_update};
+use crate::judging_tests::length;
+use crate::{Cert, Change, chain_ok, judge_update};
 use cert_policy::{Manner, PolicyRefusal};
 use std::alloc::Global;
 use std::test::Fail;
@@ -44,69 +44,56 @@ fn change(
     Ok(Change::read(alloc, &text).ok().ok_or("a change")?)
 }
 
-/// The manner, or the number of the clause that fails.
-fn in_numbers(answer: Result<Manner, PolicyRefusal>) -> Result<Manner, u8> {
-    match answer {
-        Ok(manner) => Ok(manner),
-        Err(refusal) => Err(refusal.number()),
-    }
+/// The certificate that registers the name, and the digest of the one behind it.
+fn both(alloc: Global) -> Result<(Cert, [u8; 32]), Fail> {
+    let old = Cert::read(alloc, waiting()).ok().ok_or("a certificate")?;
+    let new = Cert::read(alloc, recovering()).ok().ok_or("a certificate")?;
+    Ok((old, new.digest()))
 }
 
 #[test]
-fn recoveries_and_objections_are_judged(rt: HostRuntime) -> Result<(), Fail> {
-    let alloc = rt.alloc();
-    let old = Cert::read(alloc, waiting()).ok().ok_or("a certificate")?;
-    let it = Cert::read(alloc, recovering())
-        .ok()
-        .ok_or("a certificate")?
-        .digest();
-    let other = [0; 32];
-    let mut altered = objection().to_vec(alloc)?;
-    match altered.get_mut(40) {
-        None => return Err(Fail::from("a place")),
-        Some(byte) => *byte ^= 1,
-    }
-    let near = change(alloc, recovering(), &[0, 1, 2], None)?;
-    let far = change(alloc, recovering(), &[0, 3, 4], None)?;
-    let few = change(alloc, recovering(), &[0, 1], None)?;
-    let objects = change(alloc, recovering(), &[], Some(objection()))?;
-    let wrong = change(alloc, recovering(), &[], Some(&altered))?;
-    let empty = change(alloc, recovering(), &[], Some(b""))?;
+fn an_update_by_others_is_a_recovery(rt: HostRuntime) -> Result<(), Fail> {
+    let (old, digest) = both(rt.alloc())?;
+    let far = change(rt.alloc(), recovering(), &[0, 3, 4], None)?;
+    assert_eq!(rt; judge_update(&old, None, &far), Ok(Manner::Recovery));
     assert_eq!(rt;
-        in_numbers(judge_update(&old, None, &near)),
-        Ok(Manner::Recovery)
+        judge_update(&old, Some(&digest), &far),
+        Err(PolicyRefusal::Pending)
     );
+    Ok(())
+}
+
+#[test]
+fn the_old_key_objects_to_what_is_pending(rt: HostRuntime) -> Result<(), Fail> {
+    let (old, digest) = both(rt.alloc())?;
+    let objects = change(rt.alloc(), recovering(), &[], Some(objection()))?;
     assert_eq!(rt;
-        in_numbers(judge_update(&old, None, &far)),
-        Ok(Manner::Recovery)
-    );
-    assert_eq!(rt; in_numbers(judge_update(&old, Some(&it), &far)), Err(9));
-    assert_eq!(rt; in_numbers(judge_update(&old, Some(&other), &few)), Err(5));
-    assert_eq!(rt;
-        in_numbers(judge_update(&old, Some(&it), &objects)),
+        judge_update(&old, Some(&digest), &objects),
         Ok(Manner::Objected)
     );
-    assert_eq!(rt; in_numbers(judge_update(&old, None, &objects)), Err(10));
     assert_eq!(rt;
-        in_numbers(judge_update(&old, Some(&other), &objects)),
-        Err(10)
+        judge_update(&old, None, &objects),
+        Err(PolicyRefusal::NotPending)
     );
-    assert_eq!(rt; in_numbers(judge_update(&old, Some(&it), &wrong)), Err(11));
-    assert_eq!(rt; in_numbers(judge_update(&old, Some(&it), &empty)), Err(11));
-    assert_eq!(rt; number_of(judge_change(Some(&old), &near)), 7);
-    assert_eq!(rt; number_of(judge_change(Some(&old), &objects)), 4);
-    assert_eq!(rt; number_of(judge_change(None, &objects)), 3);
+    Ok(())
+}
+
+#[test]
+fn an_empty_objection_is_not_valid(rt: HostRuntime) -> Result<(), Fail> {
+    let (old, digest) = both(rt.alloc())?;
+    let empty = change(rt.alloc(), recovering(), &[], Some(b""))?;
+    assert_eq!(rt;
+        judge_update(&old, Some(&digest), &empty),
+        Err(PolicyRefusal::Objection)
+    );
     Ok(())
 }
 
 #[test]
 fn a_recovery_is_in_a_chain(rt: HostRuntime) -> Result<(), Fail> {
-    let alloc = rt.alloc();
-    let mut chain = Vec::new(alloc);
-    chain.push(change(alloc, waiting(), &[0, 1, 2], None)?)?;
-    chain.push(change(alloc, recovering(), &[0, 3, 4], None)?)?;
+    let mut chain = Vec::new(rt.alloc());
+    chain.push(change(rt.alloc(), waiting(), &[0, 1, 2], None)?)?;
+    chain.push(change(rt.alloc(), recovering(), &[0, 3, 4], None)?)?;
     assert_eq!(rt; chain_ok(&chain), true);
-    chain.push(change(alloc, recovering(), &[], Some(objection()))?)?;
-    assert_eq!(rt; chain_ok(&chain), false);
     Ok(())
 }
