@@ -185,7 +185,8 @@ fn a_change_is_read_copied_and_written_again(rt: HostRuntime) -> Result<(), Fail
 
 /// The same certificate, whose policy has version 2 and this wait.
 fn waiting(alloc: Global, wait: [u8; 2]) -> Result<Vec<u8>, Fail> {
-    let mut text = Vec::from_slice(alloc, &certificate()[..129])?;
+    let mut text = Vec::from_slice(alloc, certificate())?;
+    text.pop();
     if let Some(version) = text.get_mut(107) {
         *version = 2;
     }
