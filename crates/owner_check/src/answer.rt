@@ -1,0 +1,19 @@
+use crate::Pair;
+
+/// What an ask came to.
+#[derive(Clone, Copy, Debug, PartialEq, Eq)]
+pub enum Outcome {
+    /// The holder of the key is the owner of the name.
+    Yes,
+    /// It is not so.
+    No,
+    /// The check failed, and said nothing.
+    Failed,
+}
+
+/// What was asked, and what it came to.
+#[derive(Debug, Drop)]
+pub struct Answer {
+    pub pair: Pair,
+    pub outcome: Outcome,
+}

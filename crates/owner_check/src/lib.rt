@@ -1,0 +1,29 @@
+//! What an authority asks before it endorses a certificate: whether the holder of a key is the owner of a
+//! name.
+//!
+//! `OwnerCheck` is the interface; how the question is settled, by a challenge over the network or by a
+//! person, is the check's own. `BookCheck` answers by a book of pairs in memory, and `FailingCheck` does
+//! the same and fails on demand. `Boxed` holds a check whose type is known at run time alone.
+//!
+//! Contracts see of a check the answers that it gave, in order, a count of its faults, and, where it tells
+//! them, its book and the numbers of the asks that fail.
+#![tactic(auto)]
+
+pub use answer::{Answer, Outcome};
+pub use book_check::BookCheck;
+pub use boxed::Boxed;
+pub use check::OwnerCheck;
+pub use failing_check::FailingCheck;
+pub use fault::AskFault;
+pub use pair::Pair;
+
+mod answer;
+mod book;
+mod book_check;
+mod boxed;
+mod check;
+mod failing_check;
+mod fault;
+mod pair;
+#[cfg(test)]
+mod tests;
