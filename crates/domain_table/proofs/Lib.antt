@@ -1,0 +1,11 @@
+pub mod Maps
+pub mod Newest
+pub mod Steps
+pub mod Judged
+pub mod Applied
+pub mod Keyed
+pub mod Chains
+pub mod Trees
+pub mod Epochs
+pub mod Once
+pub mod Ripe

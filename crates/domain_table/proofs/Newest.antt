@@ -1,0 +1,42 @@
+-- The newest certificate of a chain.
+use Rattle.std.proofs.Common.{◌≡◌, ℕ, zero, suc, ◌+◌, ◌<◌, List, [], ◌∷◌, ◌++◌, length, get_or, refl, ap, subst, arith, Some, None}
+use Rattle.std.specs.Prelude.{unwrap_or, All}
+use Rattle.std.proofs.lemmas.List.Elements.{All-head, All-tail}
+use Rattle.ar_cert.specs.Certificate.{Certificate}
+use Rattle.ar_cert.specs.Changes.{Change}
+use Rattle.domain_table.specs.Tables.{newest}
+
+-- it is that of the last change
+pub newest_is : (chain : List Change) (k : ℕ) (d : Change) → k + 1 ≡ length chain → newest chain ≡ Some (get_or chain k d).cert
+newest_is [] k d h = absurd (omega (arith, h))
+newest_is (c ∷ []) zero d h = refl
+newest_is (c ∷ []) (suc k) d h = absurd (omega (arith, h))
+newest_is (c ∷ b ∷ rest) zero d h = absurd (omega (arith, h))
+newest_is (c ∷ b ∷ rest) (suc k) d h = ap (λ o. Some (unwrap_or o c.cert)) (newest_is (b ∷ rest) k d (omega (arith, h)))
+
+-- one more change is the newest
+pub newest-push : (chain : List Change) (c : Change) → newest (chain ++ c ∷ []) ≡ Some c.cert
+newest-push [] c = refl
+newest-push (b ∷ chain) c = ap (λ o. Some (unwrap_or o b.cert)) (newest-push chain c)
+
+-- a chain that has a newest certificate has a change
+pub some_there : (chain : List Change) (old : Certificate) → newest chain ≡ Some old → 0 < length chain
+some_there [] old e = absurd (cc)
+some_there (c ∷ chain) old e = omega arith
+
+-- a chain without one has none
+pub none_there : (chain : List Change) → newest chain ≡ None → chain ≡ []
+none_there [] e = refl
+none_there (c ∷ chain) e = absurd (cc)
+
+pub newest_there : (chain : List Change) → 0 < length chain → (c : Certificate) × (newest chain ≡ Some c)
+newest_there [] l = absurd (omega (arith, l))
+newest_there (c ∷ chain) l = (unwrap_or (newest chain) c.cert, refl)
+
+-- what each certificate of a chain has, the newest has
+pub newest_has : (P : Certificate → Type 0) (chain : List Change) (c : Certificate) → All (λ r. P r.cert) chain → newest chain ≡ Some c → P c
+newest_has P [] c each e = absurd (cc)
+newest_has P (b ∷ []) c each e =
+    let same : b.cert ≡ c = cc in
+    subst P same (All-head (λ r. P r.cert) b [] each)
+newest_has P (b ∷ d ∷ chain) c each e = newest_has P (d ∷ chain) c (All-tail (λ r. P r.cert) b (d ∷ chain) each) e

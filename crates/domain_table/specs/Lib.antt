@@ -1,0 +1,4 @@
+pub mod Tables
+pub mod Applying
+pub mod Tree
+pub mod Sound

@@ -1,0 +1,12 @@
+//! The table of a log: for each name the chain of its changes and at most one change that waits, and one
+//! root for all.
+//!
+//! `specs/Tables.antt` says what a table is, `specs/Applying.antt` what ripens in an epoch, how a change is
+//! judged and what a list of changes makes of a table, `specs/Tree.antt` which entries of the integrity tree
+//! and which root a table has, and `specs/Sound.antt` what a table keeps that comes from the one without names.
+#![tactic(auto)]
+
+pub use refusal::ChangeRefusal;
+
+pub mod laws;
+mod refusal;
