@@ -1,21 +1,21 @@
--- The first of a list of tests that fails.
-use Rattle.std.proofs.Common.{◌≡◌, ℕ, zero, suc, ◌<◌, Bool, List, [], ◌∷◌, length, get_or, refl, ap, ◌∙◌, arith, true, false, cond, Ok, Err, ◌↔◌}
+-- The first of a list of tests that fails, and what it says of the conditions that they decide.
+use Rattle.std.proofs.Common.{◌≡◌, inl, inr, ℕ, zero, suc, ◌<◌, Bool, List, [], ◌∷◌, length, get_or, refl, ap, ◌∙◌, arith, true, false, cond, Result, Ok, Err, ◌↔◌}
 use Rattle.std.specs.Prelude.{All, IsTrue}
 use Rattle.std.specs.List.{AllByRecursion}
 use Rattle.std.proofs.lemmas.List.Elements.{All-from_recursion, recursion_from_All}
-use Rattle.ar_base.specs.FirstFailing.{first_failing}
+use Rattle.ar_base.specs.FirstFailing.{first_failing, tests_of, AllHold, DecidesEach, FailsFirst}
 
--- a test that fails, and all before it hold
-abbrev pub FailsFirst : {E : Type 0} → List (E × Bool) → E → Type 0
-FailsFirst {E} tests error = (place : ℕ) × ((place < length tests) × (((d : E × Bool) → get_or tests place d ≡ (error, false))
+-- the place of a test that fails, and all before it hold
+abbrev pub FailsAtPlace : {E : Type 0} → List (E × Bool) → E → Type 0
+FailsAtPlace {E} tests error = (place : ℕ) × ((place < length tests) × (((d : E × Bool) → get_or tests place d ≡ (error, false))
     × ((k : ℕ) (d : E × Bool) → k < place → IsTrue (get_or tests k d).1)))
 
-pub fails_first : {E : Type 0} (tests : List (E × Bool)) (error : E) → first_failing tests ≡ Err error → FailsFirst tests error
-fails_first [] error h = absurd (cc)
-fails_first {E} (c ∷ cs) error h =
-    elim (c.1) as (λ b. c.1 ≡ b → cond b (first_failing cs) (Err c.0) ≡ Err error → FailsFirst (c ∷ cs) error) [
+pub fails_at_place : {E : Type 0} (tests : List (E × Bool)) (error : E) → first_failing tests ≡ Err error → FailsAtPlace tests error
+fails_at_place [] error h = absurd (cc)
+fails_at_place {E} (c ∷ cs) error h =
+    elim (c.1) as (λ b. c.1 ≡ b → cond b (first_failing cs) (Err c.0) ≡ Err error → FailsAtPlace (c ∷ cs) error) [
       | true ↦ λ e h.
-          let rest : FailsFirst cs error = fails_first cs error h in
+          let rest : FailsAtPlace cs error = fails_at_place cs error h in
           (suc rest.0, (omega (arith, rest.1.0), (rest.1.1.0, earlier c cs rest.0 e rest.1.1.1)))
       | false ↦ λ e h.
           let same : c.0 ≡ error = cc in
@@ -39,3 +39,35 @@ all_hold {E} tests =
       none : {E : Type 0} (cs : List (E × Bool)) → AllByRecursion (λ t. IsTrue t.1) cs → first_failing cs ≡ Ok tt
       none [] all = refl
       none (c ∷ cs) all = ap (λ b. cond b (first_failing cs) (Err c.0)) all.0 ∙ none cs all.1
+
+-- ---- tests that decide conditions
+
+pub conditions_hold : {C E : Type 0} (name_of : C → E) (Holds : C → Type 0) (test : C → Bool) → DecidesEach test Holds → (conditions : List C)
+    → (first_failing (tests_of name_of test conditions) ≡ Ok tt) ↔ AllHold Holds conditions
+conditions_hold name_of Holds test d [] = ((λ h. tt), (λ h. refl))
+conditions_hold {C} {E} name_of Holds test d (c ∷ cs) =
+    let rest = conditions_hold name_of Holds test d cs in
+    elim (test c) as (λ b. test c ≡ b → (cond b (first_failing (tests_of name_of test cs)) (Err (name_of c)) ≡ Ok tt) ↔ AllHold Holds (c ∷ cs)) [
+      | true ↦ λ e. ((λ h. ((d c).0 e, rest.0 h)), (λ h. rest.1 h.1))
+      | false ↦ λ e. ((λ h. absurd cc), (λ h. let t : test c ≡ true = (d c).1 h.0 in absurd cc))
+    ] refl
+
+pub condition_fails : {C E : Type 0} (name_of : C → E) (Holds : C → Type 0) (test : C → Bool) → DecidesEach test Holds → (conditions : List C) (name : E)
+    → (first_failing (tests_of name_of test conditions) ≡ Err name) ↔ FailsFirst name_of Holds conditions name
+condition_fails name_of Holds test d [] name = ((λ h. absurd cc), (λ h. absurd h))
+condition_fails {C} {E} name_of Holds test d (c ∷ cs) name =
+    let rest = condition_fails name_of Holds test d cs name in
+    elim (test c) as (λ b. test c ≡ b → (cond b (first_failing (tests_of name_of test cs)) (Err (name_of c)) ≡ Err name) ↔ FailsFirst name_of Holds (c ∷ cs) name) [
+      | true ↦ λ e. ((λ h. inr ((d c).0 e, rest.0 h)), (λ h. holding e rest h))
+      | false ↦ λ e. ((λ h. inl (cc, (λ holds. let t : test c ≡ true = (d c).1 holds in absurd cc))), (λ h. failing e h))
+    ] refl where
+      holding : test c ≡ true → (first_failing (tests_of name_of test cs) ≡ Err name) ↔ FailsFirst name_of Holds cs name → FailsFirst name_of Holds (c ∷ cs) name → first_failing (tests_of name_of test cs) ≡ Err name
+      holding e rest (inl first) = absurd (first.1 ((d c).0 e))
+      holding e rest (inr later) = rest.1 later.1
+
+      err : E → Result (Unit {0}) E
+      err = Err
+
+      failing : test c ≡ false → FailsFirst name_of Holds (c ∷ cs) name → err (name_of c) ≡ err name
+      failing e (inl first) = ap err first.0
+      failing e (inr later) = let t : test c ≡ true = (d c).1 later.0 in absurd cc

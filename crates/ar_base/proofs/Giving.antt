@@ -1,5 +1,5 @@
 -- Answers of calls that take memory only for a value.
-use Rattle.std.proofs.Common.{◌≡◌, Result, Ok, Err, sym, ◌∙◌, inl, inr}
+use Rattle.std.proofs.Common.{◌≡◌, Result, Ok, Err, inl, inr}
 use Rattle.ar_base.specs.Gives.{GivesOrWants, GivesUnless}
 
 pub refused : {T V E : Type 0} (memory : E) (view : T → V) (result : Result T E) (expected : Result V E) (error : E) → GivesOrWants memory view result expected → expected ≡ Err error → result ≡ Err error

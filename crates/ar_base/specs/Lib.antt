@@ -1,8 +1,10 @@
 pub mod Apart
 pub mod Bytes
 pub mod Chaining
+pub mod Counting
 pub mod Faults
 pub mod FirstFailing
 pub mod Gives
+pub mod Ranges
 pub mod Shares
 pub mod Places

@@ -19,6 +19,7 @@
 use Rattle.std.specs.Prelude.{◌≡◌, ℕ, ◌+◌, List, length, take, drop, Option, Some, None, Result, Ok, Err, IsErr, Bool, nat_lt, ◌==◌, if◌then◌else◌}
 use Rattle.std.specs.Int.{Width, w16, byte_len, from_be_bytes}
 use Rattle.ar_base.specs.Chaining.{◌>>=◌}
+use Rattle.ar_base.specs.Gives.{with_error, GivesOrWants}
 
 -- where a reading stands: the bytes still ahead, and how many bytes of the input lie before them
 pub record Cursor : Type 0 where
@@ -103,3 +104,8 @@ ReadsAll view None old new fields = IsErr fields × (new ≡ old)
 abbrev pub Tells : {T V : Type 0} → (T → V) → Result T ℕ → Cursor → Reading V → Type 0
 Tells view (Ok x) new fields = fields ≡ Ok (view x, new)
 Tells view (Err place) new fields = fields ≡ Err place
+
+-- The answer of a reader that takes memory and tells where it fails: the fields' value, and it stands
+-- behind them; or the place of the field that fails, as a fault of form; or want of memory, where none fails.
+abbrev pub TellsOrWants : {T V E : Type 0} → (ℕ → E) → E → (T → V) → Result T E → Cursor → Reading V → Type 0
+TellsOrWants form memory view result new fields = GivesOrWants memory (λ x. (view x, new)) result (with_error form fields)

@@ -6,6 +6,7 @@ use Rattle.std.specs.Int.{w8, w16, w32, w64}
 use Rattle.sha2.specs.Sha256.{sha256}
 use Rattle.ar_base.specs.Bytes.{IsDigest}
 use Rattle.ar_base.specs.Chaining.{◌>>=◌}
+use Rattle.ar_base.specs.Ranges.{IsFromTo, is_from_to}
 use Rattle.ar_bytes.specs.Reading.{Cursor, Reading, bytes_at, number_at, such_that, within}
 use Rattle.ar_bytes.specs.RoundTrip.{number_text}
 use Rattle.ar_bytes.specs.Tested.{byte_at, count_at, flag_at, flag_text}
@@ -46,12 +47,12 @@ trusted_at at = do
 -- whether a policy has a wait: version 1 has none, version 2 has one
 unfoldable pub version_at : Cursor → Reading Bool
 version_at at = do
-  version ← such_that (λ n. nat_le 1 n && nat_le n 2) (number_at w8) at
+  version ← such_that (is_from_to 1 2) (number_at w8) at
   Ok (version.0 == 2, version.1)
 
 -- how many epochs a recovery may wait
 abbrev pub is_wait : ℕ → Bool
-is_wait n = nat_le 1 n && nat_le n 10000
+is_wait n = is_from_to 1 10000 n
 
 -- the wait, where there is one
 unfoldable pub wait_at : Bool → Cursor → Reading (Option ℕ)
@@ -128,7 +129,7 @@ digest_of c = sha256 (0x10 ∷ certificate_text c)
 
 -- 1 to 10,000 epochs
 abbrev pub IsWait : ℕ → Type 0
-IsWait n = (1 ≤ n) × (n ≤ 10000)
+IsWait n = IsFromTo 1 10000 n
 
 -- terms that have a text: at most 16 authorities, whose numbers ascend strictly
 pub record AreTerms (p : PolicyTerms) : Type 0 where

@@ -1,6 +1,5 @@
 pub mod Lists
 pub mod Certificate
 pub mod Changes
-pub mod Faults
 pub mod Views
 pub mod Judging

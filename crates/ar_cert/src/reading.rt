@@ -10,14 +10,13 @@ use std::alloc::Global;
 
 impl Cert {
     ghost use Rattle.std.specs.Prelude.{◌≡◌, OnErr};
-    ghost use Rattle.ar_base.specs.Gives.{GivesOrWants};
-    ghost use Rattle.ar_bytes.specs.Reading.{whole};
-    ghost use Rattle.ar_cert.specs.Faults.{unless_faulty, TellsUnless};
+    ghost use Rattle.ar_base.specs.Gives.{with_error, GivesOrWants};
+    ghost use Rattle.ar_bytes.specs.Reading.{whole, TellsOrWants};
     ghost use Rattle.ar_cert.specs.Certificate.{certificate_at, counted_certificate_at};
 
     /// The certificate with this text. Memory is taken only once all of it was found in order.
     pub fn read(alloc: Global, bytes: &[u8]) -> Result<Cert, CertFault>
-        ensures { GivesOrWants faults.Memory (λ cert. cert) result (unless_faulty (whole certificate_at bytes.now)) }
+        ensures { GivesOrWants faults.Memory (λ cert. cert) result (with_error faults.Form (whole certificate_at bytes.now)) }
     {
         let view = CertView::of(bytes).map_err(CertFault::Form)?;
         Ok(view.to_cert(alloc)?)
@@ -26,7 +25,7 @@ impl Cert {
     /// The certificate that stands next behind the number of its bytes, which it fills. Memory is taken
     /// only once all of it was found in order. After an error the reader is as it was.
     pub fn take_counted(alloc: Global, fields: &mut Fields) -> Result<Cert, CertFault>
-        ensures tells { TellsUnless (λ cert. cert) result fields.new (counted_certificate_at fields.old) }
+        ensures tells { TellsOrWants faults.Form faults.Memory (λ cert. cert) result fields.new (counted_certificate_at fields.old) }
         ensures err { OnErr result (fields.new ≡ fields.old) }
     {
         let mut ahead = fields.copy();
@@ -39,15 +38,14 @@ impl Cert {
 
 impl Change {
     ghost use Rattle.std.specs.Prelude.{◌≡◌, OnErr};
-    ghost use Rattle.ar_base.specs.Gives.{GivesOrWants};
-    ghost use Rattle.ar_bytes.specs.Reading.{whole};
-    ghost use Rattle.ar_cert.specs.Faults.{unless_faulty, TellsUnless};
+    ghost use Rattle.ar_base.specs.Gives.{with_error, GivesOrWants};
+    ghost use Rattle.ar_bytes.specs.Reading.{whole, TellsOrWants};
     ghost use Rattle.ar_cert.specs.Changes.{change_at};
 
     /// The change with this text. Memory is taken only once all of it was found in order.
     #[tactic(auto, unfolding(ar_bytes::specs::Reading::whole))]
     pub fn read(alloc: Global, bytes: &[u8]) -> Result<Change, CertFault>
-        ensures { GivesOrWants faults.Memory (λ change. change) result (unless_faulty (whole change_at bytes.now)) }
+        ensures { GivesOrWants faults.Memory (λ change. change) result (with_error faults.Form (whole change_at bytes.now)) }
     {
         let mut fields = Fields::new(bytes);
         let view = ChangeView::take(&mut fields).map_err(CertFault::Form)?;
@@ -58,7 +56,7 @@ impl Change {
     /// The change that stands next. Memory is taken only once all of it was found in order. After an
     /// error the reader is as it was.
     pub fn take(alloc: Global, fields: &mut Fields) -> Result<Change, CertFault>
-        ensures tells { TellsUnless (λ change. change) result fields.new (change_at fields.old) }
+        ensures tells { TellsOrWants faults.Form faults.Memory (λ change. change) result fields.new (change_at fields.old) }
         ensures err { OnErr result (fields.new ≡ fields.old) }
     {
         let mut ahead = fields.copy();

@@ -3,7 +3,8 @@ use Rattle.std.proofs.Common.{◌≡◌, ◌≢◌, ℕ, zero, suc, ◌+◌, ◌
 use Rattle.std.proofs.lemmas.Bool.{lt-ltb, le-ltb, eq-eqb, ne_eqb}
 use mathlib.Core.Logic.{dite}
 use native.Mathlib.Decide.{dec_lt, ℕ_discrete}
-use Rattle.ar_seats.specs.Numbers.{one_if, times, once_below, HasEachBelow}
+use Rattle.ar_base.specs.Counting.{one_if}
+use Rattle.ar_seats.specs.Numbers.{times, once_below, HasEachBelow}
 
 pub times-append : (number : ℕ) (xs ys : List ℕ) → times number (xs ++ ys) ≡ times number xs + times number ys
 times-append number [] ys = sym (zero-add (times number ys))

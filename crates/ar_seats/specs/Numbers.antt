@@ -1,10 +1,6 @@
 -- Numbers that are handed out, each once.
-use Rattle.std.specs.Prelude.{◌≡◌, ℕ, ◌+◌, ◌<◌, ◌==◌, nat_lt, Bool, true, false, if◌then◌else◌, List, [], ◌∷◌}
-
--- 1 where it is so, 0 where it is not
-abbrev pub one_if : Bool → ℕ
-one_if true = 1
-one_if false = 0
+use Rattle.std.specs.Prelude.{◌≡◌, ℕ, ◌+◌, ◌<◌, ◌==◌, nat_lt, if◌then◌else◌, List, [], ◌∷◌}
+use Rattle.ar_base.specs.Counting.{one_if}
 
 -- how often a number stands in a list
 abbrev pub times : ℕ → List ℕ → ℕ

@@ -2,20 +2,21 @@
 use Rattle.std.specs.Prelude.{ℕ, ◌^◌, ◌≤◌, Bool, ◌&&◌, nat_le, List}
 use Rattle.std.specs.Int.{w8, w64}
 use Rattle.ar_base.specs.Chaining.{◌>>=◌}
+use Rattle.ar_base.specs.Ranges.{IsFromTo, is_from_to}
 use Rattle.ar_bytes.specs.Reading.{Cursor, Reading, bytes_at, number_at, such_that}
 use Rattle.ar_names.specs.Names.{is_name}
 
 -- epochs count from 1, and the last is 2 ^ 63
 abbrev pub IsEpoch : ℕ → Type 0
-IsEpoch epoch = (1 ≤ epoch) × (epoch ≤ 2 ^ 63)
+IsEpoch epoch = IsFromTo 1 (2 ^ 63) epoch
 
 -- the test of it
 abbrev pub is_epoch : ℕ → Bool
-is_epoch epoch = nat_le 1 epoch && nat_le epoch (2 ^ 63)
+is_epoch epoch = is_from_to 1 (2 ^ 63) epoch
 
 -- how many bytes a name has
 abbrev pub is_name_len : ℕ → Bool
-is_name_len len = nat_le 1 len && nat_le len 253
+is_name_len len = is_from_to 1 253 len
 
 -- a digest, 32 bytes
 abbrev pub digest_at : Cursor → Reading (List ℕ)

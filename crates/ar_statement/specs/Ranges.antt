@@ -1,7 +1,8 @@
 -- Which values the fields of a statement have: what the types keep, and what a statement may say.
-use Rattle.std.specs.Prelude.{◌≡◌, ℕ, ◌^◌, ◌<◌, nat_le, Bool, true, false, ◌&&◌, List, length, take, drop, IsTrue, IfSome}
+use Rattle.std.specs.Prelude.{◌≡◌, ℕ, ◌^◌, ◌<◌, Bool, true, false, ◌&&◌, List, length, take, drop, IsTrue, IfSome}
 use Rattle.std.specs.Int.{w32, from_be_bytes}
 use Rattle.ar_base.specs.Bytes.{AreBytes, IsDigest}
+use Rattle.ar_base.specs.Ranges.{is_from_to}
 use Rattle.ar_names.specs.Names.{IsName}
 use Rattle.ar_statement.specs.declared.party.Role.{Role}
 use Rattle.ar_statement.specs.declared.party.Role.TheVariants.{LogServer, Authority, Owner, Client}
@@ -45,10 +46,6 @@ is_witness LogServer = true
 is_witness Authority = true
 is_witness Owner = false
 is_witness Client = false
-
--- a number from low to high
-abbrev pub is_from_to : ℕ → ℕ → ℕ → Bool
-is_from_to low high n = nat_le low n && nat_le n high
 
 -- the bytes begin with the number of an LMS type, 5 to 9, and of an LM-OTS type, 1 to 4
 unfoldable pub is_readable : List ℕ → Bool

@@ -7,18 +7,18 @@ use Rattle.std.proofs.lemmas.List.{get_or-map, length-map}
 use Rattle.std.proofs.lemmas.List.Kept.{AllPairs-from_increasing}
 use Rattle.cert_policy.specs.declared.refusal.PolicyRefusal.{PolicyRefusal}
 use Rattle.ar_base.specs.FirstFailing.{first_failing}
-use Rattle.ar_base.proofs.Failing.{FailsFirst, fails_first}
+use Rattle.ar_base.proofs.Failing.{FailsAtPlace, fails_at_place}
 use Rattle.cert_policy.specs.Refusals.{Clause, number_of}
 
 pub one_fails : (clauses : List Clause) (refusal : PolicyRefusal) → first_failing clauses ≡ Err refusal → Contains clauses (refusal, false)
 one_fails clauses refusal h =
-    let first : FailsFirst clauses refusal = fails_first clauses refusal h in
+    let first : FailsAtPlace clauses refusal = fails_at_place clauses refusal h in
     (first.0, first.1.0, first.1.1.0 (refusal, false))
 
 pub least_fails : (clauses : List Clause) (refusal : PolicyRefusal) → IsStrictlyIncreasing (map (λ (c : Clause). number_of c.0) clauses) → first_failing clauses ≡ Err refusal
     → All (λ c. number_of c.0 < number_of refusal → IsTrue c.1) clauses
 least_fails clauses refusal rising h k d in_list less =
-    let first : FailsFirst clauses refusal = fails_first clauses refusal h in
+    let first : FailsAtPlace clauses refusal = fails_at_place clauses refusal h in
     let at : number_of (get_or clauses first.0 d).0 ≡ number_of refusal = ap (λ (c : Clause). number_of c.0) (first.1.1.0 d) in
     ⊎_elim
     (λ (same : k ≡ first.0). absurd (let here : number_of (get_or clauses k d).0 ≡ number_of refusal = ap (λ j. number_of (get_or clauses j d).0) same ∙ at in omega arith))

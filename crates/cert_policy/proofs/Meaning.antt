@@ -6,7 +6,7 @@ use Rattle.std.proofs.lemmas.Bool.{and_parts, and_from, and_right, not-true, fal
 use Rattle.std.proofs.lemmas.List.Elements.{All-from_recursion, recursion_from_All}
 use Rattle.std.proofs.lemmas.Slice.Eq.{bytes_eq-Decides}
 use Rattle.ar_base.specs.FirstFailing.{first_failing}
-use Rattle.ar_base.proofs.Failing.{all_hold, FailsFirst, fails_first}
+use Rattle.ar_base.proofs.Failing.{all_hold, FailsAtPlace, fails_at_place}
 use Rattle.cert_policy.specs.declared.refusal.PolicyRefusal.{PolicyRefusal}
 use Rattle.cert_policy.specs.declared.refusal.PolicyRefusal.TheVariants.{Revoked, Name, Serial, Previous, Endorsers, Threshold, Handover, Policy, Pending, NotPending, Objection}
 use Rattle.cert_policy.specs.declared.manner.Manner.{Manner}
@@ -76,21 +76,10 @@ common_tests old new endorsers f = (
   ),
 )
 
--- ---- the facts, by their parts
-
-pub follows_succeeds : (old new : CertTerms) (endorsers : List ℕ) (handover : Bool) → Follows old new endorsers handover → Succeeds old new endorsers
-follows_succeeds old new endorsers handover f = record { alive = f.alive; same_name = f.same_name; next_serial = f.next_serial; linked = f.linked; endorsed = f.endorsed; well_formed = f.well_formed }
-
-pub recovers_succeeds : (old new : CertTerms) (endorsers : List ℕ) (handover pending : Bool) → Recovers old new endorsers handover pending → Succeeds old new endorsers
-recovers_succeeds old new endorsers handover pending f = record { alive = f.alive; same_name = f.same_name; next_serial = f.next_serial; linked = f.linked; endorsed = f.endorsed; well_formed = f.well_formed }
-
-pub follows_own : (old new : CertTerms) (endorsers : List ℕ) (handover : Bool) → Follows old new endorsers handover → MeetsOwn old endorsers handover
-follows_own old new endorsers handover f = record { trusted = f.trusted; handed_over = f.handed_over }
-
 -- an update in either manner
 pub update_succeeds : (manner : Manner) (old new : CertTerms) (endorsers : List ℕ) (handover pending : Bool) → IsUpdate manner old new endorsers handover pending → Succeeds old new endorsers
-update_succeeds Full old new endorsers handover pending is = follows_succeeds old new endorsers handover is
-update_succeeds Recovery old new endorsers handover pending is = recovers_succeeds old new endorsers handover pending is
+update_succeeds Full old new endorsers handover pending is = is.succeeds
+update_succeeds Recovery old new endorsers handover pending is = is.succeeds
 update_succeeds Objected old new endorsers handover pending is = absurd is
 
 -- ---- the answers
@@ -101,21 +90,12 @@ follow_facts old new endorsers handover = (
       let all = holds (follow_clauses old new endorsers handover) h in
       let common = succeeds_from old new endorsers (all.0, (all.1.0, (all.1.1.0, (all.1.1.1.0, (all.1.1.1.1.0, tt))))) all.1.1.1.1.1.1.1.0 in
       let own = own_from old endorsers handover (all.1.1.1.1.1.0, (all.1.1.1.1.1.1.0, tt)) in
-      record {
-        alive = common.alive;
-        same_name = common.same_name;
-        next_serial = common.next_serial;
-        linked = common.linked;
-        endorsed = common.endorsed;
-        trusted = own.trusted;
-        handed_over = own.handed_over;
-        well_formed = common.well_formed;
-      },
+      record { succeeds = common; own = own },
   λ f.
-      let common = common_tests old new endorsers (follows_succeeds old new endorsers handover f) in
-      let own = own_tests old endorsers handover (follows_own old new endorsers handover f) in
+      let common = common_tests old new endorsers f.succeeds in
+      let own = own_tests old endorsers handover f.own in
       held (follow_clauses old new endorsers handover)
-      (common.0, (common.1.0, (common.1.1.0, (common.1.1.1.0, (common.1.1.1.1.0, (own.0, (own.1.0, (formed_test new.policy f.well_formed, tt)))))))),
+      (common.0, (common.1.0, (common.1.1.0, (common.1.1.1.0, (common.1.1.1.1.0, (own.0, (own.1.0, (formed_test new.policy f.succeeds.well_formed, tt)))))))),
 )
 
 pub recovery_facts : (old new : CertTerms) (endorsers : List ℕ) (pending : Bool)
@@ -158,14 +138,9 @@ pub recovers_from : (old new : CertTerms) (endorsers : List ℕ) (handover pendi
 recovers_from old new endorsers handover pending waits lacks h =
     let facts = (recovery_facts old new endorsers pending).0 h in
     record {
-      alive = facts.0.alive;
-      same_name = facts.0.same_name;
-      next_serial = facts.0.next_serial;
-      linked = facts.0.linked;
-      endorsed = facts.0.endorsed;
-      waits = waits;
+      succeeds = facts.0;
       lacks_own = λ own. absurd (let has : has_own old endorsers handover ≡ true = (own_facts old endorsers handover).1 own in cc);
-      well_formed = facts.0.well_formed;
+      waits = waits;
       free = facts.1;
     }
 
@@ -226,11 +201,11 @@ update_from manner old new endorsers handover pending h =
 update_answered : (manner : Manner) (old new : CertTerms) (endorsers : List ℕ) (handover pending : Bool)
     → IsUpdate manner old new endorsers handover pending → update_answer old new endorsers handover pending ≡ Ok manner
 update_answered Full old new endorsers handover pending is =
-    by_own old new endorsers handover pending ((own_facts old endorsers handover).1 (follows_own old new endorsers handover is))
+    by_own old new endorsers handover pending ((own_facts old endorsers handover).1 is.own)
     ∙ ap (in_manner Full) ((follow_facts old new endorsers handover).1 is)
 update_answered Recovery old new endorsers handover pending is =
     by_recovery old new endorsers handover pending is.waits (false_from_ne_true _ (λ own. is.lacks_own ((own_facts old endorsers handover).0 own)))
-    ∙ ap (in_manner Recovery) ((recovery_facts old new endorsers pending).1 (recovers_succeeds old new endorsers handover pending is, is.free))
+    ∙ ap (in_manner Recovery) ((recovery_facts old new endorsers pending).1 (is.succeeds, is.free))
 update_answered Objected old new endorsers handover pending is = absurd is
 
 pub update_facts : (manner : Manner) (old new : CertTerms) (endorsers : List ℕ) (handover pending : Bool)
@@ -257,7 +232,7 @@ is_own Objection = false
 no_own : (manner : Manner) (clauses : List Clause) (refusal : PolicyRefusal) → AllByRecursion (λ c. is_own c.0 ≡ true → c.1 ≡ true) clauses
     → in_manner manner (first_failing clauses) ≡ Err refusal → is_own refusal ≡ true → ⊥
 no_own manner clauses refusal all h own =
-    let first : FailsFirst clauses refusal = fails_first clauses refusal (refused (first_failing clauses) h) in
+    let first : FailsAtPlace clauses refusal = fails_at_place clauses refusal (refused (first_failing clauses) h) in
     let at : get_or clauses first.0 (refusal, false) ≡ (refusal, false) = first.1.1.0 (refusal, false) in
     let holds : (get_or clauses first.0 (refusal, false)).1 ≡ true =
     All-from_recursion (λ c. is_own c.0 ≡ true → c.1 ≡ true) clauses all first.0 (refusal, false) first.1.0 (ap (λ (c : Clause). is_own c.0) at ∙ own) in

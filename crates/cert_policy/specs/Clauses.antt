@@ -8,12 +8,13 @@ use Rattle.cert_policy.specs.declared.manner.Manner.{Manner}
 use Rattle.cert_policy.specs.declared.manner.Manner.TheVariants.{Full, Recovery, Objected}
 use Rattle.vote_quorum.specs.Numbers.{distinct_count, shared_count}
 use Rattle.ar_base.specs.FirstFailing.{first_failing}
+use Rattle.ar_base.specs.Ranges.{is_from_to}
 use Rattle.cert_policy.specs.Refusals.{Clause}
 use Rattle.cert_policy.specs.Terms.{CertTerms, PolicyTerms}
 
 -- a policy is well formed where its threshold is 1 to 8, and at most as many authorities as it trusts
 abbrev pub is_well_formed : PolicyTerms → Bool
-is_well_formed p = nat_le 1 p.threshold && nat_le p.threshold 8 && nat_le p.threshold (length p.trusted)
+is_well_formed p = is_from_to 1 8 p.threshold && nat_le p.threshold (length p.trusted)
 
 -- The first five clauses of every update: the old certificate is not revoked; both have one name; the serial
 -- number is one more; the previous digest is the old one's; and three authorities endorse it.
@@ -89,36 +90,7 @@ pub record IsWellFormed (p : PolicyTerms) : Type 0 where
   pub most : p.threshold ≤ 8
   pub reachable : p.threshold ≤ length p.trusted
 
--- what it is that a new certificate follows an old one
-pub record Follows (old new : CertTerms) (endorsers : List ℕ) (handover : Bool) : Type 0 where
-  pub alive : IsTrue (not old.revoked)
-  pub same_name : old.name ≡ new.name
-  pub next_serial : new.serial ≡ old.serial + 1
-  pub linked : new.previous ≡ old.digest
-  pub endorsed : 3 ≤ distinct_count endorsers
-  pub trusted : old.policy.threshold ≤ shared_count endorsers old.policy.trusted
-  pub handed_over : IsTrue old.policy.keyed → IsTrue handover
-  pub well_formed : IsWellFormed new.policy
-
--- what it is that the domain's own clauses hold
-pub record MeetsOwn (old : CertTerms) (endorsers : List ℕ) (handover : Bool) : Type 0 where
-  pub trusted : old.policy.threshold ≤ shared_count endorsers old.policy.trusted
-  pub handed_over : IsTrue old.policy.keyed → IsTrue handover
-
--- what it is that a new certificate recovers from an old one: it fails the domain's own clauses alone, under a
--- policy that has a wait, and nothing is pending
-pub record Recovers (old new : CertTerms) (endorsers : List ℕ) (handover pending : Bool) : Type 0 where
-  pub alive : IsTrue (not old.revoked)
-  pub same_name : old.name ≡ new.name
-  pub next_serial : new.serial ≡ old.serial + 1
-  pub linked : new.previous ≡ old.digest
-  pub endorsed : 3 ≤ distinct_count endorsers
-  pub waits : IsSome old.policy.wait
-  pub lacks_own : MeetsOwn old endorsers handover → ⊥
-  pub well_formed : IsWellFormed new.policy
-  pub free : IsTrue (not pending)
-
--- what each update keeps, in either manner: the common clauses, and that the new policy is well formed
+-- what each update keeps, in either manner: the common clauses hold, and the new policy is well formed
 pub record Succeeds (old new : CertTerms) (endorsers : List ℕ) : Type 0 where
   pub alive : IsTrue (not old.revoked)
   pub same_name : old.name ≡ new.name
@@ -126,6 +98,24 @@ pub record Succeeds (old new : CertTerms) (endorsers : List ℕ) : Type 0 where
   pub linked : new.previous ≡ old.digest
   pub endorsed : 3 ≤ distinct_count endorsers
   pub well_formed : IsWellFormed new.policy
+
+-- what it is that the domain's own clauses hold
+pub record MeetsOwn (old : CertTerms) (endorsers : List ℕ) (handover : Bool) : Type 0 where
+  pub trusted : old.policy.threshold ≤ shared_count endorsers old.policy.trusted
+  pub handed_over : IsTrue old.policy.keyed → IsTrue handover
+
+-- what it is that a new certificate follows an old one
+pub record Follows (old new : CertTerms) (endorsers : List ℕ) (handover : Bool) : Type 0 where
+  pub succeeds : Succeeds old new endorsers
+  pub own : MeetsOwn old endorsers handover
+
+-- what it is that a new certificate recovers from an old one: it fails the domain's own clauses alone, under a
+-- policy that has a wait, and nothing is pending
+pub record Recovers (old new : CertTerms) (endorsers : List ℕ) (handover pending : Bool) : Type 0 where
+  pub succeeds : Succeeds old new endorsers
+  pub lacks_own : MeetsOwn old endorsers handover → ⊥
+  pub waits : IsSome old.policy.wait
+  pub free : IsTrue (not pending)
 
 -- what it is that an update is taken in a manner
 abbrev pub IsUpdate : Manner → CertTerms → CertTerms → List ℕ → Bool → Bool → Type 0

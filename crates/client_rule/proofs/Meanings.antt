@@ -8,7 +8,8 @@ use Rattle.std.proofs.lemmas.Bool.Decides.{Decides-and, Decides-not, Decides-eqb
 use Rattle.std.proofs.lemmas.Slice.Eq.{bytes_eq-Decides}
 use Rattle.tree_proof.proofs.Tested.{is_on-Decides, is_off-Decides}
 use Rattle.tree_proof.specs.declared.path.Bottom.{Bottom}
-use Rattle.ar_base.specs.FirstFailing.{first_failing}
+use Rattle.ar_base.specs.FirstFailing.{DecidesEach}
+use Rattle.ar_base.proofs.Failing.{conditions_hold, condition_fails}
 use Rattle.ar_bytes.specs.Reading.{whole}
 use Rattle.ar_cert.specs.Certificate.{Certificate, digest_of}
 use Rattle.ar_statement.specs.Claims.{text_of, party}
@@ -18,7 +19,7 @@ use Rattle.ar_message.specs.Confirmation.{Subject, Body, present, absent, Confir
 use Rattle.party_keys.specs.Directory.{Directory, verified}
 use Rattle.party_keys.specs.declared.fault.VerifyFault.{VerifyFault}
 use Rattle.client_rule.specs.Rule.{has_parties, confirms, is_shown, is_young, is_live, is_current, checks, refusal_of, claim_on, taken, unless_refused, judgement_on, judgement}
-use Rattle.client_rule.specs.Meaning.{Asked, Check, same_name, parties, log_signature, first_signature, second_signature, path, not_later, young, live, current, number_of, all_checks, HasParties, Confirms, IsShown, IsYoung, IsLive, IsCurrent, Holds, AllHold, FailsFirst, Passes, Accepts, AcceptsNone, Refuses}
+use Rattle.client_rule.specs.Meaning.{Asked, Check, same_name, parties, log_signature, first_signature, second_signature, path, not_later, young, live, current, number_of, all_checks, HasParties, Confirms, IsShown, IsYoung, IsLive, IsCurrent, Holds, HoldsAll, HoldsUpTo, Passes, Accepts, AcceptsNone, Refuses}
 use Rattle.client_rule.specs.declared.judgement.Judgement.{Judgement}
 use Rattle.client_rule.specs.declared.judgement.Judgement.TheVariants.{Accepted, Absent, Refused}
 
@@ -69,44 +70,6 @@ current_decides : (now : ℕ) (body : Body) → Decides (is_current now body) (I
 current_decides now (present certificate) = le_decides now certificate.policy.until
 current_decides now (absent bottom) = ((λ h. tt), (λ h. refl))
 
--- ---- the first test that fails is the first fact that does not hold
-
-abbrev err : ℕ → Result (Unit {0}) ℕ
-err k = Err k
-
--- tests of checks, each with its number
-abbrev tests : (Check → Bool) → List Check → List (ℕ × Bool)
-tests test cs = map (λ check. (number_of check, test check)) cs
-
--- each test decides what its check asks
-abbrev Tests : Asked → Confirmation → (Check → Bool) → Type 0
-Tests asked c test = (check : Check) → Decides (test check) (Holds asked c check)
-
-all_hold : (asked : Asked) (c : Confirmation) (test : Check → Bool) → Tests asked c test → (cs : List Check) → (first_failing (tests test cs) ≡ Ok tt) ↔ AllHold asked c cs
-all_hold asked c test d [] = ((λ h. tt), (λ h. refl))
-all_hold asked c test d (check ∷ cs) =
-    let rest = all_hold asked c test d cs in
-    elim (test check) as (λ b. test check ≡ b → (cond b (first_failing (tests test cs)) (Err (number_of check)) ≡ Ok tt) ↔ AllHold asked c (check ∷ cs)) [
-      | true ↦ λ e. ((λ h. ((d check).0 e, rest.0 h)), (λ h. rest.1 h.1))
-      | false ↦ λ e. ((λ h. absurd cc), (λ h. let t : test check ≡ true = (d check).1 h.0 in absurd cc))
-    ] refl
-
-fails_first : (asked : Asked) (c : Confirmation) (test : Check → Bool) → Tests asked c test → (cs : List Check) (k : ℕ) → (first_failing (tests test cs) ≡ Err k) ↔ FailsFirst asked c cs k
-fails_first asked c test d [] k = ((λ h. absurd cc), (λ h. absurd h))
-fails_first asked c test d (check ∷ cs) k =
-    let rest = fails_first asked c test d cs k in
-    elim (test check) as (λ b. test check ≡ b → (cond b (first_failing (tests test cs)) (Err (number_of check)) ≡ Err k) ↔ FailsFirst asked c (check ∷ cs) k) [
-      | true ↦ λ e. ((λ h. inr ((d check).0 e, rest.0 h)), (λ h. holding check e k rest h))
-      | false ↦ λ e. ((λ h. inl (cc, (λ holds. let t : test check ≡ true = (d check).1 holds in absurd cc))), (λ h. failing check e k h))
-    ] refl where
-      holding : (check : Check) → test check ≡ true → (k : ℕ) → (first_failing (tests test cs) ≡ Err k) ↔ FailsFirst asked c cs k → FailsFirst asked c (check ∷ cs) k → first_failing (tests test cs) ≡ Err k
-      holding check e k rest (inl first) = absurd (first.1 ((d check).0 e))
-      holding check e k rest (inr later) = rest.1 later.1
-
-      failing : (check : Check) → test check ≡ false → (k : ℕ) → FailsFirst asked c (check ∷ cs) k → err (number_of check) ≡ err k
-      failing check e k (inl first) = ap err first.0
-      failing check e k (inr later) = let t : test check ≡ true = (d check).1 later.0 in absurd cc
-
 -- ---- the tests of the rule
 
 abbrev test_of : Asked → Confirmation → Check → Bool
@@ -121,7 +84,7 @@ test_of asked c young = is_young (asked.epoch - c.about.epoch) asked.age c.body
 test_of asked c live = is_live c.body
 test_of asked c current = is_current asked.epoch c.body
 
-decided : (asked : Asked) (c : Confirmation) → Tests asked c (test_of asked c)
+decided : (asked : Asked) (c : Confirmation) → DecidesEach (test_of asked c) (Holds asked c)
 decided asked c same_name = bytes_eq-Decides _ _
 decided asked c parties = parties_decides asked.keys c
 decided asked c log_signature = confirms_decides asked.keys c.about c.body _ _
@@ -137,13 +100,13 @@ decided asked c current = current_decides asked.epoch c.body
 abbrev Refusal : Asked → Confirmation → Result (Unit {0}) ℕ
 Refusal asked c = refusal_of asked.keys asked.name asked.epoch asked.age c
 
-none : (asked : Asked) (c : Confirmation) → (Refusal asked c ≡ Ok tt) ↔ AllHold asked c all_checks
+none : (asked : Asked) (c : Confirmation) → (Refusal asked c ≡ Ok tt) ↔ HoldsAll asked c
 unfolding refusal_of
-none asked c = all_hold asked c (test_of asked c) (decided asked c) all_checks
+none asked c = conditions_hold number_of (Holds asked c) (test_of asked c) (decided asked c) all_checks
 
-some : (asked : Asked) (c : Confirmation) (k : ℕ) → (Refusal asked c ≡ Err k) ↔ FailsFirst asked c all_checks k
+some : (asked : Asked) (c : Confirmation) (k : ℕ) → (Refusal asked c ≡ Err k) ↔ HoldsUpTo asked c k
 unfolding refusal_of
-some asked c k = fails_first asked c (test_of asked c) (decided asked c) all_checks k
+some asked c k = condition_fails number_of (Holds asked c) (test_of asked c) (decided asked c) all_checks k
 
 -- ---- the judgement
 

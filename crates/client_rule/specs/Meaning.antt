@@ -3,6 +3,7 @@ use Rattle.std.specs.Prelude.{◌≡◌, ◌≢◌, ℕ, ◌-◌, ◌<◌, ◌�
 use Rattle.hash_tree.specs.Strings.{value_digest}
 use Rattle.tree_proof.specs.Membership.{OnBytes, OffBytes}
 use Rattle.tree_proof.specs.declared.path.Bottom.{Bottom}
+use Rattle.ar_base.specs.FirstFailing.{AllHold, FailsFirst}
 use Rattle.ar_bytes.specs.Reading.{whole}
 use Rattle.ar_names.specs.Names.{name_digest_of}
 use Rattle.ar_statement.specs.Claims.{text_of, party}
@@ -103,21 +104,18 @@ Holds asked c current = IsCurrent asked.epoch c.body
 
 -- ---- what follows from them
 
--- all of these checks hold
-abbrev pub AllHold : Asked → Confirmation → List Check → Type 0
-AllHold asked c [] = Unit {0}
-AllHold asked c (check ∷ checks) = Holds asked c check × AllHold asked c checks
+-- each check holds
+abbrev pub HoldsAll : Asked → Confirmation → Type 0
+HoldsAll asked c = AllHold (Holds asked c) all_checks
 
--- the first of these checks that does not hold has this number, and all before it hold
-abbrev pub FailsFirst : Asked → Confirmation → List Check → ℕ → Type 0
-FailsFirst asked c [] k = ⊥
-FailsFirst asked c (check ∷ checks) k =
-    ((number_of check ≡ k) × ¬ Holds asked c check) ⊎ (Holds asked c check × FailsFirst asked c checks k)
+-- the first check that does not hold has this number, and all before it hold
+abbrev pub HoldsUpTo : Asked → Confirmation → ℕ → Type 0
+HoldsUpTo asked c k = FailsFirst number_of (Holds asked c) all_checks k
 
 -- the bytes are a confirmation that passes all checks
 pub record Passes (asked : Asked) (bytes : List ℕ) (c : Confirmation) : Type 0 where
   pub is_read : whole confirmation_at bytes ≡ Ok c
-  pub holds : AllHold asked c all_checks
+  pub holds : HoldsAll asked c
 
 -- the bytes are a confirmation that passes all checks, and says that the name has this certificate
 pub record Accepts (asked : Asked) (bytes : List ℕ) (certificate : Certificate) (digest : List ℕ) (epoch : ℕ) (root : List ℕ) : Type 0 where
@@ -140,4 +138,4 @@ pub record AcceptsNone (asked : Asked) (bytes : List ℕ) (epoch : ℕ) (root : 
 abbrev pub Refuses : Asked → List ℕ → ℕ → Type 0
 Refuses asked bytes k =
     ((k ≡ 1) × IsErr (whole confirmation_at bytes))
-    ⊎ ((c : Confirmation) × (whole confirmation_at bytes ≡ Ok c) × FailsFirst asked c all_checks k)
+    ⊎ ((c : Confirmation) × (whole confirmation_at bytes ≡ Ok c) × HoldsUpTo asked c k)

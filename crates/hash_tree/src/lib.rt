@@ -15,7 +15,7 @@ pub use bits::key_bit;
 pub use digests::{
     empty_digest, entry_digest, node_digest, pending_digest, pending_key, value_digest,
 };
-pub use roots::{digest_at, halves, root_of};
+pub use roots::{digest_at, halves, have_ascending_keys, root_of};
 pub use steps::Steps;
 pub use trie::{Trie, Walk};
 

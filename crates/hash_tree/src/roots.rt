@@ -1,4 +1,4 @@
-ghost use Rattle.std.specs.Prelude.{◌≡◌, ◌<◌, ◌≤◌, ◌==◌, true, false, length, All};
+ghost use Rattle.std.specs.Prelude.{◌≡◌, ◌<◌, ◌≤◌, ◌==◌, ◌↔◌, true, false, length, All, IsTrue};
 ghost use Rattle.std.specs.List.Sorted.{IsPartitionedBy, IsPartitionPoint};
 ghost use Rattle.ar_base.specs.Bytes.{IsDigest};
 ghost use Rattle.hash_tree.specs.Entries.{entries_of, HasAscendingKeys, AgreeAmong, bit, of_side};
@@ -17,6 +17,13 @@ pub fn root_of(entries: &[([u8; 32], [u8; 32])]) -> [u8; 32]
     ensures { result ≡ tree.root (entries_of entries.now) }
 {
     digest_at(entries, 0)
+}
+
+/// Whether the keys of the entries ascend strictly, as `root_of` asks for it.
+pub fn have_ascending_keys(entries: &[([u8; 32], [u8; 32])]) -> bool
+    ensures { IsTrue result ↔ HasAscendingKeys entries.now }
+{
+    entries.is_sorted_by(|one, next| one.0.cmp(&next.0).is_lt())
 }
 
 /// The digest at a depth, of entries whose keys agree in all bits before it.

@@ -2,7 +2,7 @@ ghost use Rattle.std.specs.Prelude.{◌≡◌, ◌<◌, ◌≤◌, ◌↔◌, le
 ghost use Rattle.ar_base.specs.Shares.{whole};
 ghost use Rattle.ar_seats.specs.Numbers.{HasEachBelow};
 ghost use Rattle.leaf_book.specs.Book.{Draws, FindsNone, AreApart, first_seat, left_seat, given_seat, joined_seat};
-ghost use Rattle.leaf_book.specs.declared.fault.SplitFault.TheVariants.{Narrow};
+ghost use Rattle.ar_base.specs.declared.split_fault.SplitFault.TheVariants.{Narrow};
 
 use crate::held::Held;
 use crate::steps::{Compare, Draw, Halve, LeafRule, Look, Unite};

@@ -9,8 +9,9 @@
 //! only one: with it the book is closed, and its leaves are counted.
 #![tactic(auto)]
 
+pub use ar_base::SplitFault;
 pub use book::LeafBook;
-pub use fault::{Exhausted, SplitFault};
+pub use fault::Exhausted;
 pub use leaf::{Leaf, sign_leaf};
 pub use seat::LeafSeat;
 

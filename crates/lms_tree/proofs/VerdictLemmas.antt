@@ -1,10 +1,11 @@
 -- What a verdict says of the five conditions.
-use Rattle.std.proofs.Common.{◌≡◌, ◌⊎◌, inl, inr, ◌∙◌, sym, subst, refl, ℕ, ◌^◌, eqb, ltb, Bool, true, false, List, [], ◌∷◌, Option, Some, None}
+use Rattle.std.proofs.Common.{◌≡◌, ◌∙◌, sym, ap, refl, ◌↔◌, ℕ, ◌^◌, eqb, ltb, Bool, true, false, List, [], ◌∷◌, Option, Some, None, Result, Ok, Err}
 use Rattle.std.specs.Bool.{Decides}
 use Rattle.std.specs.Str.{bytes_eq}
-use Rattle.std.proofs.lemmas.Bool.Decides.{Decides-eqb, Decides-ltb, not_from_Decides}
+use Rattle.std.proofs.lemmas.Bool.Decides.{Decides-eqb, Decides-ltb}
 use Rattle.std.proofs.lemmas.Slice.Eq.{bytes_eq-Decides}
-use Rattle.ar_base.specs.FirstFailing.{first_failing}
+use Rattle.ar_base.specs.FirstFailing.{first_failing, tests_of, DecidesEach}
+use Rattle.ar_base.proofs.Failing.{conditions_hold, condition_fails}
 use Rattle.lm_ots.specs.OtsKind as ots_kind
 use Rattle.lm_ots.specs.Candidate.{type_number}
 use Rattle.lms_tree.specs.declared.public_key.LmsPublic.{LmsPublic}
@@ -13,33 +14,15 @@ use Rattle.lms_tree.specs.declared.validity.Verdict.TheVariants.{Valid, Invalid}
 use Rattle.lms_tree.specs.LmsKind as lms_kind
 use Rattle.lms_tree.specs.LmsKind.{height_of}
 use Rattle.lms_tree.specs.Signature.{SignatureParts}
-use Rattle.lms_tree.specs.Validity.{HasLength, HasOtsType, HasLmsType, HasLeaf, LeadsToRoot, OfParts, MeetsAll, FailsFirst, candidate_root, parts_of, verdict, verdict_of}
-use Rattle.lms_tree.proofs.SignatureLemmas.{judged, short, no_parts, has_length}
-
--- ---- five tests
-
-abbrev five : Bool → Bool → Bool → Bool → Bool → Verdict
-five a b c d e = verdict (first_failing ((1, a) ∷ (2, b) ∷ (3, c) ∷ (4, d) ∷ (5, e) ∷ []))
-
--- which of them held, by the verdict
-abbrev Held : Bool → Bool → Bool → Bool → Bool → Verdict → Type 0
-Held a b c d e Valid = (a ≡ true) × (b ≡ true) × (c ≡ true) × (d ≡ true) × (e ≡ true)
-Held a b c d e (Invalid k) =
-    ((k ≡ 1) × (a ≡ false))
-    ⊎ (((k ≡ 2) × (a ≡ true) × (b ≡ false))
-    ⊎ (((k ≡ 3) × (a ≡ true) × (b ≡ true) × (c ≡ false))
-    ⊎ (((k ≡ 4) × (a ≡ true) × (b ≡ true) × (c ≡ true) × (d ≡ false))
-    ⊎ ((k ≡ 5) × (a ≡ true) × (b ≡ true) × (c ≡ true) × (d ≡ true) × (e ≡ false)))))
-
-held : (a b c d e : Bool) → Held a b c d e (five a b c d e)
-held false b c d e = inl (refl, refl)
-held true false c d e = inr (inl (refl, refl, refl))
-held true true false d e = inr (inr (inl (refl, refl, refl, refl)))
-held true true true false e = inr (inr (inr (inl (refl, refl, refl, refl, refl))))
-held true true true true false = inr (inr (inr (inr (refl, refl, refl, refl, refl, refl))))
-held true true true true true = (refl, refl, refl, refl, refl)
+use Rattle.lms_tree.specs.Validity.{HasLength, HasOtsType, HasLmsType, HasLeaf, LeadsToRoot, OfParts, Condition, has_length, has_ots_type, has_lms_type, has_leaf, leads_to_root, number_of, all_conditions, Meets, MeetsAll, MeetsUpTo, candidate_root, parts_of, verdict, verdict_of}
+use Rattle.lms_tree.proofs.SignatureLemmas.{judged, short, no_parts}
+use Rattle.lms_tree.proofs.SignatureLemmas as lemmas
 
 -- ---- the tests that decide the conditions
+
+-- the verdict on five tests
+abbrev five : Bool → Bool → Bool → Bool → Bool → Verdict
+five a b c d e = verdict (first_failing ((1, a) ∷ (2, b) ∷ (3, c) ∷ (4, d) ∷ (5, e) ∷ []))
 
 record Tests (key : LmsPublic) (message signature : List ℕ) : Type 0 where
   a : Bool
@@ -90,49 +73,50 @@ tests key message signature = by (parts_of key signature) refl
       d = ltb parts.leaf (2 ^ height_of key.lms);
       e = bytes_eq (candidate_root key message parts) key.root;
       is = judged key message signature parts is;
-      length = (λ t. has_length key signature parts is, λ has. refl);
+      length = (λ t. lemmas.has_length key signature parts is, λ has. refl);
       ots_type = of_some key signature parts _ (λ p. eqb (type_number p.one_time) (ots_kind.number_of key.ots)) is (λ p. Decides-eqb (type_number p.one_time) (ots_kind.number_of key.ots));
       lms_type = of_some key signature parts _ (λ p. eqb p.lms (lms_kind.number_of key.lms)) is (λ p. Decides-eqb p.lms (lms_kind.number_of key.lms));
       leaf = of_some key signature parts _ (λ p. ltb p.leaf (2 ^ height_of key.lms)) is (λ p. Decides-ltb p.leaf (2 ^ height_of key.lms));
       root = of_some key signature parts _ (λ p. bytes_eq (candidate_root key message p) key.root) is (λ p. bytes_eq-Decides (candidate_root key message p) key.root);
     }
 
+-- the test of each condition
+abbrev test_of : {key : LmsPublic} {message signature : List ℕ} → Tests key message signature → Condition → Bool
+test_of t has_length = t.a
+test_of t has_ots_type = t.b
+test_of t has_lms_type = t.c
+test_of t has_leaf = t.d
+test_of t leads_to_root = t.e
+
+decided : (key : LmsPublic) (message signature : List ℕ) (t : Tests key message signature) → DecidesEach (test_of t) (Meets key message signature)
+decided key message signature t has_length = t.length
+decided key message signature t has_ots_type = t.ots_type
+decided key message signature t has_lms_type = t.lms_type
+decided key message signature t has_leaf = t.leaf
+decided key message signature t leads_to_root = t.root
+
 -- ---- the verdict
 
-untrue : {P : Type 0} (b : Bool) → Decides b P → ¬ P → b ≡ false
-untrue true decides never = absurd (never (decides.0 refl))
-untrue false decides never = refl
+-- the first test that fails, by the verdict
+first_valid : (answer : Result (Unit {0}) ℕ) → verdict answer ≡ Valid → answer ≡ Ok tt
+first_valid (Ok u) h = refl
+first_valid (Err k) h = absurd cc
 
-pub valid_to : (key : LmsPublic) (message signature : List ℕ) → verdict_of key message signature ≡ Valid → MeetsAll key message signature
-valid_to key message signature e =
-    let t = tests key message signature in
-    let h : Held t.a t.b t.c t.d t.e Valid = subst (Held t.a t.b t.c t.d t.e) (sym t.is ∙ e) (held t.a t.b t.c t.d t.e) in
-    record { length = t.length.0 h.0; ots_type = t.ots_type.0 h.1; lms_type = t.lms_type.0 h.2; leaf = t.leaf.0 h.3; root = t.root.0 h.4 }
+first_invalid : (answer : Result (Unit {0}) ℕ) (k : ℕ) → verdict answer ≡ Invalid k → answer ≡ Err k
+first_invalid (Ok u) k h = absurd cc
+first_invalid (Err j) k h = (let same : j ≡ k = cc in ap (λ n. Err n) same)
 
-pub valid_from : (key : LmsPublic) (message signature : List ℕ) → MeetsAll key message signature → verdict_of key message signature ≡ Valid
-valid_from key message signature m =
-    let t = tests key message signature in
-    t.is ∙ rw (t.length.1 m.length, t.ots_type.1 m.ots_type, t.lms_type.1 m.lms_type, t.leaf.1 m.leaf, t.root.1 m.root) refl
+abbrev first : {key : LmsPublic} {message signature : List ℕ} → Tests key message signature → Result (Unit {0}) ℕ
+first t = first_failing (tests_of number_of (test_of t) all_conditions)
 
-pub invalid_to : (key : LmsPublic) (message signature : List ℕ) (k : ℕ) → verdict_of key message signature ≡ Invalid k → FailsFirst key message signature k
-invalid_to key message signature k e =
+pub valid : (key : LmsPublic) (message signature : List ℕ) → (verdict_of key message signature ≡ Valid) ↔ MeetsAll key message signature
+valid key message signature =
     let t = tests key message signature in
-    let h : Held t.a t.b t.c t.d t.e (Invalid k) = subst (Held t.a t.b t.c t.d t.e) (sym t.is ∙ e) (held t.a t.b t.c t.d t.e) in
-    elim h [
-      | inl f ↦ inl (f.0, not_from_Decides t.a t.length f.1)
-      | inr (inl f) ↦ inr (inl (f.0, t.length.0 f.1, not_from_Decides t.b t.ots_type f.2))
-      | inr (inr (inl f)) ↦ inr (inr (inl (f.0, t.length.0 f.1, t.ots_type.0 f.2, not_from_Decides t.c t.lms_type f.3)))
-      | inr (inr (inr (inl f))) ↦ inr (inr (inr (inl (f.0, t.length.0 f.1, t.ots_type.0 f.2, t.lms_type.0 f.3, not_from_Decides t.d t.leaf f.4))))
-      | inr (inr (inr (inr f))) ↦ inr (inr (inr (inr (f.0, t.length.0 f.1, t.ots_type.0 f.2, t.lms_type.0 f.3, t.leaf.0 f.4, not_from_Decides t.e t.root f.5))))
-    ]
+    let all = conditions_hold number_of (Meets key message signature) (test_of t) (decided key message signature t) all_conditions in
+    ((λ h. all.0 (first_valid (first t) (sym t.is ∙ h))), (λ m. t.is ∙ ap verdict (all.1 m)))
 
-pub invalid_from : (key : LmsPublic) (message signature : List ℕ) (k : ℕ) → FailsFirst key message signature k → verdict_of key message signature ≡ Invalid k
-invalid_from key message signature k h =
+pub invalid : (key : LmsPublic) (message signature : List ℕ) (k : ℕ) → (verdict_of key message signature ≡ Invalid k) ↔ MeetsUpTo key message signature k
+invalid key message signature k =
     let t = tests key message signature in
-    t.is ∙ elim h [
-      | inl f ↦ rw (untrue t.a t.length f.1, f.0) refl
-      | inr (inl f) ↦ rw (t.length.1 f.1, untrue t.b t.ots_type f.2, f.0) refl
-      | inr (inr (inl f)) ↦ rw (t.length.1 f.1, t.ots_type.1 f.2, untrue t.c t.lms_type f.3, f.0) refl
-      | inr (inr (inr (inl f))) ↦ rw (t.length.1 f.1, t.ots_type.1 f.2, t.lms_type.1 f.3, untrue t.d t.leaf f.4, f.0) refl
-      | inr (inr (inr (inr f))) ↦ rw (t.length.1 f.1, t.ots_type.1 f.2, t.lms_type.1 f.3, t.leaf.1 f.4, untrue t.e t.root f.5, f.0) refl
-    ]
+    let fails = condition_fails number_of (Meets key message signature) (test_of t) (decided key message signature t) all_conditions k in
+    ((λ h. fails.0 (first_invalid (first t) k (sym t.is ∙ h))), (λ m. t.is ∙ ap verdict (fails.1 m)))

@@ -2,7 +2,7 @@
 use Rattle.std.specs.Prelude.{◌≡◌, ℕ, ◌+◌, ◌^◌, ◌<◌, ◌⊎◌, ◌==◌, nat_lt, Bool, List, [], ◌∷◌, length, Option, Some, None, Result, Ok, Err}
 use Rattle.std.specs.Result.{result_ok}
 use Rattle.std.specs.Str.{bytes_eq}
-use Rattle.ar_base.specs.FirstFailing.{first_failing}
+use Rattle.ar_base.specs.FirstFailing.{first_failing, AllHold, FailsFirst}
 use Rattle.ar_bytes.specs.Reading.{whole}
 use Rattle.lm_ots.specs.OtsKind as ots_kind
 use Rattle.lm_ots.specs.Candidate.{candidate_key, type_number}
@@ -75,19 +75,38 @@ HasLeaf key signature = OfParts key signature (λ parts. parts.leaf < 2 ^ height
 abbrev pub LeadsToRoot : LmsPublic → List ℕ → List ℕ → Type 0
 LeadsToRoot key message signature = OfParts key signature (λ parts. candidate_root key message parts ≡ key.root)
 
+-- the five conditions
+pub data Condition : Type 0 where
+  has_length : Condition
+  has_ots_type : Condition
+  has_lms_type : Condition
+  has_leaf : Condition
+  leads_to_root : Condition
+
+-- their numbers
+abbrev pub number_of : Condition → ℕ
+number_of has_length = 1
+number_of has_ots_type = 2
+number_of has_lms_type = 3
+number_of has_leaf = 4
+number_of leads_to_root = 5
+
+-- all of them, in order of number
+abbrev pub all_conditions : List Condition
+all_conditions = has_length ∷ (has_ots_type ∷ (has_lms_type ∷ (has_leaf ∷ (leads_to_root ∷ []))))
+
+-- what each says
+abbrev pub Meets : LmsPublic → List ℕ → List ℕ → Condition → Type 0
+Meets key message signature has_length = HasLength key signature
+Meets key message signature has_ots_type = HasOtsType key signature
+Meets key message signature has_lms_type = HasLmsType key signature
+Meets key message signature has_leaf = HasLeaf key signature
+Meets key message signature leads_to_root = LeadsToRoot key message signature
+
 -- all five hold
-pub record MeetsAll (key : LmsPublic) (message signature : List ℕ) : Type 0 where
-  pub length : HasLength key signature
-  pub ots_type : HasOtsType key signature
-  pub lms_type : HasLmsType key signature
-  pub leaf : HasLeaf key signature
-  pub root : LeadsToRoot key message signature
+abbrev pub MeetsAll : LmsPublic → List ℕ → List ℕ → Type 0
+MeetsAll key message signature = AllHold (Meets key message signature) all_conditions
 
 -- the condition with this number does not hold, and all before it do
-abbrev pub FailsFirst : LmsPublic → List ℕ → List ℕ → ℕ → Type 0
-FailsFirst key message signature k =
-    ((k ≡ 1) × ¬ HasLength key signature)
-    ⊎ (((k ≡ 2) × HasLength key signature × ¬ HasOtsType key signature)
-    ⊎ (((k ≡ 3) × HasLength key signature × HasOtsType key signature × ¬ HasLmsType key signature)
-    ⊎ (((k ≡ 4) × HasLength key signature × HasOtsType key signature × HasLmsType key signature × ¬ HasLeaf key signature)
-    ⊎ ((k ≡ 5) × HasLength key signature × HasOtsType key signature × HasLmsType key signature × HasLeaf key signature × ¬ LeadsToRoot key message signature))))
+abbrev pub MeetsUpTo : LmsPublic → List ℕ → List ℕ → ℕ → Type 0
+MeetsUpTo key message signature k = FailsFirst number_of (Meets key message signature) all_conditions k

@@ -7,7 +7,7 @@ ghost use Rattle.lms_tree.specs.KeyParts.{KeyParts};
 ghost use Rattle.lms_tree.specs.LmsKind.{height_of};
 ghost use Rattle.lms_tree.specs.PublicKey.{HasWidths, is_key_text, key_of_text, key_text};
 ghost use Rattle.lms_tree.specs.Signature.{SignatureParts, FitsTypes, signature_text};
-ghost use Rattle.lms_tree.specs.Validity.{FailsFirst, HasLength, MeetsAll, parts_of, verdict_of};
+ghost use Rattle.lms_tree.specs.Validity.{HasLength, MeetsAll, MeetsUpTo, parts_of, verdict_of};
 ghost use Rattle.lms_tree.specs.declared.public_key.LmsPublic.{LmsPublic};
 ghost use Rattle.lms_tree.specs.declared.validity.Verdict.TheVariants.{Invalid, Valid};
 
@@ -48,7 +48,7 @@ pub fn a_verdict_tells_the_first_condition_that_fails()
     ensures valid { (key : LmsPublic) (message signature : List ℕ)
         → (verdict_of key message signature ≡ Valid) ↔ MeetsAll key message signature }
     ensures invalid { (key : LmsPublic) (message signature : List ℕ) (k : ℕ)
-        → (verdict_of key message signature ≡ Invalid k) ↔ FailsFirst key message signature k }
+        → (verdict_of key message signature ≡ Invalid k) ↔ MeetsUpTo key message signature k }
 {}
 
 /// Under the public key of a key, its signature of any message by any of its leaves is valid.

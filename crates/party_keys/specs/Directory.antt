@@ -1,5 +1,6 @@
 -- Directories: the keys of all logs and authorities, and how many logs make a quorum.
 use Rattle.std.specs.Prelude.{ℕ, ◌+◌, ◌*◌, ◌<◌, ◌≤◌, Bool, ◌&&◌, nat_lt, nat_le, if◌then◌else◌, List, [], length, slice_get, Option, Some, None, Result, Ok, Err}
+use Rattle.ar_base.specs.Ranges.{is_from_to}
 use Rattle.lms_tree.specs.declared.public_key.LmsPublic.{LmsPublic}
 use Rattle.lms_tree.specs.declared.validity.Verdict.{Verdict}
 use Rattle.lms_tree.specs.declared.validity.Verdict.TheVariants.{Valid, Invalid}
@@ -23,7 +24,7 @@ pub record Directory : Type 0 where
 
 -- how many logs, and how many authorities, there may be
 abbrev pub is_party_count : ℕ → Bool
-is_party_count n = nat_le 3 n && nat_le n 16
+is_party_count n = is_from_to 3 16 n
 
 -- whether q of n logs are a quorum: any two quorums share more than two logs
 abbrev pub is_quorum : ℕ → ℕ → Bool

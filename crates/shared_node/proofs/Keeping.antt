@@ -4,7 +4,8 @@ use mathlib.Core.Option.{some}
 use mathlib.Core.Option as home
 use lib.ListN.{get_elem?}
 use Rattle.ar_base.specs.Shares.{whole}
-use Rattle.ar_seats.specs.Numbers.{HasEachBelow, one_if, times, once_below, merged}
+use Rattle.ar_base.specs.Counting.{one_if}
+use Rattle.ar_seats.specs.Numbers.{HasEachBelow, times, once_below, merged}
 use Rattle.ar_seats.specs.Prefixes.{BeginsWith}
 use Rattle.ar_seats.proofs.TotalsLemmas.{total-set, total_split, total_join, two-le-total, total_owner}
 use Rattle.ar_seats.proofs.NumbersLemmas.{once_below-le-1}

@@ -9,7 +9,8 @@ use native.Mathlib.Decide.{dec_lt, ℕ_discrete}
 use prog.Atomic.{either}
 use lib.ListN.{get_elem?}
 use Rattle.ar_base.specs.Shares.{whole}
-use Rattle.ar_seats.specs.Numbers.{HasEachBelow, one_if, times, once_below}
+use Rattle.ar_base.specs.Counting.{one_if}
+use Rattle.ar_seats.specs.Numbers.{HasEachBelow, times, once_below}
 use Rattle.ar_seats.specs.Prefixes.{BeginsWith}
 use Rattle.ar_seats.proofs.TotalsLemmas.{one-le-total}
 use Rattle.ar_seats.proofs.NumbersLemmas.{times-append, once_below-suc, once_below-le}

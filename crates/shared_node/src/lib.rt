@@ -11,14 +11,13 @@
 #![tactic(auto)]
 
 pub use answer::{Answer, Closed, Place};
+pub use ar_base::SplitFault;
 pub use core_trait::Core;
-pub use fault::SplitFault;
 pub use seat::Seat;
 pub use shared::SharedNode;
 
 mod answer;
 mod core_trait;
-mod fault;
 mod held;
 pub mod laws;
 mod node;

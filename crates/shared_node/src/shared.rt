@@ -4,7 +4,7 @@ ghost use Rattle.ar_seats.specs.Numbers.{HasEachBelow, IsRising};
 ghost use Rattle.ar_seats.specs.Prefixes.{BeginsWith};
 ghost use Rattle.shared_node.specs.History.{Replays};
 ghost use Rattle.shared_node.specs.Seats.{IsSeatOf, Asked, SeesOn, first_seat, left_seat, given_seat, joined_seat};
-ghost use Rattle.shared_node.specs.declared.fault.SplitFault.TheVariants.{Narrow};
+ghost use Rattle.ar_base.specs.declared.split_fault.SplitFault.TheVariants.{Narrow};
 
 use crate::held::Held;
 use crate::node::{Node, NodeOf, answer};

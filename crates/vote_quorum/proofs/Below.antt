@@ -2,7 +2,8 @@
 use Rattle.std.proofs.Common.{◌≡◌, ℕ, zero, suc, ◌+◌, ◌<◌, ◌≤◌, List, [], ◌∷◌, refl, sym, ap, ◌∙◌, ⊎_elim, arith, Bool, true, false, cond, eqb, ◌&&◌, ◌||◌}
 use Rattle.std.specs.List.{AllByRecursion}
 use Rattle.std.proofs.lemmas.Bool.{cases_eq, eq-eqb, ne_eqb}
-use Rattle.vote_quorum.specs.Counted.{one_if, count_below}
+use Rattle.ar_base.specs.Counting.{one_if}
+use Rattle.vote_quorum.specs.Counted.{count_below}
 use Rattle.vote_quorum.specs.Numbers.{distinct_count}
 use Rattle.vote_quorum.proofs.Counting.{among, distinct_count-cons, distinct_count-nil}
 

@@ -7,7 +7,8 @@ use Rattle.std.proofs.lemmas.List.Elements.{All-contains, All-from_recursion, re
 use Rattle.std.proofs.lemmas.List.Folds.{list_any_at}
 use Rattle.std.proofs.lemmas.Map.Views.{Contains-from_any}
 use Rattle.vote_quorum.specs.Numbers.{distinct_count, shared_count}
-use Rattle.vote_quorum.specs.Counted.{one_if, count_below, AtLeast, Shares}
+use Rattle.ar_base.specs.Counting.{one_if}
+use Rattle.vote_quorum.specs.Counted.{count_below, AtLeast, Shares}
 use Rattle.vote_quorum.proofs.Counting.{among, distinct_count-cons, distinct_count-nil}
 use Rattle.vote_quorum.proofs.Below.{count_below-same, count_below-none, distinct_count-below}
 use Rattle.vote_quorum.proofs.Shared.{shared_count-filter, three_shared, not_among}

@@ -12,7 +12,7 @@ use Rattle.std.proofs.lemmas.Cmp.{nat_list_cmp_total, tied_itself}
 use Rattle.std.proofs.lemmas.List.Sums.{sum_by_more, sum_by_more_le, count_by-le-length}
 use Rattle.std.proofs.lemmas.Slice.Eq.{bytes_eq-Decides}
 use Rattle.vote_quorum.specs.declared.value.Value.{Value}
-use Rattle.vote_quorum.specs.Counted.{one_if}
+use Rattle.ar_base.specs.Counting.{one_if}
 use Rattle.vote_quorum.specs.Statuses.{Status, is_for, report_count, Leads, IsMostReported}
 
 -- ---- the order of roots

@@ -10,7 +10,8 @@ use Rattle.std.proofs.lemmas.List.Kept.{AllPairs-from_increasing}
 use Rattle.std.proofs.lemmas.List.Sums.{length-filter, sum_by-cons}
 use Rattle.std.proofs.lemmas.Map.Made.{IsDistinct-from_AllPairs}
 use Rattle.vote_quorum.specs.Numbers.{distinct_count}
-use Rattle.vote_quorum.specs.Counted.{one_if, count_below, AtLeast}
+use Rattle.ar_base.specs.Counting.{one_if}
+use Rattle.vote_quorum.specs.Counted.{count_below, AtLeast}
 use Rattle.vote_quorum.specs.Statuses.{Status, logs_of, AreStatuses, is_for, report_count, Excludes, IsMostReported}
 use Rattle.vote_quorum.proofs.Counting.{among, distinct_count-le}
 use Rattle.vote_quorum.proofs.Below.{count_below-both, distinct_count-below}

@@ -1,10 +1,7 @@
 -- Numbers below a bound, such as the numbers of the logs, and how many of them have a property.
-use Rattle.std.specs.Prelude.{◌≢◌, ℕ, zero, suc, ◌+◌, ◌<◌, ◌≤◌, Bool, if◌then◌else◌, List, All}
+use Rattle.std.specs.Prelude.{◌≢◌, ℕ, zero, suc, ◌+◌, ◌<◌, ◌≤◌, Bool, List, All}
+use Rattle.ar_base.specs.Counting.{one_if}
 use Rattle.vote_quorum.specs.Numbers.{distinct_count}
-
--- one where the test passes
-abbrev pub one_if : Bool → ℕ
-one_if b = if b then 1 else 0
 
 -- how many numbers below n pass the test
 abbrev pub count_below : ℕ → (ℕ → Bool) → ℕ

@@ -1,5 +1,5 @@
 ghost use Rattle.std.specs.Prelude.{◌≡◌};
-ghost use Rattle.shared_node.specs.declared.fault.SplitFault.TheVariants.{Memory};
+ghost use Rattle.ar_base.specs.declared.split_fault.SplitFault.TheVariants.{Memory};
 
 use std::alloc::AllocError;
 use thiserror::Error;
