@@ -1,11 +1,11 @@
 -- What entries and rolls keep of a book, and which leaf serves which text.
-use Rattle.std.proofs.Common.{◌≡◌, ◌≢◌, ℕ, zero, suc, ◌+◌, ◌-◌, ◌<◌, ◌^◌, ◌==◌, ◌≤◌, ◌⊎◌, inl, inr, List, [], ◌∷◌, ◌++◌, length, take, get_or, refl, sym, ap, ◌∙◌, subst, arith, Bool, true, false, cond, not, ◌&&◌, eqb, eq-eqb, ne_eqb, nat_lt, ltb, Option, Some, None, Ok, Err}
-use Rattle.std.specs.Prelude.{bytes_eq, count_by, map, slice_get, position, All, Contains, IsErr, IsOk, is_ok, Result}
+use Rattle.std.proofs.Common.{◌≡◌, ◌≢◌, ℕ, zero, suc, ◌+◌, ◌-◌, ◌<◌, ◌^◌, ◌==◌, ◌≤◌, ◌⊎◌, inl, inr, List, [], ◌∷◌, ◌++◌, length, take, get_or, refl, sym, ap, ◌∙◌, subst, arith, Bool, true, false, cond, not, ◌&&◌, eqb, eq-eqb, ne_eqb, nat_lt, Option, Some, None, Ok, Err}
+use Rattle.std.specs.Prelude.{count_by, map, slice_get, position, Contains, IsErr, IsOk, is_ok, Result}
 use Rattle.std.specs.Result.{IsErrAnd}
 use Rattle.ar_base.specs.Gives.{GivesOrWants}
 use Rattle.std.specs.List.{prefix_len}
 use Rattle.std.proofs.lemmas.Bool.{cases_lt, le-ltb, lt-ltb, ltb-true}
-use Rattle.std.proofs.lemmas.List.{length-append, length-map, map-append, take-append-le, take-take, get_or-map}
+use Rattle.std.proofs.lemmas.List.{length-map, map-append, take-append-le, take-take, get_or-map}
 use Rattle.std.proofs.lemmas.List.Elements.{All-get_or, All-push, All-weaker}
 use Rattle.std.proofs.lemmas.List.Sums.{count_by_more_yes, sum_by-append, sum_by-take-le}
 use Rattle.std.proofs.lemmas.Option.{get_or_from_slice_get, slice_get-get_or, slice_get_within}

@@ -33,13 +33,17 @@ pub record IsNext (keys : List KeyParts) (key : KeyParts) : Type 0 where
   pub last : slice_get keys (length keys - 1) ≡ Some newest
   pub is : key ≡ next_key newest
 
+-- how many bytes a signature by a key has, with the generation in front
+abbrev pub ring_signature_len : KeyParts → ℕ
+ring_signature_len key = 4 + lms_signature_len_of key.lms key.ots
+
 -- the keys have the one that owes a signature, with the leaves that its book counts on, and this many bytes
 -- are those of its signature behind a generation
 pub record Owes (keys : List KeyParts) (due : DueParts) (bytes : ℕ) : Type 0 where
   pub key : KeyParts
   pub has : slice_get keys due.generation ≡ Some key
   pub leaves : due.leaves ≡ 2 ^ height_of key.lms
-  pub bytes_are : bytes ≡ 4 + lms_signature_len_of key.lms key.ots
+  pub bytes_are : bytes ≡ ring_signature_len key
 
 -- a signature of a log or an authority: the generation, and the signature by its key
 abbrev pub signature_by : KeyParts → DueParts → List ℕ

@@ -1,5 +1,5 @@
 ghost use Rattle.std.specs.Prelude.{◌≡◌, ◌++◌, ◌∷◌, [], ℕ, length, max, slice_get, Some, IfOk, IfErr, OnOk, OnErr, MatchResult};
-ghost use Rattle.key_roll.specs.Ring.{IsNext, Owes, next_seed, signature_by};
+ghost use Rattle.key_roll.specs.Ring.{IsNext, Owes, next_seed, ring_signature_len, signature_by};
 ghost use Rattle.lms_tree.specs.KeyParts.{KeyParts};
 
 use crate::RollDue;
@@ -87,6 +87,14 @@ impl KeyRing {
             }
             Err(refused) => Err((refused.value, AllocError)),
         }
+    }
+
+    /// How many bytes a signature by one of the ring's keys has, with u32 generation in front. All keys have
+    /// the same types, so it is the same for each.
+    pub fn signature_len(&self) -> usize
+        ensures { (g : ℕ) (key : KeyParts) → slice_get self.now.keys g ≡ Some key → result ≡ ring_signature_len key }
+    {
+        4 + self.keys[0].signature_len()
     }
 
     /// Writes the signature that is due into `out`: u32 generation, and the signature of the statement's

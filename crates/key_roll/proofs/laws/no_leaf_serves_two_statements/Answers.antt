@@ -1,4 +1,4 @@
-use Rattle.std.proofs.Common.{◌≡◌, ◌++◌, [], List, ℕ, ap}
+use Rattle.std.proofs.Common.{◌++◌, [], List, ℕ, ap}
 use Rattle.ar_statement.specs.Claims.{text_of}
 use Rattle.key_roll.proofs.Books.{one_text}
 use Rattle.key_roll.proofs.laws.no_leaf_serves_two_statements.Goals as goal

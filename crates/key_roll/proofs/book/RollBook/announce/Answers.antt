@@ -1,6 +1,5 @@
-use Rattle.std.proofs.Common.{◌≡◌, ◌∙◌, ap, sym, subst, arith, ◌<◌, ◌+◌, ◌++◌, ◌∷◌, []}
+use Rattle.std.proofs.Common.{◌∙◌, ap, sym, subst, arith, ◌<◌, ◌+◌, ◌++◌, ◌∷◌, []}
 use Rattle.key_roll.specs.Book.{RollBook, IsRollBook}
-use Rattle.key_roll.specs.Entry.{with_roll}
 use Rattle.key_roll.proofs.Books.{entry, roll_keeps}
 use Rattle.key_roll.proofs.book.RollBook.announce.Goals as goal
 

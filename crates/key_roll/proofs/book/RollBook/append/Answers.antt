@@ -1,4 +1,4 @@
-use Rattle.std.proofs.Common.{◌≡◌, ◌∙◌, ap, sym, subst, inl, inr, arith, ◌<◌, ◌≤◌, ◌+◌, ◌++◌, ◌∷◌, [], None, Ok, refl}
+use Rattle.std.proofs.Common.{◌≡◌, ◌∙◌, ap, sym, subst, inr, arith, ◌<◌, ◌+◌, ◌++◌, ◌∷◌, [], None, Ok, refl}
 use Rattle.ar_base.specs.Places.{place_of}
 use Rattle.key_roll.specs.Book.{RollBook, IsRollBook, texts_of}
 use Rattle.key_roll.specs.Rolls.{plain_count}

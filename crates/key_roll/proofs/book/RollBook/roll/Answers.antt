@@ -1,4 +1,4 @@
-use Rattle.std.proofs.Common.{◌≡◌, ◌∙◌, ap, arith, ◌<◌, ◌^◌}
+use Rattle.std.proofs.Common.{◌∙◌, ap, arith, ◌<◌, ◌^◌}
 use Rattle.ar_statement.specs.Claims.{roll}
 use Rattle.key_roll.specs.Rolls.{is_roll, named_generation}
 use Rattle.key_roll.proofs.Books.{is_roll-kind, named-roll}

@@ -1,11 +1,9 @@
-use Rattle.std.proofs.Common.{◌≡◌, ◌∙◌, ap, sym, refl, arith, rules, ◌-◌, ◌<◌, length, Result, Ok, Some, List, ℕ}
+use Rattle.std.proofs.Common.{◌≡◌, ◌∙◌, ap, sym, refl, arith, rules, ◌-◌, ◌<◌, length, Ok, Some}
 use Rattle.std.specs.Prelude.{slice_get}
 use Rattle.std.proofs.lemmas.Option.{slice_get_read}
 use Rattle.lm_ots.specs.OtsKind as ots_kind
-use Rattle.lms_tree.specs.KeyParts.{KeyParts}
 use Rattle.lms_tree.specs.Key.{made}
 use Rattle.lms_tree.specs.LmsKind as lms_kind
-use Rattle.lms_tree.specs.declared.key.KeyFault.{KeyFault}
 use Rattle.lms_tree.specs.declared.public_key.LmsPublic.{LmsPublic}
 use Rattle.key_roll.specs.Ring.{next_key, next_seed}
 use Rattle.key_roll.proofs.Rings.{made_again, same_key}

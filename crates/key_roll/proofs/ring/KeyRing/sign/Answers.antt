@@ -1,11 +1,10 @@
-use Rattle.std.proofs.Common.{◌≡◌, ◌≤◌, ◌∙◌, ap, sym, arith, ◌++◌, length, take, List, ℕ, Some}
+use Rattle.std.proofs.Common.{◌≡◌, ◌≤◌, ◌∙◌, ap, sym, arith, ◌++◌, length, take, Some}
 use Rattle.std.specs.Prelude.{slice_get}
 use Rattle.std.specs.Int.{w32}
 use Rattle.std.proofs.lemmas.List.{take_all}
 use Rattle.std.proofs.lemmas.Option.{get_or_from_slice_get}
 use Rattle.ar_bytes.specs.RoundTrip.{number_text}
 use Rattle.lms_tree.specs.Key.{signature_of}
-use Rattle.lms_tree.specs.KeyParts.{KeyParts}
 use Rattle.key_roll.specs.Ring.{signature_by}
 use Rattle.key_roll.proofs.ring.KeyRing.sign.Goals as goal
 
