@@ -1,6 +1,6 @@
 -- Confirmations: what one says, the fields of its text in their order with the place of the first that
 -- fails, and the one text of each.
-use Rattle.std.specs.Prelude.{◌≡◌, ℕ, ◌+◌, ◌*◌, ◌/◌, ◌%◌, ◌^◌, ◌<◌, ◌≤◌, ◌==◌, ◌&&◌, nat_lt, nat_le, Bool, true, false, if◌then◌else◌, List, ◌++◌, length, take, Option, Some, None, Ok, Err}
+use Rattle.std.specs.Prelude.{◌≡◌, ℕ, ◌+◌, ◌*◌, ◌/◌, ◌^◌, ◌<◌, ◌≤◌, ◌==◌, ◌&&◌, nat_lt, nat_le, Bool, true, false, if◌then◌else◌, List, ◌++◌, length, take, Option, Some, None, Ok, Err}
 use Rattle.std.specs.Int.{w8, w16, w64}
 use Rattle.ar_base.specs.Bytes.{IsDigest}
 use Rattle.ar_base.specs.Chaining.{◌>>=◌}

@@ -1,2 +1,4 @@
 pub mod Confirmation
 pub mod Views
+pub mod Sending
+pub mod Filling

@@ -5,8 +5,16 @@
 //! one text of each confirmation.
 #![tactic(auto)]
 
+mod address;
 mod fields;
+mod filling;
 pub mod laws;
+mod sent;
+mod unsigned;
 mod view;
 
+pub use address::Address;
+pub use filling::fill;
+pub use sent::{Outgoing, Sent};
+pub use unsigned::{Blank, Unsigned};
 pub use view::ConfView;

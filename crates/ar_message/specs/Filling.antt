@@ -1,0 +1,69 @@
+-- What a step sends before it is signed, and what signing makes of it. Where a signature is due the message has
+-- zero bytes, a blank, and signing writes the signature over them.
+use Rattle.std.specs.Prelude.{◌≡◌, ℕ, ◌+◌, ◌≤◌, List, [], ◌∷◌, ◌++◌, take, drop, map, length, slice_get, slice_set, Option, Some, None, All}
+use Rattle.key_roll.specs.Due.{DueParts}
+use Rattle.key_roll.specs.Ring.{Owes, signature_by}
+use Rattle.lms_tree.specs.KeyParts.{KeyParts}
+use Rattle.ar_message.specs.declared.unsigned.Blank.{Blank}
+use Rattle.ar_message.specs.declared.unsigned.Unsigned.{Unsigned}
+use Rattle.ar_message.specs.declared.sent.Sent.{Sent}
+use Rattle.ar_message.specs.Sending.{Letter}
+
+-- bytes with others written over them from a place on
+abbrev pub written_at : ℕ → List ℕ → List ℕ → List ℕ
+written_at place bytes whole = take place whole ++ (bytes ++ drop (place + length bytes) whole)
+
+-- the signature that is due, by the key of its generation
+abbrev pub signature_under : Option KeyParts → DueParts → List ℕ
+signature_under (Some key) due = signature_by key due
+signature_under None due = []
+
+-- the signature that is due under the keys of each generation
+abbrev pub signature_due : List KeyParts → DueParts → List ℕ
+signature_due keys due = signature_under (slice_get keys due.generation) due
+
+-- a message with the signature of a blank in it
+abbrev pub with_signature : List KeyParts → Blank → Letter → Letter
+with_signature keys blank letter = record { to = letter.to; bytes = written_at blank.at (signature_due keys blank.due) letter.bytes }
+
+-- messages in which this one, where there is one, has the signature of the blank
+abbrev pub signed_in : List KeyParts → Blank → List Letter → Option Letter → List Letter
+signed_in keys blank letters (Some letter) = slice_set letters blank.message (with_signature keys blank letter)
+signed_in keys blank letters None = letters
+
+-- the messages with the signature of one blank in them
+abbrev pub signed_at : List KeyParts → Blank → List Letter → List Letter
+signed_at keys blank letters = signed_in keys blank letters (slice_get letters blank.message)
+
+-- the messages with the signatures of all blanks in them
+unfoldable pub signed : List KeyParts → List Blank → List Letter → List Letter
+signed keys [] letters = letters
+signed keys (blank ∷ blanks) letters = signed_at keys blank (signed keys blanks letters)
+
+-- what is sent where each blank is signed
+abbrev pub filled : List KeyParts → Unsigned → Sent
+filled keys unsigned = record { messages = signed keys unsigned.blanks unsigned.sent.messages; ended = unsigned.sent.ended }
+
+-- how long the messages are
+abbrev pub lengths : List Letter → List ℕ
+lengths letters = map (λ l. length l.bytes) letters
+
+-- the keys have the one that signs what is due, and its signature lies inside this many bytes from a place on
+pub record FitsIn (keys : List KeyParts) (whole : ℕ) (place : ℕ) (due : DueParts) : Type 0 where
+  pub len : ℕ
+  pub owes : Owes keys due len
+  pub inside : place + len ≤ whole
+
+-- the same of these bytes
+abbrev pub FitsAt : List KeyParts → List ℕ → ℕ → DueParts → Type 0
+FitsAt keys bytes place due = FitsIn keys (length bytes) place due
+
+-- a blank is one of a message of these lengths, and its signature lies inside that
+pub record IsBlank (keys : List KeyParts) (lens : List ℕ) (blank : Blank) : Type 0 where
+  pub whole : ℕ
+  pub named : slice_get lens blank.message ≡ Some whole
+  pub fits : FitsIn keys whole blank.at blank.due
+
+-- each blank is one
+abbrev pub CanFill : List KeyParts → Unsigned → Type 0
+CanFill keys unsigned = All (IsBlank keys (lengths unsigned.sent.messages)) unsigned.blanks
