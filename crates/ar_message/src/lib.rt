@@ -3,6 +3,9 @@
 //!
 //! `specs/Confirmation.antt` has the grammar, field by field, with the place of the first fault, and the
 //! one text of each confirmation.
+//!
+//! What a step of a party sends is an `Unsigned` first, with zero bytes where a signature is due, and `fill`
+//! makes it a `Sent` with the party's keys (`specs/Filling.antt`).
 #![tactic(auto)]
 
 mod address;
