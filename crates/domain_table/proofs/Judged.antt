@@ -30,17 +30,7 @@ recovered old pending c is =
     let r : Recovers (cert_terms_of old) (cert_terms_of c.cert) (endorsers_of c) (is_handed_over old c) pending = is.updates in
     record {
       plain = is.plain;
-      updates = record {
-        alive = r.alive;
-        same_name = r.same_name;
-        next_serial = r.next_serial;
-        linked = r.linked;
-        endorsed = r.endorsed;
-        waits = r.waits;
-        lacks_own = r.lacks_own;
-        well_formed = r.well_formed;
-        free = refl;
-      };
+      updates = record { succeeds = r.succeeds; lacks_own = r.lacks_own; waits = r.waits; free = refl };
     }
 
 -- whether something is pending says nothing of a full update
