@@ -1,0 +1,12 @@
+pub mod Acting
+pub mod Books
+pub mod Called
+pub mod Closings
+pub mod Counted
+pub mod Endings
+pub mod Growing
+pub mod Kept
+pub mod Lists
+pub mod Read
+pub mod Seeing
+pub mod Texts

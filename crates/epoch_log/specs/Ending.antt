@@ -1,0 +1,96 @@
+-- How an epoch ends: when the counted ballots decide it, when the counted statuses skip it, and what stands then.
+use Rattle.std.specs.Prelude.{ℕ, ◌+◌, ◌-◌, ◌^◌, ◌==◌, Bool, ◌&&◌, nat_le, nat_lt, if◌then◌else◌, List, [], ◌∷◌, ◌++◌, map, filter, find, length, Option, Some, None}
+use Rattle.std.specs.List.{list_all}
+use Rattle.ar_cert.specs.Changes.{Change}
+use Rattle.vote_quorum.specs.Ballots.{is_same, log_count}
+use Rattle.vote_quorum.specs.Statuses.{Status, report_count}
+use Rattle.vote_quorum.specs.declared.value.Value.{Value}
+use Rattle.epoch_log.specs.Council.{Council}
+use Rattle.epoch_log.specs.Record.{LogRecord, current}
+use Rattle.epoch_log.specs.State.{CountedVote, LogState, ballots_of, epoch_of, reports_of}
+use Rattle.epoch_log.specs.Told.{value_of}
+use Rattle.epoch_log.specs.declared.entries.Closing.{Closing}
+use Rattle.epoch_log.specs.declared.entries.Closing.TheVariants as closings
+use Rattle.epoch_log.specs.declared.entries.How.{How}
+use Rattle.epoch_log.specs.declared.entries.How.TheVariants.{Decided, Skipped}
+use Rattle.epoch_log.specs.declared.entries.Voted.{Voted}
+
+-- ---- an epoch ends
+
+-- whether the current epoch may end: the last that a statement can name, 2 ^ 63, does not
+abbrev pub may_end : LogRecord → Bool
+may_end past = nat_lt (current past.ended) (2 ^ 63)
+
+-- the record after the current epoch ended so
+abbrev pub with_ending : LogRecord → How → LogRecord
+with_ending past how = record past { ended = past.ended ++ record { epoch = current past.ended; how = how } ∷ [] }
+
+-- The current epoch ended as decided, by votes for the value: they are the newest, and the counts are dropped.
+abbrev pub decided : LogState → List Change → Value → List (ℕ × Option (List ℕ)) → LogState
+decided s changes value votes = record {
+  me = s.me;
+  council = s.council;
+  past = with_ending s.past (Decided changes value.root);
+  votes = [];
+  statuses = [];
+  newest = Some (record { epoch = epoch_of s; base = value.base; root = value.root; votes = votes });
+}
+
+-- The current epoch ended as skipped: the newest decision stays, and the counts are dropped.
+abbrev pub skipped : LogState → List Status → LogState
+skipped s statuses = record {
+  me = s.me;
+  council = s.council;
+  past = with_ending s.past (Skipped statuses);
+  votes = [];
+  statuses = [];
+  newest = s.newest;
+}
+
+-- ---- the closing rule
+
+-- the log's own vote of an epoch
+abbrev pub own_vote : List Voted → ℕ → Option Voted
+own_vote voted epoch = find (λ v. v.epoch == epoch) voted
+
+-- the counted ballots for a value, as logs with their signatures
+abbrev pub votes_for : List CountedVote → Value → List (ℕ × Option (List ℕ))
+votes_for votes value = map (λ v. (v.0, v.2)) (filter (λ v. is_same v.1 value) votes)
+
+-- whether a root that is reported so often, and the logs without a status, and two that may lie, are no quorum
+abbrev pub falls_short : Council → List Status → ℕ → Bool
+falls_short council statuses count = nat_lt (count + (council.logs - length statuses) + 2) council.quorum
+
+-- whether a reported root is excluded; where none is reported, whether a root that none reports is
+abbrev pub is_excluded : Council → List Status → Option Value → Bool
+is_excluded council statuses None = falls_short council statuses 0
+is_excluded council statuses (Some value) = falls_short council statuses (report_count value.root statuses)
+
+-- whether the statuses exclude each root, reported or not
+abbrev pub excludes_all : Council → List Status → Bool
+excludes_all council statuses = falls_short council statuses 0 && list_all (λ s. is_excluded council statuses s.1) statuses
+
+-- without a quorum for the own vote: the epoch is skipped where the counted statuses exclude each root
+abbrev pub closed_by_statuses : LogState → LogState × Closing
+closed_by_statuses s =
+    if excludes_all s.council (reports_of s.statuses)
+    then (skipped s (reports_of s.statuses), closings.Skipped s.statuses)
+    else (s, closings.Open)
+
+-- whether the counted ballots are a quorum for what the own vote is for
+abbrev pub has_quorum : LogState → Voted → Bool
+has_quorum s v = nat_le s.council.quorum (log_count (ballots_of s.votes) (value_of v))
+
+-- the epoch is decided where there is an own vote and a quorum for it
+abbrev pub closed_by : LogState → Option Voted → LogState × Closing
+closed_by s None = closed_by_statuses s
+closed_by s (Some v) =
+    if has_quorum s v
+    then (decided s v.changes (value_of v) (votes_for s.votes (value_of v)), closings.Decided)
+    else closed_by_statuses s
+
+-- The closing rule: where the log has voted in the current epoch and at least a quorum of logs is counted for what it
+-- voted for, the epoch ends as decided with its own changes; else, where the counted statuses exclude each root, it
+-- ends as skipped; else it goes on.
+unfoldable pub closed : LogState → LogState × Closing
+closed s = if may_end s.past then closed_by s (own_vote s.past.voted (epoch_of s)) else (s, closings.Open)

@@ -1,0 +1,65 @@
+-- Which statements a log's record tells of.
+use Rattle.std.specs.Prelude.{◌≡◌, ℕ, List, Contains, Option, Some, None}
+use Rattle.std.specs.Option.{option_map}
+use Rattle.ar_statement.specs.Claims.{Claim, Roots, endorse, handover, propose, vote, confirm, confirm_absent, answer, status, roll, object}
+use Rattle.party_keys.specs.Seen.{log_party}
+use Rattle.vote_quorum.specs.declared.value.Value.{Value}
+use Rattle.epoch_log.specs.declared.entries.Confirmed.{Confirmed}
+use Rattle.epoch_log.specs.declared.entries.Stated.{Stated}
+use Rattle.epoch_log.specs.declared.entries.Voted.{Voted}
+
+-- ---- values, as statements write them
+
+abbrev pub roots_of : Value → Roots
+roots_of value = (value.base, value.root)
+
+abbrev pub value_of_roots : Roots → Value
+value_of_roots roots = record { base = roots.0; root = roots.1 }
+
+-- ---- the statement of each entry
+
+-- a log's vote in an epoch for a value
+abbrev pub vote_claim : ℕ → ℕ → Value → Claim
+vote_claim log epoch value = vote log epoch value.base value.root
+
+-- a log's status of an epoch
+abbrev pub status_claim : ℕ → ℕ → Option Value → Claim
+status_claim log epoch value = status log epoch (option_map roots_of value)
+
+-- what an entry's vote is for
+abbrev pub value_of : Voted → Value
+value_of v = record { base = v.base; root = v.root }
+
+-- a log's confirmation that under a name there is a certificate, or none
+abbrev pub confirm_claim : ℕ → ℕ → List ℕ → Option (List ℕ) → List ℕ → Claim
+confirm_claim log epoch name None root = confirm_absent (log_party log) epoch name root
+confirm_claim log epoch name (Some certificate) root = confirm (log_party log) epoch name certificate root
+
+-- ---- what the record tells of
+
+-- a vote of the epoch for this base and root is among these
+abbrev pub HasVoted : List Voted → ℕ → Value → Type 0
+HasVoted voted epoch value = (v : Voted) × (Contains voted v × (v.epoch ≡ epoch) × (value_of v ≡ value))
+
+-- this was stated of the epoch
+abbrev pub HasStated : List Stated → ℕ → Option Value → Type 0
+HasStated stated epoch value = Contains stated (record { epoch = epoch; value = value })
+
+-- this was confirmed
+abbrev pub HasConfirmed : List Confirmed → ℕ → List ℕ → Option (List ℕ) → List ℕ → Type 0
+HasConfirmed confirmed epoch name certificate root =
+    Contains confirmed (record { epoch = epoch; name = name; certificate = certificate; root = root })
+
+-- The log with this number may have signed a statement, as far as its entries tell: its votes, statuses and
+-- confirmations are exactly those of the entries; its proposals and Rolls have none; and it signs nothing else.
+unfoldable pub Told : ℕ → List Voted → List Stated → List Confirmed → Claim → Type 0
+Told me voted stated confirmed (propose log epoch base root) = log ≡ me
+Told me voted stated confirmed (vote log epoch base root) = (log ≡ me) × HasVoted voted epoch (value_of_roots (base, root))
+Told me voted stated confirmed (status log epoch value) = (log ≡ me) × HasStated stated epoch (option_map value_of_roots value)
+Told me voted stated confirmed (confirm signer epoch name certificate root) = (signer ≡ log_party me) × HasConfirmed confirmed epoch name (Some certificate) root
+Told me voted stated confirmed (confirm_absent signer epoch name root) = (signer ≡ log_party me) × HasConfirmed confirmed epoch name None root
+Told me voted stated confirmed (roll signer generation key) = signer ≡ log_party me
+Told me voted stated confirmed (endorse authority certificate) = ⊥
+Told me voted stated confirmed (handover certificate) = ⊥
+Told me voted stated confirmed (answer name certificate challenge) = ⊥
+Told me voted stated confirmed (object certificate) = ⊥
