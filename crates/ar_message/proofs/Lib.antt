@@ -1,3 +1,4 @@
 pub mod Steps
 pub mod ConfirmationLaws
 pub mod Filled
+pub mod Places

@@ -1,12 +1,13 @@
 -- What a step sends before it is signed, and what signing makes of it. Where a signature is due the message has
 -- zero bytes, a blank, and signing writes the signature over them.
-use Rattle.std.specs.Prelude.{◌≡◌, ℕ, ◌+◌, ◌≤◌, List, [], ◌∷◌, ◌++◌, take, drop, map, length, slice_get, slice_set, Option, Some, None, All}
+use Rattle.std.specs.Prelude.{◌≡◌, ◌≢◌, ℕ, ◌+◌, ◌<◌, ◌≤◌, ◌⊎◌, List, [], ◌∷◌, ◌++◌, take, drop, map, length, slice_get, slice_index, slice_index_or, slice_set, Option, Some, None, All}
 use Rattle.key_roll.specs.Due.{DueParts}
 use Rattle.key_roll.specs.Ring.{Owes, signature_by}
 use Rattle.lms_tree.specs.KeyParts.{KeyParts}
 use Rattle.ar_message.specs.declared.unsigned.Blank.{Blank}
 use Rattle.ar_message.specs.declared.unsigned.Unsigned.{Unsigned}
 use Rattle.ar_message.specs.declared.sent.Sent.{Sent}
+use Rattle.ar_message.specs.declared.address.Address.TheVariants.{Logs}
 use Rattle.ar_message.specs.Sending.{Letter}
 
 -- bytes with others written over them from a place on
@@ -67,3 +68,33 @@ pub record IsBlank (keys : List KeyParts) (lens : List ℕ) (blank : Blank) : Ty
 -- each blank is one
 abbrev pub CanFill : List KeyParts → Unsigned → Type 0
 CanFill keys unsigned = All (IsBlank keys (lengths unsigned.sent.messages)) unsigned.blanks
+
+-- ---- what is where
+
+-- what stands in the place of a message that is not there
+abbrev pub no_letter : Letter
+no_letter = record { to = Logs; bytes = [] }
+
+-- the bytes of a message, none where there is no such message
+abbrev pub bytes_at : List Letter → ℕ → List ℕ
+bytes_at letters message = (slice_index_or letters message no_letter).bytes
+
+-- the byte at a place of a message
+abbrev pub byte_at : List Letter → ℕ → ℕ → ℕ
+byte_at letters message place = slice_index (bytes_at letters message) place
+
+-- in these messages the signature that is due stands in the place of the blank
+abbrev pub IsSigned : List KeyParts → List Letter → Blank → Type 0
+IsSigned keys letters blank =
+    (j : ℕ) → j < length (signature_due keys blank.due) → byte_at letters blank.message (blank.at + j) ≡ slice_index (signature_due keys blank.due) j
+
+-- a place of a message is none of a blank's
+abbrev pub IsOutside : List KeyParts → ℕ → ℕ → Blank → Type 0
+IsOutside keys message place blank =
+    (blank.message ≢ message) ⊎ ((place < blank.at) ⊎ (blank.at + length (signature_due keys blank.due) ≤ place))
+
+-- two blanks have no place in common
+abbrev pub AreApart : List KeyParts → Blank → Blank → Type 0
+AreApart keys one other =
+    (one.message ≢ other.message)
+    ⊎ ((one.at + length (signature_due keys one.due) ≤ other.at) ⊎ (other.at + length (signature_due keys other.due) ≤ one.at))
