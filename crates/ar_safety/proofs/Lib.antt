@@ -1,0 +1,4 @@
+pub mod Agreement
+pub mod Fresh
+pub mod Listed
+pub mod Votes

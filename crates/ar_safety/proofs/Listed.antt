@@ -1,0 +1,96 @@
+-- The tables that honest logs voted for or decided are among the listed ones, and their strings among the hashed.
+use Rattle.std.proofs.Common.{◌≡◌, ℕ, zero, suc, ◌<◌, inl, inr, List, [], ◌∷◌, length, get_or, ◌==◌, refl, sym, ap, ◌∙◌, subst, arith, false, cond, Option, Some, None}
+use Rattle.std.specs.Prelude.{Contains, flat_map}
+use Rattle.std.specs.List.{find}
+use Rattle.std.specs.Option.{option_map}
+use Rattle.std.proofs.lemmas.Bool.{cases_eq, eqb-true}
+use Rattle.std.proofs.lemmas.List.Elements.{Contains-append_left, Contains-append_right}
+use Rattle.ar_base.specs.Apart.{IsIn}
+use Rattle.ar_base.proofs.Apart.{in_front, in_rest}
+use Rattle.ar_cert.specs.Changes.{Change}
+use Rattle.party_keys.specs.Seen.{log_party}
+use Rattle.domain_table.specs.Applying.{apply}
+use Rattle.domain_table.specs.Tables.{Table}
+use Rattle.domain_table.specs.Tree.{table_strings}
+use Rattle.domain_table.proofs.Trees.{Listed, listed}
+use Rattle.epoch_log.specs.Record.{LogRecord, base_of, ending}
+use Rattle.epoch_log.specs.declared.entries.Ended.{Ended}
+use Rattle.epoch_log.specs.declared.entries.How.{How}
+use Rattle.epoch_log.specs.declared.entries.How.TheVariants.{Decided}
+use Rattle.epoch_log.specs.declared.entries.Voted.{Voted}
+use Rattle.epoch_log.proofs.Lists.{find-some}
+use Rattle.ar_safety.specs.Hashed.{ended_table, hashed, listed_tables, log_tables, table_list, tables_below, voted_table}
+use Rattle.ar_safety.specs.Records.{IsHonestLog, Records, is_dishonest}
+
+-- what one element of a list gives is among what all give
+pub in-flat : {X Y : Type 0} (f : X → List Y) (xs : List X) (x : X) (y : Y) → Contains xs x → Contains (f x) y → Contains (flat_map f xs) y
+in-flat f [] x y there here = absurd (omega (arith, there.1))
+in-flat {X} {Y} f (z ∷ xs) x y there here = by there.0 there.1 there.2 (in-flat f xs x y)
+  where
+    by : (k : ℕ) → k < length (z ∷ xs) → get_or (z ∷ xs) k x ≡ x → (Contains xs x → Contains (f x) y → Contains (flat_map f xs) y) → Contains (flat_map f (z ∷ xs)) y
+    by zero within is rest = Contains-append_left (f z) (flat_map f xs) y (subst (λ w. Contains (f w) y) (sym is) here)
+    by (suc k) within is rest = Contains-append_right (f z) (flat_map f xs) y (rest (k, omega (arith, within), is) here)
+
+-- and so are the strings of one table
+pub in-strings : (tables : List Table) (t : Table) (x : List ℕ) → Contains tables t → IsIn (table_strings t) x → IsIn (flat_map table_strings tables) x
+in-strings [] t x there is = absurd (omega (arith, there.1))
+in-strings (z ∷ tables) t x there is = by there.0 there.1 there.2 (in-strings tables t x)
+  where
+    by : (k : ℕ) → k < length (z ∷ tables) → get_or (z ∷ tables) k t ≡ t → (Contains tables t → IsIn (table_strings t) x → IsIn (flat_map table_strings tables) x) → IsIn (flat_map table_strings (z ∷ tables)) x
+    by zero within same rest = in_front (table_strings z) (flat_map table_strings tables) x (subst (λ w. IsIn (table_strings w) x) (sym same) is)
+    by (suc k) within same rest = in_rest (table_strings z) (flat_map table_strings tables) x (rest (k, omega (arith, within), same) is)
+
+-- the tables of an honest log are listed
+below : (r : Records) (n log : ℕ) → log < n → is_dishonest r (log_party log) ≡ false → (t : Table) → Contains (log_tables (r.logs log)) t → Contains (tables_below r n) t
+unfolding tables_below
+below r zero log less good t there = absurd (omega (arith, less))
+below r (suc n) log less good t there = elim (cases_eq log n) [
+  | inl here ↦
+      let good-n : is_dishonest r (log_party n) ≡ false = subst (λ k. is_dishonest r (log_party k) ≡ false) here good in
+      let own : Contains (cond (is_dishonest r (log_party n)) [] (log_tables (r.logs n))) t =
+      rw good-n (subst (λ k. Contains (log_tables (r.logs k)) t) here there) in
+      Contains-append_left (cond (is_dishonest r (log_party n)) [] (log_tables (r.logs n))) (tables_below r n) t own
+  | inr other ↦
+      Contains-append_right (cond (is_dishonest r (log_party n)) [] (log_tables (r.logs n))) (tables_below r n) t (below r n log (omega (arith, less, other)) good t there)
+]
+
+pub log-listed : (r : Records) (log : ℕ) → IsHonestLog r log → (t : Table) → Contains (log_tables (r.logs log)) t → Listed (hashed r) t
+log-listed r log is t there =
+    listed (hashed r) t (λ x within. in-strings (listed_tables r) t x (below r r.council.logs log is.known is.honest t there) within)
+
+one-table : (o : Option Table) (t : Table) → o ≡ Some t → Contains (table_list o) t
+one-table None t is = absurd cc
+one-table (Some u) t is = let same : u ≡ t = cc in (0, omega arith, same)
+
+-- the table of a vote of an honest log
+pub voted-listed : (r : Records) (log : ℕ) → IsHonestLog r log → (v : Voted) → Contains (r.logs log).voted v → (t : Table) → apply (base_of (r.logs log).ended v.epoch) v.epoch v.changes ≡ Some t → Listed (hashed r) t
+voted-listed r log is v there t leads =
+    let l : LogRecord = r.logs log in
+    let votes : List Table = flat_map (λ (w : Voted). table_list (voted_table l.ended w)) l.voted in
+    let ends : List Table = flat_map (λ (x : Ended). table_list (ended_table l.ended x.epoch x.how)) l.ended in
+    log-listed r log is t (Contains-append_left votes ends t (in-flat (λ (w : Voted). table_list (voted_table l.ended w)) l.voted v t there (one-table (voted_table l.ended v) t leads)))
+
+-- where an epoch ended, its entry is there
+pub ended-entry : (ended : List Ended) (epoch : ℕ) (how : How) → ending ended epoch ≡ Some how → (x : Ended) × (Contains ended x × (x.epoch ≡ epoch) × (x.how ≡ how))
+unfolding ending
+ended-entry ended epoch how is = by (find (λ (x : Ended). x.epoch == epoch) ended) refl
+  where
+    by : (o : Option Ended) → find (λ (x : Ended). x.epoch == epoch) ended ≡ o → (x : Ended) × (Contains ended x × (x.epoch ≡ epoch) × (x.how ≡ how))
+    by None e = let none : ◌≡◌ {A = Option How} None (Some how) = sym (ap (option_map (λ (x : Ended). x.how)) e) ∙ is in absurd cc
+    by (Some x) e =
+        let found = find-some (λ (y : Ended). y.epoch == epoch) ended x e in
+        let some : Some x.how ≡ Some how = sym (ap (option_map (λ (y : Ended). y.how)) e) ∙ is in
+        (x, (found.0, eqb-true x.epoch epoch found.1, cc))
+
+-- the table of an epoch that an honest log decided
+pub decided-listed : (r : Records) (log : ℕ) → IsHonestLog r log → (epoch : ℕ) (changes : List Change) (to : List ℕ) → ending (r.logs log).ended epoch ≡ Some (Decided changes to)
+    → (t : Table) → apply (base_of (r.logs log).ended epoch) epoch changes ≡ Some t → Listed (hashed r) t
+decided-listed r log is epoch changes to ended t leads =
+    let l : LogRecord = r.logs log in
+    let votes : List Table = flat_map (λ (w : Voted). table_list (voted_table l.ended w)) l.voted in
+    let ends : List Table = flat_map (λ (x : Ended). table_list (ended_table l.ended x.epoch x.how)) l.ended in
+    let e = ended-entry l.ended epoch (Decided changes to) ended in
+    let same : ended_table l.ended e.0.epoch e.0.how ≡ Some t =
+    ap (λ n. ended_table l.ended n e.0.how) e.1.1 ∙ ap (ended_table l.ended epoch) e.1.2 ∙ leads in
+    log-listed r log is t (Contains-append_right votes ends t
+    (in-flat (λ (x : Ended). table_list (ended_table l.ended x.epoch x.how)) l.ended e.0 t e.1.0 (one-table (ended_table l.ended e.0.epoch e.0.how) t same)))

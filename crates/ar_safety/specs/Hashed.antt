@@ -1,0 +1,49 @@
+-- The tables that honest logs voted for or decided, and the strings that are hashed for them.
+use Rattle.std.specs.Prelude.{ℕ, zero, suc, if◌then◌else◌, List, [], ◌∷◌, ◌++◌, flat_map, Option, Some, None, IsTrue}
+use Rattle.ar_base.specs.Apart.{none_collide}
+use Rattle.party_keys.specs.Seen.{log_party}
+use Rattle.domain_table.specs.Applying.{apply}
+use Rattle.domain_table.specs.Tables.{Table}
+use Rattle.domain_table.specs.Tree.{table_strings}
+use Rattle.epoch_log.specs.Record.{LogRecord, base_of}
+use Rattle.epoch_log.specs.declared.entries.Ended.{Ended}
+use Rattle.epoch_log.specs.declared.entries.How.{How}
+use Rattle.epoch_log.specs.declared.entries.How.TheVariants.{Decided, Skipped}
+use Rattle.epoch_log.specs.declared.entries.Voted.{Voted}
+use Rattle.ar_safety.specs.Records.{Records, is_dishonest}
+
+abbrev pub table_list : Option Table → List Table
+table_list None = []
+table_list (Some table) = table ∷ []
+
+-- the table of a vote
+abbrev pub voted_table : List Ended → Voted → Option Table
+voted_table ended v = apply (base_of ended v.epoch) v.epoch v.changes
+
+-- the table of a decided epoch; a skipped one makes none
+abbrev pub ended_table : List Ended → ℕ → How → Option Table
+ended_table ended epoch (Skipped statuses) = None
+ended_table ended epoch (Decided changes to) = apply (base_of ended epoch) epoch changes
+
+-- the tables that a log voted for, and those that it decided
+abbrev pub log_tables : LogRecord → List Table
+log_tables l =
+    flat_map (λ (v : Voted). table_list (voted_table l.ended v)) l.voted
+    ++ flat_map (λ (x : Ended). table_list (ended_table l.ended x.epoch x.how)) l.ended
+
+-- those of the honest logs below a number
+unfoldable pub tables_below : Records → ℕ → List Table
+tables_below r zero = []
+tables_below r (suc log) = (if is_dishonest r (log_party log) then [] else log_tables (r.logs log)) ++ tables_below r log
+
+-- those of all honest logs
+abbrev pub listed_tables : Records → List Table
+listed_tables r = tables_below r r.council.logs
+
+-- all strings that are hashed for them
+abbrev pub hashed : Records → List (List ℕ)
+hashed r = flat_map table_strings (listed_tables r)
+
+-- 3. No two of these strings collide.
+abbrev pub NoCollision : Records → Type 0
+NoCollision r = IsTrue (none_collide (hashed r))

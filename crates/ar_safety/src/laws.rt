@@ -1,0 +1,27 @@
+//! Laws on the definitions of `specs/`: each is the contract of a function with an empty body.
+ghost use Rattle.std.specs.Prelude.{ℕ, ◌<◌};
+ghost use Rattle.party_keys.specs.Directory.{Directory, IsDirectory};
+ghost use Rattle.epoch_log.specs.Council.{Council, council_of};
+ghost use Rattle.ar_safety.specs.Hashed.{NoCollision};
+ghost use Rattle.ar_safety.specs.Records.{AreHonest, AreQuorums, Few, NoForgery, Records, fresh_records};
+ghost use Rattle.ar_safety.specs.Safe.{Agree};
+
+/// With at most two dishonest parties, and where no signature of an honest log was forged and no two of the listed
+/// strings collide, honest logs agree, whatever messages came: one root alone is backed in an epoch and one table alone
+/// agreed; where two of them ended an epoch, they ended it alike and begin the next with equal tables; and the chains of
+/// an agreed table begin those of each later one.
+pub fn honest_logs_agree()
+    ensures { (r : Records) → AreHonest r → Few r → NoForgery r → NoCollision r → Agree r }
+{}
+
+/// The sizes of a directory are such that two quorums share more than two logs.
+pub fn a_directory_has_quorums()
+    ensures { (keys : Directory) → IsDirectory keys → AreQuorums (council_of keys) }
+{}
+
+/// The premises can be met: logs that have done nothing yet meet them.
+pub fn fresh_logs_meet_the_premises()
+    ensures honest { (council : Council) (leaves : ℕ) → AreQuorums council → 0 < leaves → AreHonest (fresh_records council leaves) }
+    ensures premises { (council : Council) (leaves : ℕ)
+        → Few (fresh_records council leaves) × NoForgery (fresh_records council leaves) × NoCollision (fresh_records council leaves) }
+{}
