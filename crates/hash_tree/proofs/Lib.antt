@@ -11,3 +11,4 @@ pub mod Put
 pub mod Take
 pub mod Set
 pub mod Longer
+mod Same

@@ -89,3 +89,15 @@ lone_of left right = None
 abbrev pub IsLeft : ℕ → Option Stored → Branch → Entries → Type 0
 IsLeft depth (Some s) branch m = (entries m ≡ entry_of s ∷ []) × IsStored s
 IsLeft depth None branch m = (branch.digest ≡ digest_at depth m) × HasHalves depth branch.left branch.right m
+
+-- two trees are of one shape, with the same entries and the same digests
+abbrev pub AreSame : Node → Node → Type 0
+AreSame Empty Empty = Unit {0}
+AreSame (Leaf s) (Leaf t) = s ≡ t
+AreSame (Branch' p digest left right) (Branch' q digest' left' right') = (digest ≡ digest') × AreSame left left' × AreSame right right'
+AreSame Empty (Leaf t) = ⊥
+AreSame Empty (Branch' q digest' left' right') = ⊥
+AreSame (Leaf s) Empty = ⊥
+AreSame (Leaf s) (Branch' q digest' left' right') = ⊥
+AreSame (Branch' p digest left right) Empty = ⊥
+AreSame (Branch' p digest left right) (Leaf t) = ⊥

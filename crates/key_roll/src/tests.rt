@@ -6,6 +6,7 @@ use crate::{BookFault, KeyRing, RollBook, RollDue, RollFault, forgo};
 use ar_statement::{Party, Role, Statement};
 use lm_ots::OtsType;
 use lms_tree::{LmsKey, LmsPublic, LmsType};
+use sha2::{Digest, Sha256};
 use std::alloc::{AllocError, Global};
 use std::test::Fail;
 
@@ -113,5 +114,28 @@ fn a_ring_makes_the_next_key(rt: HostRuntime) -> Result<(), Fail> {
     let next = ring.next(rt.alloc())?;
     assert_eq!(rt; next.public().id, ID);
     assert_eq!(rt; next.public().root, ROOT);
+    Ok(())
+}
+
+// The SHA-256 of the signature of the Roll by which a log announces `NEXT`, by the last leaf of the key of
+// types 5 and 1 of the secret 5a5a, as another program makes it.
+const SIGNED: [u8; 32] = [
+    0x55, 0xc9, 0x56, 0x9a, 0xaa, 0xa6, 0xd2, 0x52, 0x13, 0x90, 0xb6, 0x0a, 0xd1, 0x78, 0x35, 0x8b,
+    0xa3, 0xe7, 0xf5, 0x8c, 0x26, 0x78, 0xa0, 0xe4, 0x39, 0xfc, 0x87, 0xe7, 0x07, 0x38, 0xf7, 0x31,
+];
+
+#[test]
+fn a_ring_signs_what_is_due(rt: HostRuntime) -> Result<(), Fail> {
+    let key = LmsKey::make(rt.alloc(), &[0x5a; 32], 5, 1)?;
+    let Ok(ring) = KeyRing::new(rt.alloc(), key) else {
+        panic!(rt; "no memory")
+    };
+    let mut signature = vec![in rt.alloc(); 0u8; ring.signature_len()]?;
+    let mut book = RollBook::new(rt.alloc(), 32);
+    let Ok(due) = book.roll(rt.alloc(), LOG, &NEXT) else {
+        panic!(rt; "no memory")
+    };
+    ring.sign(due, &mut signature);
+    assert_eq!(rt; Sha256::digest(&signature), SIGNED);
     Ok(())
 }
