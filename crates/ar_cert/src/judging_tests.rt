@@ -1,5 +1,5 @@
-use crate::{Cert, Change, chain_ok, judge_change};
-use cert_policy::PolicyRefusal;
+use crate::{Cert, Change, chain_ok, judge_change, judge_update};
+use cert_policy::{Manner, PolicyRefusal};
 use std::alloc::Global;
 use std::test::Fail;
 
@@ -25,169 +25,227 @@ fn unreachable_third() -> &'static [u8] {
     b"\x01\x09a.example\x00\x00\x00\x00\x00\x00\x00\x02\xc9\x90\xce\xb5\xdd\x02\x93\xc3G6\x148\xf5M\x94\xd2\xb5\x0fi\x03WI/u\x89\xaeO\xdd\xb5\x9a\xcd;\x00\x00\x00\x05\x00\x00\x00\x04\xa2{TH\xa0\xec\xbb\xb3y\xcd$\xd4P\xe6\x95\x9d'\xa8u\x13\xaa\xdc\xb1\xccZ\x98`\x1e-`\xbf\xa1\x89\xc9\xc4\xfc)\xe1Sy\x083\xd6\xf5\xaa\xf1\xa5\xdc\x01\x02\x01\x00\x00\x00\x0a\x00\x00\x00\x00\x00\x00\x03\xe8\x01\x00\x04\x00"
 }
 
+/// The certificate that registers a.example: it trusts the authorities 0, 1 and 2 with the threshold 2, is
+/// keyed, and has a wait of 7 epochs.
+fn waiting() -> &'static [u8] {
+    b"\x01\x09a.example\x00\x00\x00\x00\x00\x00\x00\x00\x00\x00\x00\x00\x00\x00\x00\x00\x00\x00\x00\x00\x00\x00\x00\x00\x00\x00\x00\x00\x00\x00\x00\x00\x00\x00\x00\x00\x00\x00\x00\x00\x00\x00\x00\x05\x00\x00\x00\x04\x9d\xfc-+\xfay\xa8\xc9\xdf}\xe9\xf0\xbf\x0e\xf3\xe7\xb3\x96\x1b#\x05\x19D\x12:\x1a^\xde,,\x8f.\x0a\x0f\xe5\xf1F'\x04\xf9\x0e\xde\x11\xe45\xc2\xd1f\x02\x02\x01\x00\x00\x00\x0a\x00\x00\x00\x00\x00\x00\x03\xe8\x03\x00\x00\x00\x01\x00\x02\x00\x07\x00"
+}
+
+/// The certificate behind that one, of another key.
+fn recovering() -> &'static [u8] {
+    b"\x01\x09a.example\x00\x00\x00\x00\x00\x00\x00\x01\x89\x7f d\xf3u{\xd2m|8.80\x9a\xdd\x00Z\xaf2\xb6{n/\xaf9L\xcas\x7f\x81w\x00\x00\x00\x05\x00\x00\x00\x04w4\x7f\x85\x5c\xf8\xe8==\xc1x\x82*\x16\xd8>$\xe8\xae9\x18\x970\xf5\xcb\x03d\xdb\x02\x91P\xa1\x02\x06\xb4'\x0f\xcd\xf2^ B\xa4\xdb\xdf^\x80\xc6\x01\x01\x00\x00\x00\x00\x0a\x00\x00\x00\x00\x00\x00\x03\xe8\x02\x00\x03\x00\x04\x00"
+}
+
 /// The signature by the leaf 7 of the first certificate's key that hands over to the second.
 fn handover() -> &'static [u8] {
     b"\x00\x00\x00\x07\x00\x00\x00\x04\x9e)\x01\x99\xf4A\xbb\x93\xd4f1\x9d\xdfhH\x19L\x1d\x22\xf9\xb2W\xa8Q\xd2\x87\xab\xbe\xb68\x1f\xf4%\xdd\xe3>v\xe1\x8f\x97\xfe\x12\xcah)\xe7\xeeZ2Q\x1bg\xd1h\x9e|\x11\x10|\xfe{\x1e\xf2*\x92]\xa7J\x0d\xb0p\x09\xf7%3:\x12(\x86Z\xb3]-\x86`\x8a\x9c\x0c\xaa\x9d\xc0\xa1N\xfe\x1b\xad7x@\x91\x92\x1aZ%u;\x04\xaf\x90~A\x91\x86\xfduX\xae^\xb1\xba6\xae\xea\xe0\xf1\xc8\x01\x0e6\xffr\xed\x88\xd2\xbaaL\xe3j\x97\x8d\xbb\xcaG\x88\xe2dA\x83i\xba/\x07J\xfa\x0e\x85\xb7\x86~[8c\xdd\x0bG\xd5\xae\x92\xf1\xd6f\x80\xde6\x1e-D^\x8e\xb6\xd4\xdb\xe7:q\xb1\x10\xa5\xa9\x91\xf2\x0f\xbc\xb6\xfb}\x1e\xc8\x94\xfa\x985\x87@q\xb0 +Wa\xcd\xe0\xc2x\xf6\xd0Q\x10\xd3\x8en\x93\xa0I\xe1\x90\xdc\xc7\x1b\xc2\x11?n\xd8\x94\xe6V\xef\xc1v\xf2\x9e_\xb5\x0d,\xa0\x93yB\xf7xNz\xa3:T\x8d\xa6\xecy\x03\xa0\xb1\xb6\xe1\xbd\x0d\x19\x14\x16|\xdd\x10\x06\xe9w-2\xee\xfc\xb7\xff\xbcvB\x9f\xd2\x06\x9fG\x90\xbb\x0c\xb8-\xa5P\xba\xd0\xed\x0c\xd7\xcfp\xc3z>M0{\x01\xe5o|q\xf3\x9e\xbd\xfc\x91\xb6\xd5\xb4\x02_\xd8\xbb~\xbdWc\x19h\xd2\xdbj\x8ax\x95rt\xfe\xe7N\x87\xcc\xefE\x12^g\x03M\xf3\x12\x19?\x15\x8f6?\x972]\xb9ks\xce\xae\x15\x9d\xa8z\xf5\xc5\x05u\xeb\xdf\x85*\xc84tM\xc3\x1a\xfd*\x99\xd2V\xc0\xb7\xde0d\xb3\x8c\x9ar\xecr\xedD\x14\xb0{A\x82\xbe\x0b\xe4\xe4L\x9c*/_\x99N\x9b\x8b\x9d<\x075\xbf\xe3\xa2\xd6\x0b\xeb\xfe\xb3\xe0\xffR\xe5\xd5?\x8b\x15\xb2\x0a\xfe\xd0\xe4s|\x80odV\xe6\xe9\x84\x99\xa4\x92\xe4\x17\x9c\xc2\xb8\xb2\xe5\x7f#6A@\x90zk3\x1bf\xdc\x1e,\xe5\xb5\xb0\xe2\xf28\x88\x16xna\xcdy\xfe\xf0\x09\xf0F\xfdzT\x91\xff\xec\xaa\x9d\xc7\x12\x7f\x9a\xa9<\xf2g\xf8\xb5\xb5\xc3\xea)\x5c<l\xd05\x03\x87\xcd\x9b\x92\xd9W\x00L\x93Fh\xe0F\xf9\x9dMs}#\xeb\xd8\xf3\x09\xb7h\x9bre\x86\x8e\x81v\xb8\x89\xf9@b\x94'#\x82X\x94\xcc\x9a52\xb0\xdc#\x80\xc2\x18l\x81\xa5E\xb3x6v+\x8a=\xd0\x18O|_K\xae\x95\x9d\xe1\xda\xee\xeb\x89\x18\x8f\xf3\xf8\x03o]\x0f\x9f\x9cCL\x14\x1c's\xf7o\xfd}\x92\xe6\x06\x13\xce\xf3a_\xe27F+\xba\x02\xb6-\xcd`]\x8dBB\x8fE\xf8\xf4*M\xcd\xae\xa1\x9b\x98\x97\xc24+\xf1;#\xa9\xb9\x04\xa1_\xbf\x9b\xca\xbd`j#\xa1\x9179\xd9V\x19\xae\x00\xf9\xd8\xdeQl\x17\xd8\xdd\x88K\xb3k\xc5*=\xe4\xef\x8bi8$\xa1\x099\xca\xfc|\xf5e\x83G\xf8X\xcd\xcd\x02\x85\xee\xa1\x0e\xa8\xc1S\xcc\xb6,\xad\xdd?\xe8\xeb\x0e\x8bN%\xfc\xeb\xe8qQ\xe5\x04\xa8ZO0}\xa2\xef\xcak\xa1\x0e\xcc\x83\x12*\x13\x10\xa4\xf4X \x1d\xfd\x09iU\xe2\xcc\xaf\xee|0,\xb5\x08\x19S?\x90\x0e\x19\xb1\x91\xee\x84\xda\xe9DBoF\xa3T\xfd\xfc\x92\x84\xb9sSd\xff\xfb\x17\x12\xe6\xc8\xb21@H\xea\xf2\x00\x8c\xa9\xb7\xb4\xablm\xfd\x80I&+\xb9l\xac\x96H\x1aE@\xebS\x9buy\xb3\xb4/\xd7\x96\xc0\xab\xb8~\x9c\xf9\x06J\x9d\xdcG+\x90jjrb\x85[.\x1f\x86\xc5\x89\x84\xb4\xfe\xe6\xb0\xb6\xe0\xb3\x8f7\x15\xcc\x10\xf8#\xec\x8e\x8cS\x03\xf1\x0dK\xd96\x84\x9a\xfa\x9c>o\xa8\x99EM\x09\xb6\xe3\x00\xd0\x93\xf9\x5cUk\xd5\xf2%\xd0pIo\xe0\xfa\xd37\xbc\xbc\xf1\x8ec\x14\x0b\xff\xf1\xee\xd0\x80\x86W\x84N\xae5I\x08Y\xceU8\x9e\xdc'\x85\xbe\xdf\xea\xd1EK\xb3\xc8\xfbT\x1b\xe2\x1eN\x1bY*w\xa2b\xb3kJz#\x98\xcfA>\x0a\xf4\xd6c\x13C^\xde:ha\x9c\xbb\x94E\x84\xd2d\x01\xa8\x0dm\xb3\xd5\x08\x1f\x10\xbd>Lc\x5c\xbd_d*B>\xf6\xc2\xa3\xd2W\xaf\x980\xe0*U\x87\xdd\xf2\xb2&\x9aTXij\xc4\x7f\xd0f\xce\x94\xd1\xe2\x1c_\xd4\x10\x04\xa9M\xb3<\xbf\xfc;o\x0d\xd14Wp\xddgP\xb8\x80\x14#\xa94\xb1\xd5\xaa\xb1\xd8.\x8dh\xe6\xbe\x02eH&wtY\xb7\x06DC(\x9d\x19LD>)\xbcuk\x197{\xd4\x00\x00\x00\x05\xad\xa7\x81\xe7\xdbA\xc1\x897\xc2Eq\xd7\x98\xd5EKN\xef\x82>@\xd3\xfbL\xb0\xb5E\x02\x11\xb2\x10\xdfI\xbb\x1c\xfcd\xa0QU\x5c\x1bL\x5c\x90oF\x80\x93\xefR\xcc\x89\x1ad\xe3\x01\x03\x10\xac\xcaU\x81\xbf\x84K\x7f\xf7\xa6!\xe2\xfc\x80X\xf2pI&BA\x82\xe7\x08<\xa3\x89w\xe26\xf3\xad\x11N\x96\x88\x159\xed;\xd8Q\xa8\x09d\xc4\x19\xd4\xe3\xa2\xc0 \x5cdW\xceNa\xba\xac'p+?\x8d\x96\x897\xa6\xf2\xea\xd4aS\xd5\x98\x90J\xf3\x14\x13\xf3\xfdk\xef\xa6\xb2\xd8\xc3\xd3d\x94\xc7\xb82\xc9\x84\xd5\xad\xa2"
 }
 
+/// The signature by the leaf 3 of the key of the certificate with a wait that objects to the one behind it.
+fn objection() -> &'static [u8] {
+    b"\x00\x00\x00\x03\x00\x00\x00\x04\xd3\xcc\x97\xd2\x90\xcb\xe3\xa6\xb8a:\x09S\xba\x00\xc4\x01\xefOIg]\xfe\x99\xe4zC\xf0\xfb<O@\x93\xae\x89CT\xccM\xd4\xc1K81}\x06!\xed\x94\x15\xca!\x8d\xee\xd9\x08\x0d\x14/\x0euc3\xd71\xb5\xe3\xbf\xa20.\x9d\xbd\xef\xa9\x0eq\x9cd\x07\xefK\x8c\xd3]|\x0d[\xb6\x19f{\xf2s\xaf\x1a\xeb\x11\xd7\xafI\x5cd$u~'z\xbf\xe6a\xe3i\xdb\xfd4\xfc20\xf2\xb3\xc3QN\xc2\xdcT\xa4\xb4\x17\x96+\xdb\xa9\x1a\x1f\x09\xe0\xf9\xc500o|\xbc\xc7\xbe\xff\xdc\x01\x06\xbe~\xa2\xaf\x9d\xa8\xb6$}\x0d*\xb4\xb1A*\xe9J\xbf\x97\xe3\xce\x96\xf1D(\x12:\x0d\xf7\xc7\x9d\x94\xc1;\xe2/\xfd\xa1\x0bJ\x10G\x10\x86*F1\xf5t+\xf8\x9b\xe2?\xee\x10PL\x8b\xb7\xb6\xaf\xa6Y\x18[\xae\xf3\xdcy\x04P\xc0L\xa4i\xe3*\xd3=\xdf\xf7\x94\xc7\xca\xfaU\x89\x08\x1f\x00\xc4\xa2\x9c&\x88\x1eb.\x1c%\xa6\xfb\x17W\x0d!\xd7\xaa\x19\xed~\xe0\xb4\x16\xa1\xbd\xc6D\xdd\xbf\x89;\xc9G\x99\x05,r\xe5k\x90\xb0\x8c\xbd\xaeuEt\xa2%,Y\x83\xd4\xd6NR\xca\x14{\x84/4\xb6\xf5\xef\x08+\xec\x85\x15\xa1\xc1l)\xdb\xef\x86\x11A\x93\xae\xd5\x15y\x88$T\x88\x92\xc6\xe6G_B\x06g\xbe\x84\xc4\x90\x06\xa3\xac\xb0j\xd7d\xbcF\xdb\xeb8\xfc\xf1\xc3\x09\xff\x97\x91\xf2\xd6\xdbY|3\x95F\x04\x1f\xb7N\xbc\x1a\xd74KJ:\xb7\xda\x874\xb6\xa8\xb8C\xeb\xb2_l\x86uZ\xf2\xf6\x8d\xcb+\xda5\xb7]V\xf0\x16|\x1c8=k,\xb0\x02\xa5\x10\x14M\x7f-\xcab\xda`\xc63H\x1d\xf1$\xd9@\xf7\xbb[\xb5\x13\xce\xe8M\xe7M\xc0\x94)D\xcc\xeb\x96\x85\xabQTo\x18-\xd3g\xd7%\xe0\x0f\xfe|\x1a\x82Q\xd18,K[n\xe9>\xc5\xbd\x9d\xa2\x12Yx\xcf\xf5\xfaH\xe2\xeaf\xe2|\xf3\xc5M2$\x82\x87n\xa2\x9f%\xa5\xacv\x95b\xbaB\xe7A\xba\xcb\x19U\xcb\x81\xc5\x83u\x0f\x93\xdf\x9a^\xfc\xc8 \xa9\x8c\x10\x11J\xb7\xf7\xf3\x12\x04N\xc2\x16\x18\xdf\xb6\xfd\xb0\x17\x00j\xbb\xa7Bdp\xd5\xb3P\xe15\xae\x89\xbb\xd8\x9e,5\x9e\x90\xf2jt \xe12\xa2\x10\xb8-\xb8=8C\x86\xe1\x0b\xb1:?Y\xd1zHF\xf6{]\x02y\xafw\x1d\xb6D\x5cyZ\xda\xe5u\x8c\x9c\xe4=-\xfd\xfb\x14\xf5\xc6\xb3Q\xdb\xeaa\x04}!v\x01s\xa5\xfc$\x7f\x1c\x7f\xf0\x12\x96\xbf\xf7\xa3e\x17\x88\xc4\xafD\xd5\xbf\x84t\x7f!\x06J\xe7\xe7\xaa-\xe39\x8a\x04\x0b>\x9d\xcdvO\xa5t\xf3\xd0\xc5\x9e\xf6\xbdK(q*M\x14\xd7\xc4\xde0\xa8\x5cP4\x82|0gf&f\xff`\xd2)R\x07\xf2P\x15\x08\x87?\x8cgq\xac\x8bn\xb6\xe6\xef:0\x9f\xaf\xbb\x1egsZ\x0f~\xb7\x1b\x19\xc0\xbc\x1413\xbd?\xa4K{\xb47\xb7J\x82\xbe\xbc@\xf9\xf0\x1a\x8f\x96\xb8\xfa\xc1v\xb1\x01\xfb\x02y\xa8\x1e\x03\x1a\xa7\x87\x1a\xbd\x87E\x9bt\x96IE\xe9~\xab\x22\x86S\x95\xd4\xb7\x0a\x8d\xfav\x82\xb1\x859\x86\x8b\xf4*\xbd\xb2v\x8f8\xb2\xcd7\xb0\xba\xcd\xf0\x0ev\x9f\xc9G\x98\xf5\xfdX\xeej\xa6\xb6\xd2\x8c\x86J\x91\x06\xc5ZM\x98\xfd\xd2\xf7\xeb\x129\xb5CLw\xb5woK\xa4:\x0c\x90\xbf\xd7vn^\x84\xa4oF\x19\xe1\x84\xc5d@v\x01\xd8\xbe\xcc\xef\x87\x19\xcaQ\x82+\x02>Z\xd2\xa0v\xc4\xf1|0\xc2\x939%X\x05\xda\x0c\xef\x9d\xb4\x9d\x8b\xe4G\xe9\xad\x9b\x1c\xa2\xf4f@\xf2ux2\xb7\xfe\xf6;\x98\xba\x05{$?\xc2\xb5\xd3L\xeee\xb0\xe7\x00U\xd1\xa2\xb4\x91Xr\xb86\x7f?:\xa8\xb9\xd2\xadE\xcc\xaa\x8e\xa39\xbfo7\xbaZ\x9f\xa5\xe6~\xd2\xafWJ:v\xd3\xb1q\x0c\xdf\xb0#\x09\xf9#\xf4hn\x5c\xb1\xddd\xba?d\xf1\xb7\xd9\x9b\x93\x16owQ\xe6\x1don\xde\x8eP\x13\xe0\xc5\x98\xcf\x1b\xf9\x08\xc9_\xb76-\xe3\x1cL\xdd:\x0eR\x98\xcf\xd9k\xb7Rb.^\x94\xb9U\x0b\xe7|B4\x7f\xc5\xf9Z\xc6\xed\x15:=\xcd\xefT-\xe4O\xc8\xf8\x9c\xfe%$%:\x06\x95\xc4\x0c\xd5K(\xb331\xd36t\x85Kv\x1flU^\x5c\xfbI7Q\x5cD\xba\x85\x9f\xcf\xa2\xaf\xe5~\x98\x8a]  X\xe0E*\xab\xce?\x00\x00\x00\x05\xda+\xd9\x1c&\xeaW\x0d\xcd\x86\x96\x9b\xcd6;\xbf\x83\xeb-\x9c\x92\xa3Z\x05Qm\x0a\xe7\x8f~n\xc8>\xe3\xfez\xd0\x10Y\x170u\xfc\x14$\xbd:C\x92\xc9x\x94K\xa8\xe4:%\xe5\x97\x11L\xeaLlwT\x05D:\xed\x06\xf8'\x83(\x0eK\x93\x12\x0e\xe214\x08\xdd\x04g\x0f5x\xcc\x82W\x0b\xec\x0c\x1aB\x92,:3\xd7\x8a[\xf0.\xa9U8_\x8a\x89\x0b\x130b\x9d\xc64w({-\xa4\xfd\xc8\xd8\x05\xb1\xd8\x90\x08Cd\xd4E\xaf\xc3{W\xaf\xdap\x032\xdc\x9d7E\x83\xa0\x01\x17\xa9\x08\x14\xf3\xd58"
+}
+
+/// The certificates, by numbers from 1.
+fn certificate(number: u8) -> &'static [u8] {
+    match number {
+        1 => first(),
+        2 => second(),
+        3 => third(),
+        4 => unreachable_third(),
+        5 => waiting(),
+        _ => recovering(),
+    }
+}
+
+/// What the key before says in a change.
+#[derive(Clone, Copy)]
+enum Consent {
+    None,
+    Handover,
+    CutHandover,
+    NoHandover,
+    Objection,
+    NoObjection,
+}
+
+/// The flag of it, and its signature.
+fn signature(consent: Consent) -> (u8, &'static [u8]) {
+    match consent {
+        Consent::None => (0, b""),
+        Consent::Handover => (1, handover()),
+        Consent::CutHandover => (1, handover().get(..1291).unwrap_or(b"")),
+        Consent::NoHandover => (1, b""),
+        Consent::Objection => (2, objection()),
+        Consent::NoObjection => (2, b""),
+    }
+}
+
 /// The number of bytes in two bytes.
-pub(crate) fn length(bytes: &[u8]) -> [u8; 2] {
+fn length(bytes: &[u8]) -> [u8; 2] {
     ((bytes.len() % 0x1_0000) as u16).to_be_bytes()
 }
 
-/// The change to a certificate with endorsements by these authorities.
+/// The change to the certificate with this number, with endorsements by these authorities.
 fn change(
     alloc: Global,
-    cert: &[u8],
+    number: u8,
     endorsers: &[u8],
-    handover: Option<&[u8]>,
+    flag: u8,
+    signature: &[u8],
 ) -> Result<Change, Fail> {
+    let cert = certificate(number);
     let mut text = length(cert).to_vec(alloc)?;
     text.extend_from_slice(cert)?;
     text.push(length(endorsers)[1])?;
     for authority in endorsers {
         text.extend_from_slice(&[0, *authority, 0, 3, b's', b'i', b'g'])?;
     }
-    match handover {
-        None => text.push(0)?,
-        Some(signature) => {
-            text.push(1)?;
-            text.extend_from_slice(&length(signature))?;
-            text.extend_from_slice(signature)?;
-        }
+    text.push(flag)?;
+    if flag != 0 {
+        text.extend_from_slice(&length(signature))?;
+        text.extend_from_slice(signature)?;
     }
     Ok(Change::read(alloc, &text).ok().ok_or("a change")?)
 }
 
-/// The handover with one bit of the byte at a place turned.
-fn altered(alloc: Global, place: usize) -> Result<Vec<u8>, Fail> {
-    let mut signature = handover().to_vec(alloc)?;
-    match signature.get_mut(place) {
-        None => return Err(Fail::from("a place")),
-        Some(byte) => *byte ^= 1,
-    }
-    Ok(signature)
+/// The certificate with this number.
+fn cert(alloc: Global, number: u8) -> Result<Cert, Fail> {
+    Ok(
+        Cert::read(alloc, certificate(number))
+            .ok()
+            .ok_or("a certificate")?,
+    )
 }
 
-/// The number of the clause that fails, or 0.
-fn number_of(answer: Result<(), PolicyRefusal>) -> u8 {
-    match answer {
+/// The number of the clause that fails for a change behind the certificate with this number, or behind none
+/// at 0; or 0.
+fn judged(alloc: Global, old: u8, change: &Change) -> Result<u8, Fail> {
+    let answer = if old == 0 {
+        judge_change(None, change)
+    } else {
+        judge_change(Some(&cert(alloc, old)?), change)
+    };
+    Ok(match answer {
         Ok(()) => 0,
         Err(refusal) => refusal.number(),
+    })
+}
+
+/// The certificate before a change, that of the change, the endorsers, what the key before says, and the
+/// clause that fails.
+type Row = (u8, u8, &'static [u8], Consent, u8);
+
+#[test]
+fn changes_are_judged(rt: HostRuntime) -> Result<(), Fail> {
+    let table: [Row; 23] = [
+        (0, 1, &[0, 1, 2], Consent::None, 0),
+        (0, 1, &[40, 41, 42], Consent::None, 0),
+        (0, 1, &[0, 1], Consent::None, 5),
+        (0, 2, &[0, 1, 2], Consent::Handover, 3),
+        (0, 3, &[0, 1, 2], Consent::None, 1),
+        (1, 2, &[0, 1, 2], Consent::Handover, 0),
+        (1, 2, &[0, 1, 3], Consent::Handover, 0),
+        (1, 2, &[0, 1, 3], Consent::None, 7),
+        (1, 2, &[0, 3, 4], Consent::Handover, 6),
+        (1, 2, &[0, 3, 4], Consent::None, 6),
+        (1, 2, &[0, 1], Consent::Handover, 5),
+        (1, 2, &[0, 1, 2], Consent::CutHandover, 7),
+        (1, 2, &[0, 1, 2], Consent::NoHandover, 7),
+        (1, 3, &[0, 1, 2], Consent::Handover, 3),
+        (1, 1, &[0, 1, 2], Consent::Handover, 3),
+        (2, 3, &[1, 5, 6], Consent::None, 0),
+        (2, 3, &[1, 5, 6], Consent::NoHandover, 0),
+        (2, 3, &[4, 5, 6], Consent::None, 6),
+        (2, 4, &[1, 5, 6], Consent::None, 8),
+        (2, 4, &[4, 5, 6], Consent::None, 6),
+        (3, 3, &[0, 1, 2], Consent::None, 1),
+        (1, 2, &[], Consent::Objection, 4),
+        (0, 1, &[], Consent::Objection, 4),
+    ];
+    for (old, new, endorsers, consent, clause) in table {
+        let (flag, text) = signature(consent);
+        let change = change(rt.alloc(), new, endorsers, flag, text)?;
+        let found = judged(rt.alloc(), old, &change)?;
+        assert_eq!(rt; found, clause, "{old} {new} {endorsers:?}");
     }
-}
-
-/// What is answered for the change to a certificate with these endorsers and this handover.
-fn judged(
-    alloc: Global,
-    old: Option<&[u8]>,
-    cert: &[u8],
-    endorsers: &[u8],
-    handover: Option<&[u8]>,
-) -> Result<u8, Fail> {
-    let change = change(alloc, cert, endorsers, handover)?;
-    let Some(text) = old else {
-        return Ok(number_of(judge_change(None, &change)));
-    };
-    let old = Cert::read(alloc, text).ok().ok_or("a certificate")?;
-    Ok(number_of(judge_change(Some(&old), &change)))
-}
-
-#[test]
-fn registrations_are_judged(rt: HostRuntime) -> Result<(), Fail> {
-    let alloc = rt.alloc();
-    assert_eq!(rt; judged(alloc, None, first(), &[0, 1, 2], None)?, 0);
-    assert_eq!(rt; judged(alloc, None, first(), &[40, 41, 42], None)?, 0);
-    assert_eq!(rt; judged(alloc, None, first(), &[0, 1], None)?, 5);
-    assert_eq!(rt;
-        judged(alloc, None, second(), &[0, 1, 2], Some(handover()))?,
-        3
-    );
-    assert_eq!(rt; judged(alloc, None, third(), &[0, 1, 2], None)?, 1);
     Ok(())
 }
 
 #[test]
-fn updates_of_a_keyed_certificate_are_judged(rt: HostRuntime) -> Result<(), Fail> {
-    let alloc = rt.alloc();
-    let old = Some(first());
-    let good = Some(handover());
-    assert_eq!(rt; judged(alloc, old, second(), &[0, 1, 2], good)?, 0);
-    assert_eq!(rt; judged(alloc, old, second(), &[0, 1, 3], good)?, 0);
-    assert_eq!(rt; judged(alloc, old, second(), &[0, 1, 3], None)?, 7);
-    assert_eq!(rt; judged(alloc, old, second(), &[0, 3, 4], good)?, 6);
-    assert_eq!(rt; judged(alloc, old, second(), &[0, 3, 4], None)?, 6);
-    assert_eq!(rt; judged(alloc, old, second(), &[0, 1], good)?, 5);
-    assert_eq!(rt; judged(alloc, old, third(), &[0, 1, 2], good)?, 3);
-    assert_eq!(rt; judged(alloc, old, first(), &[0, 1, 2], good)?, 3);
-    Ok(())
-}
-
-#[test]
-fn a_handover_that_is_not_valid_is_none(rt: HostRuntime) -> Result<(), Fail> {
-    let alloc = rt.alloc();
-    let old = Some(first());
+fn an_altered_handover_is_none(rt: HostRuntime) -> Result<(), Fail> {
     for place in [3, 40, 1291] {
-        let signature = altered(alloc, place)?;
-        assert_eq!(rt;
-            judged(alloc, old, second(), &[0, 1, 2], Some(&signature))?,
-            7,
-            "{place}"
-        );
+        let mut text = handover().to_vec(rt.alloc())?;
+        if let Some(byte) = text.get_mut(place) {
+            *byte ^= 1;
+        }
+        let change = change(rt.alloc(), 2, &[0, 1, 2], 1, &text)?;
+        assert_eq!(rt; judged(rt.alloc(), 1, &change)?, 7, "{place}");
     }
-    let cut = handover().get(..1291);
-    assert_eq!(rt; judged(alloc, old, second(), &[0, 1, 2], cut)?, 7);
-    assert_eq!(rt; judged(alloc, old, second(), &[0, 1, 2], Some(b""))?, 7);
     Ok(())
 }
 
 #[test]
-fn updates_of_a_certificate_that_is_not_keyed_are_judged(rt: HostRuntime) -> Result<(), Fail> {
-    let alloc = rt.alloc();
-    let old = Some(second());
-    assert_eq!(rt; judged(alloc, old, third(), &[1, 5, 6], None)?, 0);
-    assert_eq!(rt; judged(alloc, old, third(), &[1, 5, 6], Some(b"none"))?, 0);
-    assert_eq!(rt; judged(alloc, old, third(), &[4, 5, 6], None)?, 6);
-    assert_eq!(rt;
-        judged(alloc, old, unreachable_third(), &[1, 5, 6], None)?,
-        8
-    );
-    assert_eq!(rt;
-        judged(alloc, old, unreachable_third(), &[4, 5, 6], None)?,
-        6
-    );
-    assert_eq!(rt; judged(alloc, Some(third()), third(), &[0, 1, 2], None)?, 1);
+fn updates_are_taken_in_a_manner(rt: HostRuntime) -> Result<(), Fail> {
+    let digest = cert(rt.alloc(), 6)?.digest();
+    let old = cert(rt.alloc(), 5)?;
+    let table: [(bool, &[u8], Consent, Result<Manner, PolicyRefusal>); 5] = [
+        (false, &[0, 3, 4], Consent::None, Ok(Manner::Recovery)),
+        (true, &[0, 3, 4], Consent::None, Err(PolicyRefusal::Pending)),
+        (true, &[], Consent::Objection, Ok(Manner::Objected)),
+        (
+            false,
+            &[],
+            Consent::Objection,
+            Err(PolicyRefusal::NotPending),
+        ),
+        (
+            true,
+            &[],
+            Consent::NoObjection,
+            Err(PolicyRefusal::Objection),
+        ),
+    ];
+    for (pending, endorsers, consent, answer) in table {
+        let (flag, text) = signature(consent);
+        let change = change(rt.alloc(), 6, endorsers, flag, text)?;
+        let waiting = if pending { Some(&digest) } else { None };
+        assert_eq!(rt; judge_update(&old, waiting, &change), answer);
+    }
     Ok(())
 }
 
-/// The chain of the certificates with these numbers from 1, of which 4 is the second without its
-/// handover.
+/// The chain of the certificates with these numbers, of which 7 is the second without its handover.
 fn chain(alloc: Global, numbers: &[u8]) -> Result<Vec<Change>, Fail> {
     let mut chain = Vec::new(alloc);
     for number in numbers {
-        let next = match number {
-            1 => change(alloc, first(), &[0, 1, 2], None)?,
-            2 => change(alloc, second(), &[0, 1, 3], Some(handover()))?,
-            3 => change(alloc, third(), &[1, 5, 6], None)?,
-            _ => change(alloc, second(), &[0, 1, 3], None)?,
+        let (certificate, endorsers, consent): (u8, &[u8], Consent) = match number {
+            1 => (1, &[0, 1, 2], Consent::None),
+            2 => (2, &[0, 1, 3], Consent::Handover),
+            3 => (3, &[1, 5, 6], Consent::None),
+            5 => (5, &[0, 1, 2], Consent::None),
+            6 => (6, &[0, 3, 4], Consent::None),
+            _ => (2, &[0, 1, 3], Consent::None),
         };
-        chain.push(next)?;
+        let (flag, text) = signature(consent);
+        chain.push(change(alloc, certificate, endorsers, flag, text)?)?;
     }
     Ok(chain)
 }
 
 #[test]
 fn a_chain_registers_first_and_each_next_follows(rt: HostRuntime) -> Result<(), Fail> {
-    let table: [(&[u8], bool); 14] = [
+    let table: [(&[u8], bool); 15] = [
         (&[1], true),
         (&[1, 2], true),
         (&[1, 2, 3], true),
+        (&[5, 6], true),
         (&[], false),
         (&[3], false),
         (&[2, 3], false),
         (&[1, 3], false),
-        (&[1, 4], false),
-        (&[1, 4, 3], false),
+        (&[1, 7], false),
+        (&[1, 7, 3], false),
         (&[1, 1], false),
         (&[2, 1], false),
         (&[1, 3, 2], false),

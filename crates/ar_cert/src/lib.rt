@@ -20,8 +20,6 @@ pub mod laws;
 mod reading;
 #[cfg(test)]
 mod tests;
-#[cfg(test)]
-mod update_tests;
 mod view;
 mod writing;
 

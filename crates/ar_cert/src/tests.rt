@@ -1,6 +1,5 @@
 use crate::{Cert, CertFault, CertView, Change};
 use std::alloc::Global;
-use std::process::Abort;
 use std::test::Fail;
 
 /// A certificate of a.example.
@@ -56,16 +55,18 @@ fn change_text(alloc: Global) -> Result<Vec<u8>, Fail> {
 }
 
 /// The text with one byte changed.
-fn changed(
-    rt: &impl Abort,
-    alloc: Global,
-    text: &[u8],
-    at: usize,
-    byte: u8,
-) -> Result<Vec<u8>, Fail> {
+fn changed(alloc: Global, text: &[u8], at: usize, byte: u8) -> Result<Vec<u8>, Fail> {
     let mut copy = text.to_vec(alloc)?;
-    assert!(rt; at < copy.len());
-    copy[at] = byte;
+    if let Some(old) = copy.get_mut(at) {
+        *old = byte;
+    }
+    Ok(copy)
+}
+
+/// The text with one byte behind it.
+fn longer(alloc: Global, text: &[u8]) -> Result<Vec<u8>, Fail> {
+    let mut copy = text.to_vec(alloc)?;
+    copy.push(0)?;
     Ok(copy)
 }
 
@@ -103,10 +104,13 @@ fn a_wrong_field_fails_at_its_first_byte(rt: HostRuntime) -> Result<(), Fail> {
         (129, 2, 129),
     ];
     for (at, byte, place) in table {
-        let text = changed(&rt, rt.alloc(), certificate(), at, byte)?;
+        let text = changed(rt.alloc(), certificate(), at, byte)?;
         let fault = Cert::read(rt.alloc(), &text).err();
         assert_eq!(rt; fault, Some(CertFault::Form(place)), "at {at}");
     }
+    let text = longer(rt.alloc(), certificate())?;
+    let fault = Cert::read(rt.alloc(), &text).err();
+    assert_eq!(rt; fault, Some(CertFault::Form(130)));
     Ok(())
 }
 
@@ -122,65 +126,30 @@ fn a_wrong_field_of_a_change_fails_at_its_first_byte(rt: HostRuntime) -> Result<
         (149, 2, 149),
     ];
     for (at, byte, place) in table {
-        let text = changed(&rt, rt.alloc(), &change, at, byte)?;
+        let text = changed(rt.alloc(), &change, at, byte)?;
         let fault = Change::read(rt.alloc(), &text).err();
         assert_eq!(rt; fault, Some(CertFault::Form(place)), "at {at}");
     }
+    let text = longer(rt.alloc(), &change)?;
+    let fault = Change::read(rt.alloc(), &text).err();
+    assert_eq!(rt; fault, Some(CertFault::Form(154)));
     Ok(())
 }
 
-#[test]
-fn a_certificate_is_read_and_written_again(rt: HostRuntime) -> Result<(), Fail> {
-    let alloc = rt.alloc();
-    let cert = Cert::read(alloc, certificate())
-        .ok()
-        .ok_or("a certificate")?;
-    assert_eq!(rt; cert.digest(), digest());
-
-    let mut text = Vec::new(alloc);
-    cert.write(alloc, &mut text)?;
-    assert_eq!(rt; text.as_slice(), certificate());
-    text.push(0)?;
-    assert_eq!(rt; Cert::read(alloc, &text).err(), Some(CertFault::Form(130)));
-    Ok(())
-}
-
-#[test]
-fn a_certificate_is_viewed_in_place(rt: HostRuntime) -> Result<(), Fail> {
-    let view = CertView::read(certificate()).ok_or("a certificate")?;
-    assert_eq!(rt; view.name(), b"a.example".as_slice());
-    assert_eq!(rt; view.serial(), 0);
-    assert_eq!(rt; view.previous(), [0; 32]);
-    assert_eq!(rt;
-        certificate().get(51..107),
-        Some(view.subject().bytes().as_slice())
-    );
-    assert_eq!(rt; view.threshold(), 2);
-    assert!(rt; view.keyed());
-    assert_eq!(rt; view.max_age(), 10);
-    assert_eq!(rt; view.until(), 1000);
-    assert_eq!(rt; view.trusted(), [0, 0, 0, 1, 0, 2].as_slice());
-    assert!(rt; !view.revoked());
-    assert_eq!(rt; view.digest(), digest());
-    Ok(())
-}
-
-#[test]
-fn a_change_is_read_copied_and_written_again(rt: HostRuntime) -> Result<(), Fail> {
-    let alloc = rt.alloc();
-    let text = change_text(alloc)?;
-    let change = Change::read(alloc, &text).ok().ok_or("a change")?;
-    let copy = change.copy(alloc)?;
-
+/// A certificate that is read, copied and written again, and its digest.
+fn cert_again(alloc: Global, text: &[u8]) -> Result<(Vec<u8>, [u8; 32]), Fail> {
+    let cert = Cert::read(alloc, text).ok().ok_or("a certificate")?;
     let mut again = Vec::new(alloc);
-    copy.write(alloc, &mut again)?;
-    assert_eq!(rt; again.as_slice(), text.as_slice());
-    again.push(0)?;
-    assert_eq!(rt;
-        Change::read(alloc, &again).err(),
-        Some(CertFault::Form(154))
-    );
-    Ok(())
+    cert.copy(alloc)?.write(alloc, &mut again)?;
+    Ok((again, cert.digest()))
+}
+
+/// A change that is read, copied and written again.
+fn change_again(alloc: Global, text: &[u8]) -> Result<Vec<u8>, Fail> {
+    let change = Change::read(alloc, text).ok().ok_or("a change")?;
+    let mut again = Vec::new(alloc);
+    change.copy(alloc)?.write(alloc, &mut again)?;
+    Ok(again)
 }
 
 /// The same certificate, whose policy has version 2 and this wait.
@@ -195,45 +164,76 @@ fn waiting(alloc: Global, wait: [u8; 2]) -> Result<Vec<u8>, Fail> {
     Ok(text)
 }
 
-#[test]
-fn a_policy_of_version_2_has_a_wait(rt: HostRuntime) -> Result<(), Fail> {
-    let alloc = rt.alloc();
-    let text = waiting(alloc, [1, 44])?;
-    let view = CertView::read(&text).ok_or("a certificate")?;
-    assert_eq!(rt; view.wait(), Some(300));
-    let cert = Cert::read(alloc, &text).ok().ok_or("a certificate")?;
-    let digest = [
+/// The digest of the one with a wait of 300.
+fn waiting_digest() -> [u8; 32] {
+    [
         0x0b, 0xa2, 0x82, 0x94, 0x42, 0xd3, 0x11, 0x54, 0x33, 0x44, 0x9b, 0x0e, 0x10, 0xd3, 0x9a,
         0x04, 0x97, 0x62, 0xbd, 0x78, 0xd9, 0x3b, 0x8d, 0x7a, 0x70, 0x26, 0x63, 0xce, 0x73, 0x68,
         0x71, 0xb7,
-    ];
-    assert_eq!(rt; (view.digest(), cert.digest()), (digest, digest));
-    let mut again = Vec::new(alloc);
-    cert.copy(alloc)?.write(alloc, &mut again)?;
-    assert_eq!(rt; again.as_slice(), text.as_slice());
+    ]
+}
 
-    for wait in [[0, 0], [39, 17]] {
-        let text = waiting(alloc, wait)?;
-        let fault = Cert::read(alloc, &text).err();
-        assert_eq!(rt; fault, Some(CertFault::Form(129)), "{wait:?}");
+/// The text of a change with an objection.
+fn objecting(alloc: Global) -> Result<Vec<u8>, Fail> {
+    let mut text = [0, 130].to_vec(alloc)?;
+    text.extend_from_slice(certificate())?;
+    text.extend_from_slice(b"\x00\x02\x00\x02no")?;
+    Ok(text)
+}
+
+#[test]
+fn certificates_are_read_and_written_again(rt: HostRuntime) -> Result<(), Fail> {
+    let waiting = waiting(rt.alloc(), [1, 44])?;
+    for (text, digest) in [(certificate(), digest()), (&waiting, waiting_digest())] {
+        let (again, found) = cert_again(rt.alloc(), text)?;
+        assert_eq!(rt; again.as_slice(), text);
+        assert_eq!(rt; found, digest);
     }
     Ok(())
 }
 
 #[test]
-fn an_objection_stands_alone(rt: HostRuntime) -> Result<(), Fail> {
-    let alloc = rt.alloc();
-    let mut text = [0, 130].to_vec(alloc)?;
-    text.extend_from_slice(certificate())?;
-    text.extend_from_slice(b"\x00\x02\x00\x02no")?;
-    let change = Change::read(alloc, &text).ok().ok_or("a change")?;
-    assert!(rt; change.handover.is_none());
-    let mut again = Vec::new(alloc);
-    change.copy(alloc)?.write(alloc, &mut again)?;
-    assert_eq!(rt; again.as_slice(), text.as_slice());
+fn changes_are_read_and_written_again(rt: HostRuntime) -> Result<(), Fail> {
+    for text in [change_text(rt.alloc())?, objecting(rt.alloc())?] {
+        let again = change_again(rt.alloc(), &text)?;
+        assert_eq!(rt; again.as_slice(), text.as_slice());
+    }
+    Ok(())
+}
 
-    let endorsed = changed(&rt, alloc, &change_text(alloc)?, 149, 2)?;
-    let fault = Change::read(alloc, &endorsed).err();
-    assert_eq!(rt; fault, Some(CertFault::Form(149)));
+#[test]
+fn a_wait_is_from_1_to_10000(rt: HostRuntime) -> Result<(), Fail> {
+    for wait in [[0, 0], [39, 17]] {
+        let text = waiting(rt.alloc(), wait)?;
+        let fault = Cert::read(rt.alloc(), &text).err();
+        assert_eq!(rt; fault, Some(CertFault::Form(129)), "{wait:?}");
+    }
+    Ok(())
+}
+
+/// The numbers that a certificate says.
+fn numbers_of(view: &CertView) -> [u64; 7] {
+    [
+        view.serial(),
+        u64::from(view.threshold()),
+        u64::from(view.keyed()),
+        u64::from(view.max_age()),
+        view.until(),
+        u64::from(view.wait().unwrap_or(0)),
+        u64::from(view.revoked()),
+    ]
+}
+
+#[test]
+fn a_certificate_is_viewed_in_place(rt: HostRuntime) -> Result<(), Fail> {
+    let waiting = waiting(rt.alloc(), [1, 44])?;
+    for (text, wait) in [(certificate(), 0), (&waiting, 300)] {
+        let view = CertView::read(text).ok_or("a certificate")?;
+        assert_eq!(rt; numbers_of(&view), [0, 2, 1, 10, 1000, wait, 0]);
+        assert_eq!(rt; view.name(), b"a.example".as_slice());
+        assert_eq!(rt; view.previous(), [0; 32]);
+        assert_eq!(rt; view.trusted(), [0, 0, 0, 1, 0, 2].as_slice());
+        assert_eq!(rt; text.get(51..107), Some(view.subject().bytes().as_slice()));
+    }
     Ok(())
 }
