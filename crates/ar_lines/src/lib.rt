@@ -11,9 +11,9 @@
 //! is read, and that it is read from nothing else.
 #![tactic(auto)]
 
-pub use lines::Lines;
+pub use lines::{Lines, first_word, is_text};
 pub use refusal::{LineFault, Reason, Refusal};
-pub use word::Word;
+pub use word::{Word, are_hex_digits, number_of};
 
 pub mod laws;
 mod lines;

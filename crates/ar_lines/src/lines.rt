@@ -69,7 +69,7 @@ fn first_line(input: &[u8]) -> Option<(&[u8], &[u8])>
 
 /// The first word of a line, and what stands behind the space after it, where there is a space.
 #[tactic(auto, using(crate::proofs::WordLaws::first_word_laws))]
-fn first_word(line: &[u8]) -> (&[u8], Option<&[u8]>)
+pub fn first_word(line: &[u8]) -> (&[u8], Option<&[u8]>)
     ensures { words_of line.now ≡ result.0.now ∷ words_behind (option_copied result.1) }
 {
     match first_space(line) {
@@ -78,8 +78,8 @@ fn first_word(line: &[u8]) -> (&[u8], Option<&[u8]>)
     }
 }
 
-/// Whether a line is text.
-fn is_text(line: &[u8]) -> bool
+/// Whether a line is text: each byte of it is one of 0x20 to 0x7e.
+pub fn is_text(line: &[u8]) -> bool
     ensures { result ≡ is_text line.now }
 {
     line.iter().all(|byte| matches!(byte, 0x20..=0x7e))

@@ -33,8 +33,8 @@ impl<'a> Model for Word<'a> {
     ghost view = { λ w. record { line = w.line; number = w.number; text = w.text.now } };
 }
 
-/// Whether the word has lower-case hex digits alone.
-fn has_lower_hex_digits(word: &[u8]) -> bool
+/// Whether a word has hex digits alone, in lower case.
+pub fn are_hex_digits(word: &[u8]) -> bool
     ensures { result ≡ list_all is_lower_hex_digit word.now }
 {
     word.iter()
@@ -74,7 +74,7 @@ impl<'a> Word<'a> {
     pub fn bytes(&self, alloc: Global) -> Result<Vec<u8>, LineFault>
         ensures { ReadsUnless (λ bytes. bytes.items) result (spelled self.now (bytes_of_hex self.now.text)) }
     {
-        if !has_lower_hex_digits(self.text) {
+        if !are_hex_digits(self.text) {
             return Err(LineFault::Refused(self.refusal()));
         }
         match hex::decode(alloc, self.text) {
@@ -127,8 +127,9 @@ fn has_digits(word: &[u8]) -> bool
     word.iter().all(|byte| byte.is_ascii_digit())
 }
 
-/// The number that a word spells, where it is one below 2^64.
-fn number_of(word: &[u8]) -> Option<u64>
+/// The number below 2^64 that a word spells in decimal digits, without a sign and without leading zeros; `None`
+/// exactly where it spells none.
+pub fn number_of(word: &[u8]) -> Option<u64>
     ensures { result ≡ number_of word.now }
 {
     if !is_numeral(word) {

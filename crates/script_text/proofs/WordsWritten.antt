@@ -1,0 +1,250 @@
+-- A word of each form is what is written of the value that it spells.
+use Rattle.std.proofs.Common.{◌≡◌, ℕ, ◌+◌, ◌==◌, Bool, true, false, cond, eqb, if◌then◌else◌, List, [], ◌∷◌, ◌++◌, length, take, drop, codes, map, Option, Some, None, refl, sym, ap, ◌∙◌, subst, inl, inr, ◌⊎◌, arith}
+use Rattle.std.specs.Prelude.{option_and_then, option_map}
+use Rattle.std.specs.Fmt.{decimal}
+use Rattle.std.specs.List.{join_with_byte, slice_split}
+use Rattle.std.specs.Str.{bytes_eq}
+use Rattle.std.proofs.lemmas.Bool.{eqb-true}
+use Rattle.std.proofs.lemmas.List.Splits.{join_with_byte-slice_split}
+use Rattle.std.proofs.lemmas.Option.{cond_some, same_Some}
+use Rattle.std.proofs.lemmas.Slice.Eq.{bytes_eq-Decides}
+use Rattle.std.proofs.lemmas.List.{take-append-drop}
+use Rattle.hex.specs.Hex.{encode_lower}
+use Rattle.ar_lines.specs.Forms.{bytes_of_hex, name_of, number_of, passing}
+use Rattle.ar_lines.specs.Written.{Writes}
+use Rattle.ar_lines.proofs.LineLaws.{pieces_are_some}
+use Rattle.ar_lines.proofs.Respelled.{hex_own, name_own, number_own, passing_some}
+use Rattle.ar_statement.specs.Claims.{party, role_number}
+use Rattle.ar_statement.specs.declared.party.Party.{Party}
+use Rattle.ar_statement.specs.declared.party.Role.{Role}
+use Rattle.ar_statement.specs.declared.party.Role.TheVariants as role
+use Rattle.script_text.specs.Forms.{ascending_of, asks_of, behind, binding_in, binding_of, each_of, judged_of, list_of, lms_of, new_owner_of, number_in, number_with, ots_of, parts_of, party_count_of, party_in, party_of, quorum_of, receiver_of, role_of, secret_of, trusted_of, wait_in, wait_of, witness_of}
+use Rattle.script_text.specs.Written.{binding_word, judged_word, letter_of, list_word, member_word, party_word, receiver_word, trusted_word, wait_word}
+
+-- ---- what a value shows
+
+-- what passes a test is written as before
+pub passing_writes : {T : Type 0} (form : List ℕ → Option T) (write : T → List ℕ) (test : T → Bool) → Writes form write → Writes (λ word. passing test (form word)) write
+passing_writes form write test writes word value h = writes word value (passing_some test (form word) value h).0
+
+-- the value that was mapped
+mapped : {A B : Type 0} (f : A → B) (o : Option A) (y : B) → option_map f o ≡ Some y → (x : A) × (o ≡ Some x) × (f x ≡ y)
+mapped f (Some x) y h = (x, refl, same_Some (f x) y h)
+mapped f None y h = absurd cc
+
+-- the step behind a value
+stepped : {A B : Type 0} (f : A → Option B) (o : Option A) (y : B) → option_and_then f o ≡ Some y → (x : A) × (o ≡ Some x) × (f x ≡ Some y)
+stepped f (Some x) y h = (x, refl, h)
+stepped f None y h = absurd cc
+
+-- ---- numbers and hex
+
+pub number_in_writes : (least most : ℕ) → Writes (number_in least most) decimal
+unfolding number_in
+number_in_writes least most = passing_writes number_of decimal _ number_own
+
+pub party_count_writes : Writes party_count_of decimal
+unfolding party_count_of
+party_count_writes = passing_writes number_of decimal _ number_own
+
+pub quorum_writes : (n : ℕ) → Writes (quorum_of n) decimal
+unfolding quorum_of
+quorum_writes n = passing_writes number_of decimal _ number_own
+
+pub lms_writes : Writes lms_of decimal
+unfolding lms_of
+lms_writes = passing_writes number_of decimal _ number_own
+
+pub ots_writes : (lms : ℕ) → Writes (ots_of lms) decimal
+unfolding ots_of
+ots_writes lms = passing_writes number_of decimal _ number_own
+
+pub secret_writes : Writes secret_of encode_lower
+unfolding secret_of
+secret_writes = passing_writes bytes_of_hex encode_lower _ (λ word bytes h. (hex_own word bytes h).0)
+
+-- ---- parties
+
+-- a test of a letter
+letter_is : (test : Bool) (r found : Role) (rest : Option Role) → cond test (Some r) rest ≡ Some found → ((test ≡ true) × (r ≡ found)) ⊎ (rest ≡ Some found)
+letter_is true r found rest h = inl (refl, same_Some r found h)
+letter_is false r found rest h = inr h
+
+role_letter : (letter : ℕ) (r : Role) → role_of letter ≡ Some r → letter_of r ≡ letter
+role_letter letter r h =
+    elim (letter_is (letter == 76) role.LogServer r _ h) [
+      | inl p ↦ ap letter_of (sym p.1) ∙ sym (eqb-true letter 76 p.0)
+      | inr h ↦ elim (letter_is (letter == 65) role.Authority r _ h) [
+        | inl p ↦ ap letter_of (sym p.1) ∙ sym (eqb-true letter 65 p.0)
+        | inr h ↦ elim (letter_is (letter == 68) role.Owner r _ h) [
+          | inl p ↦ ap letter_of (sym p.1) ∙ sym (eqb-true letter 68 p.0)
+          | inr h ↦ elim (letter_is (letter == 67) role.Client r None h) [
+            | inl p ↦ ap letter_of (sym p.1) ∙ sym (eqb-true letter 67 p.0)
+            | inr h ↦ absurd cc
+          ]
+        ]
+      ]
+    ]
+
+party_in_writes : Writes party_in party_word
+party_in_writes [] value h = absurd cc
+party_in_writes (letter ∷ digits) value h =
+    let found = stepped _ (role_of letter) value h in
+    let number = mapped (party found.0) (number_in 0 65535 digits) value found.2 in
+    ap party_word (sym number.2)
+    ∙ ap (λ l. l ∷ decimal number.0) (role_letter letter found.0 found.1)
+    ∙ ap (λ d. letter ∷ d) (number_in_writes 0 65535 digits number.0 number.1)
+
+pub party_writes : Writes party_of party_word
+unfolding party_of
+party_writes = party_in_writes
+
+same_role : (one other : Role) → role_number one ≡ role_number other → one ≡ other
+same_role role.LogServer role.LogServer h = refl
+same_role role.Authority role.Authority h = refl
+same_role role.Owner role.Owner h = refl
+same_role role.Client role.Client h = refl
+same_role role.LogServer role.Authority h = absurd (omega arith)
+same_role role.LogServer role.Owner h = absurd (omega arith)
+same_role role.LogServer role.Client h = absurd (omega arith)
+same_role role.Authority role.LogServer h = absurd (omega arith)
+same_role role.Authority role.Owner h = absurd (omega arith)
+same_role role.Authority role.Client h = absurd (omega arith)
+same_role role.Owner role.LogServer h = absurd (omega arith)
+same_role role.Owner role.Authority h = absurd (omega arith)
+same_role role.Owner role.Client h = absurd (omega arith)
+same_role role.Client role.LogServer h = absurd (omega arith)
+same_role role.Client role.Authority h = absurd (omega arith)
+same_role role.Client role.Owner h = absurd (omega arith)
+
+pub member_writes : (r : Role) → Writes (number_with r) (member_word r)
+unfolding number_with
+member_writes r word number h =
+    let found = mapped (λ (p : Party). p.number) (passing (λ (p : Party). role_number p.role == role_number r) (party_of word)) number h in
+    let passed = passing_some (λ (p : Party). role_number p.role == role_number r) (party_of word) found.0 found.1 in
+    let same : found.0.role ≡ r = same_role found.0.role r (eqb-true _ _ passed.1) in
+    ap (λ s. member_word s number) (sym same)
+    ∙ ap (λ n. member_word found.0.role n) (sym found.2)
+    ∙ party_writes word found.0 passed.0
+
+pub witness_writes : Writes witness_of party_word
+unfolding witness_of
+witness_writes = passing_writes party_of party_word _ party_writes
+
+pub new_owner_writes : Writes new_owner_of (member_word role.Owner)
+unfolding new_owner_of
+new_owner_writes = passing_writes (number_with role.Owner) (member_word role.Owner) _ (member_writes role.Owner)
+
+-- ---- a word that stands for a choice, or another
+
+chosen : {T : Type 0} (word name : List ℕ) (form : List ℕ → Option T) (write : T → List ℕ) (value : Option T) → Writes form write → cond (bytes_eq word name) (Some None) (option_map Some (form word)) ≡ Some value → elim value as (λ _. List ℕ) [ None ↦ name | Some x ↦ write x ] ≡ word
+chosen {T = T} word name form write value writes h = by (bytes_eq word name) refl h
+  where
+    by : (b : Bool) → bytes_eq word name ≡ b → cond b (Some None) (option_map Some (form word)) ≡ Some value → elim value as (λ _. List ℕ) [ None ↦ name | Some x ↦ write x ] ≡ word
+    by true is h = subst (λ (v : Option T). elim v as (λ _. List ℕ) [ None ↦ name | Some x ↦ write x ] ≡ word) (same_Some None value h) (sym ((bytes_eq-Decides word name).0 is))
+    by false is h =
+        let found = mapped Some (form word) value h in
+        subst (λ (v : Option T). elim v as (λ _. List ℕ) [ None ↦ name | Some x ↦ write x ] ≡ word) found.2 (writes word found.0 found.1)
+
+pub receiver_writes : Writes receiver_of receiver_word
+unfolding receiver_of
+receiver_writes word None h = chosen word (codes "logs") party_of party_word None party_writes h
+receiver_writes word (Some p) h = chosen word (codes "logs") party_of party_word (Some p) party_writes h
+
+pub judged_writes : Writes judged_of judged_word
+unfolding judged_of
+judged_writes word None h = chosen word (codes "last") number_of decimal None number_own h
+judged_writes word (Some n) h = chosen word (codes "last") number_of decimal (Some n) number_own h
+
+-- ---- lists
+
+each_writes : (form : List ℕ → Option ℕ) (words : List (List ℕ)) (values : List ℕ) → Writes form decimal → each_of form words ≡ Some values → map decimal values ≡ words
+each_writes form [] values writes h = ap (map decimal) (sym (same_Some [] values h))
+each_writes form (word ∷ words) values writes h =
+    let first = stepped _ (form word) values h in
+    let others = mapped (λ (more : List ℕ). first.0 ∷ more) (each_of form words) values first.2 in
+    ap (map decimal) (sym others.2)
+    ∙ ap (λ w. w ∷ map decimal others.0) (writes word first.0 first.1)
+    ∙ ap (λ ws. word ∷ ws) (each_writes form words others.0 writes others.1)
+
+parts_joined : (mark : ℕ) (word : List ℕ) → join_with_byte mark (parts_of mark word) ≡ word
+unfolding parts_of
+parts_joined mark word = join_with_byte-slice_split mark word
+
+list_each : (count most : ℕ) (word : List ℕ) (numbers : List ℕ) → list_of count most word ≡ Some numbers → map decimal numbers ≡ parts_of 44 word
+unfolding list_of
+list_each count most word numbers h =
+    each_writes (number_in 0 most) (parts_of 44 word) numbers (number_in_writes 0 most) (passing_some _ (each_of (number_in 0 most) (parts_of 44 word)) numbers h).0
+
+ascending_each : (count most : ℕ) (word : List ℕ) (numbers : List ℕ) → ascending_of count most word ≡ Some numbers → map decimal numbers ≡ parts_of 44 word
+unfolding ascending_of
+ascending_each count most word numbers h = list_each count most word numbers (passing_some _ (list_of count most word) numbers h).0
+
+ascending_writes : (count most : ℕ) → Writes (ascending_of count most) list_word
+ascending_writes count most word numbers h = ap (join_with_byte 44) (ascending_each count most word numbers h) ∙ parts_joined 44 word
+
+pub asks_writes : Writes asks_of list_word
+unfolding asks_of
+asks_writes = ascending_writes 8 0xffff_ffff_ffff_ffff
+
+-- a word has a part, so no list is empty
+no_parts : (word : List ℕ) → [] ≡ parts_of 44 word → ⊥
+unfolding parts_of
+no_parts word h = let some = pieces_are_some (λ byte. byte == 44) word in cc
+
+trusted_list : (word numbers : List ℕ) → ascending_of 16 65535 word ≡ Some numbers → trusted_word numbers ≡ word
+trusted_list word [] h = absurd (no_parts word (ascending_each 16 65535 word [] h))
+trusted_list word (n ∷ ns) h = ascending_writes 16 65535 word (n ∷ ns) h
+
+trusted_by : (word numbers : List ℕ) (b : Bool) → bytes_eq word (codes "-") ≡ b → cond b (Some []) (ascending_of 16 65535 word) ≡ Some numbers → trusted_word numbers ≡ word
+trusted_by word numbers true is h = ap trusted_word (sym (same_Some [] numbers h)) ∙ sym ((bytes_eq-Decides word (codes "-")).0 is)
+trusted_by word numbers false is h = trusted_list word numbers h
+
+pub trusted_writes : Writes trusted_of trusted_word
+unfolding trusted_of
+trusted_writes word numbers h = trusted_by word numbers (bytes_eq word (codes "-")) refl h
+
+-- ---- bindings
+
+wait_in_writes : Writes wait_in wait_word
+wait_in_writes [] value h = ap wait_word (sym (same_Some None value h))
+wait_in_writes (mark ∷ digits) value h = by (mark == 47) refl h
+  where
+    by : (b : Bool) → (mark == 47) ≡ b → cond b (option_map Some (number_in 1 10000 digits)) None ≡ Some value → wait_word value ≡ mark ∷ digits
+    by false is h = absurd cc
+    by true is h =
+        let found = mapped Some (number_in 1 10000 digits) value h in
+        ap wait_word (sym found.2)
+        ∙ ap (λ m. m ∷ decimal found.0) (sym (eqb-true mark 47 is))
+        ∙ ap (λ d. mark ∷ d) (number_in_writes 1 10000 digits found.0 found.1)
+
+pub wait_writes : Writes wait_of wait_word
+unfolding wait_of
+wait_writes = wait_in_writes
+
+behind_is : (front word text : List ℕ) (b : Bool) → bytes_eq (take (length front) word) front ≡ b → cond b (Some (drop (length front) word)) None ≡ Some text → front ++ text ≡ word
+behind_is front word text true is h =
+    ap (λ t. front ++ t) (sym (same_Some _ text h))
+    ∙ ap (λ f. f ++ drop (length front) word) (sym ((bytes_eq-Decides (take (length front) word) front).0 is))
+    ∙ take-append-drop (length front) word
+behind_is front word text false is h = absurd cc
+
+binding_by : (word : List ℕ) (keyed free : Option (List ℕ)) (value : Bool × Option ℕ) → behind (codes "keyed") word ≡ keyed → behind (codes "free") word ≡ free → binding_in keyed free ≡ Some value → binding_word value ≡ word
+binding_by word (Some text) free value k f h =
+    let wait = mapped (λ (w : Option ℕ). (true, w)) (wait_of text) value h in
+    ap binding_word (sym wait.2)
+    ∙ ap (λ t. codes "keyed" ++ t) (wait_writes text wait.0 wait.1)
+    ∙ behind_is (codes "keyed") word text (bytes_eq (take 5 word) (codes "keyed")) refl k
+binding_by word None (Some text) value k f h =
+    let wait = mapped (λ (w : Option ℕ). (false, w)) (wait_of text) value h in
+    ap binding_word (sym wait.2)
+    ∙ ap (λ t. codes "free" ++ t) (wait_writes text wait.0 wait.1)
+    ∙ behind_is (codes "free") word text (bytes_eq (take 4 word) (codes "free")) refl f
+binding_by word None None value k f h = absurd cc
+
+pub binding_writes : Writes binding_of binding_word
+unfolding binding_of
+binding_writes word value h = binding_by word (behind (codes "keyed") word) (behind (codes "free") word) value refl refl h
+
+pub name_writes : Writes name_of (λ name. name)
+name_writes = name_own

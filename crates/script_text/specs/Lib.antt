@@ -1,0 +1,5 @@
+pub mod Forms
+pub mod Grammar
+pub mod Rows
+pub mod Views
+pub mod Written

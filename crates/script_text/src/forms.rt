@@ -1,0 +1,198 @@
+ghost use Rattle.std.specs.Prelude.{◌≡◌, ◌<◌, ◌≤◌, ◌^◌, ◌∷◌, IfSome, length, ℕ};
+ghost use Rattle.std.specs.Option.{option_copied, option_map};
+ghost use Rattle.std.specs.List.{slice_split};
+ghost use Rattle.script_text.specs.Forms.{ascending_of, asks_of, behind, binding_of, is_hex, is_piece, is_slice, judged_of, lms_of, list_of, new_owner_of, number_in, number_with, ots_of, party_count_of, party_of, quorum_of, receiver_of, role_of, secret_of, trusted_of, wait_of, witness_of, parts_of};
+ghost use Rattle.ar_lines.specs.Forms.{number_of};
+
+use crate::numbers::Numbers;
+use ar_lines::{are_hex_digits, number_of};
+use ar_statement::{Party, Role};
+use party_keys::{is_party_count, is_quorum};
+
+/// A number from the first of these bounds to the second.
+#[tactic(auto, unfolding(crate::specs::Forms::number_in))]
+pub(crate) fn number_in(least: u64, most: u64, word: &[u8]) -> Option<u64>
+    ensures value { result ≡ number_in least most word.now }
+    ensures most { IfSome result (λ n. n ≤ most) }
+{
+    let number = number_of(word)?;
+    if number < least || most < number {
+        return None;
+    }
+    Some(number)
+}
+
+/// A number below 256.
+pub(crate) fn byte_of(word: &[u8]) -> Option<u8>
+    ensures { result ≡ number_in 0 255 word.now }
+{
+    let number = number_in(0, 255, word)?;
+    Some(number as u8)
+}
+
+/// A number of 32 bits.
+pub(crate) fn short_of(word: &[u8]) -> Option<u32>
+    ensures { result ≡ number_in 0 0xffff_ffff word.now }
+{
+    let number = number_in(0, 0xffff_ffff, word)?;
+    Some(number as u32)
+}
+
+/// How many logs, or authorities, there are.
+#[tactic(auto, unfolding(crate::specs::Forms::party_count_of))]
+pub(crate) fn party_count_of(word: &[u8]) -> Option<u16>
+    ensures value { result ≡ party_count_of word.now }
+    ensures most { IfSome result (λ n. n ≤ 16) }
+{
+    let count = number_of(word)? as usize;
+    if !is_party_count(count) {
+        return None;
+    }
+    Some(count as u16)
+}
+
+/// How many of so many logs make a quorum.
+#[tactic(auto, unfolding(crate::specs::Forms::quorum_of))]
+pub(crate) fn quorum_of(logs: u16, word: &[u8]) -> Option<u16>
+    requires { logs ≤ 16 }
+    ensures { result ≡ quorum_of logs word.now }
+{
+    let quorum = number_of(word)? as usize;
+    if !is_quorum(quorum, usize::from(logs)) {
+        return None;
+    }
+    Some(quorum as u16)
+}
+
+/// The number of an LMS type that keys may have.
+#[tactic(auto, unfolding(crate::specs::Forms::lms_of))]
+pub(crate) fn lms_of(word: &[u8]) -> Option<u32>
+    ensures { result ≡ lms_of word.now }
+{
+    match number_of(word)? {
+        5 => Some(5),
+        6 => Some(6),
+        7 => Some(7),
+        _ => None,
+    }
+}
+
+/// The number of an LM-OTS type that keys of this LMS type may have.
+#[tactic(auto, unfolding(crate::specs::Forms::ots_of))]
+pub(crate) fn ots_of(lms: u32, word: &[u8]) -> Option<u32>
+    ensures { result ≡ ots_of lms word.now }
+{
+    match (lms, number_of(word)?) {
+        (5 | 6 | 7, 3) => Some(3),
+        (5 | 6, 4) => Some(4),
+        _ => None,
+    }
+}
+
+/// A secret: 32 bytes.
+#[tactic(auto, using(crate::proofs::Secrets::secret_laws))]
+pub(crate) fn secret_of(word: &[u8]) -> Option<[u8; 32]>
+    ensures { result ≡ secret_of word.now }
+{
+    if word.len() != 64 || !are_hex_digits(word) {
+        return None;
+    }
+    let mut secret = [0; 32];
+    match hex::decode_to_slice(word, &mut secret) {
+        Ok(()) => Some(secret),
+        Err(_) => None,
+    }
+}
+
+/// The role that a letter stands for.
+fn role_of(letter: u8) -> Option<Role>
+    ensures { result ≡ role_of letter }
+{
+    match letter {
+        b'L' => Some(Role::LogServer),
+        b'A' => Some(Role::Authority),
+        b'D' => Some(Role::Owner),
+        b'C' => Some(Role::Client),
+        _ => None,
+    }
+}
+
+/// A party.
+#[tactic(auto, unfolding(crate::specs::Forms::party_of))]
+pub(crate) fn party_of(word: &[u8]) -> Option<Party>
+    ensures { result ≡ party_of word.now }
+{
+    let [letter, digits @ ..] = word else {
+        return None;
+    };
+    let role = role_of(*letter)?;
+    let number = number_in(0, 65535, digits)?;
+    Some(role.party(number as u16))
+}
+
+/// The number of a party of this role.
+#[tactic(auto, unfolding(crate::specs::Forms::number_with))]
+pub(crate) fn number_with(role: Role, word: &[u8]) -> Option<u16>
+    ensures { result ≡ number_with role word.now }
+{
+    let party = party_of(word)?;
+    if party.role.number() != role.number() {
+        return None;
+    }
+    Some(party.number)
+}
+
+/// A log or an authority.
+#[tactic(auto, unfolding(crate::specs::Forms::witness_of))]
+pub(crate) fn witness_of(word: &[u8]) -> Option<Party>
+    ensures { result ≡ witness_of word.now }
+{
+    let party = party_of(word)?;
+    if !party.role.is_witness() {
+        return None;
+    }
+    Some(party)
+}
+
+/// The number of an owner that a script may make.
+#[tactic(auto, unfolding(crate::specs::Forms::new_owner_of))]
+pub(crate) fn new_owner_of(word: &[u8]) -> Option<u16>
+    ensures { result ≡ new_owner_of word.now }
+{
+    let owner = number_with(Role::Owner, word)?;
+    if owner >= 512 {
+        return None;
+    }
+    Some(owner)
+}
+
+/// To whom bytes go: a party, or all logs for `None`.
+#[tactic(auto, unfolding(crate::specs::Forms::receiver_of))]
+pub(crate) fn receiver_of(word: &[u8]) -> Option<Option<Party>>
+    ensures { result ≡ receiver_of word.now }
+{
+    if word == b"logs".as_slice() {
+        return Some(None);
+    }
+    let party = party_of(word)?;
+    Some(Some(party))
+}
+
+/// The number of a message, or the newest that goes to a client for `None`.
+#[tactic(auto, unfolding(crate::specs::Forms::judged_of))]
+pub(crate) fn judged_of(word: &[u8]) -> Option<Option<u64>>
+    ensures { result ≡ judged_of word.now }
+{
+    if word == b"last".as_slice() {
+        return Some(None);
+    }
+    let number = number_of(word)?;
+    Some(Some(number))
+}
+
+/// Whether a word is two lower-case digits for each of some bytes.
+pub(crate) fn is_hex(word: &[u8]) -> bool
+    ensures { result ≡ is_hex word.now }
+{
+    are_hex_digits(word) && word.len() % 2 == 0
+}
