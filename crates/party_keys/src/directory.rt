@@ -1,24 +1,23 @@
-ghost use Rattle.std.specs.Prelude.{◌≡◌, ◌+◌, ◌*◌, ◌<◌, ◌≤◌, length, Ok, alloc_error};
+ghost use Rattle.std.specs.Prelude.{◌≡◌, ◌+◌, ◌*◌, ◌<◌, ◌≤◌, length, slice_get, Ok, alloc_error};
 ghost use Rattle.std.specs.Option.{option_copied};
 ghost use Rattle.ar_base.specs.Gives.{GivesUnless};
-ghost use Rattle.party_keys.specs.Directory.{directory_of, is_party_count, is_quorum, key_of, keys_of, verified};
+ghost use Rattle.party_keys.specs.Directory.{directory_of, is_party_count, is_quorum, keys_of};
 
-use crate::fault::{DirectoryFault, VerifyFault};
-use ar_base::Items;
+use crate::fault::DirectoryFault;
+use crate::role_keys::RoleKeys;
 use ar_statement::{Party, Role};
-use lms_tree::{LmsPublic, Verdict, valid};
+use lms_tree::LmsPublic;
 use std::alloc::{AllocError, Global};
 use std::marker::Model;
 
-/// The keys of all logs and authorities, each at the index that is its number, and how many logs make
-/// a quorum.
+/// The keys of all logs and authorities, of each from generation 0 on, and how many logs make a quorum.
 ///
-/// There are 3 to 16 logs and 3 to 16 authorities. A quorum q of N logs keeps q <= N and 2q > N + 2,
-/// so any two quorums share at least three logs.
+/// There are 3 to 16 logs and 3 to 16 authorities, numbered from 0. A quorum q of N logs keeps q <= N and
+/// 2q > N + 2, so any two quorums share at least three logs.
 #[derive(Debug, Drop)]
 pub struct Directory {
-    logs: Items<LmsPublic>,
-    authorities: Items<LmsPublic>,
+    pub(crate) logs: RoleKeys,
+    pub(crate) authorities: RoleKeys,
     quorum: usize,
 }
 
@@ -50,7 +49,8 @@ pub fn is_quorum(q: usize, logs: usize) -> bool
 }
 
 impl Directory {
-    /// The directory of these keys, with quorums of `q` logs; or the first bound that is not kept.
+    /// The directory of these keys as those of generation 0, with quorums of `q` logs; or the first bound
+    /// that is not kept. It takes no memory.
     pub fn new(
         logs: Vec<LmsPublic>,
         authorities: Vec<LmsPublic>,
@@ -68,8 +68,8 @@ impl Directory {
             return Err(DirectoryFault::Quorum);
         }
         Ok(Directory {
-            logs: Items::from_vec(logs),
-            authorities: Items::from_vec(authorities),
+            logs: RoleKeys::new(logs),
+            authorities: RoleKeys::new(authorities),
             quorum: q,
         })
     }
@@ -79,8 +79,8 @@ impl Directory {
         ensures { GivesUnless alloc_error (λ copy. copy) result (Ok self.now) }
     {
         Ok(Directory {
-            logs: Items::from_vec(Vec::from_slice(alloc, self.logs.as_slice())?),
-            authorities: Items::from_vec(Vec::from_slice(alloc, self.authorities.as_slice())?),
+            logs: self.logs.copy(alloc)?,
+            authorities: self.authorities.copy(alloc)?,
             quorum: self.quorum,
         })
     }
@@ -112,31 +112,15 @@ impl Directory {
         self.quorum
     }
 
-    // The key of a party.
-    fn key(&self, party: Party) -> Option<&LmsPublic>
-        ensures { option_copied result ≡ key_of self.now party }
+    /// The key of a generation of a party.
+    pub(crate) fn key(&self, party: Party, generation: usize) -> Option<&LmsPublic>
+        ensures { option_copied result ≡ slice_get (keys_of self.now party) generation }
     {
-        let keys = match party.role {
-            Role::LogServer => &self.logs,
-            Role::Authority => &self.authorities,
-            Role::Owner | Role::Client => return None,
-        };
-        keys.as_slice().get(party.number as usize)
-    }
-
-    /// Whether the signature of a party on the text is valid.
-    ///
-    /// It is `Unknown` exactly where the party is no log and no authority of the directory, and else
-    /// `Bad(k)` exactly where `lms_tree::valid` answers `Invalid(k)` under the party's key. Owners and
-    /// clients are never in a directory.
-    #[tactic(auto, unfolding(crate::specs::Directory::verified))]
-    pub fn verify(&self, party: Party, text: &[u8], signature: &[u8]) -> Result<(), VerifyFault>
-        ensures { result ≡ verified self.now party text.now signature.now }
-    {
-        let key = self.key(party).ok_or(VerifyFault::Unknown(party))?;
-        match valid(key, text, signature) {
-            Verdict::Valid => Ok(()),
-            Verdict::Invalid(k) => Err(VerifyFault::Bad(k)),
+        let number = party.number as usize;
+        match party.role {
+            Role::LogServer => self.logs.get(number, generation),
+            Role::Authority => self.authorities.get(number, generation),
+            Role::Owner | Role::Client => None,
         }
     }
 }

@@ -1,17 +1,22 @@
-//! The keys of all parties: a directory of the keys of logs and authorities with the size of a quorum,
-//! under which statements are verified, and the secret from which a party's own key is made.
+//! The keys of all parties: a directory of the keys of logs and authorities, of all generations that are
+//! known, with the size of a quorum, under which statements are verified and next keys are learnt; and the
+//! secret from which a party's own key is made.
 //!
-//! `specs/Directory.antt` says which directories there are and what verifying answers, and
-//! `specs/Seeds.antt` has the secrets.
+//! `specs/Directory.antt` says which directories there are, `Signatures` what verifying answers, `Learning`
+//! how a directory comes to know further keys, and `Seeds` has the secrets.
 #![tactic(auto)]
 
 mod directory;
 mod fault;
 pub mod laws;
+mod learning;
+mod role_keys;
 mod seed;
 #[cfg(test)]
 mod tests;
+mod verifying;
 
 pub use directory::{Directory, is_party_count, is_quorum};
-pub use fault::{DirectoryFault, VerifyFault};
+pub use fault::{DirectoryFault, LearnFault, VerifyFault};
+pub use learning::Learned;
 pub use seed::party_seed;
