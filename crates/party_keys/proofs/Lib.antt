@@ -1,3 +1,4 @@
 pub mod Bounds
 pub mod Claims
+pub mod Growing
 pub mod Joined
