@@ -6,7 +6,8 @@ use Rattle.std.proofs.lemmas.List.Folds.{list_all-append}
 use Rattle.hex.specs.Hex.{IsBytes, encode_lower}
 use Rattle.std.proofs.lemmas.List.Elements.{All-head, All-tail}
 use Rattle.ar_names.specs.Names.{IsName}
-use Rattle.party_keys.specs.Directory.{IsDirectory, Directory, is_party_count, is_quorum}
+use Rattle.party_keys.specs.Directory.{IsDirectory, directory_with, is_party_count, is_quorum}
+use Rattle.party_keys.proofs.Bounds.{length_first}
 use Rattle.lms_tree.specs.declared.public_key.LmsPublic.{LmsPublic}
 use Rattle.ar_lines.specs.Forms.{bytes_of_hex, key_of_hex, name_of, number_of}
 use Rattle.ar_lines.specs.Lines.{is_text}
@@ -14,7 +15,7 @@ use Rattle.arpki_play.specs.Inquiries.{Inquiry, authorities_at, confirmation_at,
 use Rattle.ar_lines.specs.Readings.{start_of_lines}
 use Rattle.arpki_play.specs.Questions.{Question, question_at}
 use Rattle.ar_lines.specs.Written.{IsKey, hex_of_key}
-use Rattle.arpki_play.specs.Written.{IsInquiry, IsQuestion, asked_lines, authorities_line, directory_lines, inquiry_lines, inquiry_text, key_line, logs_line, question_lines, question_text}
+use Rattle.arpki_play.specs.Written.{Asking, IsAsking, IsQuestion, asked_lines, authorities_line, directory_lines, inquiry_lines, inquiry_of, inquiry_text, key_line, logs_line, question_lines, question_text}
 use Rattle.ar_lines.proofs.Spelled.{bytes_of_hex-encode, decimal_is_word, hex_is_word, key_is_word, key_of_hex-key, name_is_word, name_of-name, number_of-decimal}
 use Rattle.ar_lines.proofs.TextLaws.{is_word, text_joined, word_is_text}
 use Rattle.ar_lines.proofs.RowsRead.{before, field_reads, named_is_text, start_of-text, two_fields_read, value_reads, word_reads}
@@ -81,20 +82,42 @@ party_count n least most = rw (le-leb 3 n least, le-leb n 16 most) refl
 quorum_test : (q n : ℕ) → n + 2 < 2 * q → q ≤ n → is_quorum q n ≡ true
 quorum_test q n least most = rw (lt-ltb (n + 2) (2 * q) least, le-leb q n most) refl
 
--- where the lines of a directory end
-abbrev behind_directory : Directory → ℕ
-behind_directory keys = 1 + 1 + length keys.logs + 1 + length keys.authorities
+-- the bounds that are kept
+record HasBounds (asking : Asking) : Type 0 where
+  logs_least : 3 ≤ length asking.logs
+  logs_most : length asking.logs ≤ 16
+  authorities_least : 3 ≤ length asking.authorities
+  authorities_most : length asking.authorities ≤ 16
+  quorum_least : length asking.logs + 2 < 2 * asking.quorum
+  quorum_most : asking.quorum ≤ length asking.logs
 
-directory_reads : (keys : Directory) (ahead : List (List ℕ)) → IsDirectory keys → All IsKey keys.logs → All IsKey keys.authorities → directory_at (before 1 (directory_lines keys ++ ahead)) ≡ Ok (keys, before (behind_directory keys) ahead)
+bounds : (asking : Asking) → IsDirectory (directory_with asking.logs asking.authorities asking.quorum) → HasBounds asking
+bounds asking d =
+    let logs = length_first asking.logs in
+    let authorities = length_first asking.authorities in
+    record {
+      logs_least = omega (arith, d.logs_least, logs);
+      logs_most = omega (arith, d.logs_most, logs);
+      authorities_least = omega (arith, d.authorities_least, authorities);
+      authorities_most = omega (arith, d.authorities_most, authorities);
+      quorum_least = omega (arith, d.quorum_least, logs);
+      quorum_most = omega (arith, d.quorum_most, logs);
+    }
+
+-- where the lines of a directory end
+abbrev behind_directory : Asking → ℕ
+behind_directory asking = 1 + 1 + length asking.logs + 1 + length asking.authorities
+
+directory_reads : (asking : Asking) (ahead : List (List ℕ)) → HasBounds asking → All IsKey asking.logs → All IsKey asking.authorities → directory_at (before 1 (directory_lines asking ++ ahead)) ≡ Ok (directory_with asking.logs asking.authorities asking.quorum, before (behind_directory asking) ahead)
 unfolding directory_at
-directory_reads keys ahead d l a =
-    let authority_lines = map key_line keys.authorities ++ ahead in
-    let behind = authorities_line (length keys.authorities) ∷ authority_lines in
-    let joined : map key_line keys.logs ++ (authorities_line (length keys.authorities) ∷ map key_line keys.authorities) ++ ahead ≡ map key_line keys.logs ++ behind = append_assoc (map key_line keys.logs) (authorities_line (length keys.authorities) ∷ map key_line keys.authorities) ahead in
-    let logs = logs_read (length keys.logs) keys.quorum 1 (map key_line keys.logs ++ behind) (party_count _ d.logs_least d.logs_most) (quorum_test _ _ d.quorum_least d.quorum_most) (omega (arith, d.logs_most)) (omega (arith, d.logs_most, d.quorum_most)) in
-    let log_keys = keys_read keys.logs (1 + 1) behind l in
-    let authorities = authorities_read (length keys.authorities) (1 + 1 + length keys.logs) authority_lines (party_count _ d.authorities_least d.authorities_most) (omega (arith, d.authorities_most)) in
-    let authority_keys = keys_read keys.authorities (1 + 1 + length keys.logs + 1) ahead a in
+directory_reads asking ahead d l a =
+    let authority_lines = map key_line asking.authorities ++ ahead in
+    let behind = authorities_line (length asking.authorities) ∷ authority_lines in
+    let joined : map key_line asking.logs ++ (authorities_line (length asking.authorities) ∷ map key_line asking.authorities) ++ ahead ≡ map key_line asking.logs ++ behind = append_assoc (map key_line asking.logs) (authorities_line (length asking.authorities) ∷ map key_line asking.authorities) ahead in
+    let logs = logs_read (length asking.logs) asking.quorum 1 (map key_line asking.logs ++ behind) (party_count _ d.logs_least d.logs_most) (quorum_test _ _ d.quorum_least d.quorum_most) (omega (arith, d.logs_most)) (omega (arith, d.logs_most, d.quorum_most)) in
+    let log_keys = keys_read asking.logs (1 + 1) behind l in
+    let authorities = authorities_read (length asking.authorities) (1 + 1 + length asking.logs) authority_lines (party_count _ d.authorities_least d.authorities_most) (omega (arith, d.authorities_most)) in
+    let authority_keys = keys_read asking.authorities (1 + 1 + length asking.logs + 1) ahead a in
     rw (joined, logs, log_keys, authorities, authority_keys) refl
 
 key_lines_are_text : (keys : List LmsPublic) → All IsKey keys → list_all is_text (map key_line keys) ≡ true
@@ -103,40 +126,40 @@ key_lines_are_text (key ∷ keys) h =
     let first : is_text (key_line key) ≡ true = named_is_text (codes "key") (hex_of_key key) refl (key_is_word key (All-head IsKey key keys h)) in
     rw first (key_lines_are_text keys (All-tail IsKey key keys h))
 
-directory_is_text : (keys : Directory) → IsDirectory keys → All IsKey keys.logs → All IsKey keys.authorities → list_all is_text (directory_lines keys) ≡ true
-directory_is_text keys d l a =
-    let count = decimal_is_word (length keys.logs) (omega (arith, d.logs_most)) in
-    let quorum = decimal_is_word keys.quorum (omega (arith, d.logs_most, d.quorum_most)) in
-    let both = named_is_text (decimal (length keys.logs)) (decimal keys.quorum) count quorum in
-    let logs : is_text (logs_line (length keys.logs) keys.quorum) ≡ true = text_joined (codes "logs") (decimal (length keys.logs) ++ (32 ∷ decimal keys.quorum)) refl both in
-    let authorities : is_text (authorities_line (length keys.authorities)) ≡ true = named_is_text (codes "authorities") (decimal (length keys.authorities)) refl (decimal_is_word (length keys.authorities) (omega (arith, d.authorities_most))) in
-    let parts = list_all-append is_text (map key_line keys.logs) (authorities_line (length keys.authorities) ∷ map key_line keys.authorities) in
-    rw (logs, parts, key_lines_are_text keys.logs l, authorities, key_lines_are_text keys.authorities a) refl
+directory_is_text : (asking : Asking) → HasBounds asking → All IsKey asking.logs → All IsKey asking.authorities → list_all is_text (directory_lines asking) ≡ true
+directory_is_text asking d l a =
+    let count = decimal_is_word (length asking.logs) (omega (arith, d.logs_most)) in
+    let quorum = decimal_is_word asking.quorum (omega (arith, d.logs_most, d.quorum_most)) in
+    let both = named_is_text (decimal (length asking.logs)) (decimal asking.quorum) count quorum in
+    let logs : is_text (logs_line (length asking.logs) asking.quorum) ≡ true = text_joined (codes "logs") (decimal (length asking.logs) ++ (32 ∷ decimal asking.quorum)) refl both in
+    let authorities : is_text (authorities_line (length asking.authorities)) ≡ true = named_is_text (codes "authorities") (decimal (length asking.authorities)) refl (decimal_is_word (length asking.authorities) (omega (arith, d.authorities_most))) in
+    let parts = list_all-append is_text (map key_line asking.logs) (authorities_line (length asking.authorities) ∷ map key_line asking.authorities) in
+    rw (logs, parts, key_lines_are_text asking.logs l, authorities, key_lines_are_text asking.authorities a) refl
 
-asked_are_text : (inquiry : Inquiry) → IsInquiry inquiry → list_all is_text (asked_lines inquiry) ≡ true
-asked_are_text inquiry h =
-    let name : is_text (codes "name " ++ inquiry.name) ≡ true = named_is_text (codes "name") inquiry.name refl (name_is_word inquiry.name h.name) in
-    let now : is_text (codes "now " ++ decimal inquiry.now) ≡ true = named_is_text (codes "now") (decimal inquiry.now) refl (decimal_is_word inquiry.now h.now) in
-    let age : is_text (codes "age " ++ decimal inquiry.age) ≡ true = named_is_text (codes "age") (decimal inquiry.age) refl (decimal_is_word inquiry.age h.age) in
-    let confirmation : is_text (codes "confirmation " ++ encode_lower inquiry.confirmation) ≡ true = named_is_text (codes "confirmation") (encode_lower inquiry.confirmation) refl (hex_is_word inquiry.confirmation h.confirmation) in
+asked_are_text : (asking : Asking) → IsAsking asking → list_all is_text (asked_lines asking) ≡ true
+asked_are_text asking h =
+    let name : is_text (codes "name " ++ asking.name) ≡ true = named_is_text (codes "name") asking.name refl (name_is_word asking.name h.name) in
+    let now : is_text (codes "now " ++ decimal asking.now) ≡ true = named_is_text (codes "now") (decimal asking.now) refl (decimal_is_word asking.now h.now) in
+    let age : is_text (codes "age " ++ decimal asking.age) ≡ true = named_is_text (codes "age") (decimal asking.age) refl (decimal_is_word asking.age h.age) in
+    let confirmation : is_text (codes "confirmation " ++ encode_lower asking.confirmation) ≡ true = named_is_text (codes "confirmation") (encode_lower asking.confirmation) refl (hex_is_word asking.confirmation h.confirmation) in
     rw (name, now, age, confirmation) refl
 
-inquiry_is_text : (inquiry : Inquiry) → IsInquiry inquiry → list_all is_text (inquiry_lines inquiry) ≡ true
-inquiry_is_text inquiry h =
-    list_all-append is_text (directory_lines inquiry.keys) (asked_lines inquiry)
-    ∙ rw (directory_is_text inquiry.keys h.directory h.logs h.authorities, asked_are_text inquiry h) refl
+inquiry_is_text : (asking : Asking) → IsAsking asking → list_all is_text (inquiry_lines asking) ≡ true
+inquiry_is_text asking h =
+    list_all-append is_text (directory_lines asking) (asked_lines asking)
+    ∙ rw (directory_is_text asking (bounds asking h.directory) h.logs h.authorities, asked_are_text asking h) refl
 
-pub inquiry_reads : (inquiry : Inquiry) → IsInquiry inquiry → inquiry_at (start_of_lines (inquiry_text inquiry)) ≡ Ok inquiry
+pub inquiry_reads : (asking : Asking) → IsAsking asking → inquiry_at (start_of_lines (inquiry_text asking)) ≡ Ok (inquiry_of asking)
 unfolding inquiry_at
-inquiry_reads inquiry h =
-    let next = behind_directory inquiry.keys in
-    let confirmation_line = codes "confirmation " ++ encode_lower inquiry.confirmation in
-    let age_line = codes "age " ++ decimal inquiry.age in
-    let now_line = codes "now " ++ decimal inquiry.now in
-    let directory = directory_reads inquiry.keys (asked_lines inquiry) h.directory h.logs h.authorities in
-    let name = name_reads inquiry.name next (now_line ∷ age_line ∷ confirmation_line ∷ []) h.name in
-    let now = number_reads (codes "now") inquiry.now (next + 1) (age_line ∷ confirmation_line ∷ []) refl h.now in
-    let age = number_reads (codes "age") inquiry.age (next + 1 + 1) (confirmation_line ∷ []) refl h.age in
-    let confirmation = confirmation_reads inquiry.confirmation (next + 1 + 1 + 1) [] h.confirmation in
-    ap inquiry_at (start_of-text (inquiry_lines inquiry) (inquiry_is_text inquiry h))
+inquiry_reads asking h =
+    let next = behind_directory asking in
+    let confirmation_line = codes "confirmation " ++ encode_lower asking.confirmation in
+    let age_line = codes "age " ++ decimal asking.age in
+    let now_line = codes "now " ++ decimal asking.now in
+    let directory = directory_reads asking (asked_lines asking) (bounds asking h.directory) h.logs h.authorities in
+    let name = name_reads asking.name next (now_line ∷ age_line ∷ confirmation_line ∷ []) h.name in
+    let now = number_reads (codes "now") asking.now (next + 1) (age_line ∷ confirmation_line ∷ []) refl h.now in
+    let age = number_reads (codes "age") asking.age (next + 1 + 1) (confirmation_line ∷ []) refl h.age in
+    let confirmation = confirmation_reads asking.confirmation (next + 1 + 1 + 1) [] h.confirmation in
+    ap inquiry_at (start_of-text (inquiry_lines asking) (inquiry_is_text asking h))
     ∙ rw (directory, name, now, age, confirmation) refl

@@ -3,7 +3,7 @@ use Rattle.std.proofs.Common.{◌≡◌, ℕ, zero, suc, ◌+◌, Bool, true, fa
 use Rattle.std.specs.Fmt.{decimal}
 use Rattle.hex.specs.Hex.{encode_lower}
 use Rattle.lms_tree.specs.declared.public_key.LmsPublic.{LmsPublic}
-use Rattle.party_keys.specs.Directory.{Directory, is_party_count, is_quorum}
+use Rattle.party_keys.specs.Directory.{Directory, directory_with, is_party_count, is_quorum}
 use Rattle.arpki_play.specs.Inquiries.{Inquiry, authorities_at, confirmation_at, directory_at, inquiry_at, key_at, keys_at, logs_at, name_at, number_at, party_count_of, quorum_of}
 use Rattle.ar_lines.specs.Forms.{bytes_of_hex, key_of_hex, name_of, number_of}
 use Rattle.ar_lines.specs.Lines.{lines_of}
@@ -11,7 +11,7 @@ use Rattle.ar_lines.specs.Readings.{LineCursor, no_line_at, spelled, start_of_li
 use Rattle.ar_lines.specs.Rows.{no_row_at, two_fields_at}
 use Rattle.arpki_play.specs.Questions.{Question, question_at}
 use Rattle.ar_lines.specs.Written.{Writes, hex_of_key, named}
-use Rattle.arpki_play.specs.Written.{authorities_line, directory_lines, inquiry_lines, key_line, logs_line, question_lines}
+use Rattle.arpki_play.specs.Written.{Asking, asked_lines, authorities_line, directory_lines, inquiry_lines, inquiry_of, key_line, logs_line, question_lines}
 use Rattle.ar_lines.proofs.RowsWritten.{behind, bind_ok, hex_writes, no_line_is, no_row_is, ok_is, spelled_some, two_fields_are, value_is, word_is}
 use Rattle.ar_lines.proofs.Respelled.{key_hex_own, name_own, number_own, passing_some}
 
@@ -89,28 +89,54 @@ keys_are (suc count) at new keys h =
       sym (ap (λ (x : List LmsPublic × LineCursor). length x.0) same) ∙ ap suc more.1,
     )
 
--- the lines of a directory, one part behind the other
-directory_joined : (keys : Directory) (logs authorities : ℕ) (whole log_keys behind_logs authority_keys rest : List (List ℕ)) → whole ≡ logs_line logs keys.quorum ∷ log_keys → log_keys ≡ map key_line keys.logs ++ behind_logs → length keys.logs ≡ logs → behind_logs ≡ authorities_line authorities ∷ authority_keys → authority_keys ≡ map key_line keys.authorities ++ rest → length keys.authorities ≡ authorities → whole ≡ directory_lines keys ++ rest
-directory_joined keys logs authorities whole log_keys behind_logs authority_keys rest a b m c d n =
-    let parts = append_assoc (map key_line keys.logs) (authorities_line (length keys.authorities) ∷ map key_line keys.authorities) rest in
-    rw (a, b, c, d, parts, m, n) refl
+-- the lines of a directory of these keys, with these lines behind them
+abbrev roster_lines : List LmsPublic → List LmsPublic → ℕ → List (List ℕ) → List (List ℕ)
+roster_lines logs authorities quorum rest =
+    logs_line (length logs) quorum
+    ∷ (map key_line logs ++ (authorities_line (length authorities) ∷ map key_line authorities)) ++ rest
 
-directory_is : (at new : LineCursor) (keys : Directory) → directory_at at ≡ Ok (keys, new) → at.ahead ≡ directory_lines keys ++ new.ahead
+-- the lines of a directory, one part behind the other
+directory_joined : (logs authorities : List LmsPublic) (quorum n m : ℕ) (whole log_keys behind_logs authority_keys rest : List (List ℕ)) → whole ≡ logs_line n quorum ∷ log_keys → log_keys ≡ map key_line logs ++ behind_logs → length logs ≡ n → behind_logs ≡ authorities_line m ∷ authority_keys → authority_keys ≡ map key_line authorities ++ rest → length authorities ≡ m → whole ≡ roster_lines logs authorities quorum rest
+directory_joined logs authorities quorum n m whole log_keys behind_logs authority_keys rest a b e c d f =
+    let parts = append_assoc (map key_line logs) (authorities_line (length authorities) ∷ map key_line authorities) rest in
+    rw (a, b, c, d, parts, e, f) refl
+
+-- a directory is read from the lines of its keys
+record Rostered (keys : Directory) (whole rest : List (List ℕ)) : Type 0 where
+  logs : List LmsPublic
+  authorities : List LmsPublic
+  quorum : ℕ
+  is : directory_with logs authorities quorum ≡ keys
+  lines : whole ≡ roster_lines logs authorities quorum rest
+
+directory_is : (at new : LineCursor) (keys : Directory) → directory_at at ≡ Ok (keys, new) → Rostered keys at.ahead new.ahead
 unfolding directory_at
 directory_is at new keys h =
     let logs = bind_ok (logs_at at) _ (keys, new) h in
     let log_keys = bind_ok (keys_at logs.0.0.0 logs.0.1) _ (keys, new) logs.2 in
     let authorities = bind_ok (authorities_at log_keys.0.1) _ (keys, new) log_keys.2 in
     let authority_keys = bind_ok (keys_at authorities.0.0 authorities.0.1) _ (keys, new) authorities.2 in
-    let whole : Directory = record { logs = log_keys.0.0; authorities = authority_keys.0.0; quorum = logs.0.0.1 } in
+    let whole : Directory = directory_with log_keys.0.0 authority_keys.0.0 logs.0.0.1 in
     let first = keys_are logs.0.0.0 logs.0.1 log_keys.0.1 log_keys.0.0 log_keys.1 in
     let second = keys_are authorities.0.0 authorities.0.1 authority_keys.0.1 authority_keys.0.0 authority_keys.1 in
     let counts = logs_are at logs.0.1 logs.0.0 logs.1 in
     let count = authorities_are log_keys.0.1 authorities.0.1 authorities.0.0 authorities.1 in
-    directory_joined whole logs.0.0.0 authorities.0.0 _ _ _ _ _ counts first.0 first.1 count second.0 second.1
-    ∙ ap (λ (x : Directory × LineCursor). directory_lines x.0 ++ x.1.ahead) (ok_is (whole, authority_keys.0.1) (keys, new) authority_keys.2)
+    let same = ok_is (whole, authority_keys.0.1) (keys, new) authority_keys.2 in
+    record {
+      logs = log_keys.0.0;
+      authorities = authority_keys.0.0;
+      quorum = logs.0.0.1;
+      is = ap (λ (x : Directory × LineCursor). x.0) same;
+      lines =
+        directory_joined log_keys.0.0 authority_keys.0.0 logs.0.0.1 logs.0.0.0 authorities.0.0 _ _ _ _ _ counts first.0 first.1 count second.0 second.1
+        ∙ ap (λ (x : Directory × LineCursor). roster_lines log_keys.0.0 authority_keys.0.0 logs.0.0.1 x.1.ahead) same;
+    }
 
-inquiry_is : (at : LineCursor) (inquiry : Inquiry) → inquiry_at at ≡ Ok inquiry → at.ahead ≡ inquiry_lines inquiry
+-- the inquiry is written so
+abbrev pub IsWritten : Inquiry → List (List ℕ) → Type 0
+IsWritten inquiry lines = (asking : Asking) × ((lines ≡ inquiry_lines asking) × (inquiry_of asking ≡ inquiry))
+
+inquiry_is : (at : LineCursor) (inquiry : Inquiry) → inquiry_at at ≡ Ok inquiry → IsWritten inquiry at.ahead
 unfolding inquiry_at
 inquiry_is at inquiry h =
     let keys = bind_ok (directory_at at) _ inquiry h in
@@ -125,9 +151,19 @@ inquiry_is at inquiry h =
     let third = number_is (codes "age") now.0.1 age.0.1 age.0.0 age.1 ∙ behind (named (codes "age") (decimal age.0.0)) fourth in
     let second = number_is (codes "now") name.0.1 now.0.1 now.0.0 now.1 ∙ behind (named (codes "now") (decimal now.0.0)) third in
     let first = name_is keys.0.1 name.0.1 name.0.0 name.1 ∙ behind (named (codes "name") name.0.0) second in
-    directory_is at keys.0.1 keys.0.0 keys.1
-    ∙ ap (λ (l : List (List ℕ)). directory_lines keys.0.0 ++ l) first
-    ∙ ap inquiry_lines (ok_is whole inquiry end.2)
+    let roster = directory_is at keys.0.1 keys.0.0 keys.1 in
+    let asking : Asking = record {
+      logs = roster.logs;
+      authorities = roster.authorities;
+      quorum = roster.quorum;
+      name = name.0.0;
+      now = now.0.0;
+      age = age.0.0;
+      confirmation = confirmation.0.0;
+    } in
+    let lines : at.ahead ≡ inquiry_lines asking = roster.lines ∙ ap (λ (l : List (List ℕ)). roster_lines roster.logs roster.authorities roster.quorum l) first in
+    let made : inquiry_of asking ≡ whole = ap (λ (keys : Directory). record { keys = keys; name = name.0.0; now = now.0.0; age = age.0.0; confirmation = confirmation.0.0 }) roster.is in
+    (asking, (lines, made ∙ ok_is whole inquiry end.2))
 
-pub inquiry_alone : (input : List ℕ) (inquiry : Inquiry) → inquiry_at (start_of_lines input) ≡ Ok inquiry → lines_of input ≡ inquiry_lines inquiry
+pub inquiry_alone : (input : List ℕ) (inquiry : Inquiry) → inquiry_at (start_of_lines input) ≡ Ok inquiry → IsWritten inquiry (lines_of input)
 inquiry_alone input inquiry h = inquiry_is (start_of_lines input) inquiry h

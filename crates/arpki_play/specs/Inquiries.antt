@@ -1,7 +1,7 @@
 -- What `check` is asked: an inquiry, and the lines that it is read from.
 use Rattle.std.specs.Prelude.{ℕ, zero, suc, List, [], ◌∷◌, codes, Option, Result, Ok}
 use Rattle.lms_tree.specs.declared.public_key.LmsPublic.{LmsPublic}
-use Rattle.party_keys.specs.Directory.{Directory, is_party_count, is_quorum}
+use Rattle.party_keys.specs.Directory.{Directory, directory_with, is_party_count, is_quorum}
 use Rattle.ar_lines.specs.Forms.{bytes_of_hex, key_of_hex, name_of, number_of, passing}
 use Rattle.ar_base.specs.Chaining.{◌>>=◌}
 use Rattle.ar_lines.specs.Readings.{LineCursor, LineReading, spelled}
@@ -51,14 +51,14 @@ keys_at (suc count) at = do
   others ← keys_at count key.1
   Ok (key.0 ∷ others.0, others.1)
 
--- the logs and their keys, and the authorities and theirs
+-- the logs and their keys of generation 0, and the authorities and theirs
 unfoldable pub directory_at : LineCursor → LineReading Directory
 directory_at at = do
   logs ← logs_at at
   log_keys ← keys_at logs.0.0 logs.1
   authorities ← authorities_at log_keys.1
   authority_keys ← keys_at authorities.0 authorities.1
-  Ok (record { logs = log_keys.0; authorities = authority_keys.0; quorum = logs.0.1 }, authority_keys.1)
+  Ok (directory_with log_keys.0 authority_keys.0 logs.0.1, authority_keys.1)
 
 -- ---- the question
 

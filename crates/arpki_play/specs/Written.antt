@@ -4,7 +4,7 @@ use Rattle.std.specs.Fmt.{decimal}
 use Rattle.hex.specs.Hex.{IsBytes, encode_lower}
 use Rattle.ar_names.specs.Names.{IsName}
 use Rattle.lms_tree.specs.declared.public_key.LmsPublic.{LmsPublic}
-use Rattle.party_keys.specs.Directory.{Directory, IsDirectory}
+use Rattle.party_keys.specs.Directory.{IsDirectory, directory_with}
 use Rattle.ar_lines.specs.Written.{IsKey, hex_of_key, text_of_lines}
 use Rattle.arpki_play.specs.Inquiries.{Inquiry}
 use Rattle.arpki_play.specs.Questions.{Question}
@@ -28,15 +28,36 @@ question_text question = text_of_lines (question_lines question)
 
 -- ---- the inquiry of `check`
 
+-- what an inquiry is written from: the key of generation 0 of each log and of each authority, how many logs
+-- make a quorum, the name, the epoch, the age and the bytes of the confirmation
+pub record Asking : Type 0 where
+  pub logs : List LmsPublic
+  pub authorities : List LmsPublic
+  pub quorum : ℕ
+  pub name : List ℕ
+  pub now : ℕ
+  pub age : ℕ
+  pub confirmation : List ℕ
+
+-- the inquiry that is written so
+abbrev pub inquiry_of : Asking → Inquiry
+inquiry_of asking = record {
+  keys = directory_with asking.logs asking.authorities asking.quorum;
+  name = asking.name;
+  now = asking.now;
+  age = asking.age;
+  confirmation = asking.confirmation;
+}
+
 -- the inquiry of a program that holds a directory, a name, two numbers of 64 bits and a string of bytes
-pub record IsInquiry (inquiry : Inquiry) : Type 0 where
-  pub directory : IsDirectory inquiry.keys
-  pub logs : All IsKey inquiry.keys.logs
-  pub authorities : All IsKey inquiry.keys.authorities
-  pub name : IsName inquiry.name
-  pub now : inquiry.now < 2 ^ 64
-  pub age : inquiry.age < 2 ^ 64
-  pub confirmation : IsBytes inquiry.confirmation
+pub record IsAsking (asking : Asking) : Type 0 where
+  pub directory : IsDirectory (directory_with asking.logs asking.authorities asking.quorum)
+  pub logs : All IsKey asking.logs
+  pub authorities : All IsKey asking.authorities
+  pub name : IsName asking.name
+  pub now : asking.now < 2 ^ 64
+  pub age : asking.age < 2 ^ 64
+  pub confirmation : IsBytes asking.confirmation
 
 -- `logs <N> <q>`: how many logs there are, and how many of them make a quorum
 abbrev pub logs_line : ℕ → ℕ → List ℕ
@@ -51,24 +72,24 @@ abbrev pub key_line : LmsPublic → List ℕ
 key_line key = codes "key " ++ hex_of_key key
 
 -- the lines of a directory: the logs and a line for each key, and then the authorities so
-abbrev pub directory_lines : Directory → List (List ℕ)
-directory_lines keys =
-    logs_line (length keys.logs) keys.quorum
-    ∷ (map key_line keys.logs ++ (authorities_line (length keys.authorities) ∷ map key_line keys.authorities))
+abbrev pub directory_lines : Asking → List (List ℕ)
+directory_lines asking =
+    logs_line (length asking.logs) asking.quorum
+    ∷ (map key_line asking.logs ++ (authorities_line (length asking.authorities) ∷ map key_line asking.authorities))
 
 -- the lines behind them: the name, the epoch, the age and the confirmation
-abbrev pub asked_lines : Inquiry → List (List ℕ)
-asked_lines inquiry =
-    (codes "name " ++ inquiry.name)
-    ∷ (codes "now " ++ decimal inquiry.now)
-    ∷ (codes "age " ++ decimal inquiry.age)
-    ∷ (codes "confirmation " ++ encode_lower inquiry.confirmation)
+abbrev pub asked_lines : Asking → List (List ℕ)
+asked_lines asking =
+    (codes "name " ++ asking.name)
+    ∷ (codes "now " ++ decimal asking.now)
+    ∷ (codes "age " ++ decimal asking.age)
+    ∷ (codes "confirmation " ++ encode_lower asking.confirmation)
     ∷ []
 
 -- all lines of the inquiry
-abbrev pub inquiry_lines : Inquiry → List (List ℕ)
-inquiry_lines inquiry = directory_lines inquiry.keys ++ asked_lines inquiry
+abbrev pub inquiry_lines : Asking → List (List ℕ)
+inquiry_lines asking = directory_lines asking ++ asked_lines asking
 
 -- the inquiry as it is written
-abbrev pub inquiry_text : Inquiry → List ℕ
-inquiry_text inquiry = text_of_lines (inquiry_lines inquiry)
+abbrev pub inquiry_text : Asking → List ℕ
+inquiry_text asking = text_of_lines (inquiry_lines asking)

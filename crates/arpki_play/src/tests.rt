@@ -48,10 +48,10 @@ const CONFIRMATION: &str =
 const ACCEPTED: &[u8] =
     b"accepted a.example serial 0 epoch 5 root ae4dff0d512897a3519da0bdf5ef62ac7ea52798eeef77665bb5f7ead9286f00 certificate acd2cfbebbb42a1661c259c2f778d9facaf5ede783e6b16986efb2176602584e\n";
 
-// Appends a party's number and its signature, in which all bytes that are free have this value.
+// Appends a party's number and its signature of generation 0, in which all bytes that are free have this value.
 fn sign(text: &mut String, number: &str, byte: &str) -> Result<(), AllocError> {
     text.push_str(number)?;
-    text.push_str("050c0000000300000004")?;
+    text.push_str("0510000000000000000300000004")?;
     for _ in 0..35 * 32 {
         text.push_str(byte)?;
     }

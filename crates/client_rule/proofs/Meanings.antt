@@ -16,7 +16,8 @@ use Rattle.ar_statement.specs.Claims.{text_of, party}
 use Rattle.ar_statement.specs.declared.party.Role.TheVariants.{LogServer, Authority}
 use Rattle.ar_statement.specs.declared.party.Party.{Party}
 use Rattle.ar_message.specs.Confirmation.{Subject, Body, present, absent, Confirmation, confirmation_at}
-use Rattle.party_keys.specs.Directory.{Directory, verified}
+use Rattle.party_keys.specs.Directory.{Directory}
+use Rattle.party_keys.specs.Signatures.{verified}
 use Rattle.party_keys.specs.declared.fault.VerifyFault.{VerifyFault}
 use Rattle.client_rule.specs.Rule.{has_parties, confirms, is_shown, is_young, is_live, is_current, checks, refusal_of, claim_on, taken, unless_refused, judgement_on, judgement}
 use Rattle.client_rule.specs.Meaning.{Asked, Check, same_name, parties, log_signature, first_signature, second_signature, path, not_later, young, live, current, number_of, all_checks, HasParties, Confirms, IsShown, IsYoung, IsLive, IsCurrent, Holds, HoldsAll, HoldsUpTo, Passes, Accepts, AcceptsNone, Refuses}

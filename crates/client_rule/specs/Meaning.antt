@@ -11,7 +11,8 @@ use Rattle.ar_statement.specs.declared.party.Role.TheVariants.{LogServer, Author
 use Rattle.ar_statement.specs.declared.party.Party.{Party}
 use Rattle.ar_cert.specs.Certificate.{Certificate, digest_of}
 use Rattle.ar_message.specs.Confirmation.{Subject, Body, present, absent, Confirmation, confirmation_at}
-use Rattle.party_keys.specs.Directory.{Directory, verified}
+use Rattle.party_keys.specs.Directory.{Directory}
+use Rattle.party_keys.specs.Signatures.{verified}
 use Rattle.client_rule.specs.Rule.{claim_on}
 
 -- what is asked: the directory that is trusted, the name, the epoch, and the age that is allowed

@@ -12,7 +12,8 @@ use Rattle.ar_statement.specs.declared.party.Role.TheVariants.{LogServer, Author
 use Rattle.ar_statement.specs.declared.party.Party.{Party}
 use Rattle.ar_cert.specs.Certificate.{digest_of}
 use Rattle.ar_message.specs.Confirmation.{Subject, Body, present, absent, Confirmation, confirmation_at}
-use Rattle.party_keys.specs.Directory.{Directory, verified}
+use Rattle.party_keys.specs.Directory.{Directory}
+use Rattle.party_keys.specs.Signatures.{verified}
 use Rattle.client_rule.specs.declared.judgement.Judgement.{Judgement}
 use Rattle.client_rule.specs.declared.judgement.Judgement.TheVariants.{Accepted, Absent, Refused}
 

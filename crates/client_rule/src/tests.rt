@@ -55,11 +55,12 @@ fn directory(alloc: Global) -> Result<Option<Directory>, AllocError> {
     Ok(Directory::new(logs, authorities, 3).ok())
 }
 
-// The number of a party, and the signature that fits.
+// The number of a party, and the signature that fits, of generation 0.
 fn sign(out: &mut Vec<u8>, number: u8) -> Result<(), AllocError> {
-    let mut bytes = [0xa7; 1296];
-    bytes[..12].copy_from_slice(&[0, number, 5, 12, 0, 0, 0, 3, 0, 0, 0, 4]);
-    bytes[1132..1136].copy_from_slice(&[0, 0, 0, 5]);
+    let mut bytes = [0xa7; 1300];
+    bytes[..4].copy_from_slice(&[0, number, 5, 16]);
+    bytes[4..16].copy_from_slice(&[0, 0, 0, 0, 0, 0, 0, 3, 0, 0, 0, 4]);
+    bytes[1136..1140].copy_from_slice(&[0, 0, 0, 5]);
     out.extend_from_slice(&bytes)
 }
 
@@ -104,7 +105,7 @@ fn a_confirmation_is_read_in_place(rt: HostRuntime) -> Result<(), Fail> {
         view.first_signature(),
         view.second_signature(),
     ] {
-        assert_eq!(rt; signature.len(), 1292);
+        assert_eq!(rt; signature.len(), 1296);
     }
     Ok(())
 }
@@ -121,10 +122,13 @@ fn the_first_check_that_fails_is_told(rt: HostRuntime) -> Result<(), Fail> {
         (0, 1, 3, b"a.example", 9, 4, 1),
         (0, 0, 12, b"b.example", 9, 4, 2),
         (0, 187, 3, b"a.example", 9, 4, 3),
-        (0, 2779, 0, b"a.example", 9, 4, 3),
-        (0, 1481, 0, b"a.example", 9, 4, 4),
-        (0, 2777, 0, b"a.example", 9, 4, 5),
-        (0, 4073, 0, b"a.example", 9, 4, 6),
+        (0, 2787, 0, b"a.example", 9, 4, 3),
+        (0, 1485, 0, b"a.example", 9, 4, 4),
+        (0, 2785, 0, b"a.example", 9, 4, 5),
+        (0, 4085, 0, b"a.example", 9, 4, 6),
+        (0, 193, 1, b"a.example", 9, 4, 4),
+        (0, 1493, 1, b"a.example", 9, 4, 5),
+        (0, 2793, 1, b"a.example", 9, 4, 6),
         (1, 0, 12, b"a.example", 4, 4, 7),
         (0, 0, 12, b"a.example", 4, 4, 8),
         (0, 0, 12, b"a.example", 10, 4, 9),

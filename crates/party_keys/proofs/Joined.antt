@@ -98,8 +98,13 @@ pub none_more : (old : List (List LmsPublic)) → old ≡ old ++ replicate 0 []
 none_more old = sym (append-nil old)
 
 pub ruleset made = (joined-none, all-joined)
+
 pub ruleset lengths = (length-joined, all-joined)
+
 pub ruleset looked_up = (keys_at-joined, keys_at-past, front, behind, kept, not_kept)
+
 pub ruleset reaching = (one_more, none_more)
+
 pub ruleset grown = (joined-more, joined-put, all-joined)
+
 pub ruleset copied = (all-joined, take_all, take_more)

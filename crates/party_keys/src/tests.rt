@@ -1,33 +1,74 @@
-use crate::{Directory, DirectoryFault, VerifyFault, is_party_count, is_quorum, party_seed};
-use ar_statement::{Party, Role};
-use lms_tree::LmsPublic;
+use crate::{
+    Directory, DirectoryFault, LearnFault, Learned, VerifyFault, is_party_count, is_quorum,
+    party_seed,
+};
+use ar_statement::{Party, Role, Statement, Text};
+use lm_ots::OtsType;
+use lms_tree::{LmsPublic, LmsType};
 use std::alloc::{AllocError, Global};
 use std::test::Fail;
 
-// A key of types 5 and 4 that another implementation made to fit: at leaf 3 it has a signature of
-// the message abc in which all bytes that are free are a7.
-const KEY: [u8; 56] = [
-    0x00, 0x00, 0x00, 0x05, 0x00, 0x00, 0x00, 0x04, 0xa7, 0xa7, 0xa7, 0xa7, 0xa7, 0xa7, 0xa7, 0xa7,
-    0xa7, 0xa7, 0xa7, 0xa7, 0xa7, 0xa7, 0xa7, 0xa7, 0x36, 0xb8, 0x02, 0xef, 0xba, 0xcd, 0x3a, 0x71,
-    0x44, 0x9a, 0x0e, 0x7a, 0x30, 0xc0, 0xa0, 0xee, 0xff, 0x15, 0xcc, 0x57, 0x44, 0xce, 0xd8, 0x5e,
-    0x6b, 0x49, 0x19, 0x59, 0xb0, 0x60, 0x9b, 0x03,
+// The roots of keys of types 5 and 4 that another implementation made to fit: each has a signature of one
+// text in which all bytes that are free are a7.
+
+// Abc at leaf 3.
+const ABC: [u8; 32] = [
+    0x36, 0xb8, 0x02, 0xef, 0xba, 0xcd, 0x3a, 0x71, 0x44, 0x9a, 0x0e, 0x7a, 0x30, 0xc0, 0xa0, 0xee,
+    0xff, 0x15, 0xcc, 0x57, 0x44, 0xce, 0xd8, 0x5e, 0x6b, 0x49, 0x19, 0x59, 0xb0, 0x60, 0x9b, 0x03,
 ];
 
-// That signature, with this number for its leaf.
-fn signature(leaf: u8) -> [u8; 1292] {
-    let mut bytes = [0xa7u8; 1292];
-    bytes[..8].copy_from_slice(&[0, 0, 0, leaf, 0, 0, 0, 4]);
-    bytes[1128..1132].copy_from_slice(&[0, 0, 0, 5]);
+// The Roll of log 0 from generation 0 to the key of abc, at the last leaf.
+const ROLL: [u8; 32] = [
+    0xc1, 0x90, 0x59, 0xe1, 0xac, 0x84, 0x72, 0x3b, 0x4f, 0x43, 0x4c, 0x0b, 0xaa, 0xc0, 0x4c, 0xdd,
+    0x98, 0xf7, 0xca, 0x9f, 0x62, 0xdf, 0xb5, 0x25, 0x6f, 0x46, 0xa5, 0xf3, 0x91, 0x05, 0x49, 0x04,
+];
+
+// The same of log 1, at the leaf before the last.
+const EARLY_ROLL: [u8; 32] = [
+    0x7e, 0x46, 0x34, 0x80, 0xc0, 0xa1, 0x64, 0xfe, 0xba, 0x08, 0xb0, 0xd5, 0x11, 0xab, 0x98, 0x6b,
+    0xee, 0x12, 0xa6, 0x26, 0xef, 0xeb, 0xb2, 0x1b, 0xa0, 0x05, 0x5e, 0xa2, 0x53, 0xca, 0xf0, 0xef,
+];
+
+// The same of log 2 from generation 1, at the last leaf.
+const OTHER_ROLL: [u8; 32] = [
+    0x07, 0x65, 0x47, 0xc5, 0x35, 0x01, 0x11, 0xaa, 0xc4, 0x50, 0x3b, 0x01, 0x0c, 0x6b, 0xc1, 0xdd,
+    0xcb, 0xfa, 0xf7, 0x44, 0x07, 0x8b, 0x57, 0x46, 0xe4, 0x3e, 0xc4, 0x7a, 0xcb, 0x07, 0x07, 0x71,
+];
+
+// Abc at the last leaf.
+const LATE_ABC: [u8; 32] = [
+    0xb8, 0x55, 0x0c, 0xaa, 0x63, 0xd6, 0x0f, 0xd4, 0x11, 0x26, 0x16, 0x73, 0x47, 0x4c, 0xf1, 0xe7,
+    0x08, 0xe1, 0x62, 0x14, 0xe1, 0x40, 0xea, 0x00, 0xdd, 0x84, 0xc1, 0x3d, 0x54, 0x58, 0x2c, 0x11,
+];
+
+// One byte, the kind of a Roll, at leaf 3.
+const NO_ROLL: [u8; 32] = [
+    0x07, 0x3b, 0xac, 0xbc, 0x10, 0x77, 0xcd, 0xe9, 0xdc, 0x0c, 0x80, 0x97, 0xb7, 0x28, 0xcf, 0x5b,
+    0x9f, 0xae, 0xd6, 0x2e, 0x0f, 0xc8, 0xf2, 0x7e, 0x67, 0xba, 0xb8, 0x62, 0x04, 0xd7, 0x99, 0xb6,
+];
+
+fn key(root: [u8; 32]) -> LmsPublic {
+    LmsPublic {
+        lms: LmsType::H5,
+        ots: OtsType::W8,
+        id: [0xa7; 16],
+        root,
+    }
+}
+
+// The signature that fits at this leaf, behind this generation.
+fn signature(generation: u8, leaf: u8) -> [u8; 1296] {
+    let mut bytes = [0xa7u8; 1296];
+    bytes[..12].copy_from_slice(&[0, 0, 0, generation, 0, 0, 0, leaf, 0, 0, 0, 4]);
+    bytes[1132..1136].copy_from_slice(&[0, 0, 0, 5]);
     bytes
 }
 
 // As many times the key.
 fn keys(alloc: Global, n: usize) -> Result<Vec<LmsPublic>, AllocError> {
     let mut keys = Vec::new(alloc);
-    if let Some(key) = LmsPublic::read(&KEY) {
-        for _ in 0..n {
-            keys.push(key)?;
-        }
+    for _ in 0..n {
+        keys.push(key(ABC))?;
     }
     Ok(keys)
 }
@@ -42,13 +83,29 @@ fn made(directory: &Result<Directory, DirectoryFault>) -> &'static str {
     }
 }
 
-// What `verify` answers: 0 where the signature is good, its number where it is bad, 255 for unknown.
-fn verdict(directory: &Directory, role: Role, number: u16, leaf: u8) -> u8 {
-    match directory.verify(Party { role, number }, b"abc", &signature(leaf)) {
+// The directory of all these keys.
+fn directory(alloc: Global) -> Result<Option<Directory>, AllocError> {
+    let logs = [key(ROLL), key(EARLY_ROLL), key(OTHER_ROLL)].to_vec(alloc)?;
+    let authorities = [key(LATE_ABC), key(ABC), key(NO_ROLL)].to_vec(alloc)?;
+    Ok(Directory::new(logs, authorities, 3).ok())
+}
+
+// A number for an answer of `verify`: 0 where the signature is good, 255 for unknown.
+fn number(answer: Result<(), VerifyFault>) -> u8 {
+    match answer {
         Ok(()) => 0,
         Err(VerifyFault::Bad(k)) => k,
         Err(VerifyFault::Unknown(_)) => 255,
     }
+}
+
+// The text of the Roll of a log to the key of abc.
+fn roll(number: u16, generation: u32) -> Text {
+    Text::of(&Statement::Roll {
+        signer: Role::LogServer.party(number),
+        generation,
+        key: key(ABC).bytes(),
+    })
 }
 
 #[test]
@@ -91,22 +148,128 @@ fn bounds_are_told_alone(rt: HostRuntime) {
     }
 }
 
+// The answers to a text in signatures of a party, each with its generation and leaf.
+fn check(directory: &Directory, party: Party, text: &[u8], cases: &[(u8, u8, u8)]) -> bool {
+    cases.iter().all(|(generation, leaf, answer)| {
+        number(directory.verify(party, text, &signature(*generation, *leaf))) == *answer
+    })
+}
+
 #[test]
-fn a_copy_verifies_alike(rt: HostRuntime) -> Result<(), Fail> {
-    let Ok(directory) = Directory::new(keys(rt.alloc(), 5)?, keys(rt.alloc(), 4)?, 4) else {
+fn a_signature_is_verified_under_its_generation(rt: HostRuntime) -> Result<(), Fail> {
+    let Some(directory) = directory(rt.alloc())? else {
         panic!(rt; "no directory")
     };
     let copy = directory.copy(rt.alloc())?;
     for d in [&directory, &copy] {
-        assert_eq!(rt; (d.logs(), d.authorities(), d.quorum()), (5, 4, 4));
-        assert_eq!(rt; verdict(d, Role::LogServer, 4, 3), 0);
-        assert_eq!(rt; verdict(d, Role::LogServer, 5, 3), 255);
-        assert_eq!(rt; verdict(d, Role::Authority, 3, 3), 0);
-        assert_eq!(rt; verdict(d, Role::Authority, 3, 2), 5);
-        assert_eq!(rt; verdict(d, Role::Authority, 4, 3), 255);
-        assert_eq!(rt; verdict(d, Role::Owner, 0, 3), 255);
-        assert_eq!(rt; verdict(d, Role::Client, 0, 3), 255);
+        assert_eq!(rt; (d.logs(), d.authorities(), d.quorum()), (3, 3, 3));
+        let second = Role::Authority.party(1);
+        assert!(rt;
+            check(
+                d,
+                second,
+                b"abc",
+                &[(0, 3, 0), (1, 3, 6), (0, 2, 5), (0, 31, 5), (0, 32, 4)]
+            )
+        );
+        for party in [
+            Role::Authority.party(3),
+            Role::LogServer.party(3),
+            Role::Owner.party(1),
+            Role::Client.party(1),
+        ] {
+            assert!(rt; check(d, party, b"abc", &[(0, 3, 255), (1, 3, 255)]));
+        }
+        let good = signature(0, 3);
+        for (len, answer) in [(0usize, 1u8), (3, 1), (4, 1), (1295, 1), (1296, 0)] {
+            assert_eq!(rt;
+                number(d.verify(second, b"abc", &good[..len])),
+                answer,
+                "{len}"
+            );
+        }
     }
+    Ok(())
+}
+
+#[test]
+fn the_last_leaf_is_for_the_roll(rt: HostRuntime) -> Result<(), Fail> {
+    let Some(d) = directory(rt.alloc())? else {
+        panic!(rt; "no directory")
+    };
+    assert!(rt;
+        check(
+            &d,
+            Role::LogServer.party(0),
+            roll(0, 0).as_bytes(),
+            &[(0, 31, 0), (0, 30, 5)]
+        )
+    );
+    assert!(rt;
+        check(
+            &d,
+            Role::LogServer.party(1),
+            roll(1, 0).as_bytes(),
+            &[(0, 30, 7)]
+        )
+    );
+    assert!(rt;
+        check(
+            &d,
+            Role::LogServer.party(2),
+            roll(2, 1).as_bytes(),
+            &[(0, 31, 7)]
+        )
+    );
+    assert!(rt; check(&d, Role::Authority.party(0), b"abc", &[(0, 31, 7)]));
+    assert!(rt; check(&d, Role::Authority.party(2), b"\x0a", &[(0, 3, 0)]));
+    Ok(())
+}
+
+#[test]
+fn a_directory_learns_and_adopts(rt: HostRuntime) -> Result<(), Fail> {
+    let alloc = rt.alloc();
+    let Some(mut d) = directory(alloc)? else {
+        panic!(rt; "no directory")
+    };
+    let log = Role::LogServer.party(0);
+    let good = signature(0, 31);
+    assert!(rt; check(&d, log, b"abc", &[(1, 3, 6)]));
+    // A party, a generation, a key and a leaf, and the answer.
+    for (party, generation, root, leaf, answer) in [
+        (
+            Role::Owner.party(0),
+            0u32,
+            ABC,
+            31u8,
+            Err(LearnFault::Unknown),
+        ),
+        (log, 0, ABC, 30, Err(LearnFault::Bad(5))),
+        (log, 0, ROLL, 31, Err(LearnFault::Bad(5))),
+        (log, 0, ABC, 31, Ok(Learned::New)),
+        (log, 0, ABC, 31, Ok(Learned::Again)),
+        (log, 1, ABC, 31, Err(LearnFault::Bad(5))),
+    ] {
+        let learned = d.learn(alloc, party, generation, key(root), &signature(0, leaf));
+        assert_eq!(rt; learned, answer, "{generation} {leaf}");
+    }
+    assert!(rt; check(&d, log, b"abc", &[(1, 3, 0), (1, 2, 5), (2, 3, 6)]));
+    assert!(rt; check(&d, Role::LogServer.party(1), b"abc", &[(1, 3, 6)]));
+    let copy = d.copy(alloc)?;
+    // Another key behind generation 0 takes the place of what was learnt.
+    d.adopt(alloc, log, 1, key(ABC))?;
+    assert!(rt; check(&d, log, b"abc", &[(1, 3, 0), (2, 3, 0), (3, 3, 6)]));
+    d.adopt(alloc, log, 0, key(ROLL))?;
+    assert!(rt; check(&d, log, b"abc", &[(1, 3, 5), (2, 3, 6)]));
+    d.adopt(alloc, log, 2, key(ABC))?;
+    d.adopt(alloc, Role::Client.party(0), 0, key(ABC))?;
+    assert!(rt; check(&d, log, b"abc", &[(2, 3, 6), (3, 3, 6)]));
+    let learned = d.learn(alloc, log, 0, key(ABC), &good);
+    assert_eq!(rt; learned, Err(LearnFault::Other));
+    assert!(rt; check(&copy, log, b"abc", &[(1, 3, 0), (2, 3, 6)]));
+    // The authority adopts a key that it never announced.
+    d.adopt(alloc, Role::Authority.party(2), 0, key(ABC))?;
+    assert!(rt; check(&d, Role::Authority.party(2), b"abc", &[(1, 3, 0)]));
     Ok(())
 }
 
