@@ -22,6 +22,10 @@ pub record Asked : Type 0 where
   pub epoch : ℕ
   pub age : ℕ
 
+-- the same, asked in another epoch
+abbrev pub earlier : Asked → ℕ → Asked
+earlier asked epoch = record asked { epoch = epoch }
+
 -- the checks of a confirmation
 pub data Check : Type 0 where
   same_name : Check

@@ -1,6 +1,6 @@
 //! Laws on judgements, over the definitions alone: each is the contract of a function without a body.
 
-ghost use Rattle.std.specs.Prelude.{◌≡◌, ◌↔◌, List, ℕ};
+ghost use Rattle.std.specs.Prelude.{◌≡◌, ◌↔◌, ◌≤◌, List, ℕ};
 ghost use Rattle.ar_cert.specs.Certificate.{Certificate};
 ghost use Rattle.client_rule.specs.Meaning.{Asked, Accepts, AcceptsNone, Refuses};
 ghost use Rattle.client_rule.specs.Rule.{judgement};
@@ -20,4 +20,17 @@ pub fn a_judgement_means_its_facts()
     ensures refused { (asked : Asked) (bytes : List ℕ) (number : ℕ)
         → (judgement asked.keys asked.name bytes asked.epoch asked.age ≡ Refused number)
         ↔ Refuses asked bytes number }
+{}
+
+/// What is accepted in an epoch, with a certificate or with none, is accepted so in each earlier epoch that is
+/// not before its own, by the same directory, with the same age.
+pub fn what_is_accepted_was_accepted_before()
+    ensures accepted { (asked : Asked) (bytes : List ℕ) (certificate : Certificate) (digest : List ℕ) (epoch : ℕ) (root : List ℕ) (now : ℕ)
+        → judgement asked.keys asked.name bytes asked.epoch asked.age ≡ Accepted certificate digest epoch root
+        → epoch ≤ now → now ≤ asked.epoch
+        → judgement asked.keys asked.name bytes now asked.age ≡ Accepted certificate digest epoch root }
+    ensures absent { (asked : Asked) (bytes : List ℕ) (epoch : ℕ) (root : List ℕ) (now : ℕ)
+        → judgement asked.keys asked.name bytes asked.epoch asked.age ≡ Absent epoch root
+        → epoch ≤ now → now ≤ asked.epoch
+        → judgement asked.keys asked.name bytes now asked.age ≡ Absent epoch root }
 {}

@@ -1,13 +1,13 @@
 -- What a directory knows, behind what it learnt.
-use Rattle.std.proofs.Common.{◌≡◌, ℕ, zero, suc, ◌+◌, ◌<◌, ◌≤◌, Bool, true, false, List, [], ◌∷◌, ◌++◌, length, take, slice_get, slice_set, if◌then◌else◌, Option, Some, None, Result, Ok, Err, refl, sym, ap, subst, ◌∙◌, arith}
-use Rattle.std.proofs.lemmas.List.{append-nil, append_assoc, take_all, get_or-set_same}
+use Rattle.std.proofs.Common.{◌≡◌, ℕ, zero, suc, ◌+◌, ◌≤◌, Bool, true, false, List, [], ◌∷◌, ◌++◌, length, take, slice_get, slice_set, if◌then◌else◌, Option, Some, None, Result, Ok, Err, refl, sym, ap, subst, ◌∙◌, arith}
+use Rattle.std.proofs.lemmas.List.{append-nil, append_assoc, take_all}
 use Rattle.lms_tree.specs.declared.public_key.LmsPublic.{LmsPublic}
 use Rattle.ar_statement.specs.declared.party.Role.{Role}
 use Rattle.ar_statement.specs.declared.party.Role.TheVariants.{LogServer, Authority, Owner, Client}
 use Rattle.ar_statement.specs.declared.party.Party.{Party}
 use Rattle.party_keys.specs.Directory.{Directory, keys_at, keys_of, role_keys}
 use Rattle.party_keys.specs.Signatures.{answer_at, answer_by, answer_under, behind_generation, generation_of, verified}
-use Rattle.party_keys.specs.Learning.{Announced, after_all, after_learning, is_key, learned, learned_as, learned_if, learning, next_behind, roll_text, with_next, with_next_of}
+use Rattle.party_keys.specs.Learning.{Announced, after_all, after_learning, is_key, learned, learned_as, learned_if, learning, next_behind, roll_text, with_next_of}
 use Rattle.party_keys.specs.declared.fault.VerifyFault.{VerifyFault}
 use Rattle.party_keys.specs.declared.fault.VerifyFault.TheVariants.{Unknown, Bad}
 use Rattle.party_keys.specs.declared.fault.LearnFault.{LearnFault}

@@ -5,7 +5,7 @@ use Rattle.std.proofs.lemmas.Option.{get_or_from_slice_get}
 use Rattle.lms_tree.specs.declared.public_key.LmsPublic.{LmsPublic}
 use Rattle.party_keys.specs.Directory.{HaveKeys, first_keys, keys_at}
 use Rattle.party_keys.specs.Kept.{joined}
-use Rattle.party_keys.specs.Learning.{next_behind, with_next_at}
+use Rattle.party_keys.specs.Learning.{with_next_at}
 
 -- ---- what is joined
 
