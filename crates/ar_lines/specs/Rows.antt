@@ -1,5 +1,5 @@
 -- Named lines: text whose first word says what the line is, with its fields behind it.
-use Rattle.std.specs.Prelude.{ℕ, if◌then◌else◌, List, [], ◌∷◌, Option, Result, Ok}
+use Rattle.std.specs.Prelude.{ℕ, Bool, false, if◌then◌else◌, List, [], ◌∷◌, Option, Result, Ok}
 use Rattle.std.specs.Str.{bytes_eq}
 use Rattle.ar_lines.specs.Lines.{is_text, words_of}
 use Rattle.ar_base.specs.Chaining.{◌>>=◌}
@@ -60,6 +60,20 @@ two_fields_at name at = do
   row ← row_at name at
   fields ← both_of row.0.line row.0.fields
   Ok (fields, row.1)
+
+-- these words begin with this one
+abbrev pub begin_with : List ℕ → List (List ℕ) → Bool
+begin_with name [] = false
+begin_with name (word ∷ fields) = bytes_eq word name
+
+-- a line is ahead, and its first word is this one
+abbrev pub first_begins_with : List ℕ → List (List ℕ) → Bool
+first_begins_with name [] = false
+first_begins_with name (line ∷ ahead) = begin_with name (words_of line)
+
+-- the next line begins with this word
+abbrev pub is_next : List ℕ → LineCursor → Bool
+is_next name at = first_begins_with name at.ahead
 
 -- no line is left of these; one too many is refused as `text` or as `word`, since it has no name that could stand there
 abbrev pub no_row_of : ℕ → List (List ℕ) → Result (Unit {0}) Refusal

@@ -126,7 +126,7 @@ impl<'a> RowText<'a> {
 
 impl<'a> Lines<'a> {
     ghost use Rattle.ar_lines.specs.Readings.{Follows, line_at, start_of_lines};
-    ghost use Rattle.ar_lines.specs.Rows.{field_at, no_row_at, row_at, two_fields_at};
+    ghost use Rattle.ar_lines.specs.Rows.{field_at, is_next, no_row_at, row_at, two_fields_at};
     ghost use Rattle.ar_lines.specs.Readings.{no_line_at};
     ghost use Rattle.ar_lines.specs.Views.{row_in};
 
@@ -196,6 +196,16 @@ impl<'a> Lines<'a> {
     {
         let row = self.row(name)?;
         row.both()
+    }
+
+    /// Whether the next line begins with this word. The line is not taken, and a missing one does not.
+    pub fn is_next(&self, name: &[u8]) -> bool
+        ensures { result ≡ is_next name.now self.now }
+    {
+        match first_line(self.input) {
+            None => false,
+            Some((line, _)) => first_word(line).0 == name,
+        }
     }
 
     /// Nothing, where no line is left; a line too many is refused as `text` or as `word`.

@@ -1,3 +1,4 @@
 pub mod KeyLines
 pub mod Readings
 pub mod Writings
+pub mod RollLines

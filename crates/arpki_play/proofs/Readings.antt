@@ -1,23 +1,26 @@
 -- What is written for `sig` and for `check` is read as just that.
-use Rattle.std.proofs.Common.{◌≡◌, ℕ, suc, ◌+◌, ◌*◌, ◌<◌, ◌≤◌, ◌^◌, true, List, [], ◌∷◌, ◌++◌, length, map, Option, Some, Ok, refl, ap, ◌∙◌, All, codes, append_assoc, le-leb, lt-ltb, arith}
+use Rattle.std.proofs.Common.{◌≡◌, ℕ, zero, suc, ◌+◌, ◌*◌, ◌<◌, ◌≤◌, ◌^◌, true, false, List, [], ◌∷◌, ◌++◌, length, map, Option, Some, None, option_and_then, Ok, refl, ap, ◌∙◌, All, codes, append_assoc, le-leb, lt-ltb, arith}
 use Rattle.std.specs.Fmt.{decimal}
 use Rattle.std.specs.List.{list_all}
 use Rattle.std.proofs.lemmas.List.Folds.{list_all-append}
 use Rattle.hex.specs.Hex.{IsBytes, encode_lower}
 use Rattle.std.proofs.lemmas.List.Elements.{All-head, All-tail}
 use Rattle.ar_names.specs.Names.{IsName}
-use Rattle.party_keys.specs.Directory.{IsDirectory, directory_with, is_party_count, is_quorum}
+use Rattle.party_keys.specs.Directory.{Directory, IsDirectory, is_party_count, is_quorum}
 use Rattle.party_keys.proofs.Bounds.{length_first}
 use Rattle.lms_tree.specs.declared.public_key.LmsPublic.{LmsPublic}
 use Rattle.ar_lines.specs.Forms.{bytes_of_hex, key_of_hex, name_of, number_of}
 use Rattle.ar_lines.specs.Lines.{is_text}
-use Rattle.arpki_play.specs.Inquiries.{Inquiry, authorities_at, confirmation_at, directory_at, inquiry_at, key_at, keys_at, logs_at, name_at, number_at, party_count_of, quorum_of}
+use Rattle.arpki_play.specs.Inquiries.{Inquiry, authorities_at, confirmation_at, directory_at, first_keys_at, inquiry_at, key_at, keys_at, logs_at, name_at, number_at, party_count_of, quorum_of, learnt_of_hex, most_rolls, roll_at, rolls_at}
 use Rattle.ar_lines.specs.Readings.{start_of_lines}
+use Rattle.ar_lines.specs.Rows.{is_next}
+use Rattle.ar_base.specs.Chaining.{◌>>=◌}
+use Rattle.arpki_play.specs.Notes.{learnt_from}
 use Rattle.arpki_play.specs.Questions.{Question, question_at}
 use Rattle.ar_lines.specs.Written.{IsKey, hex_of_key}
-use Rattle.arpki_play.specs.Written.{Asking, IsAsking, IsQuestion, asked_lines, authorities_line, directory_lines, inquiry_lines, inquiry_of, inquiry_text, key_line, logs_line, question_lines, question_text}
+use Rattle.arpki_play.specs.Written.{Asking, IsAsking, IsQuestion, first_directory, learnt_from_all, roll_line, asked_lines, authorities_line, directory_lines, inquiry_lines, inquiry_of, inquiry_text, key_line, logs_line, question_lines, question_text}
 use Rattle.ar_lines.proofs.Spelled.{bytes_of_hex-encode, decimal_is_word, hex_is_word, key_is_word, key_of_hex-key, name_is_word, name_of-name, number_of-decimal}
-use Rattle.ar_lines.proofs.TextLaws.{is_word, text_joined, word_is_text}
+use Rattle.ar_lines.proofs.TextLaws.{is_word, words_of-first, text_joined, word_is_text}
 use Rattle.ar_lines.proofs.RowsRead.{before, field_reads, named_is_text, start_of-text, two_fields_read, value_reads, word_reads}
 
 -- ---- the question of `sig`
@@ -91,7 +94,7 @@ record HasBounds (asking : Asking) : Type 0 where
   quorum_least : length asking.logs + 2 < 2 * asking.quorum
   quorum_most : asking.quorum ≤ length asking.logs
 
-bounds : (asking : Asking) → IsDirectory (directory_with asking.logs asking.authorities asking.quorum) → HasBounds asking
+bounds : (asking : Asking) → IsDirectory (first_directory asking) → HasBounds asking
 bounds asking d =
     let logs = length_first asking.logs in
     let authorities = length_first asking.authorities in
@@ -108,8 +111,8 @@ bounds asking d =
 abbrev behind_directory : Asking → ℕ
 behind_directory asking = 1 + 1 + length asking.logs + 1 + length asking.authorities
 
-directory_reads : (asking : Asking) (ahead : List (List ℕ)) → HasBounds asking → All IsKey asking.logs → All IsKey asking.authorities → directory_at (before 1 (directory_lines asking ++ ahead)) ≡ Ok (directory_with asking.logs asking.authorities asking.quorum, before (behind_directory asking) ahead)
-unfolding directory_at
+directory_reads : (asking : Asking) (ahead : List (List ℕ)) → HasBounds asking → All IsKey asking.logs → All IsKey asking.authorities → first_keys_at (before 1 (directory_lines asking ++ ahead)) ≡ Ok (first_directory asking, before (behind_directory asking) ahead)
+unfolding first_keys_at
 directory_reads asking ahead d l a =
     let authority_lines = map key_line asking.authorities ++ ahead in
     let behind = authorities_line (length asking.authorities) ∷ authority_lines in
@@ -144,22 +147,70 @@ asked_are_text asking h =
     let confirmation : is_text (codes "confirmation " ++ encode_lower asking.confirmation) ≡ true = named_is_text (codes "confirmation") (encode_lower asking.confirmation) refl (hex_is_word asking.confirmation h.confirmation) in
     rw (name, now, age, confirmation) refl
 
+-- ---- what the directory learns
+
+roll_reads : (bytes : List ℕ) (keys learnt : Directory) (next : ℕ) (ahead : List (List ℕ)) → IsBytes bytes → learnt_from keys bytes ≡ Some learnt → roll_at keys (before next (roll_line bytes ∷ ahead)) ≡ Ok (learnt, before (next + 1) ahead)
+roll_reads bytes keys learnt next ahead h e =
+    value_reads (codes "roll") (encode_lower bytes) (learnt_of_hex keys) learnt next ahead refl (hex_is_word bytes h) (rw (bytes_of_hex-encode bytes h) e)
+
+next_is_roll : (bytes : List ℕ) (next : ℕ) (ahead : List (List ℕ)) → is_next (codes "roll") (before next (roll_line bytes ∷ ahead)) ≡ true
+next_is_roll bytes next ahead = rw (words_of-first (codes "roll") (encode_lower bytes) refl) refl
+
+next_is_name : (name : List ℕ) (next : ℕ) (ahead : List (List ℕ)) → is_next (codes "roll") (before next ((codes "name " ++ name) ∷ ahead)) ≡ false
+next_is_name name next ahead = rw (words_of-first (codes "name") name refl) refl
+
+same_some : {A : Type 0} (x y : A) → Some x ≡ Some y → x ≡ y
+same_some x y e = cc
+
+-- the lines of these RollNotes, with a line of a name behind them
+abbrev rolls_before : List (List ℕ) → List ℕ → List (List ℕ) → List (List ℕ)
+rolls_before rolls name ahead = map roll_line rolls ++ ((codes "name " ++ name) ∷ ahead)
+
+rolls_read : (most : ℕ) (keys last : Directory) (rolls : List (List ℕ)) (next : ℕ) (name : List ℕ) (ahead : List (List ℕ)) → length rolls ≤ most → All IsBytes rolls → learnt_from_all keys rolls ≡ Some last
+    → rolls_at most keys (before next (rolls_before rolls name ahead)) ≡ Ok (last, before (next + length rolls) ((codes "name " ++ name) ∷ ahead))
+unfolding rolls_at
+rolls_read zero keys last [] next name ahead few h learnt =
+    let same : next + length {A = List ℕ} [] ≡ next = omega arith in rw (same, same_some keys last learnt) refl
+rolls_read (suc most) keys last [] next name ahead few h learnt =
+    let same : next + length {A = List ℕ} [] ≡ next = omega arith in rw (same, next_is_name name next ahead, same_some keys last learnt) refl
+rolls_read zero keys last (note ∷ rolls) next name ahead few h learnt = absurd (omega (arith, few))
+rolls_read (suc most) keys last (note ∷ rolls) next name ahead few h learnt =
+    by_note (λ known all. rolls_read most known last rolls (next + 1) name ahead (omega (arith, few)) (All-tail IsBytes note rolls h) all) (learnt_from keys note) refl learnt where
+      by_note : ((known : Directory) → learnt_from_all known rolls ≡ Some last → rolls_at most known (before (next + 1) (rolls_before rolls name ahead)) ≡ Ok (last, before (next + 1 + length rolls) ((codes "name " ++ name) ∷ ahead)))
+          → (known : Option Directory) → learnt_from keys note ≡ known → option_and_then (λ learnt. learnt_from_all learnt rolls) known ≡ Some last
+          → rolls_at (suc most) keys (before next (rolls_before (note ∷ rolls) name ahead)) ≡ Ok (last, before (next + suc (length rolls)) ((codes "name " ++ name) ∷ ahead))
+      by_note others_read None e all = absurd cc
+      by_note others_read (Some known) e all =
+          let first = roll_reads note keys known next (rolls_before rolls name ahead) (All-head IsBytes note rolls h) e in
+          let others = others_read known all in
+          let behind : next + 1 + length rolls ≡ next + suc (length rolls) = omega arith in
+          rw (next_is_roll note next (rolls_before rolls name ahead), first, others, behind) refl
+
+roll_lines_are_text : (rolls : List (List ℕ)) → All IsBytes rolls → list_all is_text (map roll_line rolls) ≡ true
+roll_lines_are_text [] h = refl
+roll_lines_are_text (note ∷ rolls) h =
+    let first : is_text (roll_line note) ≡ true = named_is_text (codes "roll") (encode_lower note) refl (hex_is_word note (All-head IsBytes note rolls h)) in
+    rw first (roll_lines_are_text rolls (All-tail IsBytes note rolls h))
+
 inquiry_is_text : (asking : Asking) → IsAsking asking → list_all is_text (inquiry_lines asking) ≡ true
 inquiry_is_text asking h =
-    list_all-append is_text (directory_lines asking) (asked_lines asking)
-    ∙ rw (directory_is_text asking (bounds asking h.directory) h.logs h.authorities, asked_are_text asking h) refl
+    list_all-append is_text (directory_lines asking) (map roll_line asking.rolls ++ asked_lines asking)
+    ∙ rw (directory_is_text asking (bounds asking h.directory) h.logs h.authorities, list_all-append is_text (map roll_line asking.rolls) (asked_lines asking), roll_lines_are_text asking.rolls h.rolls, asked_are_text asking h) refl
 
 pub inquiry_reads : (asking : Asking) → IsAsking asking → inquiry_at (start_of_lines (inquiry_text asking)) ≡ Ok (inquiry_of asking)
-unfolding inquiry_at
+unfolding inquiry_at directory_at
 inquiry_reads asking h =
-    let next = behind_directory asking in
+    let start = behind_directory asking in
+    let next = start + length asking.rolls in
     let confirmation_line = codes "confirmation " ++ encode_lower asking.confirmation in
     let age_line = codes "age " ++ decimal asking.age in
     let now_line = codes "now " ++ decimal asking.now in
-    let directory = directory_reads asking (asked_lines asking) (bounds asking h.directory) h.logs h.authorities in
-    let name = name_reads asking.name next (now_line ∷ age_line ∷ confirmation_line ∷ []) h.name in
+    let behind_name = now_line ∷ age_line ∷ confirmation_line ∷ [] in
+    let first = directory_reads asking (map roll_line asking.rolls ++ asked_lines asking) (bounds asking h.directory) h.logs h.authorities in
+    let rolls = rolls_read most_rolls (first_directory asking) asking.keys asking.rolls start asking.name behind_name h.few_rolls h.rolls h.learnt in
+    let name = name_reads asking.name next behind_name h.name in
     let now = number_reads (codes "now") asking.now (next + 1) (age_line ∷ confirmation_line ∷ []) refl h.now in
     let age = number_reads (codes "age") asking.age (next + 1 + 1) (confirmation_line ∷ []) refl h.age in
     let confirmation = confirmation_reads asking.confirmation (next + 1 + 1 + 1) [] h.confirmation in
     ap inquiry_at (start_of-text (inquiry_lines asking) (inquiry_is_text asking h))
-    ∙ rw (directory, name, now, age, confirmation) refl
+    ∙ rw (first, rolls, name, now, age, confirmation) refl

@@ -1,18 +1,20 @@
 -- What is read for `sig` and for `check` is read from the lines that write it, and from no others.
-use Rattle.std.proofs.Common.{◌≡◌, ℕ, zero, suc, ◌+◌, Bool, true, false, cond, List, [], ◌∷◌, ◌++◌, length, map, Option, Some, None, Result, Ok, Err, refl, sym, ap, ◌∙◌, append_assoc, codes}
+use Rattle.std.proofs.Common.{◌≡◌, ℕ, zero, suc, ◌+◌, Bool, true, false, cond, if◌then◌else◌, List, [], ◌∷◌, ◌++◌, length, map, Option, Some, None, option_and_then, Result, Ok, Err, refl, sym, ap, ◌∙◌, append_assoc, codes}
 use Rattle.std.specs.Fmt.{decimal}
 use Rattle.hex.specs.Hex.{encode_lower}
 use Rattle.lms_tree.specs.declared.public_key.LmsPublic.{LmsPublic}
 use Rattle.party_keys.specs.Directory.{Directory, directory_with, is_party_count, is_quorum}
-use Rattle.arpki_play.specs.Inquiries.{Inquiry, authorities_at, confirmation_at, directory_at, inquiry_at, key_at, keys_at, logs_at, name_at, number_at, party_count_of, quorum_of}
+use Rattle.arpki_play.specs.Inquiries.{Inquiry, authorities_at, confirmation_at, directory_at, first_keys_at, inquiry_at, key_at, keys_at, logs_at, name_at, number_at, party_count_of, quorum_of, learnt_of_hex, most_rolls, roll_at, rolls_at}
 use Rattle.ar_lines.specs.Forms.{bytes_of_hex, key_of_hex, name_of, number_of}
 use Rattle.ar_lines.specs.Lines.{lines_of}
 use Rattle.ar_lines.specs.Readings.{LineCursor, no_line_at, spelled, start_of_lines, word_at}
-use Rattle.ar_lines.specs.Rows.{no_row_at, two_fields_at}
+use Rattle.ar_lines.specs.Rows.{field_at, is_next, no_row_at, two_fields_at, value_at}
+use Rattle.ar_base.specs.Chaining.{◌>>=◌}
+use Rattle.arpki_play.specs.Notes.{learnt_from}
 use Rattle.arpki_play.specs.Questions.{Question, question_at}
 use Rattle.ar_lines.specs.Written.{Writes, hex_of_key, named}
-use Rattle.arpki_play.specs.Written.{Asking, asked_lines, authorities_line, directory_lines, inquiry_lines, inquiry_of, key_line, logs_line, question_lines}
-use Rattle.ar_lines.proofs.RowsWritten.{behind, bind_ok, hex_writes, no_line_is, no_row_is, ok_is, spelled_some, two_fields_are, value_is, word_is}
+use Rattle.arpki_play.specs.Written.{Asking, IsLearnt, authorities_line, directory_lines, inquiry_lines, inquiry_of, key_line, learnt_from_all, roll_line, logs_line, question_lines}
+use Rattle.ar_lines.proofs.RowsWritten.{behind, bind_ok, field_is, hex_writes, no_line_is, no_row_is, ok_is, spelled_some, two_fields_are, value_is, word_is}
 use Rattle.ar_lines.proofs.Respelled.{key_hex_own, name_own, number_own, passing_some}
 
 -- ---- the question of `sig`
@@ -109,9 +111,9 @@ record Rostered (keys : Directory) (whole rest : List (List ℕ)) : Type 0 where
   is : directory_with logs authorities quorum ≡ keys
   lines : whole ≡ roster_lines logs authorities quorum rest
 
-directory_is : (at new : LineCursor) (keys : Directory) → directory_at at ≡ Ok (keys, new) → Rostered keys at.ahead new.ahead
-unfolding directory_at
-directory_is at new keys h =
+first_keys_are : (at new : LineCursor) (keys : Directory) → first_keys_at at ≡ Ok (keys, new) → Rostered keys at.ahead new.ahead
+unfolding first_keys_at
+first_keys_are at new keys h =
     let logs = bind_ok (logs_at at) _ (keys, new) h in
     let log_keys = bind_ok (keys_at logs.0.0.0 logs.0.1) _ (keys, new) logs.2 in
     let authorities = bind_ok (authorities_at log_keys.0.1) _ (keys, new) log_keys.2 in
@@ -128,18 +130,82 @@ directory_is at new keys h =
       quorum = logs.0.0.1;
       is = ap (λ (x : Directory × LineCursor). x.0) same;
       lines =
-        directory_joined log_keys.0.0 authority_keys.0.0 logs.0.0.1 logs.0.0.0 authorities.0.0 _ _ _ _ _ counts first.0 first.1 count second.0 second.1
-        ∙ ap (λ (x : Directory × LineCursor). roster_lines log_keys.0.0 authority_keys.0.0 logs.0.0.1 x.1.ahead) same;
+          directory_joined log_keys.0.0 authority_keys.0.0 logs.0.0.1 logs.0.0.0 authorities.0.0 _ _ _ _ _ counts first.0 first.1 count second.0 second.1
+          ∙ ap (λ (x : Directory × LineCursor). roster_lines log_keys.0.0 authority_keys.0.0 logs.0.0.1 x.1.ahead) same;
     }
+
+-- ---- what the directory learns
+
+-- a line spells these bytes, and the directory learns from them
+abbrev Spelled : Directory → Directory → List ℕ → Type 0
+Spelled keys learnt word = (bytes : List ℕ) × (word ≡ encode_lower bytes) × (learnt_from keys bytes ≡ Some learnt)
+
+spelled_bytes : (keys learnt : Directory) (word : List ℕ) → learnt_of_hex keys word ≡ Some learnt → Spelled keys learnt word
+spelled_bytes keys learnt word e = by_bytes (bytes_of_hex word) refl e where
+  by_bytes : (bytes : Option (List ℕ)) → bytes_of_hex word ≡ bytes → option_and_then (learnt_from keys) bytes ≡ Some learnt → Spelled keys learnt word
+  by_bytes None same e = absurd cc
+  by_bytes (Some bytes) same e = (bytes, sym (hex_writes word bytes same), e)
+
+-- a directory learns from a line
+record Rolled (keys learnt : Directory) (whole rest : List (List ℕ)) : Type 0 where
+  bytes : List ℕ
+  line : whole ≡ roll_line bytes ∷ rest
+  learns : learnt_from keys bytes ≡ Some learnt
+
+roll_is : (keys learnt : Directory) (at new : LineCursor) → roll_at keys at ≡ Ok (learnt, new) → Rolled keys learnt at.ahead new.ahead
+unfolding value_at
+roll_is keys learnt at new h =
+    let field = bind_ok (field_at (codes "roll") at) _ (learnt, new) h in
+    let value = bind_ok (spelled field.0.0 (learnt_of_hex keys field.0.0.text)) _ (learnt, new) field.2 in
+    let same = ok_is (value.0, field.0.1) (learnt, new) value.2 in
+    let word = spelled_bytes keys value.0 field.0.0.text (spelled_some field.0.0 (learnt_of_hex keys field.0.0.text) value.0 value.1) in
+    record {
+      bytes = word.0;
+      line =
+          field_is (codes "roll") at field.0.1 field.0.0 field.1
+          ∙ ap (λ (t : List ℕ). named (codes "roll") t ∷ field.0.1.ahead) word.1
+          ∙ ap (λ (x : Directory × LineCursor). roll_line word.0 ∷ x.1.ahead) same;
+      learns = word.2 ∙ ap (λ (x : Directory × LineCursor). Some x.0) same;
+    }
+
+-- and from several
+record RolledAll (keys last : Directory) (whole rest : List (List ℕ)) : Type 0 where
+  rolls : List (List ℕ)
+  lines : whole ≡ map roll_line rolls ++ rest
+  learns : learnt_from_all keys rolls ≡ Some last
+
+rolls_are : (most : ℕ) (keys last : Directory) (at new : LineCursor) → rolls_at most keys at ≡ Ok (last, new) → RolledAll keys last at.ahead new.ahead
+unfolding rolls_at
+rolls_are zero keys last at new h =
+    let same = ok_is {A = Directory × LineCursor} (keys, at) (last, new) h in
+    record { rolls = []; lines = ap (λ (x : Directory × LineCursor). x.1.ahead) same; learns = ap (λ (x : Directory × LineCursor). Some x.0) same }
+rolls_are (suc most) keys last at new h = by_next (λ learnt behind e. rolls_are most learnt last behind new e) (is_next (codes "roll") at) h where
+  by_next : ((learnt : Directory) (behind : LineCursor) → rolls_at most learnt behind ≡ Ok (last, new) → RolledAll learnt last behind.ahead new.ahead)
+      → (b : Bool) → (if b then (roll_at keys at >>= λ learnt. rolls_at most learnt.0 learnt.1) else Ok (keys, at)) ≡ Ok (last, new) → RolledAll keys last at.ahead new.ahead
+  by_next more false h =
+      let same = ok_is {A = Directory × LineCursor} (keys, at) (last, new) h in
+      record { rolls = []; lines = ap (λ (x : Directory × LineCursor). x.1.ahead) same; learns = ap (λ (x : Directory × LineCursor). Some x.0) same }
+  by_next more true h =
+      let first = bind_ok (roll_at keys at) _ (last, new) h in
+      let rolled = roll_is keys first.0.0 at first.0.1 first.1 in
+      let others = more first.0.0 first.0.1 first.2 in
+      record {
+        rolls = rolled.bytes ∷ others.rolls;
+        lines = rolled.line ∙ behind (roll_line rolled.bytes) others.lines;
+        learns = rw rolled.learns others.learns;
+      }
+
+-- ---- the inquiry
 
 -- the inquiry is written so
 abbrev pub IsWritten : Inquiry → List (List ℕ) → Type 0
-IsWritten inquiry lines = (asking : Asking) × ((lines ≡ inquiry_lines asking) × (inquiry_of asking ≡ inquiry))
+IsWritten inquiry lines = (asking : Asking) × (IsLearnt asking × ((lines ≡ inquiry_lines asking) × (inquiry_of asking ≡ inquiry)))
 
 inquiry_is : (at : LineCursor) (inquiry : Inquiry) → inquiry_at at ≡ Ok inquiry → IsWritten inquiry at.ahead
-unfolding inquiry_at
+unfolding inquiry_at directory_at
 inquiry_is at inquiry h =
     let keys = bind_ok (directory_at at) _ inquiry h in
+    let first_keys = bind_ok (first_keys_at at) _ keys.0 keys.1 in
     let name = bind_ok (name_at keys.0.1) _ inquiry keys.2 in
     let now = bind_ok (number_at (codes "now") name.0.1) _ inquiry name.2 in
     let age = bind_ok (number_at (codes "age") now.0.1) _ inquiry now.2 in
@@ -151,19 +217,23 @@ inquiry_is at inquiry h =
     let third = number_is (codes "age") now.0.1 age.0.1 age.0.0 age.1 ∙ behind (named (codes "age") (decimal age.0.0)) fourth in
     let second = number_is (codes "now") name.0.1 now.0.1 now.0.0 now.1 ∙ behind (named (codes "now") (decimal now.0.0)) third in
     let first = name_is keys.0.1 name.0.1 name.0.0 name.1 ∙ behind (named (codes "name") name.0.0) second in
-    let roster = directory_is at keys.0.1 keys.0.0 keys.1 in
+    let roster = first_keys_are at first_keys.0.1 first_keys.0.0 first_keys.1 in
+    let rolled = rolls_are most_rolls first_keys.0.0 keys.0.0 first_keys.0.1 keys.0.1 first_keys.2 in
     let asking : Asking = record {
       logs = roster.logs;
       authorities = roster.authorities;
       quorum = roster.quorum;
+      rolls = rolled.rolls;
+      keys = keys.0.0;
       name = name.0.0;
       now = now.0.0;
       age = age.0.0;
       confirmation = confirmation.0.0;
     } in
-    let lines : at.ahead ≡ inquiry_lines asking = roster.lines ∙ ap (λ (l : List (List ℕ)). roster_lines roster.logs roster.authorities roster.quorum l) first in
-    let made : inquiry_of asking ≡ whole = ap (λ (keys : Directory). record { keys = keys; name = name.0.0; now = now.0.0; age = age.0.0; confirmation = confirmation.0.0 }) roster.is in
-    (asking, (lines, made ∙ ok_is whole inquiry end.2))
+    let learnt : IsLearnt asking = rw roster.is rolled.learns in
+    let behind_keys = rolled.lines ∙ ap (λ (l : List (List ℕ)). map roll_line rolled.rolls ++ l) first in
+    let lines : at.ahead ≡ inquiry_lines asking = roster.lines ∙ ap (λ (l : List (List ℕ)). roster_lines roster.logs roster.authorities roster.quorum l) behind_keys in
+    (asking, (learnt, (lines, ok_is whole inquiry end.2)))
 
 pub inquiry_alone : (input : List ℕ) (inquiry : Inquiry) → inquiry_at (start_of_lines input) ≡ Ok inquiry → IsWritten inquiry (lines_of input)
 inquiry_alone input inquiry h = inquiry_is (start_of_lines input) inquiry h

@@ -75,7 +75,7 @@ refused_line refusal = one_line (refusal_text refusal) 3
 
 -- the words are of no form: the usage line
 abbrev pub usage : Answer
-usage = one_line (codes "usage: arpki play | check | sig | make <number> [run]") 2
+usage = one_line (codes "usage: arpki play | check | sig | make <number> [run] | restart <log> <k> | audit | follow") 2
 
 -- the answer to what was read, or the first refused line alone
 abbrev pub unless_refused : {T : Type 0} → (T → Answer) → Result T Refusal → Answer

@@ -1,11 +1,12 @@
 -- What `check` is asked: an inquiry, and the lines that it is read from.
-use Rattle.std.specs.Prelude.{ℕ, zero, suc, List, [], ◌∷◌, codes, Option, Result, Ok}
+use Rattle.std.specs.Prelude.{ℕ, zero, suc, if◌then◌else◌, List, [], ◌∷◌, codes, Option, option_and_then, Result, Ok}
 use Rattle.lms_tree.specs.declared.public_key.LmsPublic.{LmsPublic}
 use Rattle.party_keys.specs.Directory.{Directory, directory_with, is_party_count, is_quorum}
 use Rattle.ar_lines.specs.Forms.{bytes_of_hex, key_of_hex, name_of, number_of, passing}
 use Rattle.ar_base.specs.Chaining.{◌>>=◌}
 use Rattle.ar_lines.specs.Readings.{LineCursor, LineReading, spelled}
-use Rattle.ar_lines.specs.Rows.{two_fields_at, no_row_at, value_at}
+use Rattle.arpki_play.specs.Notes.{learnt_from}
+use Rattle.ar_lines.specs.Rows.{is_next, two_fields_at, no_row_at, value_at}
 use Rattle.ar_lines.specs.declared.refusal.Refusal.{Refusal}
 
 -- the directory that a client trusts, the name that it asks for, its epoch, the age that it allows, and
@@ -52,13 +53,39 @@ keys_at (suc count) at = do
   Ok (key.0 ∷ others.0, others.1)
 
 -- the logs and their keys of generation 0, and the authorities and theirs
-unfoldable pub directory_at : LineCursor → LineReading Directory
-directory_at at = do
+unfoldable pub first_keys_at : LineCursor → LineReading Directory
+first_keys_at at = do
   logs ← logs_at at
   log_keys ← keys_at logs.0.0 logs.1
   authorities ← authorities_at log_keys.1
   authority_keys ← keys_at authorities.0 authorities.1
   Ok (directory_with log_keys.0 authority_keys.0 logs.0.1, authority_keys.1)
+
+-- ---- what the directory learns
+
+-- the directory that learnt from the RollNote that hex spells
+abbrev pub learnt_of_hex : Directory → List ℕ → Option Directory
+learnt_of_hex keys word = option_and_then (learnt_from keys) (bytes_of_hex word)
+
+-- `roll <hex of a RollNote>`: the directory that learnt it
+abbrev pub roll_at : Directory → LineCursor → LineReading Directory
+roll_at keys at = value_at (codes "roll") (learnt_of_hex keys) at
+
+-- at most so many such lines, in order; the first line that is none is left
+unfoldable pub rolls_at : ℕ → Directory → LineCursor → LineReading Directory
+rolls_at zero keys at = Ok (keys, at)
+rolls_at (suc more) keys at =
+    if is_next (codes "roll") at then (roll_at keys at >>= λ learnt. rolls_at more learnt.0 learnt.1) else Ok (keys, at)
+
+-- how many there may be
+abbrev pub most_rolls : ℕ
+most_rolls = 64
+
+-- the directory of these keys, and of what it learns
+unfoldable pub directory_at : LineCursor → LineReading Directory
+directory_at at = do
+  first ← first_keys_at at
+  rolls_at most_rolls first.0 first.1
 
 -- ---- the question
 

@@ -1,5 +1,6 @@
 pub mod Answers
 pub mod Inquiries
+pub mod Notes
 pub mod Program
 pub mod Questions
 pub mod Words

@@ -1,10 +1,11 @@
 ghost use Rattle.std.specs.Prelude.{◌≡◌, true, IfOk, length};
 ghost use Rattle.arpki_play.specs.Answers.{found, unless_refused};
-ghost use Rattle.arpki_play.specs.Inquiries.{authorities_at, confirmation_at, directory_at, inquiry_at, key_at, keys_at, logs_at, name_at, number_at, party_count_of, quorum_of};
+ghost use Rattle.arpki_play.specs.Inquiries.{authorities_at, confirmation_at, directory_at, first_keys_at, inquiry_at, key_at, keys_at, logs_at, name_at, number_at, party_count_of, quorum_of};
 ghost use Rattle.ar_lines.specs.Readings.{Follows, FollowsUnless, ReadsUnless, spelled, start_of_lines};
 ghost use Rattle.party_keys.specs.Directory.{is_party_count, is_quorum};
 
 use crate::judgements::tell;
+use crate::rolls::rolls;
 use crate::verdicts::refuse;
 use ar_lines::{LineFault, Lines, Refusal, Word};
 use ar_names::Name;
@@ -106,10 +107,10 @@ fn keys(alloc: Global, lines: &mut Lines, count: usize) -> Result<Vec<LmsPublic>
     Ok(keys)
 }
 
-/// The lines of the logs, of the authorities, and of their keys.
-#[tactic(auto, unfolding(crate::specs::Inquiries::directory_at))]
-fn directory(alloc: Global, lines: &mut Lines) -> Result<Directory, LineFault>
-    ensures { FollowsUnless (λ directory. directory) result lines.new (directory_at lines.old) }
+/// The lines of the logs, of the authorities, and of their keys of generation 0.
+#[tactic(auto, unfolding(crate::specs::Inquiries::first_keys_at))]
+fn first_keys(alloc: Global, lines: &mut Lines) -> Result<Directory, LineFault>
+    ensures { FollowsUnless (λ directory. directory) result lines.new (first_keys_at lines.old) }
 {
     let (count, quorum) = logs(lines)?;
     let logs = keys(alloc, lines, count)?;
@@ -120,6 +121,15 @@ fn directory(alloc: Global, lines: &mut Lines) -> Result<Directory, LineFault>
         // The counts were tested where they were read.
         Err(_) => unreachable!(),
     }
+}
+
+/// The lines of the logs, of the authorities, of their keys, and of what they announce.
+#[tactic(auto, unfolding(crate::specs::Inquiries::directory_at))]
+fn directory(alloc: Global, lines: &mut Lines) -> Result<Directory, LineFault>
+    ensures { FollowsUnless (λ directory. directory) result lines.new (directory_at lines.old) }
+{
+    let directory = first_keys(alloc, lines)?;
+    rolls(alloc, lines, directory)
 }
 
 /// `name <name>`

@@ -5,7 +5,7 @@ ghost use Rattle.arpki_play.specs.Inquiries.{Inquiry, inquiry_at};
 ghost use Rattle.ar_lines.specs.Lines.{lines_of};
 ghost use Rattle.ar_lines.specs.Readings.{start_of_lines};
 ghost use Rattle.arpki_play.specs.Questions.{Question, question_at};
-ghost use Rattle.arpki_play.specs.Written.{Asking, IsAsking, IsQuestion, inquiry_lines, inquiry_of, inquiry_text, question_lines, question_text};
+ghost use Rattle.arpki_play.specs.Written.{Asking, IsAsking, IsLearnt, IsQuestion, inquiry_lines, inquiry_of, inquiry_text, question_lines, question_text};
 
 /// A question that is written is read as just this question.
 pub fn a_question_is_read_as_it_is_written()
@@ -28,5 +28,5 @@ pub fn an_inquiry_is_read_as_it_is_written()
 /// An inquiry is read from the lines that write it, and from no others.
 pub fn only_written_inquiries_are_read()
     ensures { (input : List ℕ) (inquiry : Inquiry) → inquiry_at (start_of_lines input) ≡ Ok inquiry
-        → (asking : Asking) × ((lines_of input ≡ inquiry_lines asking) × (inquiry_of asking ≡ inquiry)) }
+        → (asking : Asking) × (IsLearnt asking × ((lines_of input ≡ inquiry_lines asking) × (inquiry_of asking ≡ inquiry))) }
 {}

@@ -11,8 +11,10 @@ mod command;
 mod inquiry;
 mod judgements;
 pub mod laws;
+mod note;
 mod program;
 mod question;
+mod rolls;
 #[cfg(test)]
 mod tests;
 mod verdicts;

@@ -13,7 +13,8 @@ use ar_run::{Fault, run, status, write_line};
 use std::alloc::Global;
 
 /// The usage line.
-const USAGE: &[u8] = b"usage: arpki play | check | sig | make <number> [run]\n";
+const USAGE: &[u8] =
+    b"usage: arpki play | check | sig | make <number> [run] | restart <log> <k> | audit | follow\n";
 
 /// The program `arpki`: it answers the words that follow its name, reads its input from `source` and
 /// writes its output to `sink`. It returns the exit status.
