@@ -1,5 +1,5 @@
 -- What is accepted in an epoch was accepted in each earlier one, back to that of the confirmation.
-use Rattle.std.proofs.Common.{◌≡◌, ℕ, ◌-◌, ◌≤◌, List, refl, arith}
+use Rattle.std.proofs.Common.{◌≡◌, ℕ, ◌-◌, ◌≤◌, List, subst, arith}
 use Rattle.ar_cert.specs.Certificate.{Certificate}
 use Rattle.ar_message.specs.Confirmation.{Body, present, absent, Confirmation}
 use Rattle.client_rule.specs.Meaning.{Asked, IsYoung, IsCurrent, HoldsAll, Passes, Accepts, AcceptsNone, earlier}
@@ -39,7 +39,7 @@ accepted_earlier asked bytes certificate digest epoch root now h begun le =
     let a = (accepted asked bytes certificate digest epoch root).0 h in
     (accepted (earlier asked now) bytes certificate digest epoch root).1 record {
       confirmation = a.confirmation;
-      passes = passes_earlier asked bytes a.confirmation now (rw a.epoch_is begun) le a.passes;
+      passes = passes_earlier asked bytes a.confirmation now (subst (λ (e : ℕ). e ≤ now) a.epoch_is begun) le a.passes;
       body = a.body;
       digest_is = a.digest_is;
       epoch_is = a.epoch_is;
@@ -53,7 +53,7 @@ absent_earlier asked bytes epoch root now h begun le =
     let a = (absence asked bytes epoch root).0 h in
     (absence (earlier asked now) bytes epoch root).1 record {
       confirmation = a.confirmation;
-      passes = passes_earlier asked bytes a.confirmation now (rw a.epoch_is begun) le a.passes;
+      passes = passes_earlier asked bytes a.confirmation now (subst (λ (e : ℕ). e ≤ now) a.epoch_is begun) le a.passes;
       bottom = a.bottom;
       epoch_is = a.epoch_is;
       root_is = a.root_is;
