@@ -26,7 +26,7 @@ use Rattle.epoch_log.proofs.Endings.{ending-none, ending-within, epochs-within}
 use Rattle.epoch_log.proofs.Lists.{find-nothing}
 use Rattle.ar_safety.specs.Hashed.{NoCollision, hashed}
 use Rattle.ar_safety.specs.Records.{AreHonest, Few, IsHonestLog, NoForgery, Records}
-use Rattle.ar_safety.specs.Safe.{Agree, Agreed, SameEnding}
+use Rattle.ar_safety.specs.Safe.{Agreed, SameEnding}
 use Rattle.ar_safety.proofs.Listed.{decided-listed, voted-listed}
 use Rattle.ar_safety.proofs.Votes.{backed-not-skipped, decided-backed, one-root}
 
@@ -100,9 +100,9 @@ base-extends r honest j is e (suc n) name =
 -- ---- agreed and decided tables
 
 -- a table that is sound, listed, and has the root
-record Fine (r : Records) (table : Table) : Type 0 where
-  sound : IsSound table
-  listed : Listed (hashed r) table
+pub record Fine (r : Records) (table : Table) : Type 0 where
+  pub sound : IsSound table
+  pub listed : Listed (hashed r) table
 
 one-of-root : (r : Records) → NoCollision r → (one other : Table) → Fine r one → Fine r other → root_of one ≡ root_of other → SameTable one other
 one-of-root r clean one other a b same = same_tables (hashed r) clean one other a.sound b.sound a.listed b.listed same
@@ -120,7 +120,7 @@ agreed-follows r honest e t a =
     let right : IsRightVote (r.logs a.log).seen (r.logs a.log).ended a.ballot = All-contains (IsRightVote (r.logs a.log).seen (r.logs a.log).ended) (r.logs a.log).voted a.ballot h.votes_rightly a.is_cast in
     follows (base_of (r.logs a.log).ended e) t e a.ballot.changes (omega (arith, range.1, h.ends_in_order.in_range)) a.leads right.leads.applies.are_changes (base-sound r honest a.log a.honest e)
 
-agreed-fine : (r : Records) → AreHonest r → (e : ℕ) (t : Table) (a : Agreed r e t) → Fine r t
+pub agreed-fine : (r : Records) → AreHonest r → (e : ℕ) (t : Table) (a : Agreed r e t) → Fine r t
 agreed-fine r honest e t a = record {
   sound = (agreed-follows r honest e t a).sound;
   listed = voted-listed r a.log a.honest a.ballot a.is_cast t (subst (λ n. apply (base_of (r.logs a.log).ended n) n a.ballot.changes ≡ Some t) (sym a.of_epoch) a.leads);
@@ -266,18 +266,3 @@ agreed-stays r honest few forged clean e f one other a b less name =
     let last = (agreed-follows r honest f other b).begins name in
     let whole = begins-on (chain_of (base_of (r.logs k).ended (suc e)) name) (chain_of (base_of (r.logs k).ended f) name) (chain_of other name) mid-f last in
     subst (λ c. Begins c (certificates other name)) (sym (same name).0) (certificates-begin (chain_of (base_of (r.logs k).ended (suc e)) name) (chain_of other name) whole)
-
--- ---- all of it
-
-pub agree : (r : Records) → AreHonest r → Few r → NoForgery r → NoCollision r → Agree r
-agree r honest few forged clean = record {
-  one_root = λ epoch one other. one-root r honest few epoch one other;
-  one_table = λ epoch one other. one-agreed r honest few clean epoch one other;
-  one_ending = λ j k is_j is_k epoch one other a b.
-      let within_j = ending-within (r.logs j).ended (honest.logs j is_j).ends_in_order epoch one a in
-      let within_k = ending-within (r.logs k).ended (honest.logs k is_k).ends_in_order epoch other b in (
-        same-ending r honest few forged j k is_j is_k epoch one other a b,
-        same-bases r honest few forged clean j k is_j is_k (epoch + 1) (omega (arith, within_j.1)) (omega (arith, within_k.1)),
-      );
-  stays = agreed-stays r honest few forged clean;
-}

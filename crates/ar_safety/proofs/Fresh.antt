@@ -1,11 +1,11 @@
 -- Logs that have done nothing yet meet the premises.
-use Rattle.std.proofs.Common.{◌≡◌, ℕ, zero, suc, ◌<◌, List, [], refl, ap, arith}
+use Rattle.std.proofs.Common.{◌≡◌, ℕ, zero, suc, ◌<◌, List, [], ◌++◌, refl, ap, arith}
 use Rattle.std.specs.Prelude.{flat_map}
 use Rattle.ar_base.specs.Apart.{none_collide}
 use Rattle.domain_table.specs.Tables.{Table}
 use Rattle.domain_table.specs.Tree.{table_strings}
 use Rattle.epoch_log.specs.Council.{Council}
-use Rattle.epoch_log.proofs.Called.{kept-fresh}
+use Rattle.epoch_log.proofs.Called.{empty-book, kept-fresh}
 use Rattle.ar_safety.specs.Hashed.{NoCollision, tables_below}
 use Rattle.ar_safety.specs.Records.{AreHonest, AreQuorums, Few, NoForgery, fresh_records}
 
@@ -13,6 +13,8 @@ pub fresh-honest : (council : Council) (leaves : ℕ) → AreQuorums council →
 fresh-honest council leaves quorums some = record {
   quorums = quorums;
   logs = λ log is. (kept-fresh log council leaves (omega (arith, is.known, quorums.few)) some).honest;
+  authorities = λ authority is. record { sound = empty-book leaves some; told = λ k d less. absurd (omega (arith, less)); sees_members = λ k d less. absurd (omega (arith, less)) };
+  judged = λ k d less. absurd (omega (arith, less));
 }
 
 no-tables : (council : Council) (leaves n : ℕ) → tables_below (fresh_records council leaves) n ≡ []
@@ -23,6 +25,10 @@ no-tables council leaves (suc n) = no-tables council leaves n
 pub fresh-premises : (council : Council) (leaves : ℕ) → Few (fresh_records council leaves) × NoForgery (fresh_records council leaves) × NoCollision (fresh_records council leaves)
 fresh-premises council leaves = (
   omega arith,
-  λ log is other text good there. absurd (omega (arith, there.1)),
-  ap (λ (l : List Table). none_collide (flat_map table_strings l)) (no-tables council leaves council.logs),
+  record {
+    logs = λ log is party text good there. absurd (omega (arith, there.1));
+    authorities = λ authority is party text good there. absurd (omega (arith, there.1));
+    judged = λ k d less. absurd (omega (arith, less));
+  },
+  ap (λ (l : List Table). none_collide (flat_map table_strings l ++ [])) (no-tables council leaves council.logs),
 )

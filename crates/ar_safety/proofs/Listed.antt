@@ -19,7 +19,7 @@ use Rattle.epoch_log.specs.declared.entries.How.{How}
 use Rattle.epoch_log.specs.declared.entries.How.TheVariants.{Decided}
 use Rattle.epoch_log.specs.declared.entries.Voted.{Voted}
 use Rattle.epoch_log.proofs.Lists.{find-some}
-use Rattle.ar_safety.specs.Hashed.{ended_table, hashed, listed_tables, log_tables, table_list, tables_below, voted_table}
+use Rattle.ar_safety.specs.Hashed.{ended_table, hashed, judged_strings, listed_tables, log_tables, table_list, tables_below, voted_table}
 use Rattle.ar_safety.specs.Records.{IsHonestLog, Records, is_dishonest}
 
 -- what one element of a list gives is among what all give
@@ -56,7 +56,7 @@ below r (suc n) log less good t there = elim (cases_eq log n) [
 
 pub log-listed : (r : Records) (log : ℕ) → IsHonestLog r log → (t : Table) → Contains (log_tables (r.logs log)) t → Listed (hashed r) t
 log-listed r log is t there =
-    listed (hashed r) t (λ x within. in-strings (listed_tables r) t x (below r r.council.logs log is.known is.honest t there) within)
+    listed (hashed r) t (λ x within. in_front (flat_map table_strings (listed_tables r)) (flat_map judged_strings r.judged) x (in-strings (listed_tables r) t x (below r r.council.logs log is.known is.honest t there) within))
 
 one-table : (o : Option Table) (t : Table) → o ≡ Some t → Contains (table_list o) t
 one-table None t is = absurd cc

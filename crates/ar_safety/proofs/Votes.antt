@@ -147,7 +147,7 @@ votes-back r honest seen signed n less value are saw =
     by log below one false good =
         let is : IsHonestLog r log = record { known = below; honest = good } in
         let valid = valid-vote log n value (small r honest log below) less are in
-        let there = signed log (text_of (vote_claim log (n + 1) value)) is one in
+        let there = signed (log_party log) (text_of (vote_claim log (n + 1) value)) is one in
         inr (is, (value.base, (votes-signed r.council log (r.logs log) (n + 1) value (honest.logs log is) valid).0 there))
 
 root-digest : (table : Table) → IsDigest (root_of table)
@@ -168,7 +168,7 @@ decided-backed r honest forged j is epoch changes to ended =
     let are : IsValue value = record { base = root-digest (base_of (r.logs j).ended epoch); root = subst IsDigest right.leads.applies.is_root (root-digest right.leads.applies.table) } in
     let n = before epoch within.0 in
     subst (λ e. Backed r e to) (sym n.1)
-    (votes-back r honest (r.logs j).seen (forged j is) n.0 (omega (arith, n.1, within.1, h.ends_in_order.in_range)) value are (subst (λ e. SawVotes r.council (r.logs j).seen e value) n.1 right.votes))
+    (votes-back r honest (r.logs j).seen (forged.logs j is) n.0 (omega (arith, n.1, within.1, h.ends_in_order.in_range)) value are (subst (λ e. SawVotes r.council (r.logs j).seen e value) n.1 right.votes))
 
 -- where a root is backed, no honest log skipped the epoch
 pub backed-not-skipped : (r : Records) → AreHonest r → Few r → NoForgery r → (j : ℕ) → IsHonestLog r j → (epoch : ℕ) (to : List ℕ) (statuses : List Status)
@@ -193,7 +193,7 @@ backed-not-skipped r honest few forged j is epoch to statuses backed ended =
         let s : Status = get_or statuses k d in
         let saw : Saw (r.logs j).seen (log_party s.0) (status_claim s.0 epoch s.1) = right.are_seen.saw k d less in
         let here : Saw (r.logs j).seen (log_party log) (status_claim log epoch s.1) = subst (λ l. Saw (r.logs j).seen (log_party l) (status_claim l epoch s.1)) same saw in
-        let there = forged j is log (text_of (status_claim log epoch s.1)) good here in
+        let there = forged.logs j is (log_party log) (text_of (status_claim log epoch s.1)) good here in
         let value = right.are_seen.values k d less in
         let valid : IsValid (status_claim log epoch s.1) =
         subst (λ e. IsValid (status_claim log e s.1)) (sym n.1) (valid-status log n.0 s.1 (small r honest log good.known) (omega (arith, n.1, within.1, h.ends_in_order.in_range)) value) in

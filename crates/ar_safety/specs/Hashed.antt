@@ -1,16 +1,22 @@
--- The tables that honest logs voted for or decided, and the strings that are hashed for them.
+-- The tables that honest logs voted for or decided, and the strings that are hashed for them and by clients.
 use Rattle.std.specs.Prelude.{ℕ, zero, suc, if◌then◌else◌, List, [], ◌∷◌, ◌++◌, flat_map, Option, Some, None, IsTrue}
 use Rattle.ar_base.specs.Apart.{none_collide}
 use Rattle.party_keys.specs.Seen.{log_party}
 use Rattle.domain_table.specs.Applying.{apply}
 use Rattle.domain_table.specs.Tables.{Table}
-use Rattle.domain_table.specs.Tree.{table_strings}
+use Rattle.ar_names.specs.Names.{name_digest_of}
+use Rattle.ar_cert.specs.Certificate.{digest_of}
+use Rattle.ar_message.specs.Confirmation.{Body, present, absent}
+use Rattle.hash_tree.specs.Strings.{entry_string, value_digest, value_string}
+use Rattle.tree_proof.specs.Fold.{digests_in}
+use Rattle.tree_proof.specs.Membership.{bottom_string, path_strings}
+use Rattle.domain_table.specs.Tree.{certificate_string, table_strings}
 use Rattle.epoch_log.specs.Record.{LogRecord, base_of}
 use Rattle.epoch_log.specs.declared.entries.Ended.{Ended}
 use Rattle.epoch_log.specs.declared.entries.How.{How}
 use Rattle.epoch_log.specs.declared.entries.How.TheVariants.{Decided, Skipped}
 use Rattle.epoch_log.specs.declared.entries.Voted.{Voted}
-use Rattle.ar_safety.specs.Records.{Records, is_dishonest}
+use Rattle.ar_safety.specs.Records.{Judged, Records, is_dishonest}
 
 abbrev pub table_list : Option Table → List Table
 table_list None = []
@@ -40,9 +46,22 @@ tables_below r (suc log) = (if is_dishonest r (log_party log) then [] else log_t
 abbrev pub listed_tables : Records → List Table
 listed_tables r = tables_below r r.council.logs
 
--- all strings that are hashed for them
+-- the strings that a client hashes for what it accepted: the name's key, the certificate and its value, and the path
+abbrev pub body_strings : List ℕ → List ℕ → Body → List (List ℕ)
+body_strings key steps (present certificate) =
+    value_string certificate.serial (digest_of certificate)
+    ∷ (certificate_string certificate
+    ∷ path_strings key (entry_string key (value_digest certificate.serial (digest_of certificate))) (digests_in steps))
+body_strings key steps (absent bottom) = path_strings key (bottom_string bottom) (digests_in steps)
+
+abbrev pub judged_strings : Judged → List (List ℕ)
+judged_strings j =
+    (0x11 ∷ j.confirmation.about.name)
+    ∷ body_strings (name_digest_of j.confirmation.about.name) j.confirmation.steps j.confirmation.body
+
+-- all strings that are hashed for the tables, and by clients
 abbrev pub hashed : Records → List (List ℕ)
-hashed r = flat_map table_strings (listed_tables r)
+hashed r = flat_map table_strings (listed_tables r) ++ flat_map judged_strings r.judged
 
 -- 3. No two of these strings collide.
 abbrev pub NoCollision : Records → Type 0

@@ -1,42 +1,71 @@
--- The records of a run: who is dishonest, and what each honest log remembers; and the premises on them.
-use Rattle.std.specs.Prelude.{◌≡◌, ℕ, ◌+◌, ◌*◌, ◌<◌, ◌≤◌, Bool, false, List, [], length, Contains}
+-- The records of a run: who is dishonest, what each honest log and authority remembers, and what clients accepted; and the
+-- premises on them.
+use Rattle.std.specs.Prelude.{◌≡◌, ℕ, ◌+◌, ◌*◌, ◌<◌, ◌≤◌, Bool, false, List, [], ◌∷◌, length, All, Contains}
 use Rattle.std.specs.List.{list_any}
+use Rattle.ar_base.specs.Bytes.{AreBytes}
+use Rattle.ar_statement.specs.declared.party.Role.{Role}
+use Rattle.ar_statement.specs.declared.party.Role.TheVariants.{LogServer, Authority, Owner, Client}
 use Rattle.ar_statement.specs.declared.party.Party.{Party}
 use Rattle.ar_statement.specs.declared.text.SeenText.{SeenText}
 use Rattle.ar_statement.specs.Claims.{is_party}
 use Rattle.key_roll.specs.Book.{texts_of}
-use Rattle.party_keys.specs.Seen.{log_party}
-use Rattle.epoch_log.specs.Calls.{fresh}
-use Rattle.epoch_log.specs.Council.{Council}
+use Rattle.party_keys.specs.Seen.{authority_party, log_party}
+use Rattle.ar_message.specs.Confirmation.{Confirmation}
+use Rattle.client_rule.specs.Meaning.{Asked, Passes}
+use Rattle.client_rule.specs.Rule.{claim_on}
+use Rattle.epoch_log.specs.Calls.{fresh, seen_of}
+use Rattle.epoch_log.specs.Council.{Council, IsMember, council_of}
 use Rattle.epoch_log.specs.Honest.{HonestLog}
 use Rattle.epoch_log.specs.Record.{LogRecord}
+use Rattle.authority_core.specs.Honest.{HonestAuthority}
+use Rattle.authority_core.specs.Record.{AuthorityRecord}
 
--- The council, the dishonest parties, and the record of each log by its number. What stands at a dishonest number is
--- never read.
+-- what a client asked, the bytes that it accepted, and the confirmation that they are
+pub record Judged : Type 0 where
+  pub asked : Asked
+  pub bytes : List ℕ
+  pub confirmation : Confirmation
+
+-- The council, the dishonest parties, the record of each log and of each authority by its number, and what clients
+-- accepted. What stands at a dishonest number is never read.
 pub record Records : Type 0 where
   pub council : Council
   pub dishonest : List Party
   pub logs : ℕ → LogRecord
+  pub authorities : ℕ → AuthorityRecord
+  pub judged : List Judged
 
 abbrev pub is_dishonest : Records → Party → Bool
 is_dishonest r party = list_any (is_party party) r.dishonest
 
--- a log of the council that is not among the dishonest parties
-pub record IsHonestLog (r : Records) (log : ℕ) : Type 0 where
-  pub known : log < r.council.logs
-  pub honest : is_dishonest r (log_party log) ≡ false
+-- a log or authority of the council that is not among the dishonest parties
+pub record IsHonest (r : Records) (party : Party) : Type 0 where
+  pub known : IsMember r.council party
+  pub honest : is_dishonest r party ≡ false
+
+abbrev pub IsHonestLog : Records → ℕ → Type 0
+IsHonestLog r log = IsHonest r (log_party log)
 
 -- ---- what every run meets
 
--- two quorums share more than two logs, and there are few logs
+-- two quorums share more than two logs, and there are few logs and authorities
 pub record AreQuorums (council : Council) : Type 0 where
   pub wide : council.logs + 2 < 2 * council.quorum
   pub few : council.logs ≤ 16
+  pub few_authorities : council.authorities ≤ 16
 
--- the record of each honest log is one
+-- a client accepted the bytes, under a directory of the council
+pub record IsJudged (council : Council) (j : Judged) : Type 0 where
+  pub bytes : AreBytes j.bytes
+  pub passes : Passes j.asked j.bytes j.confirmation
+  pub same_council : council_of j.asked.keys ≡ council
+
+-- each record of an honest party is one, and each acceptance too
 pub record AreHonest (r : Records) : Type 0 where
   pub quorums : AreQuorums r.council
   pub logs : (log : ℕ) → IsHonestLog r log → HonestLog r.council log (r.logs log)
+  pub authorities : (authority : ℕ) → IsHonest r (authority_party authority) → HonestAuthority r.council authority (r.authorities authority)
+  pub judged : All (IsJudged r.council) r.judged
 
 -- ---- the premises
 
@@ -44,17 +73,47 @@ pub record AreHonest (r : Records) : Type 0 where
 abbrev pub Few : Records → Type 0
 Few r = length r.dishonest ≤ 2
 
--- of each honest log whose statement was seen, the statement stands in its book
+-- what a party signed, by its own book
+abbrev pub signed_in : Records → Role → ℕ → List (List ℕ)
+signed_in r LogServer number = texts_of (r.logs number).signed
+signed_in r Authority number = texts_of (r.authorities number).signed
+signed_in r Owner number = []
+signed_in r Client number = []
+
+abbrev pub signed_by : Records → Party → List (List ℕ)
+signed_by r party = signed_in r party.role party.number
+
+-- of each honest party whose statement was seen, the statement stands in its book
 abbrev pub AreSigned : Records → List SeenText → Type 0
 AreSigned r seen =
-    (log : ℕ) (text : List ℕ) → IsHonestLog r log → Contains seen (record { party = log_party log; text = text }) → Contains (texts_of (r.logs log).signed) text
+    (party : Party) (text : List ℕ) → IsHonest r party → Contains seen (record { party = party; text = text }) → Contains (signed_by r party) text
 
--- 2. What an honest log saw of an honest log, that one signed: no signature was forged.
-abbrev pub NoForgery : Records → Type 0
-NoForgery r = (log : ℕ) → IsHonestLog r log → AreSigned r (r.logs log).seen
+-- the statements that a confirmation carries: of the log, and of the two authorities
+abbrev pub carried_by : Confirmation → Party → SeenText
+carried_by c party = seen_of party (claim_on c.about c.body party)
+
+abbrev pub carried : Confirmation → List SeenText
+carried c =
+    carried_by c (log_party c.log.number)
+    ∷ (carried_by c (authority_party c.first.number)
+    ∷ (carried_by c (authority_party c.second.number)
+    ∷ []))
+
+-- 2. What an honest log or authority saw of an honest party, or a client accepted, that party signed: no signature was
+-- forged.
+pub record NoForgery (r : Records) : Type 0 where
+  pub logs : (log : ℕ) → IsHonestLog r log → AreSigned r (r.logs log).seen
+  pub authorities : (authority : ℕ) → IsHonest r (authority_party authority) → AreSigned r (r.authorities authority).seen
+  pub judged : All (λ j. AreSigned r (carried j.confirmation)) r.judged
 
 -- ---- the beginning
 
--- no party is dishonest, and each log has done nothing yet
+-- no party is dishonest, each log and authority has done nothing yet, and no client accepted anything
 abbrev pub fresh_records : Council → ℕ → Records
-fresh_records council leaves = record { council = council; dishonest = []; logs = λ log. (fresh log council leaves).past }
+fresh_records council leaves = record {
+  council = council;
+  dishonest = [];
+  logs = λ log. (fresh log council leaves).past;
+  authorities = λ authority. record { seen = []; signed = record { leaves = leaves; newest = 0; list = [] }; asked = []; kept = [] };
+  judged = [];
+}

@@ -1,16 +1,27 @@
--- What honest logs agree on: the root and the table of an epoch, how it ended, and that chains only grow.
-use Rattle.std.specs.Prelude.{◌≡◌, ℕ, ◌+◌, ◌<◌, ◌⊎◌, true, List, Contains, Some}
+-- What honest parties agree on: the root and the table of an epoch, how it ended, that chains only grow, and what is
+-- confirmed; and that what clients accepted stands in the table that is agreed.
+use Rattle.std.specs.Prelude.{◌≡◌, ℕ, ◌+◌, ◌-◌, ◌<◌, ◌≤◌, ◌⊎◌, true, List, Contains, Option, Some, None}
+use Rattle.std.specs.FinMap.{get}
+use Rattle.ar_cert.specs.Certificate.{Certificate}
+use Rattle.ar_cert.specs.Changes.{Change}
+use Rattle.ar_cert.specs.Judging.{IsChain}
+use Rattle.ar_message.specs.Confirmation.{present, absent}
+use Rattle.client_rule.specs.Meaning.{IsCurrent, IsLive, IsYoung}
+use Rattle.ar_statement.specs.declared.party.Party.{Party}
+use Rattle.ar_statement.specs.Claims.{Claim, confirm, confirm_absent, text_of}
+use Rattle.ar_statement.specs.Ranges.{IsValid}
+use Rattle.tree_proof.specs.declared.path.Bottom.{Bottom}
 use Rattle.party_keys.specs.Seen.{log_party}
 use Rattle.vote_quorum.specs.Counted.{AtLeast}
 use Rattle.domain_table.specs.Applying.{apply}
-use Rattle.domain_table.specs.Tables.{Begins, SameTable, Table, certificates}
+use Rattle.domain_table.specs.Tables.{Begins, SameTable, Table, certificates, newest}
 use Rattle.domain_table.specs.Tree.{root_of}
 use Rattle.epoch_log.specs.Record.{base_of, ending}
 use Rattle.epoch_log.specs.Told.{HasVoted}
 use Rattle.epoch_log.specs.declared.entries.How.{How}
 use Rattle.epoch_log.specs.declared.entries.How.TheVariants.{Decided, Skipped}
 use Rattle.epoch_log.specs.declared.entries.Voted.{Voted}
-use Rattle.ar_safety.specs.Records.{IsHonestLog, Records, is_dishonest}
+use Rattle.ar_safety.specs.Records.{IsHonest, IsHonestLog, Judged, Records, is_dishonest, signed_by}
 
 -- a log backs a root in an epoch: it is dishonest, or it voted for the root
 abbrev pub Backs : Records → ℕ → List ℕ → ℕ → Type 0
@@ -39,8 +50,45 @@ SameEnding (Decided changes to) (Decided others root) = to ≡ root
 SameEnding (Skipped statuses) (Decided others root) = ⊥
 SameEnding (Decided changes to) (Skipped statuses) = ⊥
 
--- What honest logs agree on.
-pub record Agree (r : Records) : Type 0 where
+-- the statement by which a party confirms what a name has, or that it has none
+abbrev pub confirmation_by : Party → ℕ → List ℕ → Option (List ℕ) → List ℕ → Claim
+confirmation_by party epoch name None root = confirm_absent party epoch name root
+confirmation_by party epoch name (Some certificate) root = confirm party epoch name certificate root
+
+-- a party confirmed something of an epoch under the root
+pub record Confirms (r : Records) (party : Party) (epoch : ℕ) (to : List ℕ) : Type 0 where
+  pub name : List ℕ
+  pub certificate : Option (List ℕ)
+  pub valid : IsValid (confirmation_by party epoch name certificate to)
+  pub signed : Contains (signed_by r party) (text_of (confirmation_by party epoch name certificate to))
+
+-- in the table that is agreed in the epoch, with this root, the name has a chain whose newest certificate is this one
+pub record HasNewest (r : Records) (name : List ℕ) (epoch : ℕ) (to : List ℕ) (certificate : Certificate) : Type 0 where
+  pub table : Table
+  pub agreed : Agreed r epoch table
+  pub is_root : root_of table ≡ to
+  pub chain : List Change
+  pub there : get table.chains name ≡ Some chain
+  pub is_chain : IsChain chain
+  pub last : newest chain ≡ Some certificate
+
+-- in the table that is agreed in the epoch, with this root, the name has none
+pub record HasNone (r : Records) (name : List ℕ) (epoch : ℕ) (to : List ℕ) : Type 0 where
+  pub table : Table
+  pub agreed : Agreed r epoch table
+  pub is_root : root_of table ≡ to
+  pub none : get table.chains name ≡ None
+
+-- what a client accepted is not of a later epoch than it asks for, not older than it and the certificate allow, and
+-- neither revoked nor expired
+pub record IsTimely (j : Judged) : Type 0 where
+  pub not_later : j.confirmation.about.epoch ≤ j.asked.epoch
+  pub young : IsYoung (j.asked.epoch - j.confirmation.about.epoch) j.asked.age j.confirmation.body
+  pub live : IsLive j.confirmation.body
+  pub current : IsCurrent j.asked.epoch j.confirmation.body
+
+-- What honest parties agree on, and what clients accepted.
+pub record Safe (r : Records) : Type 0 where
   -- one root alone is backed in an epoch
   pub one_root : (epoch : ℕ) (one other : List ℕ) → Backed r epoch one → Backed r epoch other → one ≡ other
   -- one table alone is agreed in an epoch
@@ -52,3 +100,13 @@ pub record Agree (r : Records) : Type 0 where
   -- of two agreed tables the chains of the later begin with those of the earlier
   pub stays : (epoch later : ℕ) (one other : Table) → Agreed r epoch one → Agreed r later other → epoch < later → (name : List ℕ)
       → Begins (certificates one name) (certificates other name)
+  -- what two honest parties confirm of one epoch is under one root
+  pub one_confirmed : (p q : Party) → IsHonest r p → IsHonest r q → (epoch : ℕ) (one other : List ℕ) → Confirms r p epoch one → Confirms r q epoch other → one ≡ other
+  -- a certificate that a client accepted is the newest of its name's chain in the table that is agreed
+  pub accepted : (j : Judged) (certificate : Certificate) → Contains r.judged j → j.confirmation.body ≡ present certificate
+      → HasNewest r j.asked.name j.confirmation.about.epoch j.confirmation.about.root certificate
+  -- where a client accepted that a name has none, it has none in the table that is agreed
+  pub absence : (j : Judged) (bottom : Bottom) → Contains r.judged j → j.confirmation.body ≡ absent bottom
+      → HasNone r j.asked.name j.confirmation.about.epoch j.confirmation.about.root
+  -- and what a client accepted is timely
+  pub timely : (j : Judged) → Contains r.judged j → IsTimely j

@@ -4,14 +4,16 @@ ghost use Rattle.party_keys.specs.Directory.{Directory, IsDirectory};
 ghost use Rattle.epoch_log.specs.Council.{Council, council_of};
 ghost use Rattle.ar_safety.specs.Hashed.{NoCollision};
 ghost use Rattle.ar_safety.specs.Records.{AreHonest, AreQuorums, Few, NoForgery, Records, fresh_records};
-ghost use Rattle.ar_safety.specs.Safe.{Agree};
+ghost use Rattle.ar_safety.specs.Safe.{Safe};
 
-/// With at most two dishonest parties, and where no signature of an honest log was forged and no two of the listed
-/// strings collide, honest logs agree, whatever messages came: one root alone is backed in an epoch and one table alone
-/// agreed; where two of them ended an epoch, they ended it alike and begin the next with equal tables; and the chains of
-/// an agreed table begin those of each later one.
-pub fn honest_logs_agree()
-    ensures { (r : Records) → AreHonest r → Few r → NoForgery r → NoCollision r → Agree r }
+/// With at most two dishonest logs and authorities, and where no signature of an honest one was forged and no two of the
+/// listed strings collide, whatever messages came: one root alone is backed in an epoch and one table alone agreed; where
+/// two honest logs ended an epoch, they ended it alike and begin the next with equal tables; the chains of an agreed table
+/// begin those of each later one; what honest parties confirm of an epoch is under one root; and what a client accepted
+/// is, within its ages, the newest certificate of the name's one chain in the table that is agreed, or that it has none
+/// there.
+pub fn records_are_safe()
+    ensures { (r : Records) → AreHonest r → Few r → NoForgery r → NoCollision r → Safe r }
 {}
 
 /// The sizes of a directory are such that two quorums share more than two logs.

@@ -220,7 +220,7 @@ kept-learn s party generation key kept member =
 
 -- ---- the beginning
 
-empty-book : (leaves : ℕ) → 0 < leaves → IsRollBook (record { leaves = leaves; newest = 0; list = [] })
+pub empty-book : (leaves : ℕ) → 0 < leaves → IsRollBook (record { leaves = leaves; newest = 0; list = [] })
 empty-book leaves some = record {
   once = λ i j d before within. absurd (omega (arith, within));
   upto = All-nil (λ (s : Signed). s.generation ≤ 0);

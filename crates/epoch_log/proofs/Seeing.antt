@@ -32,7 +32,7 @@ one_role Client Authority e = absurd cc
 one_role Client Owner e = absurd cc
 one_role Client Client e = refl
 
-one_party : (p r : Party) → is_party p r ≡ true → p ≡ r
+pub one_party : (p r : Party) → is_party p r ≡ true → p ≡ r
 one_party p r e =
     let two = both (eqb (role_number p.role) (role_number r.role)) (eqb p.number r.number) e in
     let role : p.role ≡ r.role = one_role p.role r.role (eqb-true (role_number p.role) (role_number r.role) two.0) in
