@@ -40,9 +40,10 @@ pub(crate) enum ConsentView<'a> {
     Objection(&'a [u8]),
 }
 
-/// A change that is read in place.
+/// A change that is read in place: its certificate and its signatures are borrowed from the bytes that it
+/// was read from.
 #[derive(Debug, Drop)]
-pub(crate) struct ChangeView<'a> {
+pub struct ChangeView<'a> {
     cert: CertView<'a>,
     endorsements: EndorsementsView<'a>,
     consent: ConsentView<'a>,
@@ -163,9 +164,10 @@ impl<'a> ChangeView<'a> {
     ghost use Rattle.ar_bytes.specs.Reading.{Tells};
     ghost use Rattle.ar_cert.specs.Changes.{change_at};
 
-    /// The change that stands next, or the place in the whole input of the field that fails.
+    /// The change that stands next, or the place in the whole input of the field that fails. After a
+    /// fault the reader is of no further use.
     #[tactic(auto, unfolding(crate::specs::Changes::change_at))]
-    pub(crate) fn take(fields: &mut Fields<'a>) -> Result<ChangeView<'a>, usize>
+    pub fn take(fields: &mut Fields<'a>) -> Result<ChangeView<'a>, usize>
         ensures { Tells (λ view. view) result fields.new (change_at fields.old) }
     {
         are_bytes(fields.left());
@@ -179,8 +181,8 @@ impl<'a> ChangeView<'a> {
         })
     }
 
-    /// The change as a value of its own.
-    pub(crate) fn to_change(&self, alloc: Global) -> Result<Change, AllocError>
+    /// The change as a value of its own. The one error is want of memory.
+    pub fn to_change(&self, alloc: Global) -> Result<Change, AllocError>
         ensures { IfOk result (λ change. change ≡ self.now) }
     {
         let cert = self.cert.to_cert(alloc)?;

@@ -25,6 +25,7 @@ mod writing;
 
 pub use cert::{Cert, Policy};
 pub use change::{Change, Endorsement};
+pub use change_view::ChangeView;
 pub use fault::CertFault;
 pub use judging::{chain_ok, judge_change, judge_update};
 pub use view::CertView;

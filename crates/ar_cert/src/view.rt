@@ -269,8 +269,8 @@ impl<'a> CertView<'a> {
         hasher.finalize()
     }
 
-    /// The certificate as a value of its own.
-    pub(crate) fn to_cert(&self, alloc: Global) -> Result<Cert, AllocError>
+    /// The certificate as a value of its own. The one error is want of memory.
+    pub fn to_cert(&self, alloc: Global) -> Result<Cert, AllocError>
         ensures { IfOk result (λ cert. cert ≡ self.now) }
     {
         let fields = &self.fields;

@@ -251,6 +251,23 @@ fn append_consents(
     append_consent(out, handover, objection);
 }
 
+impl Cert {
+    /// Appends the text behind the number of its bytes. The one error is want of memory: it leaves the
+    /// bytes of `out` as they were, and does not come where `out` has room for both.
+    pub fn write_counted(&self, _alloc: Global, out: &mut Vec<u8>) -> Result<(), AllocError>
+        ensures ok { OnOk result (out.new.items ≡ out.old.items ++ counted_text (certificate_text self.now)) }
+        ensures err { OnErr result (out.new.items ≡ out.old.items) }
+        ensures room { vec_len out.old + (2 + length (certificate_text self.now)) ≤ vec_capacity out.old → IsOk result }
+        ensures capacity { vec_capacity out.old ≤ vec_capacity out.new }
+    {
+        let mut text = [0; TEXT_LEN];
+        let len = self.put(&mut text);
+        out.reserve(2 + len)?;
+        append_counted(out, &text[..len]);
+        Ok(())
+    }
+}
+
 impl Change {
     /// How many bytes the text has, where its certificate's has so many.
     #[tactic(auto, using(crate::proofs::Lengths::change_lengths))]

@@ -19,18 +19,16 @@ use Rattle.ar_cert.specs.Certificate.{IsCertificate, certificate_text, counted_c
 use Rattle.ar_cert.proofs.CertificateLaws.{split, next, counted_certificate_again, counted_certificate_pass}
 use Rattle.tree_proof.specs.declared.path.Bottom.{Bottom}
 use Rattle.tree_proof.specs.declared.path.Bottom.TheVariants.{Empty, Other}
-use Rattle.ar_message.specs.Confirmation.{Subject, Body, present, absent, Signed, Confirmation, form_at, subject_at, entry_at, bottom_at, body_at, steps_at, path_at, signed_at, signers_at, confirmation_at, is_present, form_text, subject_text, bottom_text, body_text, path_text, signed_text, signers_text, confirmation_text, IsSubject, IsBottom, IsBody, AreSteps, IsSigned, IsConfirmation}
+use Rattle.ar_message.specs.Confirmation.{Subject, Body, present, absent, Signed, Confirmation, form_at, subject_at, entry_at, bottom_at, body_at, steps_at, path_at, signed_at, signers_at, confirmation_fields_at, confirmation_at, is_present, form_text, subject_text, bottom_text, body_text, path_text, signed_text, signers_text, confirmation_fields_text, confirmation_text, IsSubject, IsBottom, IsBody, AreSteps, IsSigned, IsConfirmation}
 
 -- ---- the form
 
-form_again : (b : Bool) → ReadsBack form_at b (form_text b)
+pub form_again : (b : Bool) → ReadsBack form_at b (form_text b)
 unfolding form_at
 form_again true at new p =
-    let kind = split at new (number_text w8 12) (number_text w8 1) p in
-    rw (byte_again 12 (omega arith) at kind.0 kind.1, such_that_again (λ n. leb 1 n && leb n 2) (number_at w8) 1 (number_text w8 1) (number_again w8 (2 ^ 8) wide8 1 (omega arith)) refl kind.0 new kind.2) refl
+    rw (such_that_again (λ n. leb 1 n && leb n 2) (number_at w8) 1 (number_text w8 1) (number_again w8 (2 ^ 8) wide8 1 (omega arith)) refl at new p) refl
 form_again false at new p =
-    let kind = split at new (number_text w8 12) (number_text w8 2) p in
-    rw (byte_again 12 (omega arith) at kind.0 kind.1, such_that_again (λ n. leb 1 n && leb n 2) (number_at w8) 2 (number_text w8 2) (number_again w8 (2 ^ 8) wide8 2 (omega arith)) refl kind.0 new kind.2) refl
+    rw (such_that_again (λ n. leb 1 n && leb n 2) (number_at w8) 2 (number_text w8 2) (number_again w8 (2 ^ 8) wide8 2 (omega arith)) refl at new p) refl
 
 both : (x y : Bool) → (x && y) ≡ true → (x ≡ true) × (y ≡ true)
 both true y e = (refl, e)
@@ -42,19 +40,16 @@ form_number (suc zero) e = refl
 form_number (suc (suc zero)) e = refl
 form_number (suc (suc (suc n))) e = absurd (omega (arith, leb-true (suc (suc (suc n))) 2 (both (leb 1 (suc (suc (suc n)))) (leb (suc (suc (suc n))) 2) e).1))
 
-form_pass : IsSpelledBy form_at form_text (λ _. Unit {0})
+pub form_pass : IsSpelledBy form_at form_text (λ _. Unit {0})
 unfolding form_at
 form_pass at new b bytes e =
-    let kind = next (byte_at 12) (number_text w8) (λ n. n ≡ 12) (byte_pass 12) _ at (b, new) bytes e in
-    let n = next (such_that (λ n. leb 1 n && leb n 2) (number_at w8)) (number_text w8) (λ n. (n < 2 ^ 8) × ((leb 1 n && leb n 2) ≡ true)) (such_that_pass (λ n. leb 1 n && leb n 2) (number_at w8) (number_text w8) (λ n. n < 2 ^ 8) (number_pass w8 (2 ^ 8) wide8)) (λ n. Ok (eqb n.0 1, n.1)) kind.1 (b, new) kind.4 kind.5 in
-    let twelve = subst (λ (k : ℕ). Passes at (number_text w8 k) kind.1) kind.3 kind.2 in
-    let form = subst (λ (t : List ℕ). Passes kind.1 t n.1) (form_number n.0 n.3.1) n.2 in
-    let p = Passes-then at kind.1 n.1 (number_text w8 12) (number_text w8 (cond (eqb n.0 1) 1 2)) twelve form in
-    subst (λ (x : Bool × Cursor). Passes at (form_text x.0) x.1 × Unit {0}) (ok_is (eqb n.0 1, n.1) (b, new) n.5) (p, tt)
+    let n = next (such_that (λ n. leb 1 n && leb n 2) (number_at w8)) (number_text w8) (λ n. (n < 2 ^ 8) × ((leb 1 n && leb n 2) ≡ true)) (such_that_pass (λ n. leb 1 n && leb n 2) (number_at w8) (number_text w8) (λ n. n < 2 ^ 8) (number_pass w8 (2 ^ 8) wide8)) (λ n. Ok (eqb n.0 1, n.1)) at (b, new) bytes e in
+    let form = subst (λ (t : List ℕ). Passes at t n.1) (form_number n.0 n.3.1) n.2 in
+    subst (λ (x : Bool × Cursor). Passes at (form_text x.0) x.1 × Unit {0}) (ok_is (eqb n.0 1, n.1) (b, new) n.5) (form, tt)
 
 -- ---- the subject
 
-subject_again : (s : Subject) → IsSubject s → ReadsBack subject_at s (subject_text s)
+pub subject_again : (s : Subject) → IsSubject s → ReadsBack subject_at s (subject_text s)
 unfolding subject_at subject_text
 subject_again s h at new p =
     let client = split at new (number_text w16 s.client) _ p in
@@ -62,7 +57,7 @@ subject_again s h at new p =
     let name = split epoch.0 new (name_text s.name) s.root epoch.2 in
     rw (number_again w16 (2 ^ 16) wide16 s.client h.client at client.0 client.1, epoch_again s.epoch h.epoch client.0 epoch.0 epoch.1, name_again s.name h.name epoch.0 name.0 name.1, digest_again s.root h.root name.0 new name.2) refl
 
-subject_pass : IsSpelledBy subject_at subject_text IsSubject
+pub subject_pass : IsSpelledBy subject_at subject_text IsSubject
 unfolding subject_at subject_text
 subject_pass at new s bytes e =
     let client = next (number_at w16) (number_text w16) (λ n. n < 2 ^ 16) (number_pass w16 (2 ^ 16) wide16) _ at (s, new) bytes e in
@@ -105,12 +100,12 @@ bottom_pass at new b bytes e =
     let flag = next flag_at flag_text (λ _. Unit {0}) flag_pass behind_flag at (b, new) bytes e in
     bottom_rest flag.0 at flag.1 new b flag.2 flag.4 flag.5
 
-body_again : (b : Body) → IsBody b → ReadsBack (body_at (is_present b)) b (body_text b)
+pub body_again : (b : Body) → IsBody b → ReadsBack (body_at (is_present b)) b (body_text b)
 unfolding body_at body_text
 body_again (present certificate) h at new p = rw (counted_certificate_again certificate h at new p) refl
 body_again (absent bottom) h at new p = rw (bottom_again bottom h at new p) refl
 
-body_pass : (form : Bool) → IsSpelledBy (body_at form) body_text (λ b. IsBody b × (is_present b ≡ form))
+pub body_pass : (form : Bool) → IsSpelledBy (body_at form) body_text (λ b. IsBody b × (is_present b ≡ form))
 unfolding body_at body_text
 body_pass true at new b bytes e =
     let cert = next counted_certificate_at (λ c. counted_text (certificate_text c)) IsCertificate counted_certificate_pass (λ c. Ok (present c.0, c.1)) at (b, new) bytes e in
@@ -139,7 +134,7 @@ steps_pass count at new steps bytes e =
     let passes : Passes at (take (32 * count) at.ahead) (behind (32 * count) at) = record { bytes = sym (take-append-drop (32 * count) at.ahead); place = omega (arith, len) } in
     subst (λ (x : List ℕ × Cursor). Passes at x.0 x.1 × (length x.0 ≡ 32 * count)) g.1 (passes, len)
 
-path_again : (steps : List ℕ) → AreSteps steps → ReadsBack path_at steps (path_text steps)
+pub path_again : (steps : List ℕ) → AreSteps steps → ReadsBack path_at steps (path_text steps)
 unfolding path_at
 path_again steps h at new p =
     let few : length steps / 32 ≤ 256 = omega (arith, h.1.0, h.1.1) in
@@ -147,7 +142,7 @@ path_again steps h at new p =
     let s = split at new (number_text w16 (length steps / 32)) steps p in
     rw (such_that_again (λ n. leb n 256) (number_at w16) (length steps / 32) (number_text w16 (length steps / 32)) (number_again w16 (2 ^ 16) wide16 (length steps / 32) (omega (arith, few))) (le-leb (length steps / 32) 256 few) at s.0 s.1) (steps_again (length steps / 32) steps len s.0 new s.2)
 
-path_pass : IsSpelledBy path_at path_text AreSteps
+pub path_pass : IsSpelledBy path_at path_text AreSteps
 unfolding path_at
 path_pass at new steps bytes e =
     let count = next (such_that (λ n. leb n 256) (number_at w16)) (number_text w16) (λ n. (n < 2 ^ 16) × (leb n 256 ≡ true)) (such_that_pass (λ n. leb n 256) (number_at w16) (number_text w16) (λ n. n < 2 ^ 16) (number_pass w16 (2 ^ 16) wide16)) (λ count. steps_at count.0 count.1) at (steps, new) bytes e in
@@ -158,13 +153,13 @@ path_pass at new steps bytes e =
 
 -- ---- a party and its signature
 
-signed_again : (s : Signed) → IsSigned s → ReadsBack signed_at s (signed_text s)
+pub signed_again : (s : Signed) → IsSigned s → ReadsBack signed_at s (signed_text s)
 unfolding signed_at
 signed_again s h at new p =
     let number = split at new (number_text w16 s.number) (counted_text s.signature) p in
     rw (number_again w16 (2 ^ 16) wide16 s.number h.0 at number.0 number.1, counted_again s.signature h.1 number.0 new number.2) refl
 
-signed_pass : IsSpelledBy signed_at signed_text IsSigned
+pub signed_pass : IsSpelledBy signed_at signed_text IsSigned
 unfolding signed_at
 signed_pass at new s bytes e =
     let number = next (number_at w16) (number_text w16) (λ n. n < 2 ^ 16) (number_pass w16 (2 ^ 16) wide16) _ at (s, new) bytes e in
@@ -195,18 +190,18 @@ signers_pass at new s bytes e =
 
 -- ---- the confirmation
 
-pub confirmation_again : (c : Confirmation) → IsConfirmation c → ReadsBack confirmation_at c (confirmation_text c)
-unfolding confirmation_at confirmation_text
-confirmation_again c h at new p =
+pub confirmation_fields_again : (c : Confirmation) → IsConfirmation c → ReadsBack confirmation_fields_at c (confirmation_fields_text c)
+unfolding confirmation_fields_at confirmation_fields_text
+confirmation_fields_again c h at new p =
     let form = split at new (form_text (is_present c.body)) _ p in
     let about = split form.0 new (subject_text c.about) _ form.2 in
     let body = split about.0 new (body_text c.body) _ about.2 in
     let steps = split body.0 new (path_text c.steps) _ body.2 in
     rw (form_again (is_present c.body) at form.0 form.1, subject_again c.about h.about form.0 about.0 about.1, body_again c.body h.body about.0 body.0 body.1, path_again c.steps h.steps body.0 steps.0 steps.1, signers_again (c.log, c.first, c.second) (h.log, h.first, h.second) steps.0 new steps.2) refl
 
-pub confirmation_pass : IsSpelledBy confirmation_at confirmation_text IsConfirmation
-unfolding confirmation_at confirmation_text
-confirmation_pass at new c bytes e =
+pub confirmation_fields_pass : IsSpelledBy confirmation_fields_at confirmation_fields_text IsConfirmation
+unfolding confirmation_fields_at confirmation_fields_text
+confirmation_fields_pass at new c bytes e =
     let form = next form_at form_text (λ _. Unit {0}) form_pass _ at (c, new) bytes e in
     let about = next subject_at subject_text IsSubject subject_pass _ form.1 (c, new) form.4 form.5 in
     let body = next (body_at form.0) body_text (λ b. IsBody b × (is_present b ≡ form.0)) (body_pass form.0) _ about.1 (c, new) about.4 about.5 in
@@ -219,4 +214,18 @@ confirmation_pass at new c bytes e =
     let all = Passes-then form.1 about.1 signers.1 (subject_text about.0) (body_text body.0 ++ (path_text steps.0 ++ signers_text signers.0)) about.2 shown in
     let passes = Passes-then at form.1 signers.1 (form_text (is_present body.0)) (subject_text about.0 ++ (body_text body.0 ++ (path_text steps.0 ++ signers_text signers.0))) formed all in
     let fits : IsConfirmation value = record { about = about.3; body = body.3.0; steps = steps.3; log = signers.3.0; first = signers.3.1; second = signers.3.2 } in
-    subst (λ (x : Confirmation × Cursor). Passes at (confirmation_text x.0) x.1 × IsConfirmation x.0) (ok_is (value, signers.1) (c, new) signers.5) (passes, fits)
+    subst (λ (x : Confirmation × Cursor). Passes at (confirmation_fields_text x.0) x.1 × IsConfirmation x.0) (ok_is (value, signers.1) (c, new) signers.5) (passes, fits)
+
+pub confirmation_again : (c : Confirmation) → IsConfirmation c → ReadsBack confirmation_at c (confirmation_text c)
+unfolding confirmation_at confirmation_text
+confirmation_again c h at new p =
+    let kind = split at new (number_text w8 12) (confirmation_fields_text c) p in
+    rw (byte_again 12 (omega arith) at kind.0 kind.1) (confirmation_fields_again c h kind.0 new kind.2)
+
+pub confirmation_pass : IsSpelledBy confirmation_at confirmation_text IsConfirmation
+unfolding confirmation_at confirmation_text
+confirmation_pass at new c bytes e =
+    let kind = next (byte_at 12) (number_text w8) (λ n. n ≡ 12) (byte_pass 12) _ at (c, new) bytes e in
+    let fields = confirmation_fields_pass kind.1 new c kind.4 kind.5 in
+    let twelve = subst (λ (k : ℕ). Passes at (number_text w8 k) kind.1) kind.3 kind.2 in
+    (Passes-then at kind.1 new (number_text w8 12) (confirmation_fields_text c) twelve fields.0, fields.1)

@@ -1,4 +1,6 @@
-pub mod Steps
+pub mod StepPlaces
 pub mod ConfirmationLaws
 pub mod Filled
 pub mod Places
+pub mod ListSteps
+pub mod ListLaws

@@ -57,11 +57,10 @@ bottom_in (absent bottom) = Some bottom
 
 -- ---- the fields of its text
 
--- the kind 12, and the form: 1 for presence, 2 for absence; whether the name is present
+-- the form: 1 for presence, 2 for absence; whether the name is present
 unfoldable pub form_at : Cursor → Reading Bool
 form_at at = do
-  kind ← byte_at 12 at
-  form ← such_that (λ n. nat_le 1 n && nat_le n 2) (number_at w8) kind.1
+  form ← such_that (λ n. nat_le 1 n && nat_le n 2) (number_at w8) at
   Ok (form.0 == 1, form.1)
 
 -- what the confirmation is about
@@ -119,9 +118,9 @@ signers_at at = do
   second ← signed_at first.1
   Ok ((log.0, first.0, second.0), second.1)
 
--- the fields of a confirmation
-unfoldable pub confirmation_at : Cursor → Reading Confirmation
-confirmation_at at = do
+-- the fields of a confirmation behind its kind
+unfoldable pub confirmation_fields_at : Cursor → Reading Confirmation
+confirmation_fields_at at = do
   is_present ← form_at at
   about ← subject_at is_present.1
   body ← body_at is_present.0 about.1
@@ -129,15 +128,21 @@ confirmation_at at = do
   signers ← signers_at steps.1
   Ok (record { about = about.0; body = body.0; steps = steps.0; log = signers.0.0; first = signers.0.1; second = signers.0.2 }, signers.1)
 
+-- the kind 12, and the fields
+unfoldable pub confirmation_at : Cursor → Reading Confirmation
+confirmation_at at = do
+  kind ← byte_at 12 at
+  confirmation_fields_at kind.1
+
 -- ---- its text
 
 abbrev pub is_present : Body → Bool
 is_present (present certificate) = true
 is_present (absent bottom) = false
 
--- the kind and the form
+-- the form
 abbrev pub form_text : Bool → List ℕ
-form_text is_present = number_text w8 12 ++ number_text w8 (if is_present then 1 else 2)
+form_text is_present = number_text w8 (if is_present then 1 else 2)
 
 unfoldable pub subject_text : Subject → List ℕ
 subject_text s = number_text w16 s.client ++ (number_text w64 s.epoch ++ (name_text s.name ++ s.root))
@@ -161,10 +166,14 @@ signed_text s = number_text w16 s.number ++ counted_text s.signature
 abbrev pub signers_text : Signed × Signed × Signed → List ℕ
 signers_text s = signed_text s.0 ++ (signed_text s.1 ++ signed_text s.2)
 
+-- what stands behind the kind
+unfoldable pub confirmation_fields_text : Confirmation → List ℕ
+confirmation_fields_text c =
+    form_text (is_present c.body) ++ (subject_text c.about ++ (body_text c.body ++ (path_text c.steps ++ signers_text (c.log, c.first, c.second))))
+
 -- the one text of a confirmation
 unfoldable pub confirmation_text : Confirmation → List ℕ
-confirmation_text c =
-    form_text (is_present c.body) ++ (subject_text c.about ++ (body_text c.body ++ (path_text c.steps ++ signers_text (c.log, c.first, c.second))))
+confirmation_text c = number_text w8 12 ++ confirmation_fields_text c
 
 -- ---- ranges
 

@@ -2,3 +2,6 @@ pub mod Confirmation
 pub mod Views
 pub mod Sending
 pub mod Filling
+pub mod Lists
+pub mod Messages
+pub mod Answers

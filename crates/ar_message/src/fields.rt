@@ -1,6 +1,8 @@
-ghost use Rattle.std.specs.Prelude.{◌≡◌, ◌+◌, ◌*◌, ◌/◌, length};
+ghost use Rattle.std.specs.Prelude.{◌≡◌, ◌+◌, ◌*◌, ◌/◌, length, IfOk};
 ghost use Rattle.ar_bytes.specs.Reading.{Tells};
-ghost use Rattle.ar_message.specs.Confirmation.{body_at, bottom_at, entry_at, form_at, path_at, signed_at, steps_at, subject_at};
+ghost use Rattle.ar_message.specs.Confirmation.{AreSteps, body_at, bottom_at, entry_at, form_at, path_at, signed_at, steps_at, subject_at};
+ghost use Rattle.ar_cert.specs.Changes.{IsSignature};
+ghost use Rattle.ar_names.specs.Names.{IsName};
 ghost use Rattle.ar_message.specs.Views.{body_of, signed_of, subject_of};
 
 use ar_bytes::Fields;
@@ -8,8 +10,6 @@ use ar_cert::CertView;
 use ar_statement::fields::{digest, epoch, name};
 use tree_proof::Bottom;
 
-/// The first byte of a confirmation.
-const KIND: u8 = 12;
 /// The bytes of a step.
 const STEP_LEN: usize = 32;
 /// The most steps of a path.
@@ -40,12 +40,11 @@ pub(crate) struct SignedView<'a> {
     pub(crate) signature: &'a [u8],
 }
 
-/// The kind of a confirmation, and its form, 1 or 2: whether the name is present.
+/// The form of a confirmation, 1 or 2: whether the name is present.
 #[tactic(auto, unfolding(crate::specs::Confirmation::form_at, ar_bytes::specs::Reading::such_that))]
 pub(crate) fn form(fields: &mut Fields) -> Result<bool, usize>
     ensures { Tells (λ is_present. is_present) result fields.new (form_at fields.old) }
 {
-    fields.take_byte(KIND)?;
     let place = fields.place();
     match fields.take_u8()? {
         1 => Ok(true),
@@ -57,7 +56,8 @@ pub(crate) fn form(fields: &mut Fields) -> Result<bool, usize>
 /// What a confirmation is about.
 #[tactic(auto, unfolding(crate::specs::Confirmation::subject_at))]
 pub(crate) fn subject<'a>(fields: &mut Fields<'a>) -> Result<SubjectView<'a>, usize>
-    ensures { Tells subject_of result fields.new (subject_at fields.old) }
+    ensures tells { Tells subject_of result fields.new (subject_at fields.old) }
+    ensures name { IfOk result (λ subject. IsName subject.name.now) }
 {
     let client = fields.take_u16()?;
     let epoch = epoch(fields)?;
@@ -108,7 +108,7 @@ pub(crate) fn body<'a>(fields: &mut Fields<'a>, is_present: bool) -> Result<Body
 }
 
 /// The place of the first step for which too few bytes are left.
-#[tactic(auto, using(crate::proofs::Steps::step_moves))]
+#[tactic(auto, using(crate::proofs::StepPlaces::step_moves))]
 fn cut_step(fields: &mut Fields) -> usize
     ensures { result ≡ fields.old.place + 32 * (length fields.old.ahead / 32) }
 {
@@ -119,7 +119,8 @@ fn cut_step(fields: &mut Fields) -> usize
 /// So many steps.
 #[tactic(auto, unfolding(crate::specs::Confirmation::steps_at, ar_bytes::specs::Reading::bytes_at))]
 fn steps<'a>(fields: &mut Fields<'a>, count: u16) -> Result<&'a [u8], usize>
-    ensures { Tells (λ steps. steps.now) result fields.new (steps_at count fields.old) }
+    ensures tells { Tells (λ steps. steps.now) result fields.new (steps_at count fields.old) }
+    ensures len { IfOk result (λ steps. length steps.now ≡ 32 * count) }
 {
     match fields.bytes(STEP_LEN * count as usize) {
         Some(steps) => Ok(steps),
@@ -130,7 +131,8 @@ fn steps<'a>(fields: &mut Fields<'a>, count: u16) -> Result<&'a [u8], usize>
 /// At most 256 steps behind their count.
 #[tactic(auto, unfolding(crate::specs::Confirmation::path_at, ar_bytes::specs::Reading::such_that))]
 pub(crate) fn path<'a>(fields: &mut Fields<'a>) -> Result<&'a [u8], usize>
-    ensures { Tells (λ steps. steps.now) result fields.new (path_at fields.old) }
+    ensures tells { Tells (λ steps. steps.now) result fields.new (path_at fields.old) }
+    ensures steps { IfOk result (λ steps. AreSteps steps.now) }
 {
     let place = fields.place();
     let count = fields.take_u16()?;
@@ -143,7 +145,8 @@ pub(crate) fn path<'a>(fields: &mut Fields<'a>) -> Result<&'a [u8], usize>
 /// A party's number and its signature.
 #[tactic(auto, unfolding(crate::specs::Confirmation::signed_at))]
 pub(crate) fn signed<'a>(fields: &mut Fields<'a>) -> Result<SignedView<'a>, usize>
-    ensures { Tells signed_of result fields.new (signed_at fields.old) }
+    ensures tells { Tells signed_of result fields.new (signed_at fields.old) }
+    ensures few { IfOk result (λ signed. IsSignature signed.signature.now) }
 {
     let number = fields.take_u16()?;
     let signature = fields.take_counted()?;

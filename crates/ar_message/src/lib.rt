@@ -1,23 +1,37 @@
-//! The messages that parties send: so far the confirmation, which a client is given. It is read in place,
-//! without memory.
+//! The messages that parties send: thirteen kinds, each with one text.
 //!
-//! `specs/Confirmation.antt` has the grammar, field by field, with the place of the first fault, and the
-//! one text of each confirmation.
+//! `specs/Messages.antt` has the grammar of each kind, field by field, with the place of the first fault,
+//! and the one text of each message; `specs/Lists.antt` the lists of changes, votes and statuses in them,
+//! and `specs/Confirmation.antt` the confirmation, which a client also reads in place, without memory.
 //!
 //! What a step of a party sends is an `Unsigned` first, with zero bytes where a signature is due, and `fill`
 //! makes it a `Sent` with the party's keys (`specs/Filling.antt`).
 #![tactic(auto)]
 
 mod address;
+mod confirming;
+mod fault;
 mod fields;
 mod filling;
+mod kinds;
 pub mod laws;
+mod lists;
+mod message;
+mod reading;
 mod sent;
+mod signature;
+mod steps;
+mod take_lists;
 mod unsigned;
 mod view;
 
 pub use address::Address;
+pub use fault::MessageFault;
 pub use filling::fill;
+pub use lists::{Changes, LogStatus, Statuses, Vote, Votes};
+pub use message::{Body, Confirming, Message};
 pub use sent::{Outgoing, Sent};
+pub use signature::Signature;
+pub use steps::Steps;
 pub use unsigned::{Blank, Unsigned};
 pub use view::ConfView;

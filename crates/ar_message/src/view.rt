@@ -1,10 +1,17 @@
 ghost use Rattle.std.specs.Prelude.{◌≡◌};
 
+use crate::confirming::owned_body;
 use crate::fields::{BodyView, SignedView, SubjectView, body, form, path, signed, subject};
+use crate::kinds::owned;
+use crate::{Message, Signature};
 use ar_bytes::{Fields, are_bytes};
 use ar_cert::CertView;
+use std::alloc::{AllocError, Global};
 use std::marker::Model;
 use tree_proof::Bottom;
+
+/// The first byte of a confirmation.
+const KIND: u8 = 12;
 
 /// A confirmation that is read in place: its name, its certificate, its path and its signatures are
 /// borrowed from the bytes that it was read from.
@@ -35,8 +42,10 @@ impl<'a> ConfView<'a> {
     ghost use Rattle.std.specs.Prelude.{◌≡◌};
     ghost use Rattle.std.specs.Result.{result_ok};
     ghost use Rattle.ar_bytes.specs.Reading.{Tells, whole};
-    ghost use Rattle.ar_message.specs.Confirmation.{IsConfirmation, bottom_in, certificate_in, confirmation_at};
+    ghost use Rattle.ar_message.specs.Confirmation.{IsConfirmation, bottom_in, certificate_in, confirmation_at, confirmation_fields_at};
+    ghost use Rattle.ar_message.specs.Messages.{with_confirmation};
     ghost use Rattle.ar_names.specs.Names.{IsName};
+    ghost use Rattle.std.specs.Prelude.{IfOk};
 
     /// The confirmation with this text, or `None` exactly where no confirmation has it.
     #[tactic(auto, unfolding(ar_bytes::specs::Reading::whole))]
@@ -52,9 +61,18 @@ impl<'a> ConfView<'a> {
     }
 
     // The confirmation that stands next, or the place of the field that fails.
-    #[tactic(auto, unfolding(crate::specs::Confirmation::confirmation_at, crate::specs::Confirmation::signers_at))]
+    #[tactic(auto, unfolding(crate::specs::Confirmation::confirmation_at))]
     fn take(fields: &mut Fields<'a>) -> Result<ConfView<'a>, usize>
         ensures { Tells (λ view. view) result fields.new (confirmation_at fields.old) }
+    {
+        fields.take_byte(KIND)?;
+        ConfView::take_fields(fields)
+    }
+
+    // What stands next of a confirmation behind its kind, or the place of the field that fails.
+    #[tactic(auto, unfolding(crate::specs::Confirmation::confirmation_fields_at, crate::specs::Confirmation::signers_at))]
+    pub(crate) fn take_fields(fields: &mut Fields<'a>) -> Result<ConfView<'a>, usize>
+        ensures { Tells (λ view. view) result fields.new (confirmation_fields_at fields.old) }
     {
         are_bytes(fields.left());
         let is_present = form(fields)?;
@@ -71,6 +89,30 @@ impl<'a> ConfView<'a> {
             log,
             first,
             second,
+        })
+    }
+
+    /// The confirmation as a message of its own. The one error is want of memory.
+    pub fn to_message(&self, alloc: Global) -> Result<Message, AllocError>
+        ensures { IfOk result (λ message. message ≡ with_confirmation self.now) }
+    {
+        let name = owned(alloc, self.about.name)?;
+        let body = owned_body(alloc, &self.body, self.steps)?;
+        let log_signature = Signature::of(alloc, self.log.signature)?;
+        let first_signature = Signature::of(alloc, self.first.signature)?;
+        let second_signature = Signature::of(alloc, self.second.signature)?;
+        Ok(Message::Confirmation {
+            client: self.about.client,
+            epoch: self.about.epoch,
+            name,
+            root: self.about.root,
+            body,
+            log: self.log.number,
+            log_signature,
+            first: self.first.number,
+            first_signature,
+            second: self.second.number,
+            second_signature,
         })
     }
 

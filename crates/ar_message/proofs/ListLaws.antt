@@ -1,0 +1,148 @@
+-- The lists of messages: what was put is read again, and what is read is spelled so.
+use Rattle.std.proofs.Common.{◌≡◌, ℕ, zero, suc, ◌+◌, ◌^◌, ◌<◌, ◌≤◌, List, [], ◌∷◌, ◌++◌, length, Option, None, Some, Ok, refl, sym, ap, subst, arith}
+use Rattle.std.specs.Prelude.{IfSome}
+use Rattle.std.specs.List.{flat_map, AllByRecursion}
+use Rattle.std.specs.Int.{w8, w16}
+use Rattle.ar_base.specs.Bytes.{AreBytes}
+use Rattle.ar_base.specs.Chaining.{◌>>=◌}
+use Rattle.ar_bytes.specs.Reading.{Cursor, Reading, counted_at}
+use Rattle.ar_bytes.specs.RoundTrip.{Passes, ReadsBack, IsSpelledBy, number_text, counted_text}
+use Rattle.ar_bytes.specs.Tested.{count_at}
+use Rattle.ar_bytes.specs.Ascending.{ascending_at, number_from, Ascend}
+use Rattle.ar_bytes.specs.Joined.{optional_at, optional_text, pair_at}
+use Rattle.ar_bytes.proofs.Steps.{bind_ok, ok_is, between, Passes-then, Passes-first, Passes-second, AreBytes-behind}
+use Rattle.ar_bytes.proofs.Passing.{counted_again, counted_pass}
+use Rattle.ar_bytes.proofs.TestedFields.{count_again, count_pass}
+use Rattle.ar_bytes.proofs.Ascending.{same-cursor, ascending_again, ascending_pass, number_from_again, number_from_pass}
+use Rattle.ar_bytes.proofs.JoinedFields.{pair_again, pair_pass, optional_again, optional_pass}
+use Rattle.ar_statement.specs.Claims.{Roots, roots_text}
+use Rattle.ar_statement.specs.Fields.{digest_at}
+use Rattle.ar_statement.specs.Ranges.{AreRoots}
+use Rattle.ar_statement.specs.Texts.{roots_at}
+use Rattle.ar_statement.proofs.FieldLaws.{digest_again, digest_pass}
+use Rattle.ar_base.specs.Bytes.{IsDigest}
+use Rattle.ar_cert.specs.Changes.{Change, IsChange, IsSignature, change_at, change_text}
+use Rattle.ar_cert.proofs.CertificateLaws.{split, next}
+use Rattle.ar_cert.proofs.ChangeLaws.{change_again, change_pass}
+use Rattle.ar_message.specs.declared.lists.Vote.{Vote}
+use Rattle.ar_message.specs.declared.lists.LogStatus.{LogStatus}
+use Rattle.ar_message.specs.Lists.{list_at, counted_list_at, counted_list_text, changes_at, changes_text, AreChanges, vote_from, votes_from, votes_at, vote_text, votes_text, IsVote, AreVotes, status_from, statuses_from, statuses_at, status_text, statuses_text, IsStatus, AreStatuses}
+use Rattle.ar_message.proofs.ListSteps.{list-none, list-more}
+
+-- ---- so many entries
+
+pub list_again : {A : Type 0} (entry : Cursor → Reading A) (text : A → List ℕ) (fits : A → Type 0) → ((x : A) → fits x → ReadsBack entry x (text x)) → (count : ℕ) (xs : List A) → length xs ≡ count → AllByRecursion fits xs → ReadsBack (list_at entry count) xs (flat_map text xs)
+list_again entry text fits reads count [] len all at new p = rw (list-none entry count at (sym len)) (ap (λ (c : Cursor). Ok ([], c)) (same-cursor at new p.bytes (omega (arith, p.place))))
+list_again entry text fits reads count (x ∷ xs) len all at new p =
+    let count_is : count ≡ length xs + 1 = omega (arith, len) in
+    let mid = between at (text x) (flat_map text xs ++ new.ahead) in
+    let first = reads x all.0 at mid (Passes-first at new (text x) (flat_map text xs) p) in
+    let rest = list_again entry text fits reads (length xs) xs refl all.1 mid new (Passes-second at new (text x) (flat_map text xs) p) in
+    rw (list-more entry count (length xs) at count_is, first, rest) refl
+
+pub list_pass : {A : Type 0} (entry : Cursor → Reading A) (text : A → List ℕ) (fits : A → Type 0) → IsSpelledBy entry text fits → (count : ℕ) → IsSpelledBy (list_at entry count) (flat_map text) (λ xs. AllByRecursion fits xs × (length xs ≡ count))
+unfolding list_at
+list_pass {A} entry text fits spelled zero at new xs bytes e =
+    let is = ok_is ([], at) (xs, new) e in
+    subst (λ (x : List A × Cursor). Passes at (flat_map text x.0) x.1 × (AllByRecursion fits x.0 × (length x.0 ≡ 0))) is (record { bytes = refl; place = omega arith }, (tt, refl))
+list_pass {A} entry text fits spelled (suc count) at new xs bytes e =
+    let b = bind_ok {B = List A × Cursor} (entry at) (λ first. list_at entry count first.1 >>= λ rest. Ok (first.0 ∷ rest.0, rest.1)) (xs, new) e in
+    let d = bind_ok {B = List A × Cursor} (list_at entry count b.0.1) (λ rest. Ok (b.0.0 ∷ rest.0, rest.1)) (xs, new) b.2 in
+    let first = spelled at b.0.1 b.0.0 bytes b.1 in
+    let behind = AreBytes-behind at b.0.1 (text b.0.0) first.0 bytes in
+    let rest = list_pass entry text fits spelled count b.0.1 d.0.1 d.0.0 behind d.1 in
+    let both = Passes-then at b.0.1 d.0.1 (text b.0.0) (flat_map text d.0.0) first.0 rest.0 in
+    let is = ok_is (b.0.0 ∷ d.0.0, d.0.1) (xs, new) d.2 in
+    subst (λ (x : List A × Cursor). Passes at (flat_map text x.0) x.1 × (AllByRecursion fits x.0 × (length x.0 ≡ suc count))) is (both, ((first.1, rest.1.0), ap suc rest.1.1))
+
+-- ---- behind their count
+
+counted_list_again : {A : Type 0} (most : ℕ) (entries : ℕ → Cursor → Reading (List A)) (text : A → List ℕ) (xs : List A) → length xs ≤ most → length xs < 2 ^ 8 → ReadsBack (entries (length xs)) xs (flat_map text xs) → ReadsBack (counted_list_at most entries) xs (counted_list_text text xs)
+unfolding counted_list_at
+counted_list_again most entries text xs few lt reads at new p =
+    let count = split at new (number_text w8 (length xs)) (flat_map text xs) p in
+    rw (count_again most (length xs) few lt at count.0 count.1) (reads count.0 new count.2)
+
+counted_list_pass : {A : Type 0} (most : ℕ) (entries : ℕ → Cursor → Reading (List A)) (text : A → List ℕ) (fits : List A → Type 0) → ((count : ℕ) → IsSpelledBy (entries count) (flat_map text) (λ xs. fits xs × (length xs ≡ count))) → IsSpelledBy (counted_list_at most entries) (counted_list_text text) (λ xs. (length xs ≤ most) × fits xs)
+unfolding counted_list_at
+counted_list_pass most entries text fits spelled at new xs bytes e =
+    let count = next (count_at most) (number_text w8) (λ n. n ≤ most) (count_pass most) (λ count. entries count.0 count.1) at (xs, new) bytes e in
+    let rest = spelled count.0 count.1 new xs count.4 count.5 in
+    let both = Passes-then at count.1 new (number_text w8 count.0) (flat_map text xs) count.2 rest.0 in
+    (subst (λ (k : ℕ). Passes at (number_text w8 k ++ flat_map text xs) new) (sym rest.1.1) both, (subst (λ (k : ℕ). k ≤ most) (sym rest.1.1) count.3, rest.1.0))
+
+-- ---- changes
+
+pub changes_again : (changes : List Change) → AreChanges changes → ReadsBack changes_at changes (changes_text changes)
+changes_again changes h =
+    counted_list_again 64 (list_at change_at) change_text changes h.0 (omega (arith, h.0)) (list_again change_at change_text IsChange change_again (length changes) changes refl h.1)
+
+pub changes_pass : IsSpelledBy changes_at changes_text AreChanges
+changes_pass = counted_list_pass 64 (list_at change_at) change_text (AllByRecursion IsChange) (list_pass change_at change_text IsChange change_pass)
+
+-- ---- votes
+
+vote_again : (least : ℕ) (v : Vote) → least ≤ v.log → IsVote v → ReadsBack (vote_from least) v (vote_text v)
+unfolding vote_from
+vote_again least v le h at new p =
+    let log = split at new (number_text w16 v.log) (counted_text v.signature) p in
+    rw (number_from_again least v.log le h.0 at log.0 log.1, counted_again v.signature h.1 log.0 new log.2) refl
+
+vote_pass : (least : ℕ) → IsSpelledBy (vote_from least) vote_text (λ v. (least ≤ v.log) × IsVote v)
+unfolding vote_from
+vote_pass least at new v bytes e =
+    let log = next (number_from least) (number_text w16) (λ n. (least ≤ n) × (n < 2 ^ 16)) (number_from_pass least) _ at (v, new) bytes e in
+    let signature = next counted_at counted_text IsSignature (λ a n x. counted_pass a n x) _ log.1 (v, new) log.4 log.5 in
+    let value : Vote = record { log = log.0; signature = signature.0 } in
+    let passes = Passes-then at log.1 signature.1 (number_text w16 log.0) (counted_text signature.0) log.2 signature.2 in
+    subst (λ (x : Vote × Cursor). Passes at (vote_text x.0) x.1 × ((least ≤ x.0.log) × IsVote x.0)) (ok_is (value, signature.1) (v, new) signature.5) (passes, (log.3.0, (log.3.1, signature.3)))
+
+pub votes_again : (votes : List Vote) → AreVotes votes → ReadsBack votes_at votes (votes_text votes)
+votes_again votes h =
+    counted_list_again 16 (λ count at. votes_from count 0 at) vote_text votes h.0 (omega (arith, h.0)) (ascending_again (λ v. v.log) vote_from vote_text IsVote vote_again (length votes) 0 votes refl h.1)
+
+pub votes_pass : IsSpelledBy votes_at votes_text AreVotes
+votes_pass = counted_list_pass 16 (λ count at. votes_from count 0 at) vote_text (Ascend (λ v. v.log) IsVote 0) (λ count. ascending_pass (λ v. v.log) vote_from vote_text IsVote vote_pass count 0)
+
+-- ---- statuses
+
+pub roots_again : (roots : Roots) → AreRoots roots → ReadsBack roots_at roots (roots_text roots)
+roots_again roots h = pair_again digest_at digest_at roots.0 roots.1 roots.0 roots.1 (digest_again roots.0 h.0) (digest_again roots.1 h.1)
+
+pub roots_pass : IsSpelledBy roots_at roots_text AreRoots
+roots_pass = pair_pass digest_at digest_at (λ d. d) (λ d. d) IsDigest IsDigest digest_pass digest_pass
+
+each_again : (value : Option Roots) → IfSome value AreRoots → IfSome value (λ roots. ReadsBack roots_at roots (roots_text roots))
+each_again None h = tt
+each_again (Some roots) h = roots_again roots h
+
+pub value_again : (value : Option Roots) → IfSome value AreRoots → ReadsBack (optional_at roots_at) value (optional_text roots_text value)
+value_again value h = optional_again roots_at roots_text value (each_again value h)
+
+pub value_pass : IsSpelledBy (optional_at roots_at) (optional_text roots_text) (λ value. IfSome value AreRoots)
+value_pass = optional_pass roots_at roots_text AreRoots roots_pass
+
+status_again : (least : ℕ) (v : LogStatus) → least ≤ v.log → IsStatus v → ReadsBack (status_from least) v (status_text v)
+unfolding status_from
+status_again least v le h at new p =
+    let log = split at new (number_text w16 v.log) (optional_text roots_text v.value ++ counted_text v.signature) p in
+    let value = split log.0 new (optional_text roots_text v.value) (counted_text v.signature) log.2 in
+    rw (number_from_again least v.log le h.0 at log.0 log.1, value_again v.value h.1 log.0 value.0 value.1, counted_again v.signature h.2 value.0 new value.2) refl
+
+status_pass : (least : ℕ) → IsSpelledBy (status_from least) status_text (λ v. (least ≤ v.log) × IsStatus v)
+unfolding status_from
+status_pass least at new v bytes e =
+    let log = next (number_from least) (number_text w16) (λ n. (least ≤ n) × (n < 2 ^ 16)) (number_from_pass least) _ at (v, new) bytes e in
+    let value = next (optional_at roots_at) (optional_text roots_text) (λ value. IfSome value AreRoots) value_pass _ log.1 (v, new) log.4 log.5 in
+    let signature = next counted_at counted_text IsSignature (λ a n x. counted_pass a n x) _ value.1 (v, new) value.4 value.5 in
+    let made : LogStatus = record { log = log.0; value = value.0; signature = signature.0 } in
+    let behind = Passes-then log.1 value.1 signature.1 (optional_text roots_text value.0) (counted_text signature.0) value.2 signature.2 in
+    let passes = Passes-then at log.1 signature.1 (number_text w16 log.0) _ log.2 behind in
+    subst (λ (x : LogStatus × Cursor). Passes at (status_text x.0) x.1 × ((least ≤ x.0.log) × IsStatus x.0)) (ok_is (made, signature.1) (v, new) signature.5) (passes, (log.3.0, (log.3.1, value.3, signature.3)))
+
+pub statuses_again : (statuses : List LogStatus) → AreStatuses statuses → ReadsBack statuses_at statuses (statuses_text statuses)
+statuses_again statuses h =
+    counted_list_again 16 (λ count at. statuses_from count 0 at) status_text statuses h.0 (omega (arith, h.0)) (ascending_again (λ v. v.log) status_from status_text IsStatus status_again (length statuses) 0 statuses refl h.1)
+
+pub statuses_pass : IsSpelledBy statuses_at statuses_text AreStatuses
+statuses_pass = counted_list_pass 16 (λ count at. statuses_from count 0 at) status_text (Ascend (λ v. v.log) IsStatus 0) (λ count. ascending_pass (λ v. v.log) status_from status_text IsStatus status_pass count 0)

@@ -1,0 +1,142 @@
+use crate::{Changes, Signature, Statuses, Steps, Votes};
+use ar_cert::{Cert, Change};
+use ar_names::Name;
+use ar_statement::Party;
+use lms_tree::LmsPublic;
+use tree_proof::Bottom;
+
+/// What the table has for a name, with the path that shows it.
+#[derive(Debug, Drop)]
+pub enum Body {
+    /// This certificate. The message is of form 1.
+    Present {
+        cert: Cert,
+        path: Steps,
+    },
+    /// None: this stands at the foot of the name's path. The message is of form 2.
+    Absent {
+        bottom: Bottom,
+        path: Steps,
+    },
+}
+
+/// A confirmation on its way to the client: what a log confirmed, and the votes that it rests on.
+#[derive(Debug, Drop)]
+pub struct Confirming {
+    /// The client that asked.
+    pub client: u16,
+    /// The epoch at whose end it holds.
+    pub epoch: u64,
+    /// The name that the client asked for.
+    pub name: Name,
+    /// The root of the table at the end of the epoch.
+    pub root: [u8; 32],
+    /// The root of the table before the epoch.
+    pub base: [u8; 32],
+    pub body: Body,
+    /// The votes by which the epoch was decided.
+    pub votes: Votes,
+    /// The log that confirms, and its signature.
+    pub log: u16,
+    pub signature: Signature,
+    /// The two authorities that the client chose.
+    pub first: u16,
+    pub second: u16,
+}
+
+/// A message from one party to others.
+///
+/// Epochs in a message are from 1 to 2^63, digests have 32 bytes, and numbers of parties count from 0.
+#[derive(Debug, Drop)]
+pub enum Message {
+    /// An owner asks an authority to endorse a certificate.
+    EndorseAsk {
+        owner: u16,
+        cert: Cert,
+    },
+    /// An authority has endorsed the certificate with this digest.
+    Endorsed {
+        owner: u16,
+        authority: u16,
+        certificate: [u8; 32],
+        signature: Signature,
+    },
+    /// An owner hands a change to a log.
+    Submit {
+        change: Change,
+    },
+    /// The log proposes to go in the epoch from a base to a root, by these changes.
+    Propose {
+        log: u16,
+        epoch: u64,
+        base: [u8; 32],
+        root: [u8; 32],
+        changes: Changes,
+        signature: Signature,
+    },
+    /// The log votes for a base and a root.
+    Ballot {
+        log: u16,
+        epoch: u64,
+        base: [u8; 32],
+        root: [u8; 32],
+        signature: Signature,
+    },
+    /// The log states what it voted for in the epoch, or that it voted for nothing and will not.
+    StatusNote {
+        log: u16,
+        epoch: u64,
+        value: Option<([u8; 32], [u8; 32])>,
+        signature: Signature,
+    },
+    /// The epoch is decided, by these votes.
+    Decision {
+        epoch: u64,
+        base: [u8; 32],
+        root: [u8; 32],
+        changes: Changes,
+        votes: Votes,
+    },
+    /// The epoch is skipped, by these statuses.
+    SkipNote {
+        epoch: u64,
+        statuses: Statuses,
+    },
+    /// A client asks a log for a confirmation, which two authorities are to confirm too.
+    ConfirmAsk {
+        client: u16,
+        name: Name,
+        first: u16,
+        second: u16,
+    },
+    /// A log has confirmed.
+    LogConfirmed {
+        part: Confirming,
+    },
+    /// A log and the first authority have confirmed.
+    HalfConfirmed {
+        part: Confirming,
+        first_signature: Signature,
+    },
+    /// A log and two authorities have confirmed. Clients read it in place, as a `ConfView`.
+    Confirmation {
+        client: u16,
+        epoch: u64,
+        name: Name,
+        root: [u8; 32],
+        body: Body,
+        log: u16,
+        log_signature: Signature,
+        first: u16,
+        first_signature: Signature,
+        second: u16,
+        second_signature: Signature,
+    },
+    /// A log or an authority goes on to the key of the generation behind this one.
+    RollNote {
+        party: Party,
+        generation: u32,
+        key: LmsPublic,
+        signature: Signature,
+    },
+}

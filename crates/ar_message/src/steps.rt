@@ -1,0 +1,46 @@
+ghost use Rattle.std.specs.Prelude.{◌≡◌, IfOk};
+
+use std::alloc::{AllocError, Global};
+use std::marker::Model;
+
+/// The steps of a path as they stand in a message: at most 256 digests of 32 bytes, the deepest first, one
+/// behind the other.
+#[derive(Debug, Drop)]
+pub struct Steps {
+    pub bytes: Vec<u8>,
+}
+
+// Clauses see the bytes.
+impl Model for Steps {
+    ghost use Rattle.std.specs.Prelude.{List, ℕ};
+    ghost use Rattle.ar_message.specs.Confirmation.{AreSteps};
+
+    ghost Value = { List ℕ };
+
+    ghost view = { λ s. s.bytes.items };
+
+    ghost invariant = { λ s. AreSteps s.bytes.items };
+}
+
+impl Steps {
+    ghost use Rattle.std.specs.Prelude.{◌≡◌, IfOk};
+    ghost use Rattle.ar_message.specs.Confirmation.{AreSteps};
+
+    /// The bytes.
+    pub fn as_slice(&self) -> &[u8]
+        ensures bytes { result.now ≡ self.now }
+        ensures steps { AreSteps self.now }
+    {
+        &self.bytes
+    }
+
+    /// These bytes as steps of their own.
+    pub(crate) fn of(alloc: Global, bytes: &[u8]) -> Result<Steps, AllocError>
+        requires { AreSteps bytes.now }
+        ensures { IfOk result (λ steps. steps ≡ bytes.now) }
+    {
+        Ok(Steps {
+            bytes: Vec::from_slice(alloc, bytes)?,
+        })
+    }
+}
