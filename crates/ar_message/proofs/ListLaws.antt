@@ -3,13 +3,12 @@ use Rattle.std.proofs.Common.{◌≡◌, ℕ, zero, suc, ◌+◌, ◌^◌, ◌<�
 use Rattle.std.specs.Prelude.{IfSome}
 use Rattle.std.specs.List.{flat_map, AllByRecursion}
 use Rattle.std.specs.Int.{w8, w16}
-use Rattle.ar_base.specs.Bytes.{AreBytes}
 use Rattle.ar_base.specs.Chaining.{◌>>=◌}
 use Rattle.ar_bytes.specs.Reading.{Cursor, Reading, counted_at}
 use Rattle.ar_bytes.specs.RoundTrip.{Passes, ReadsBack, IsSpelledBy, number_text, counted_text}
 use Rattle.ar_bytes.specs.Tested.{count_at}
-use Rattle.ar_bytes.specs.Ascending.{ascending_at, number_from, Ascend}
-use Rattle.ar_bytes.specs.Joined.{optional_at, optional_text, pair_at}
+use Rattle.ar_bytes.specs.Ascending.{number_from, Ascend}
+use Rattle.ar_bytes.specs.Joined.{optional_at, optional_text}
 use Rattle.ar_bytes.proofs.Steps.{bind_ok, ok_is, between, Passes-then, Passes-first, Passes-second, AreBytes-behind}
 use Rattle.ar_bytes.proofs.Passing.{counted_again, counted_pass}
 use Rattle.ar_bytes.proofs.TestedFields.{count_again, count_pass}

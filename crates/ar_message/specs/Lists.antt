@@ -1,10 +1,10 @@
 -- The lists of messages: changes, votes and statuses, each behind its count in one byte; their fields with the
 -- place of the first that fails, and their texts.
-use Rattle.std.specs.Prelude.{ℕ, zero, suc, ◌^◌, ◌<◌, ◌≤◌, List, [], ◌∷◌, ◌++◌, length, Ok, Option, IfSome}
+use Rattle.std.specs.Prelude.{ℕ, zero, suc, ◌^◌, ◌<◌, ◌≤◌, List, [], ◌∷◌, ◌++◌, length, Ok, IfSome}
 use Rattle.std.specs.List.{flat_map, AllByRecursion}
 use Rattle.std.specs.Int.{w8, w16}
 use Rattle.ar_base.specs.Chaining.{◌>>=◌}
-use Rattle.ar_bytes.specs.Reading.{Cursor, Reading, counted_at, number_at}
+use Rattle.ar_bytes.specs.Reading.{Cursor, Reading, counted_at}
 use Rattle.ar_bytes.specs.RoundTrip.{number_text, counted_text}
 use Rattle.ar_bytes.specs.Tested.{count_at}
 use Rattle.ar_bytes.specs.Ascending.{ascending_at, number_from, Ascend}

@@ -1,24 +1,21 @@
 -- Messages: the fields of each kind in their order with the place of the first that fails, and the one text of
 -- each message.
-use Rattle.std.specs.Prelude.{◌≡◌, ℕ, ◌^◌, ◌<◌, ◌==◌, ◌&&◌, nat_le, nat_lt, Bool, IsTrue, if◌then◌else◌, List, ◌++◌, length, Option, IfSome, Result, Ok, Err}
+use Rattle.std.specs.Prelude.{ℕ, ◌^◌, ◌<◌, ◌==◌, ◌&&◌, nat_le, nat_lt, Bool, IsTrue, if◌then◌else◌, List, ◌++◌, length, IfSome, Result, Ok, Err}
 use Rattle.std.specs.Int.{w8, w16, w32, w64}
-use Rattle.ar_base.specs.Bytes.{AreBytes, IsDigest}
+use Rattle.ar_base.specs.Bytes.{IsDigest}
 use Rattle.ar_base.specs.Chaining.{◌>>=◌}
 use Rattle.ar_bytes.specs.Reading.{Cursor, Reading, counted_at, number_at, such_that, whole}
 use Rattle.ar_bytes.specs.RoundTrip.{number_text, counted_text}
 use Rattle.ar_bytes.specs.Joined.{pair_at, optional_at, optional_text, mapped_at}
 use Rattle.ar_names.specs.Names.{IsName}
 use Rattle.ar_statement.specs.declared.party.Party.{Party}
-use Rattle.ar_statement.specs.declared.party.Role.{Role}
 use Rattle.ar_statement.specs.Claims.{name_text, party, party_text, roots_text}
 use Rattle.ar_statement.specs.Fields.{IsEpoch, digest_at, epoch_at, name_at}
 use Rattle.ar_statement.specs.Ranges.{AreRoots, is_witness}
 use Rattle.ar_statement.specs.Texts.{role_at, roots_at}
-use Rattle.lms_tree.specs.declared.public_key.LmsPublic.{LmsPublic}
 use Rattle.lms_tree.specs.PublicKey.{HasWidths, key_text}
-use Rattle.ar_cert.specs.Certificate.{Certificate, IsCertificate, certificate_text, counted_certificate_at, key_at}
-use Rattle.ar_cert.specs.Changes.{Change, IsChange, IsSignature, change_at, change_text}
-use Rattle.tree_proof.specs.declared.path.Bottom.{Bottom}
+use Rattle.ar_cert.specs.Certificate.{IsCertificate, certificate_text, counted_certificate_at, key_at}
+use Rattle.ar_cert.specs.Changes.{IsChange, IsSignature, change_at, change_text}
 use Rattle.ar_message.specs.Confirmation as confirmation
 use Rattle.ar_message.specs.Confirmation.{Subject, Signed, form_at, subject_at, body_at, path_at, signed_at, confirmation_fields_at, is_present, form_text, subject_text, body_text, path_text, signed_text, confirmation_fields_text, IsConfirmation}
 use Rattle.ar_message.specs.Lists.{changes_at, changes_text, AreChanges, votes_at, votes_text, AreVotes, statuses_at, statuses_text, AreStatuses}

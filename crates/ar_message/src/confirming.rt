@@ -31,11 +31,7 @@ pub(crate) struct ConfirmingView<'a> {
 }
 
 /// What the table has for the name, as a value of its own.
-pub(crate) fn owned_body(
-    alloc: Global,
-    shown: &BodyView,
-    path: &[u8],
-) -> Result<Body, AllocError>
+pub(crate) fn owned_body(alloc: Global, shown: &BodyView, path: &[u8]) -> Result<Body, AllocError>
     requires { AreSteps path.now }
     ensures { IfOk result (λ body. body ≡ body_with (body_of shown.now) path.now) }
 {
@@ -84,10 +80,7 @@ fn with_votes(
 
 /// What two kinds share.
 #[tactic(auto, unfolding(crate::specs::Messages::confirming_at))]
-fn confirming(
-    alloc: Global,
-    fields: &mut Fields,
-) -> Result<Result<Confirming, AllocError>, usize>
+fn confirming(alloc: Global, fields: &mut Fields) -> Result<Result<Confirming, AllocError>, usize>
     ensures { Finds (λ part. part) result fields.new (confirming_at fields.old) }
 {
     let is_present = form(fields)?;

@@ -9,15 +9,9 @@ use tree_proof::Bottom;
 #[derive(Debug, Drop)]
 pub enum Body {
     /// This certificate. The message is of form 1.
-    Present {
-        cert: Cert,
-        path: Steps,
-    },
+    Present { cert: Cert, path: Steps },
     /// None: this stands at the foot of the name's path. The message is of form 2.
-    Absent {
-        bottom: Bottom,
-        path: Steps,
-    },
+    Absent { bottom: Bottom, path: Steps },
 }
 
 /// A confirmation on its way to the client: what a log confirmed, and the votes that it rests on.

@@ -51,10 +51,7 @@ fn with_change(
 
 /// At most 64 changes behind their count.
 #[tactic(auto, using(crate::proofs::ListSteps::list_steps), unfolding(crate::specs::Lists::counted_list_at))]
-fn changes(
-    alloc: Global,
-    fields: &mut Fields,
-) -> Result<Result<Vec<Change>, AllocError>, usize>
+fn changes(alloc: Global, fields: &mut Fields) -> Result<Result<Vec<Change>, AllocError>, usize>
     ensures { Finds (λ l. l.items) result fields.new (changes_at fields.old) }
 {
     let count = fields.take_count(MOST_CHANGES)?;
@@ -182,10 +179,7 @@ fn with_status(
 
 /// At most 16 statuses behind their count.
 #[tactic(auto, using(ar_bytes::proofs::Ascending::list_steps), unfolding(crate::specs::Lists::counted_list_at))]
-fn statuses(
-    alloc: Global,
-    fields: &mut Fields,
-) -> Result<Result<Vec<LogStatus>, AllocError>, usize>
+fn statuses(alloc: Global, fields: &mut Fields) -> Result<Result<Vec<LogStatus>, AllocError>, usize>
     ensures { Finds (λ l. l.items) result fields.new (statuses_at fields.old) }
 {
     let count = fields.take_count(MOST_LOGS)?;
