@@ -1,5 +1,5 @@
 -- The line of each happening. Its words stand with one space between them, and a newline ends it.
-use Rattle.std.specs.Prelude.{ℕ, ◌==◌, List, [], ◌∷◌, ◌++◌, codes, flat_map, Option, Some, None, if◌then◌else◌}
+use Rattle.std.specs.Prelude.{ℕ, List, [], ◌∷◌, ◌++◌, codes, flat_map, Option, Some, None}
 use Rattle.std.specs.Fmt.{decimal}
 use Rattle.hex.specs.Hex.{encode_lower}
 use Rattle.ar_statement.specs.declared.party.Party.{Party}
@@ -8,6 +8,8 @@ use Rattle.ar_statement.specs.declared.party.Role.TheVariants.{LogServer, Author
 use Rattle.report_text.specs.declared.happening.Code.{Code}
 use Rattle.report_text.specs.declared.happening.Happening.{Happening}
 use Rattle.report_text.specs.declared.happening.Happening.TheVariants as happening
+use Rattle.report_text.specs.declared.happening.Kind.{Kind}
+use Rattle.report_text.specs.declared.happening.Kind.TheVariants as kind
 use Rattle.report_text.specs.declared.happening.Said.{Said}
 use Rattle.report_text.specs.declared.happening.Said.TheVariants as said
 use Rattle.report_text.specs.declared.happening.Shown.{Shown}
@@ -16,6 +18,8 @@ use Rattle.report_text.specs.declared.happening.Target.{Target}
 use Rattle.report_text.specs.declared.happening.Target.TheVariants as target
 use Rattle.report_text.specs.declared.happening.Unlearnt.{Unlearnt}
 use Rattle.report_text.specs.declared.happening.Unlearnt.TheVariants as unlearnt
+use Rattle.report_text.specs.declared.happening.Values.{Values}
+use Rattle.report_text.specs.declared.happening.Values.TheVariants as values
 use Rattle.report_text.specs.declared.happening.What.{What}
 use Rattle.report_text.specs.declared.happening.What.TheVariants as what
 
@@ -32,23 +36,29 @@ role_letter Client = codes "C"
 abbrev pub party_text : Party → List ℕ
 party_text party = role_letter party.role ++ decimal party.number
 
+-- the letter of whose rule it is
+abbrev pub rule_letter : Role → List ℕ
+rule_letter LogServer = codes "L"
+rule_letter Authority = codes "A"
+rule_letter Owner = codes "O"
+rule_letter Client = codes "C"
+
 -- the word of a kind of messages
-abbrev pub kind_text : ℕ → List ℕ
-kind_text kind =
-    if kind == 1 then codes "EndorseAsk"
-    else if kind == 2 then codes "Endorsed"
-    else if kind == 3 then codes "Submit"
-    else if kind == 4 then codes "Propose"
-    else if kind == 5 then codes "Ballot"
-    else if kind == 6 then codes "StatusNote"
-    else if kind == 7 then codes "Decision"
-    else if kind == 8 then codes "SkipNote"
-    else if kind == 9 then codes "ConfirmAsk"
-    else if kind == 10 then codes "LogConfirmed"
-    else if kind == 11 then codes "HalfConfirmed"
-    else if kind == 12 then codes "Confirmation"
-    else if kind == 13 then codes "RollNote"
-    else codes "Raw"
+abbrev pub kind_text : Kind → List ℕ
+kind_text kind.Raw = codes "Raw"
+kind_text kind.EndorseAsk = codes "EndorseAsk"
+kind_text kind.Endorsed = codes "Endorsed"
+kind_text kind.Submit = codes "Submit"
+kind_text kind.Propose = codes "Propose"
+kind_text kind.Ballot = codes "Ballot"
+kind_text kind.StatusNote = codes "StatusNote"
+kind_text kind.Decision = codes "Decision"
+kind_text kind.SkipNote = codes "SkipNote"
+kind_text kind.ConfirmAsk = codes "ConfirmAsk"
+kind_text kind.LogConfirmed = codes "LogConfirmed"
+kind_text kind.HalfConfirmed = codes "HalfConfirmed"
+kind_text kind.Confirmation = codes "Confirmation"
+kind_text kind.RollNote = codes "RollNote"
 
 -- who sent a message
 abbrev pub sender_text : Option Party → List ℕ
@@ -71,9 +81,8 @@ what_text (what.Submit draft) = codes "submit " ++ decimal draft
 what_text (what.Handover draft) = codes "handover " ++ decimal draft
 what_text (what.Object draft) = codes "object " ++ decimal draft
 
--- a value of a code behind a space, where there is one
+-- a value of a code behind a space
 abbrev pub value_text : Shown → List ℕ
-value_text shown.Nothing = []
 value_text (shown.Number number) = codes " " ++ decimal number
 value_text (shown.Party party) = codes " " ++ party_text party
 value_text (shown.Digest digest) = codes " " ++ encode_lower digest
@@ -81,12 +90,14 @@ value_text shown.Full = codes " full"
 value_text shown.NoRoot = codes " none"
 
 -- the values of a code
-abbrev pub values_text : List Shown → List ℕ
-values_text values = flat_map value_text values
+abbrev pub values_text : Values → List ℕ
+values_text values.Nothing = []
+values_text (values.One value) = value_text value
+values_text (values.Two first second) = value_text first ++ value_text second
 
--- a code: its letter, its number and its values
+-- a code: the letter of whose rule it is, its number and its values
 abbrev pub code_text : Code → List ℕ
-code_text code = (code.letter ∷ []) ++ (decimal code.number ++ values_text code.values)
+code_text code = (rule_letter code.role ++ decimal code.number) ++ values_text code.values
 
 -- ---- how a line ends
 
@@ -148,7 +159,7 @@ abbrev pub ended_text : ℕ → ℕ → Option (List ℕ) → List ℕ
 ended_text log epoch root = codes "L" ++ (decimal log ++ (codes " ended " ++ (decimal epoch ++ ending_text root)))
 
 -- which message enters the pool
-abbrev pub message_text : ℕ → ℕ → List ℕ
+abbrev pub message_text : ℕ → Kind → List ℕ
 message_text message kind = codes "message " ++ (decimal message ++ (codes " " ++ kind_text kind))
 
 -- who sent it and to whom it goes
@@ -156,7 +167,7 @@ abbrev pub route_text : Option Party → Target → List ℕ
 route_text from to = codes " from " ++ (sender_text from ++ (codes " to " ++ target_text to))
 
 -- a message enters the pool
-abbrev pub entry_text : ℕ → ℕ → Option Party → Target → ℕ → List ℕ → List ℕ
+abbrev pub entry_text : ℕ → Kind → Option Party → Target → ℕ → List ℕ → List ℕ
 entry_text message kind from to length digest =
     message_text message kind ++ (route_text from to ++ (codes " " ++ (decimal length ++ digest_text digest)))
 

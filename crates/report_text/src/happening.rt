@@ -1,11 +1,10 @@
 use ar_base::Items;
-use ar_statement::Party;
+use ar_names::Name;
+use ar_statement::{Party, Role};
 
 /// A value that stands behind the number of a refusal.
 #[derive(Clone, Copy, Debug, PartialEq, Eq)]
 pub enum Shown {
-    /// There is none.
-    Nothing,
     /// A place, an epoch, a count, a log, or the number of a condition or clause.
     Number(u64),
     /// A party.
@@ -18,13 +17,44 @@ pub enum Shown {
     NoRoot,
 }
 
-/// Why a step is refused: a letter, which says whose rule it is, the number of the refusal, and the
-/// values that belong to it, from the front.
+/// The values that belong to a refusal.
+#[derive(Clone, Copy, Debug, PartialEq, Eq)]
+pub enum Values {
+    /// None.
+    Nothing,
+    /// This one.
+    One(Shown),
+    /// These two.
+    Two(Shown, Shown),
+}
+
+/// Why a step is refused: whose rule it is, the number of the refusal, and the values that belong to it.
 #[derive(Clone, Copy, Debug, PartialEq, Eq)]
 pub struct Code {
-    pub letter: u8,
+    /// Its letter is `L`, `A`, `O` or `C`.
+    pub role: Role,
     pub number: u8,
-    pub values: [Shown; 2],
+    pub values: Values,
+}
+
+/// The kind of a message of the pool.
+#[derive(Clone, Copy, Debug, PartialEq, Eq)]
+pub enum Kind {
+    /// Bytes that a script composed.
+    Raw,
+    EndorseAsk,
+    Endorsed,
+    Submit,
+    Propose,
+    Ballot,
+    StatusNote,
+    Decision,
+    SkipNote,
+    ConfirmAsk,
+    LogConfirmed,
+    HalfConfirmed,
+    Confirmation,
+    RollNote,
 }
 
 /// What a party does in a step.
@@ -75,7 +105,7 @@ pub enum Target {
 pub enum Said {
     /// The name has this certificate.
     Accepted {
-        name: Items<u8>,
+        name: Name,
         serial: u64,
         epoch: u64,
         root: [u8; 32],
@@ -83,7 +113,7 @@ pub enum Said {
     },
     /// The name has none.
     Absent {
-        name: Items<u8>,
+        name: Name,
         epoch: u64,
         root: [u8; 32],
     },
@@ -137,11 +167,10 @@ pub enum Happening {
         message: u64,
         refused: Option<Unlearnt>,
     },
-    /// A message enters the pool. The kind is its number in the text of messages, and 0 for bytes that a
-    /// script composed.
+    /// A message enters the pool.
     Entered {
         message: u64,
-        kind: u8,
+        kind: Kind,
         from: Option<Party>,
         to: Target,
         length: u64,

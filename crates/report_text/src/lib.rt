@@ -1,12 +1,14 @@
 //! The lines that the program prints of what happens in a world: one for each happening.
 //!
-//! `specs/Lines.antt` says what each line is.
+//! `specs/Lines.antt` says what each line is, and `Held` what the types keep of a happening. `laws` says that no two
+//! happenings print one line.
 #![tactic(auto)]
 
-pub use happening::{Code, Happening, Said, Shown, Target, Unlearnt, What};
+pub use happening::{Code, Happening, Kind, Said, Shown, Target, Unlearnt, Values, What};
 pub use printing::print;
 
 mod happening;
+pub mod laws;
 mod printing;
 #[cfg(test)]
 mod tests;

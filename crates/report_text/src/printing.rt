@@ -2,7 +2,7 @@ ghost use Rattle.std.specs.Prelude.{◌≡◌, ◌+◌, ◌≤◌, ◌++◌, len
 ghost use Rattle.ar_text.specs.Parts.{Appends};
 ghost use Rattle.report_text.specs.Lines.{check_text, digest_text, draft_text, ended_text, ending_text, entry_text, learning_text, line_of, made_text, message_text, order_text, outcome_text, route_text, said_text, step_text};
 
-use crate::happening::{Code, Happening, Said, Target, Unlearnt, What};
+use crate::happening::{Code, Happening, Kind, Said, Target, Unlearnt, What};
 use crate::words::{
     kind_word, put, put_code, put_numbered, put_party, put_sender, put_taken, put_target, put_what,
 };
@@ -87,7 +87,7 @@ fn put_said(alloc: Global, out: &mut Vec<u8>, said: &Said) -> Result<(), AllocEr
         } => {
             let parts = [
                 Part::Bytes(b" accepted "),
-                Part::Bytes(name.as_slice()),
+                Part::Bytes(name.text()),
                 Part::Bytes(b" serial "),
                 Part::Number(*serial),
                 Part::Bytes(b" epoch "),
@@ -103,7 +103,7 @@ fn put_said(alloc: Global, out: &mut Vec<u8>, said: &Said) -> Result<(), AllocEr
         Said::Absent { name, epoch, root } => {
             let parts = [
                 Part::Bytes(b" absent "),
-                Part::Bytes(name.as_slice()),
+                Part::Bytes(name.text()),
                 Part::Bytes(b" epoch "),
                 Part::Number(*epoch),
                 Part::Bytes(b" root "),
@@ -156,7 +156,7 @@ fn put_step(
 #[derive(Drop)]
 struct Entry<'a> {
     message: u64,
-    kind: u8,
+    kind: Kind,
     from: Option<Party>,
     to: Target,
     length: u64,
@@ -164,7 +164,7 @@ struct Entry<'a> {
 }
 
 /// Appends which message enters the pool.
-fn put_message(alloc: Global, out: &mut Vec<u8>, message: u64, kind: u8) -> Result<(), AllocError>
+fn put_message(alloc: Global, out: &mut Vec<u8>, message: u64, kind: Kind) -> Result<(), AllocError>
     ensures { Appends (message_text message kind) out.old out.new result }
 {
     put_numbered(alloc, out, b"message ", message)?;

@@ -1,5 +1,6 @@
-use crate::{Code, Happening, Said, Shown, Target, Unlearnt, What, print};
+use crate::{Code, Happening, Kind, Said, Shown, Target, Unlearnt, Values, What, print};
 use ar_base::Items;
+use ar_names::Name;
 use ar_statement::{Party, Role};
 use std::alloc::{AllocError, Global};
 use std::test::Fail;
@@ -94,9 +95,9 @@ fn steps(rt: HostRuntime) -> Result<(), Fail> {
             },
             What::Propose,
             Some(Code {
-                letter: b'L',
+                role: Role::LogServer,
                 number: 8,
-                values: [Shown::Nothing, Shown::Nothing],
+                values: Values::Nothing,
             }),
             "L0 propose refused L8",
         ),
@@ -116,15 +117,15 @@ fn steps(rt: HostRuntime) -> Result<(), Fail> {
             },
             What::Roll,
             Some(Code {
-                letter: b'A',
+                role: Role::Authority,
                 number: 11,
-                values: [
+                values: Values::Two(
                     Shown::Party(Party {
                         role: Role::Authority,
                         number: 1,
                     }),
                     Shown::Number(4294967295),
-                ],
+                ),
             }),
             "A1 roll refused A11 A1 4294967295",
         ),
@@ -135,9 +136,9 @@ fn steps(rt: HostRuntime) -> Result<(), Fail> {
             },
             What::Submit(3),
             Some(Code {
-                letter: b'O',
+                role: Role::Owner,
                 number: 2,
-                values: [Shown::Digest([0xab; 32]), Shown::Nothing],
+                values: Values::One(Shown::Digest([0xab; 32])),
             }),
             "D7 submit 3 refused O2 abababababababababababababababababababababababababababababababab",
         ),
@@ -148,15 +149,15 @@ fn steps(rt: HostRuntime) -> Result<(), Fail> {
             },
             What::Handover(1),
             Some(Code {
-                letter: b'O',
+                role: Role::Owner,
                 number: 4,
-                values: [
+                values: Values::Two(
                     Shown::Party(Party {
                         role: Role::Authority,
                         number: 0,
                     }),
                     Shown::Number(5),
-                ],
+                ),
             }),
             "D511 handover 1 refused O4 A0 5",
         ),
@@ -176,9 +177,9 @@ fn steps(rt: HostRuntime) -> Result<(), Fail> {
             },
             What::Take(1),
             Some(Code {
-                letter: b'L',
+                role: Role::LogServer,
                 number: 10,
-                values: [Shown::Number(2), Shown::Full],
+                values: Values::Two(Shown::Number(2), Shown::Full),
             }),
             "L1 take 1 refused L10 2 full",
         ),
@@ -189,9 +190,9 @@ fn steps(rt: HostRuntime) -> Result<(), Fail> {
             },
             What::Take(2),
             Some(Code {
-                letter: b'L',
+                role: Role::LogServer,
                 number: 15,
-                values: [Shown::NoRoot, Shown::Number(0)],
+                values: Values::Two(Shown::NoRoot, Shown::Number(0)),
             }),
             "L1 take 2 refused L15 none 0",
         ),
@@ -238,85 +239,85 @@ fn messages_that_enter_the_pool(rt: HostRuntime) -> Result<(), Fail> {
     };
     let lines = [
         (
-            0,
+            Kind::Raw,
             None,
             Target::Logs,
             "message 9 Raw from none to logs 2348 abababababababababababababababababababababababababababababababab",
         ),
         (
-            1,
+            Kind::EndorseAsk,
             Some(from),
             Target::One(to),
             "message 9 EndorseAsk from A1 to C0 2348 abababababababababababababababababababababababababababababababab",
         ),
         (
-            2,
+            Kind::Endorsed,
             Some(from),
             Target::One(to),
             "message 9 Endorsed from A1 to C0 2348 abababababababababababababababababababababababababababababababab",
         ),
         (
-            3,
+            Kind::Submit,
             Some(from),
             Target::One(to),
             "message 9 Submit from A1 to C0 2348 abababababababababababababababababababababababababababababababab",
         ),
         (
-            4,
+            Kind::Propose,
             Some(from),
             Target::One(to),
             "message 9 Propose from A1 to C0 2348 abababababababababababababababababababababababababababababababab",
         ),
         (
-            5,
+            Kind::Ballot,
             Some(from),
             Target::Logs,
             "message 9 Ballot from A1 to logs 2348 abababababababababababababababababababababababababababababababab",
         ),
         (
-            6,
+            Kind::StatusNote,
             Some(from),
             Target::One(to),
             "message 9 StatusNote from A1 to C0 2348 abababababababababababababababababababababababababababababababab",
         ),
         (
-            7,
+            Kind::Decision,
             Some(from),
             Target::One(to),
             "message 9 Decision from A1 to C0 2348 abababababababababababababababababababababababababababababababab",
         ),
         (
-            8,
+            Kind::SkipNote,
             Some(from),
             Target::One(to),
             "message 9 SkipNote from A1 to C0 2348 abababababababababababababababababababababababababababababababab",
         ),
         (
-            9,
+            Kind::ConfirmAsk,
             Some(from),
             Target::One(to),
             "message 9 ConfirmAsk from A1 to C0 2348 abababababababababababababababababababababababababababababababab",
         ),
         (
-            10,
+            Kind::LogConfirmed,
             Some(from),
             Target::One(to),
             "message 9 LogConfirmed from A1 to C0 2348 abababababababababababababababababababababababababababababababab",
         ),
         (
-            11,
+            Kind::HalfConfirmed,
             Some(from),
             Target::One(to),
             "message 9 HalfConfirmed from A1 to C0 2348 abababababababababababababababababababababababababababababababab",
         ),
         (
-            12,
+            Kind::Confirmation,
             Some(from),
             Target::One(to),
             "message 9 Confirmation from A1 to C0 2348 abababababababababababababababababababababababababababababababab",
         ),
         (
-            13,
+            Kind::RollNote,
             Some(from),
             Target::Nobody,
             "message 9 RollNote from A1 to none 2348 abababababababababababababababababababababababababababababababab",
@@ -341,7 +342,7 @@ fn judgements(rt: HostRuntime) -> Result<(), Fail> {
     let accepted = Happening::Judged {
         message: 40,
         said: Said::Accepted {
-            name: Items::from_vec(b"d8.example".to_vec(rt.alloc())?),
+            name: Name::read(rt.alloc(), b"d8.example")?,
             serial: 18446744073709551615,
             epoch: 2,
             root: [5; 32],
@@ -351,7 +352,7 @@ fn judgements(rt: HostRuntime) -> Result<(), Fail> {
     let absent = Happening::Judged {
         message: 41,
         said: Said::Absent {
-            name: Items::from_vec(b"d8.example".to_vec(rt.alloc())?),
+            name: Name::read(rt.alloc(), b"d8.example")?,
             epoch: 9223372036854775808,
             root: [5; 32],
         },

@@ -1,9 +1,9 @@
 //! The words of lines.
 ghost use Rattle.std.specs.Prelude.{◌≡◌, ◌++◌, decimal};
 ghost use Rattle.ar_text.specs.Parts.{Appends};
-ghost use Rattle.report_text.specs.Lines.{code_text, kind_text, party_text, role_letter, sender_text, taken_text, target_text, value_text, values_text, what_text};
+ghost use Rattle.report_text.specs.Lines.{code_text, kind_text, party_text, role_letter, rule_letter, sender_text, taken_text, target_text, value_text, values_text, what_text};
 
-use crate::happening::{Code, Shown, Target, What};
+use crate::happening::{Code, Kind, Shown, Target, Values, What};
 use ar_statement::{Party, Role};
 use ar_text::{Part, append};
 use std::alloc::{AllocError, Global};
@@ -20,25 +20,37 @@ fn letter(role: Role) -> &'static [u8]
     }
 }
 
+/// The letter of whose rule it is.
+fn rule_letter(role: Role) -> &'static [u8]
+    ensures { result.now ≡ rule_letter role }
+{
+    match role {
+        Role::LogServer => b"L",
+        Role::Authority => b"A",
+        Role::Owner => b"O",
+        Role::Client => b"C",
+    }
+}
+
 /// The word of a kind of messages.
-pub(crate) fn kind_word(kind: u8) -> &'static [u8]
+pub(crate) fn kind_word(kind: Kind) -> &'static [u8]
     ensures { result.now ≡ kind_text kind }
 {
     match kind {
-        1 => b"EndorseAsk",
-        2 => b"Endorsed",
-        3 => b"Submit",
-        4 => b"Propose",
-        5 => b"Ballot",
-        6 => b"StatusNote",
-        7 => b"Decision",
-        8 => b"SkipNote",
-        9 => b"ConfirmAsk",
-        10 => b"LogConfirmed",
-        11 => b"HalfConfirmed",
-        12 => b"Confirmation",
-        13 => b"RollNote",
-        _ => b"Raw",
+        Kind::Raw => b"Raw",
+        Kind::EndorseAsk => b"EndorseAsk",
+        Kind::Endorsed => b"Endorsed",
+        Kind::Submit => b"Submit",
+        Kind::Propose => b"Propose",
+        Kind::Ballot => b"Ballot",
+        Kind::StatusNote => b"StatusNote",
+        Kind::Decision => b"Decision",
+        Kind::SkipNote => b"SkipNote",
+        Kind::ConfirmAsk => b"ConfirmAsk",
+        Kind::LogConfirmed => b"LogConfirmed",
+        Kind::HalfConfirmed => b"HalfConfirmed",
+        Kind::Confirmation => b"Confirmation",
+        Kind::RollNote => b"RollNote",
     }
 }
 
@@ -108,12 +120,11 @@ pub(crate) fn put_what(alloc: Global, out: &mut Vec<u8>, what: What) -> Result<(
     }
 }
 
-/// Appends a value of a code behind a space, where there is one.
+/// Appends a value of a code behind a space.
 fn put_value(alloc: Global, out: &mut Vec<u8>, value: Shown) -> Result<(), AllocError>
     ensures { Appends (value_text value) out.old out.new result }
 {
     match value {
-        Shown::Nothing => put(alloc, out, b""),
         Shown::Number(number) => put_numbered(alloc, out, b" ", number),
         Shown::Party(party) => {
             put(alloc, out, b" ")?;
@@ -126,22 +137,25 @@ fn put_value(alloc: Global, out: &mut Vec<u8>, value: Shown) -> Result<(), Alloc
 }
 
 /// Appends the values of a code.
-fn put_values(alloc: Global, out: &mut Vec<u8>, values: &[Shown]) -> Result<(), AllocError>
-    ensures { Appends (values_text values.now) out.old out.new result }
+fn put_values(alloc: Global, out: &mut Vec<u8>, values: Values) -> Result<(), AllocError>
+    ensures { Appends (values_text values) out.old out.new result }
 {
-    for value in values {
-        put_value(alloc, out, *value)?;
+    match values {
+        Values::Nothing => put(alloc, out, b""),
+        Values::One(value) => put_value(alloc, out, value),
+        Values::Two(first, second) => {
+            put_value(alloc, out, first)?;
+            put_value(alloc, out, second)
+        }
     }
-    Ok(())
 }
 
 /// Appends a code.
 pub(crate) fn put_code(alloc: Global, out: &mut Vec<u8>, code: Code) -> Result<(), AllocError>
     ensures { Appends (code_text code) out.old out.new result }
 {
-    put(alloc, out, &[code.letter])?;
-    put_numbered(alloc, out, b"", u64::from(code.number))?;
-    put_values(alloc, out, &code.values)
+    put_numbered(alloc, out, rule_letter(code.role), u64::from(code.number))?;
+    put_values(alloc, out, code.values)
 }
 
 /// Appends the numbers of deliveries, each behind a space.
