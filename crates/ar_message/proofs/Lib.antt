@@ -4,3 +4,4 @@ pub mod Filled
 pub mod Places
 pub mod ListSteps
 pub mod ListLaws
+pub mod Written

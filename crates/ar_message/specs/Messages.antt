@@ -165,12 +165,20 @@ about_in part = record { client = part.client; epoch = part.epoch; name = part.n
 abbrev pub signed_in : ℕ → List ℕ → Signed
 signed_in number signature = record { number = number; signature = signature }
 
+-- what is confirmed
+abbrev pub confirmed_text : Confirming → List ℕ
+confirmed_text part =
+    form_text (is_present (shown_in part.body)) ++ (subject_text (about_in part) ++ (part.base
+    ++ (body_text (shown_in part.body) ++ path_text (path_in part.body))))
+
+-- what vouches for it, and who is asked to confirm it too
+abbrev pub vouched_text : Confirming → List ℕ
+vouched_text part =
+    votes_text part.votes ++ (signed_text (signed_in part.log part.signature) ++ (number_text w16 part.first ++ number_text w16 part.second))
+
 -- what two kinds share
 unfoldable pub confirming_text : Confirming → List ℕ
-confirming_text part =
-    form_text (is_present (shown_in part.body)) ++ (subject_text (about_in part) ++ (part.base
-    ++ (body_text (shown_in part.body) ++ (path_text (path_in part.body) ++ (votes_text part.votes
-    ++ (signed_text (signed_in part.log part.signature) ++ (number_text w16 part.first ++ number_text w16 part.second)))))))
+confirming_text part = confirmed_text part ++ vouched_text part
 
 -- a confirmation as its definition has it
 abbrev pub confirmation_in : ℕ → ℕ → List ℕ → List ℕ → Body → ℕ → List ℕ → ℕ → List ℕ → ℕ → List ℕ → confirmation.Confirmation

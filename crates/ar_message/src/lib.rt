@@ -24,6 +24,8 @@ mod steps;
 mod take_lists;
 mod unsigned;
 mod view;
+mod write_kinds;
+mod writing;
 
 pub use address::Address;
 pub use fault::MessageFault;
