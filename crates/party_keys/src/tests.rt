@@ -226,50 +226,92 @@ fn the_last_leaf_is_for_the_roll(rt: HostRuntime) -> Result<(), Fail> {
     Ok(())
 }
 
+// The key of abc, where `is_abc` says so, and else that of the Roll of log 0.
+fn next_key(is_abc: bool) -> LmsPublic {
+    if is_abc { key(ABC) } else { key(ROLL) }
+}
+
+// A number for an answer of `learn`: 0 for a new key, 1 for one that was known, k + 10 for a signature that
+// is bad by k, 100 where another key is known, and 255 for unknown.
+fn learnt(answer: Result<Learned, LearnFault>) -> u8 {
+    match answer {
+        Ok(Learned::New) => 0,
+        Ok(Learned::Again) => 1,
+        Err(LearnFault::Bad(k)) => k.saturating_add(10),
+        Err(LearnFault::Other) => 100,
+        Err(LearnFault::Unknown) => 255,
+        Err(LearnFault::Memory) => 200,
+    }
+}
+
+// The answer to what a party announces behind a generation, signed under generation 0 at a leaf.
+fn learn(
+    d: &mut Directory,
+    alloc: Global,
+    party: Party,
+    generation: u32,
+    is_abc: bool,
+    leaf: u8,
+) -> u8 {
+    learnt(d.learn(
+        alloc,
+        party,
+        generation,
+        next_key(is_abc),
+        &signature(0, leaf),
+    ))
+}
+
 #[test]
-fn a_directory_learns_and_adopts(rt: HostRuntime) -> Result<(), Fail> {
+fn a_directory_learns(rt: HostRuntime) -> Result<(), Fail> {
     let alloc = rt.alloc();
     let Some(mut d) = directory(alloc)? else {
         panic!(rt; "no directory")
     };
     let log = Role::LogServer.party(0);
-    let good = signature(0, 31);
+    let owner = Role::Owner.party(0);
     assert!(rt; check(&d, log, b"abc", &[(1, 3, 6)]));
-    // A party, a generation, a key and a leaf, and the answer.
-    for (party, generation, root, leaf, answer) in [
-        (
-            Role::Owner.party(0),
-            0u32,
-            ABC,
-            31u8,
-            Err(LearnFault::Unknown),
-        ),
-        (log, 0, ABC, 30, Err(LearnFault::Bad(5))),
-        (log, 0, ROLL, 31, Err(LearnFault::Bad(5))),
-        (log, 0, ABC, 31, Ok(Learned::New)),
-        (log, 0, ABC, 31, Ok(Learned::Again)),
-        (log, 1, ABC, 31, Err(LearnFault::Bad(5))),
+    // A party, a generation, whether the key is that of abc, a leaf, and the answer.
+    for (party, generation, is_abc, leaf, answer) in [
+        (owner, 0u32, true, 31u8, 255u8),
+        (log, 0, true, 30, 15),
+        (log, 0, false, 31, 15),
+        (log, 0, true, 31, 0),
+        (log, 0, true, 31, 1),
+        (log, 1, true, 31, 15),
     ] {
-        let learned = d.learn(alloc, party, generation, key(root), &signature(0, leaf));
+        let learned = learn(&mut d, alloc, party, generation, is_abc, leaf);
         assert_eq!(rt; learned, answer, "{generation} {leaf}");
     }
     assert!(rt; check(&d, log, b"abc", &[(1, 3, 0), (1, 2, 5), (2, 3, 6)]));
     assert!(rt; check(&d, Role::LogServer.party(1), b"abc", &[(1, 3, 6)]));
+    Ok(())
+}
+
+#[test]
+fn a_directory_adopts(rt: HostRuntime) -> Result<(), Fail> {
+    let alloc = rt.alloc();
+    let Some(mut d) = directory(alloc)? else {
+        panic!(rt; "no directory")
+    };
+    let log = Role::LogServer.party(0);
+    let authority = Role::Authority.party(2);
+    assert_eq!(rt; learn(&mut d, alloc, log, 0, true, 31), 0);
     let copy = d.copy(alloc)?;
-    // Another key behind generation 0 takes the place of what was learnt.
-    d.adopt(alloc, log, 1, key(ABC))?;
+    d.adopt(alloc, log, 1, next_key(true))?;
     assert!(rt; check(&d, log, b"abc", &[(1, 3, 0), (2, 3, 0), (3, 3, 6)]));
-    d.adopt(alloc, log, 0, key(ROLL))?;
+    // Another key behind generation 0 takes the place of what was learnt.
+    d.adopt(alloc, log, 0, next_key(false))?;
     assert!(rt; check(&d, log, b"abc", &[(1, 3, 5), (2, 3, 6)]));
-    d.adopt(alloc, log, 2, key(ABC))?;
-    d.adopt(alloc, Role::Client.party(0), 0, key(ABC))?;
+    // Nothing is adopted behind a generation that is not known, nor of a client.
+    d.adopt(alloc, log, 2, next_key(true))?;
+    d.adopt(alloc, Role::Client.party(0), 0, next_key(true))?;
     assert!(rt; check(&d, log, b"abc", &[(2, 3, 6), (3, 3, 6)]));
-    let learned = d.learn(alloc, log, 0, key(ABC), &good);
-    assert_eq!(rt; learned, Err(LearnFault::Other));
+    assert_eq!(rt; learn(&mut d, alloc, log, 0, true, 31), 100);
     assert!(rt; check(&copy, log, b"abc", &[(1, 3, 0), (2, 3, 6)]));
     // The authority adopts a key that it never announced.
-    d.adopt(alloc, Role::Authority.party(2), 0, key(ABC))?;
-    assert!(rt; check(&d, Role::Authority.party(2), b"abc", &[(1, 3, 0)]));
+    d.adopt(alloc, authority, 0, next_key(true))?;
+    assert!(rt; check(&d, authority, b"abc", &[(1, 3, 0)]));
     Ok(())
 }
 
