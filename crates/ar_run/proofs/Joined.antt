@@ -29,3 +29,26 @@ cut_off wrote old mid new f xs i d lt so_far cut =
       so ++ cut.0,
       (cut.1.0 ++ behind, whole, omega (arith, length-append cut.1.0 behind, cut.1.2), Appended-trans wrote old mid new so cut.0 so_far cut.1.3),
     )
+
+-- ---- a text, of which a front was written
+
+-- the front was written of a text before the rest
+abbrev pub Before : {T : Type 0} → (T → List ℕ → Type 0) → T → T → List ℕ → List ℕ → Type 0
+Before wrote old new text rest = (front : List ℕ) × (text ≡ front ++ rest) × Appended wrote old new front
+
+-- one more line was written
+pub more_written : {T : Type 0} (wrote : T → List ℕ → Type 0) (old mid new : T) (text rest line behind : List ℕ) → Before wrote old mid text rest → rest ≡ line ++ behind → Appended wrote mid new line → Before wrote old new text behind
+more_written wrote old mid new text rest line behind so cut went =
+    let whole : text ≡ (so.0 ++ line) ++ behind = so.1 ∙ ap (λ r. so.0 ++ r) cut ∙ sym (append_assoc so.0 line behind) in
+    (so.0 ++ line, whole, Appended-trans wrote old mid new so.0 line so.2 went)
+
+-- where a front of a line was written, a front of the text was
+pub broken_off : {T : Type 0} (wrote : T → List ℕ → Type 0) (old mid new : T) (text rest line behind : List ℕ) → Before wrote old mid text rest → rest ≡ line ++ behind → AppendedFront wrote mid new line → AppendedFront wrote old new text
+broken_off wrote old mid new text rest line behind so here cut =
+    let whole : text ≡ (so.0 ++ cut.0) ++ (cut.1.0 ++ behind) =
+    so.1
+    ∙ ap (λ r. so.0 ++ r) (here ∙ ap (λ l. l ++ behind) cut.1.1 ∙ append_assoc cut.0 cut.1.0 behind)
+    ∙ sym (append_assoc so.0 cut.0 (cut.1.0 ++ behind)) in (
+      so.0 ++ cut.0,
+      (cut.1.0 ++ behind, whole, omega (arith, length-append cut.1.0 behind, cut.1.2), Appended-trans wrote old mid new so.0 cut.0 so.2 cut.1.3),
+    )

@@ -9,7 +9,7 @@
 pub use answer::Answer;
 pub use fault::Fault;
 pub use respond::Respond;
-pub use running::{answer_from, run, status, write_answer, write_line};
+pub use running::{answer_from, run, status, write_answer, write_line, write_text};
 
 mod answer;
 mod fault;

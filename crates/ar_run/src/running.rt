@@ -1,4 +1,4 @@
-ghost use Rattle.std.specs.Prelude.{◌≡◌, ◌≢◌, ◌+◌, ◌<◌, ◌≤◌, ◌⊎◌, ℕ, List, IfOk, IfErr, OnOk, OnErr};
+ghost use Rattle.std.specs.Prelude.{◌≡◌, ◌≢◌, ◌+◌, ◌<◌, ◌≤◌, ◌==◌, ◌++◌, ◌⊎◌, length, position, ℕ, List, IfOk, IfErr, OnOk, OnErr};
 ghost use Rattle.ar_base.specs.Faults.{HasRisen};
 ghost use Rattle.ar_io.specs.Wrote.{Appended, AppendedFront, Unchanged};
 ghost use Rattle.ar_run.specs.Answers.{written_of};
@@ -45,6 +45,43 @@ pub fn write_line<K: Sink>(sink: &mut K, line: &[u8]) -> Result<(), Fault>
     ensures faults { K.faults sink.old ≤ K.faults sink.new }
 {
     write_all(sink, line).map_err(|_| Fault::Sink)
+}
+
+/// Where the first newline of a text stands.
+fn first_newline(text: &[u8]) -> Option<usize>
+    ensures { result ≡ position (λ byte. byte == 10) text.now }
+{
+    text.iter().position(|byte| *byte == b'\n')
+}
+
+/// The first line of a text that has one, with its newline, and what stands behind it.
+fn first_line(text: &[u8]) -> (&[u8], &[u8])
+    requires { 0 < length text.now }
+    ensures cut { text.now ≡ result.0.now ++ result.1.now }
+    ensures shorter { length result.1.now < length text.now }
+{
+    match first_newline(text) {
+        Some(newline) => text.split_at(newline + 1),
+        None => (text, &[]),
+    }
+}
+
+/// Writes the lines of a text, each as one piece. It takes no memory.
+pub fn write_text<K: Sink>(sink: &mut K, text: &[u8]) -> Result<(), Fault>
+    ensures ok { OnOk result (Appended K.wrote sink.old sink.new text.now) }
+    ensures sink { OnErr result (HasRisen (K.faults sink.old) (K.faults sink.new)
+        × AppendedFront K.wrote sink.old sink.new text.now) }
+    ensures only_sink { IfErr result (λ fault. fault ≡ Fault.Sink) }
+    ensures uncounted { OnOk result (K.faults sink.new ≡ K.faults sink.old) }
+    ensures faults { K.faults sink.old ≤ K.faults sink.new }
+{
+    let mut rest = text;
+    while !rest.is_empty() {
+        let (line, behind) = first_line(rest);
+        write_line(sink, line)?;
+        rest = behind;
+    }
+    Ok(())
 }
 
 /// Writes the lines of an answer, each as one piece. It takes no memory.

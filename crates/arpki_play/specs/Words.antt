@@ -1,9 +1,12 @@
 -- The words that the program is called with, after its own name.
-use Rattle.std.specs.Prelude.{ℕ, if◌then◌else◌, List, [], ◌∷◌, codes, map, Option, Some, None, String, string_bytes}
+use Rattle.std.specs.Prelude.{ℕ, nat_le, ◌&&◌, if◌then◌else◌, List, [], ◌∷◌, codes, map, Option, Some, None, String, string_bytes, option_map}
 use Rattle.std.specs.Str.{bytes_eq}
 use Rattle.std.specs.declared.alloc.Global.{Global}
+use Rattle.ar_lines.specs.Forms.{number_of, passing}
 use Rattle.arpki_play.specs.declared.command.Command.{Command}
 use Rattle.arpki_play.specs.declared.command.Command.TheVariants.{Sig, Check}
+use Rattle.arpki_play.specs.declared.request.Request.{Request}
+use Rattle.arpki_play.specs.declared.request.Request.TheVariants.{Answer, Make}
 
 -- the bytes of each word
 abbrev pub texts : List (String Global) → List (List ℕ)
@@ -14,8 +17,13 @@ abbrev pub command_named : List ℕ → Option Command
 command_named word =
     if bytes_eq word (codes "sig") then Some Sig else (if bytes_eq word (codes "check") then Some Check else None)
 
--- the command of the words, where they are of a form
-abbrev pub command_of : List (List ℕ) → Option Command
-command_of [] = None
-command_of (word ∷ []) = command_named word
-command_of (word ∷ next ∷ more) = None
+-- how many domains a word says that a script is for: 1 to 400
+unfoldable pub domains_of : List ℕ → Option ℕ
+domains_of word = passing (λ n. nat_le 1 n && nat_le n 400) (number_of word)
+
+-- what the words ask for, where they are of a form: the answer of a command, or `make` and a number of domains
+abbrev pub request_of : List (List ℕ) → Option Request
+request_of [] = None
+request_of (name ∷ []) = option_map Answer (command_named name)
+request_of (name ∷ number ∷ []) = if bytes_eq name (codes "make") then option_map Make (domains_of number) else None
+request_of (name ∷ number ∷ next ∷ more) = None

@@ -6,7 +6,7 @@ use ar_lines::{Reason, Refusal};
 use ar_run::{Answer, Respond};
 use std::alloc::{AllocError, Global};
 
-/// What the program is asked to do.
+/// What the program is asked to do with its input.
 #[derive(Clone, Copy, Debug, PartialEq, Eq)]
 pub enum Command {
     /// `sig`: judge one signature.
@@ -16,20 +16,10 @@ pub enum Command {
 }
 
 impl Command {
-    ghost use Rattle.arpki_play.specs.Words.{command_named, command_of, texts};
-
-    /// The command of the words that follow the program's name; `None` where they are of no form.
-    pub fn read(words: &[String]) -> Option<Command>
-        ensures { result ≡ command_of (texts words.now) }
-    {
-        match words {
-            [word] => Command::of(word.as_str()),
-            _ => None,
-        }
-    }
+    ghost use Rattle.arpki_play.specs.Words.{command_named};
 
     /// The command of this name.
-    fn of(word: &str) -> Option<Command>
+    pub fn of(word: &str) -> Option<Command>
         ensures { result ≡ command_named word.now }
     {
         match word {

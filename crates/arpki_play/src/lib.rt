@@ -11,9 +11,12 @@ mod command;
 mod inquiry;
 mod judgements;
 pub mod laws;
+#[cfg(test)]
+mod make_tests;
 mod note;
 mod program;
 mod question;
+mod request;
 mod rolls;
 #[cfg(test)]
 mod tests;

@@ -1,15 +1,17 @@
-ghost use Rattle.std.specs.Prelude.{◌≡◌, ◌≢◌, ◌+◌, ◌<◌, ◌≤◌, ◌⊎◌, None, IfErr, IfOk, OnErr, OnOk};
+ghost use Rattle.std.specs.Prelude.{◌≡◌, ◌≢◌, ◌+◌, ◌<◌, ◌≤◌, ◌⊎◌, ℕ, None, Some, IfErr, IfOk, OnErr, OnOk};
 ghost use Rattle.ar_base.specs.Faults.{HasRisen};
 ghost use Rattle.ar_io.specs.Wrote.{Appended, AppendedFront, Unchanged};
 ghost use Rattle.ar_run.specs.Answers.{written_of};
 ghost use Rattle.ar_run.specs.Runs.{TakesAtMost, most_bytes};
 ghost use Rattle.arpki_play.specs.Answers.{usage};
 ghost use Rattle.arpki_play.specs.Program.{Answers, BreaksOff};
-ghost use Rattle.arpki_play.specs.Words.{command_of, texts};
+ghost use Rattle.script_make.specs.Script.{script};
+ghost use Rattle.arpki_play.specs.declared.request.Request.TheVariants.{Make};
+ghost use Rattle.arpki_play.specs.Words.{request_of, texts};
 
-use crate::command::Command;
+use crate::request::{Domains, Request};
 use ar_io::{Sink, Source};
-use ar_run::{Fault, run, status, write_line};
+use ar_run::{Fault, run, status, write_line, write_text};
 use std::alloc::Global;
 
 /// The usage line.
@@ -21,7 +23,7 @@ const USAGE: &[u8] =
 ///
 /// | status | comes |
 /// |---|---|
-/// | 0 | `sig` finds the signature valid, `check` accepts the confirmation, of a certificate or of none |
+/// | 0 | `sig` finds the signature valid, `check` accepts the confirmation, of a certificate or of none; `make` |
 /// | 1 | `sig` finds the signature not valid, `check` refuses the confirmation |
 /// | 2 | the words are of no form: the usage line |
 /// | 3 | a line of the input is refused, or the input is too long |
@@ -39,19 +41,23 @@ pub fn arpki_main<S: Source, K: Sink>(
     ensures statuses { result ≤ 6 }
 
     // At 0 to 3 the whole answer to the input was written, and the status is the answer's.
-    ensures answered { result < 4 → Answers (command_of (texts words.now)) (S.left source.old) (S.left source.new)
+    ensures answered { result < 4 → Answers (request_of (texts words.now)) (S.left source.old) (S.left source.new)
         K.wrote sink.old sink.new result }
 
     // Words of no form are answered by the usage line, and nothing is read.
-    ensures usage { result ≡ 2 → command_of (texts words.now) ≡ None }
-    ensures no_form { command_of (texts words.now) ≡ None → (source.new ≡ source.old) × ((result ≡ 2) ⊎ (result ≡ 5)) }
+    ensures usage { result ≡ 2 → request_of (texts words.now) ≡ None }
+    ensures no_form { request_of (texts words.now) ≡ None → (source.new ≡ source.old) × ((result ≡ 2) ⊎ (result ≡ 5)) }
+
+    // A script is made without an input: nothing is read.
+    ensures make { (domains : ℕ) → request_of (texts words.now) ≡ Some (Make domains)
+        → (source.new ≡ source.old) × ((result ≡ 0) ⊎ (result ≡ 5) ⊎ (result ≡ 6)) }
 
     // A fault has its cause in a count of faults, and none is hidden: at each other status the count stays.
     // Before a fault no more than a front of the answer was written.
     ensures source_fault { result ≡ 4 → HasRisen (S.faults source.old) (S.faults source.new)
         × Unchanged K.wrote sink.old sink.new }
     ensures sink_fault { result ≡ 5 → HasRisen (K.faults sink.old) (K.faults sink.new)
-        × BreaksOff (command_of (texts words.now)) (S.left source.old) (S.left source.new) K.wrote sink.old sink.new }
+        × BreaksOff (request_of (texts words.now)) (S.left source.old) (S.left source.new) K.wrote sink.old sink.new }
     ensures memory { result ≡ 6 → Unchanged K.wrote sink.old sink.new }
 
     // What was taken before a fault: no more than an input may have, and than one byte more for want of memory.
@@ -65,8 +71,9 @@ pub fn arpki_main<S: Source, K: Sink>(
     ensures source_faults { S.faults source.old ≤ S.faults source.new }
     ensures sink_faults { K.faults sink.old ≤ K.faults sink.new }
 {
-    match Command::read(words) {
-        Some(command) => status(run(alloc, &command, source, sink)),
+    match Request::read(words) {
+        Some(Request::Answer(command)) => status(run(alloc, &command, source, sink)),
+        Some(Request::Make(domains)) => status(show_script(alloc, &domains, sink)),
         None => status(show_usage(sink)),
     }
 }
@@ -83,4 +90,21 @@ fn show_usage<K: Sink>(sink: &mut K) -> Result<u8, Fault>
 {
     write_line(sink, USAGE)?;
     Ok(2)
+}
+
+/// Writes the script for so many domains, each line as one piece, and returns its status. All memory is taken
+/// before the first line is written.
+fn show_script<K: Sink>(alloc: Global, domains: &Domains, sink: &mut K) -> Result<u8, Fault>
+    ensures ok { IfOk result (λ status. status ≡ 0) }
+    ensures written { OnOk result (Appended K.wrote sink.old sink.new (script domains.now)) }
+    ensures sink { result ≡ Err Fault.Sink → HasRisen (K.faults sink.old) (K.faults sink.new)
+        × AppendedFront K.wrote sink.old sink.new (script domains.now) }
+    ensures memory { result ≡ Err Fault.Memory → Unchanged K.wrote sink.old sink.new }
+    ensures no_source { result ≢ Err Fault.Source }
+    ensures uncounted { result ≢ Err Fault.Sink → K.faults sink.new ≡ K.faults sink.old }
+    ensures faults { K.faults sink.old ≤ K.faults sink.new }
+{
+    let script = domains.script(alloc)?;
+    write_text(sink, &script)?;
+    Ok(0)
 }

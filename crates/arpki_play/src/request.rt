@@ -1,0 +1,75 @@
+ghost use Rattle.std.specs.Prelude.{◌≡◌, ◌≤◌, IfOk};
+ghost use Rattle.arpki_play.specs.Words.{domains_of, request_of, texts};
+ghost use Rattle.script_make.specs.Script.{script};
+
+use crate::command::Command;
+use ar_lines::number_of;
+use script_make::make;
+use std::alloc::{AllocError, Global};
+use std::marker::Model;
+
+/// How many domains a script is for: 1 to 400.
+#[derive(Debug, Drop)]
+pub struct Domains {
+    number: u32,
+}
+
+// Clauses see the number.
+impl Model for Domains {
+    ghost use Rattle.std.specs.Prelude.{ℕ, ◌≤◌};
+
+    ghost Value = { ℕ };
+
+    ghost view = { λ d. d.number };
+
+    ghost invariant = { λ d. (1 ≤ d.number) × (d.number ≤ 400) };
+}
+
+impl Domains {
+    /// The number that a word says.
+    #[tactic(auto, unfolding(crate::specs::Words::domains_of))]
+    fn of(word: &[u8]) -> Option<Domains>
+        ensures { result ≡ domains_of word.now }
+    {
+        let number = number_of(word)?;
+        if number < 1 || number > 400 {
+            return None;
+        }
+        Some(Domains {
+            number: number as u32,
+        })
+    }
+
+    /// The script.
+    pub fn script(&self, alloc: Global) -> Result<Vec<u8>, AllocError>
+        ensures { IfOk result (λ text. text.items ≡ script self.now) }
+    {
+        let mut text = Vec::new(alloc);
+        make(alloc, self.number, &mut text)?;
+        Ok(text)
+    }
+}
+
+/// What the words of the program ask for.
+#[derive(Debug, Drop)]
+pub enum Request {
+    /// The answer of a command to the input.
+    Answer(Command),
+    /// `make <number>`: the script for so many domains. No input is read.
+    Make(Domains),
+}
+
+impl Request {
+    /// What the words that follow the program's name ask for; `None` where they are of no form.
+    pub fn read(words: &[String]) -> Option<Request>
+        ensures { result ≡ request_of (texts words.now) }
+    {
+        match words {
+            [name] => Command::of(name.as_str()).map(Request::Answer),
+            [name, number] if name.as_str() == "make" => {
+                Domains::of(number.as_bytes()).map(Request::Make)
+            }
+            _ => None,
+        }
+    }
+}
