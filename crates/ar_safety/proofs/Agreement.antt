@@ -1,39 +1,45 @@
 -- Honest logs agree: on the table of an epoch, on how it ended, on the base of the next; and chains only grow.
 use Rattle.std.proofs.Common.{◌≡◌, ℕ, zero, suc, ◌+◌, ◌-◌, ◌<◌, ◌≤◌, ◌^◌, ◌⊎◌, inl, inr, List, [], ◌++◌, length, get_or, refl, sym, ap, ◌∙◌, subst, arith, append-nil, append_assoc, true, ◌==◌, eqb, Option, Some, None}
-use Rattle.std.specs.Prelude.{All, unwrap_or}
+use Rattle.std.specs.Prelude.{All, Contains, unwrap_or}
 use Rattle.std.specs.List.{find}
 use Rattle.std.specs.Option.{option_map}
 use Rattle.std.proofs.lemmas.Bool.{cases_lt, eq-eqb}
 use Rattle.std.proofs.lemmas.List.{map-append}
 use Rattle.std.proofs.lemmas.List.Elements.{All-contains}
 use Rattle.ar_cert.specs.Changes.{Change, IsChange}
+use Rattle.ar_statement.specs.declared.text.SeenText.{SeenText}
 use Rattle.vote_quorum.specs.Statuses.{Status}
 use Rattle.domain_table.specs.Applying.{apply}
 use Rattle.domain_table.specs.Sound.{IsSound}
 use Rattle.domain_table.specs.Tables.{Begins, SameTable, Table, certificates, certificates_of, chain_of, no_table}
 use Rattle.domain_table.specs.Tree.{root_of}
-use Rattle.domain_table.proofs.Applied.{applied, none_sound}
-use Rattle.domain_table.proofs.Steps.{Follows, unit_holds}
+use Rattle.domain_table.proofs.Applied.{applied, none_holds, none_sound}
+use Rattle.domain_table.proofs.Steps.{Follows, Holds, follows_itself}
 use Rattle.domain_table.proofs.Trees.{Listed, same_tables}
 use Rattle.epoch_log.specs.Honest.{EndsInOrder, HonestLog}
 use Rattle.epoch_log.specs.Record.{after_ending, base_of, current, ending}
-use Rattle.epoch_log.specs.Right.{IsRightDecision, IsRightVote}
+use Rattle.epoch_log.specs.Right.{IsRightDecision, IsRightVote, SawEndorsements}
 use Rattle.epoch_log.specs.declared.entries.Ended.{Ended}
 use Rattle.epoch_log.specs.declared.entries.How.{How}
 use Rattle.epoch_log.specs.declared.entries.How.TheVariants.{Decided, Skipped}
 use Rattle.epoch_log.specs.declared.entries.Voted.{Voted}
 use Rattle.epoch_log.proofs.Endings.{ending-none, ending-within, epochs-within}
 use Rattle.epoch_log.proofs.Lists.{find-nothing}
-use Rattle.ar_safety.specs.Hashed.{NoCollision, hashed}
+use Rattle.ar_safety.specs.Hashed.{NoCollision, hashed, listed_tables}
 use Rattle.ar_safety.specs.Records.{AreHonest, Few, IsHonestLog, NoForgery, Records}
 use Rattle.ar_safety.specs.Safe.{Agreed, SameEnding}
-use Rattle.ar_safety.proofs.Listed.{decided-listed, voted-listed}
+use Rattle.ar_safety.proofs.Listed.{decided-listed, table-hashed, voted-listed}
 use Rattle.ar_safety.proofs.Votes.{backed-not-skipped, decided-backed, one-root}
 
 -- ---- what an epoch of an honest log makes of a sound table
 
-follows : (t u : Table) (epoch : ℕ) (changes : List Change) → epoch < 2 ^ 64 → apply t epoch changes ≡ Some u → All IsChange changes → IsSound t → Follows (λ name c. Unit {0}) t u
-follows t u epoch changes less is are sound = applied (λ name c. Unit {0}) changes epoch t u less is sound (unit_holds t) are (λ k d l. tt)
+-- the endorsements of a change were seen
+abbrev pub Endorsed : List SeenText → List ℕ → Change → Type 0
+Endorsed seen name change = SawEndorsements seen change
+
+follows : (seen : List SeenText) (t u : Table) (epoch : ℕ) (changes : List Change) → epoch < 2 ^ 64 → apply t epoch changes ≡ Some u → All IsChange changes → All (SawEndorsements seen) changes
+    → IsSound t → Holds (Endorsed seen) t → Follows (Endorsed seen) t u
+follows seen t u epoch changes less is are endorsed sound holds = applied (Endorsed seen) changes epoch t u less is sound holds are endorsed
 
 -- the base behind a decided epoch
 base-decided : (ended : List Ended) (e : ℕ) (changes : List Change) (to : List ℕ) (t : Table) → ending ended e ≡ Some (Decided changes to) → apply (base_of ended e) e changes ≡ Some t → base_of ended (suc e) ≡ t
@@ -52,35 +58,41 @@ base-first : (ended : List Ended) → base_of ended 0 ≡ no_table
 unfolding base_of
 base-first ended = refl
 
--- each base of an honest log is sound, and its chains begin those of the next
-base-next : (r : Records) → AreHonest r → (j : ℕ) → IsHonestLog r j → (e : ℕ) → IsSound (base_of (r.logs j).ended e)
-    → IsSound (base_of (r.logs j).ended (suc e)) × ((name : List ℕ) → Begins (chain_of (base_of (r.logs j).ended e) name) (chain_of (base_of (r.logs j).ended (suc e)) name))
-base-next r honest j is e sound = by (ending (r.logs j).ended e) refl
+-- each base of an honest log is sound, its endorsements were seen, and its chains begin those of the next
+base-next : (r : Records) → AreHonest r → (j : ℕ) → IsHonestLog r j → (e : ℕ) → IsSound (base_of (r.logs j).ended e) → Holds (Endorsed (r.logs j).seen) (base_of (r.logs j).ended e)
+    → Follows (Endorsed (r.logs j).seen) (base_of (r.logs j).ended e) (base_of (r.logs j).ended (suc e))
+base-next r honest j is e sound holds = by (ending (r.logs j).ended e) refl
   where
     ended : List Ended
     ended = (r.logs j).ended
 
+    seen : List SeenText
+    seen = (r.logs j).seen
+
     h : HonestLog r.council j (r.logs j)
     h = honest.logs j is
 
-    stays : base_of ended (suc e) ≡ base_of ended e → IsSound (base_of ended (suc e)) × ((name : List ℕ) → Begins (chain_of (base_of ended e) name) (chain_of (base_of ended (suc e)) name))
-    stays same = (subst IsSound (sym same) sound, λ name. ([], ap (λ t. chain_of t name) same ∙ sym (append-nil (chain_of (base_of ended e) name))))
+    stays : base_of ended (suc e) ≡ base_of ended e → Follows (Endorsed seen) (base_of ended e) (base_of ended (suc e))
+    stays same = subst (Follows (Endorsed seen) (base_of ended e)) (sym same) (follows_itself (Endorsed seen) (base_of ended e) sound holds)
 
-    by : (o : Option How) → ending ended e ≡ o → IsSound (base_of ended (suc e)) × ((name : List ℕ) → Begins (chain_of (base_of ended e) name) (chain_of (base_of ended (suc e)) name))
+    by : (o : Option How) → ending ended e ≡ o → Follows (Endorsed seen) (base_of ended e) (base_of ended (suc e))
     by None at = stays (base-open ended e at)
     by (Some (Skipped statuses)) at = stays (base-skipped ended e statuses at)
     by (Some (Decided changes to)) at =
-        let right : IsRightDecision r.council (r.logs j).seen ended e changes to = h.decides_rightly e changes to at in
+        let right : IsRightDecision r.council seen ended e changes to = h.decides_rightly e changes to at in
         let within = ending-within ended h.ends_in_order e (Decided changes to) at in
         let less : e < 2 ^ 64 = omega (arith, within.1, h.ends_in_order.in_range) in
         let t : Table = right.leads.applies.table in
-        let f = follows (base_of ended e) t e changes less right.leads.applies.applied right.leads.applies.are_changes sound in
-        let same = base-decided ended e changes to t at right.leads.applies.applied in
-        (subst IsSound (sym same) f.sound, λ name. subst (λ u. Begins (chain_of (base_of ended e) name) (chain_of u name)) (sym same) (f.begins name))
+        subst (Follows (Endorsed seen) (base_of ended e)) (sym (base-decided ended e changes to t at right.leads.applies.applied))
+        (follows seen (base_of ended e) t e changes less right.leads.applies.applied right.leads.applies.are_changes right.leads.endorsed sound holds)
 
-pub base-sound : (r : Records) → AreHonest r → (j : ℕ) → IsHonestLog r j → (e : ℕ) → IsSound (base_of (r.logs j).ended e)
-base-sound r honest j is zero = subst IsSound (sym (base-first (r.logs j).ended)) none_sound
-base-sound r honest j is (suc e) = (base-next r honest j is e (base-sound r honest j is e)).0
+pub base-kept : (r : Records) → AreHonest r → (j : ℕ) → IsHonestLog r j → (e : ℕ) → IsSound (base_of (r.logs j).ended e) × Holds (Endorsed (r.logs j).seen) (base_of (r.logs j).ended e)
+base-kept r honest j is zero =
+    subst (λ t. IsSound t × Holds (Endorsed (r.logs j).seen) t) (sym (base-first (r.logs j).ended)) (none_sound, none_holds (Endorsed (r.logs j).seen))
+base-kept r honest j is (suc e) =
+    let before = base-kept r honest j is e in
+    let f = base-next r honest j is e before.0 before.1 in
+    (f.sound, f.holds)
 
 begins-on : {X : Type 0} (a b c : List X) → Begins a b → Begins b c → Begins a c
 begins-on a b c x y = (x.0 ++ y.0, y.1 ∙ ap (λ l. l ++ y.0) x.1 ∙ append_assoc a x.0 y.0)
@@ -93,7 +105,8 @@ base-extends r honest j is e zero name =
 base-extends r honest j is e (suc n) name =
     let next : e + suc n ≡ suc (e + n) = omega arith in
     let here = base-extends r honest j is e n name in
-    let step = (base-next r honest j is (e + n) (base-sound r honest j is (e + n))).1 name in
+    let before = base-kept r honest j is (e + n) in
+    let step = (base-next r honest j is (e + n) before.0 before.1).begins name in
     subst (λ m. Begins (chain_of (base_of (r.logs j).ended e) name) (chain_of (base_of (r.logs j).ended m) name)) (sym next)
     (begins-on (chain_of (base_of (r.logs j).ended e) name) (chain_of (base_of (r.logs j).ended (e + n)) name) (chain_of (base_of (r.logs j).ended (suc (e + n))) name) here step)
 
@@ -105,7 +118,7 @@ pub record Fine (r : Records) (table : Table) : Type 0 where
   pub listed : Listed (hashed r) table
 
 one-of-root : (r : Records) → NoCollision r → (one other : Table) → Fine r one → Fine r other → root_of one ≡ root_of other → SameTable one other
-one-of-root r clean one other a b same = same_tables (hashed r) clean one other a.sound b.sound a.listed b.listed same
+one-of-root r clean one other a b same = same_tables (hashed r) clean.strings one other a.sound b.sound a.listed b.listed same
 
 agreed-range : (r : Records) → AreHonest r → (e : ℕ) (t : Table) (a : Agreed r e t) → (1 ≤ e) × (e ≤ current (r.logs a.log).ended)
 agreed-range r honest e t a =
@@ -113,18 +126,19 @@ agreed-range r honest e t a =
     let up = All-contains (λ (v : Voted). (1 ≤ v.epoch) × (v.epoch ≤ current (r.logs a.log).ended)) (r.logs a.log).voted a.ballot h.votes_once.up_to_now a.is_cast in
     (omega (arith, up.0, a.of_epoch), omega (arith, up.1, a.of_epoch))
 
-agreed-follows : (r : Records) → AreHonest r → (e : ℕ) (t : Table) (a : Agreed r e t) → Follows (λ name c. Unit {0}) (base_of (r.logs a.log).ended e) t
+pub agreed-follows : (r : Records) → AreHonest r → (e : ℕ) (t : Table) (a : Agreed r e t) → Follows (Endorsed (r.logs a.log).seen) (base_of (r.logs a.log).ended e) t
 agreed-follows r honest e t a =
     let h : HonestLog r.council a.log (r.logs a.log) = honest.logs a.log a.honest in
     let range = agreed-range r honest e t a in
     let right : IsRightVote (r.logs a.log).seen (r.logs a.log).ended a.ballot = All-contains (IsRightVote (r.logs a.log).seen (r.logs a.log).ended) (r.logs a.log).voted a.ballot h.votes_rightly a.is_cast in
-    follows (base_of (r.logs a.log).ended e) t e a.ballot.changes (omega (arith, range.1, h.ends_in_order.in_range)) a.leads right.leads.applies.are_changes (base-sound r honest a.log a.honest e)
+    let before = base-kept r honest a.log a.honest e in
+    follows (r.logs a.log).seen (base_of (r.logs a.log).ended e) t e a.ballot.changes (omega (arith, range.1, h.ends_in_order.in_range)) a.leads right.leads.applies.are_changes right.leads.endorsed before.0 before.1
+
+pub agreed-listed : (r : Records) (e : ℕ) (t : Table) → Agreed r e t → Contains (listed_tables r) t
+agreed-listed r e t a = voted-listed r a.log a.honest a.ballot a.is_cast t (subst (λ n. apply (base_of (r.logs a.log).ended n) n a.ballot.changes ≡ Some t) (sym a.of_epoch) a.leads)
 
 pub agreed-fine : (r : Records) → AreHonest r → (e : ℕ) (t : Table) (a : Agreed r e t) → Fine r t
-agreed-fine r honest e t a = record {
-  sound = (agreed-follows r honest e t a).sound;
-  listed = voted-listed r a.log a.honest a.ballot a.is_cast t (subst (λ n. apply (base_of (r.logs a.log).ended n) n a.ballot.changes ≡ Some t) (sym a.of_epoch) a.leads);
-}
+agreed-fine r honest e t a = record { sound = (agreed-follows r honest e t a).sound; listed = table-hashed r t (agreed-listed r e t a) }
 
 -- one table alone is agreed in an epoch
 pub one-agreed : (r : Records) → AreHonest r → Few r → NoCollision r → (e : ℕ) (one other : Table) → Agreed r e one → Agreed r e other → SameTable one other
@@ -145,10 +159,11 @@ decided-by r honest j is e changes to at =
     let right : IsRightDecision r.council (r.logs j).seen ended e changes to = h.decides_rightly e changes to at in
     let within = ending-within ended h.ends_in_order e (Decided changes to) at in
     let t : Table = right.leads.applies.table in
-    let f = follows (base_of ended e) t e changes (omega (arith, within.1, h.ends_in_order.in_range)) right.leads.applies.applied right.leads.applies.are_changes (base-sound r honest j is e) in
+    let before = base-kept r honest j is e in
+    let f = follows (r.logs j).seen (base_of ended e) t e changes (omega (arith, within.1, h.ends_in_order.in_range)) right.leads.applies.applied right.leads.applies.are_changes right.leads.endorsed before.0 before.1 in
     record {
       table = t;
-      fine = record { sound = f.sound; listed = decided-listed r j is e changes to at t right.leads.applies.applied };
+      fine = record { sound = f.sound; listed = table-hashed r t (decided-listed r j is e changes to at t right.leads.applies.applied) };
       is_root = right.leads.applies.is_root;
       is_base = base-decided ended e changes to t at right.leads.applies.applied;
     }

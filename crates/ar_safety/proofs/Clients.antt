@@ -171,7 +171,7 @@ body-hashed r j b there is s within =
 clean-path : (r : Records) → NoCollision r → (t : Table) → Fine r t → (path : List (List ℕ)) → ((s : List ℕ) → IsIn path s → IsIn (hashed r) s) → IsTrue (none_collide (strings_of (tree_entries t) ++ path))
 clean-path r clean t fine path within =
     none_collide-part (strings_of (tree_entries t) ++ path) (hashed r)
-    (λ s is. elim (in_both (strings_of (tree_entries t)) path s is) [ inl tree ↦ fine.listed.tree s tree | inr step ↦ within s step ]) clean
+    (λ s is. elim (in_both (strings_of (tree_entries t)) path s is) [ inl tree ↦ fine.listed.tree s tree | inr step ↦ within s step ]) clean.strings
 
 name-fits : (name : List ℕ) → IsDigest (name_digest_of name)
 name-fits name = sha256-IsDigest _
@@ -195,7 +195,7 @@ newest-by-value : (r : Records) → NoCollision r → (t : Table) → Fine r t �
     → value_of chain ≡ value_digest certificate.serial (digest_of certificate) → IsChain chain × (newest chain ≡ Some certificate)
 newest-by-value r clean t fine name chain there certificate fits hashed-text hashed-value value =
     let strings : List (List ℕ) = hashed r in
-    let none : Apart strings = apart strings clean in
+    let none : Apart strings = apart strings clean.strings in
     let good : Good strings chain = good_chain strings t fine.sound fine.listed name chain there in
     let top = newest_there chain good.is_chain.some in
     let top-fits : IsCertificate top.0 = newest_has IsCertificate chain top.0 (λ k d l. (good.each k d l).cert) top.1 in
@@ -229,7 +229,7 @@ accepted-newest r honest few forged clean j certificate there is-present =
     let path : List (List ℕ) = path_strings key (entry_string key value) steps in
     let found : get (tree_entries t) key ≡ Some value =
     presence (tree_entries t) key value steps (holds_digests t fine.sound) (name-fits c.about.name) (clean-path r clean t fine path (λ s within. in-body s (inr (inr within)))) on in
-    let entry = entry_at (hashed r) (apart (hashed r) clean) t fine.listed c.about.name (name-hashed r j there) in
+    let entry = entry_at (hashed r) (apart (hashed r) clean.strings) t fine.listed c.about.name (name-hashed r j there) in
     let chain = mapped value_of (get t.chains c.about.name) value (sym entry ∙ found) in
     let last = newest-by-value r clean t fine c.about.name chain.0 chain.1.0 certificate fits (in-body (certificate_string certificate) (inr (inl refl))) (in-body (value_string certificate.serial (digest_of certificate)) (inl refl)) chain.1.1 in
     record {
@@ -266,7 +266,7 @@ accepted-absence r honest few forged clean j bottom there is-absent =
     let none : get (tree_entries t) key ≡ None =
     absence (tree_entries t) key bottom steps (holds_digests t fine.sound) (name-fits c.about.name) (digest-key bottom fits)
     (clean-path r clean t fine (path_strings key (bottom_string bottom) steps) in-body) off in
-    let entry = entry_at (hashed r) (apart (hashed r) clean) t fine.listed c.about.name (name-hashed r j there) in
+    let entry = entry_at (hashed r) (apart (hashed r) clean.strings) t fine.listed c.about.name (name-hashed r j there) in
     record {
       table = t;
       agreed = a.agreed;

@@ -30,5 +30,8 @@ fresh-premises council leaves = (
     authorities = λ authority is party text good there. absurd (omega (arith, there.1));
     judged = λ k d less. absurd (omega (arith, less));
   },
-  ap (λ (l : List Table). none_collide (flat_map table_strings l ++ [])) (no-tables council leaves council.logs),
+  record {
+    strings = ap (λ (l : List Table). none_collide (flat_map table_strings l ++ [])) (no-tables council leaves council.logs);
+    asked = λ authority is a there. absurd (omega (arith, there.1));
+  },
 )

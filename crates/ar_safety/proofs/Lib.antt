@@ -4,4 +4,5 @@ pub mod Confirming
 pub mod Fresh
 pub mod Listed
 pub mod Votes
+pub mod Vouched
 pub mod Whole

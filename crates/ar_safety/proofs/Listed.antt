@@ -54,21 +54,25 @@ below r (suc n) log less good t there = elim (cases_eq log n) [
       Contains-append_right (cond (is_dishonest r (log_party n)) [] (log_tables (r.logs n))) (tables_below r n) t (below r n log (omega (arith, less, other)) good t there)
 ]
 
-pub log-listed : (r : Records) (log : ℕ) → IsHonestLog r log → (t : Table) → Contains (log_tables (r.logs log)) t → Listed (hashed r) t
-log-listed r log is t there =
-    listed (hashed r) t (λ x within. in_front (flat_map table_strings (listed_tables r)) (flat_map judged_strings r.judged) x (in-strings (listed_tables r) t x (below r r.council.logs log is.known is.honest t there) within))
+pub table-listed : (r : Records) (log : ℕ) → IsHonestLog r log → (t : Table) → Contains (log_tables (r.logs log)) t → Contains (listed_tables r) t
+table-listed r log is t there = below r r.council.logs log is.known is.honest t there
+
+-- and the strings of a listed table are hashed
+pub table-hashed : (r : Records) (t : Table) → Contains (listed_tables r) t → Listed (hashed r) t
+table-hashed r t there =
+    listed (hashed r) t (λ x within. in_front (flat_map table_strings (listed_tables r)) (flat_map judged_strings r.judged) x (in-strings (listed_tables r) t x there within))
 
 one-table : (o : Option Table) (t : Table) → o ≡ Some t → Contains (table_list o) t
 one-table None t is = absurd cc
 one-table (Some u) t is = let same : u ≡ t = cc in (0, omega arith, same)
 
 -- the table of a vote of an honest log
-pub voted-listed : (r : Records) (log : ℕ) → IsHonestLog r log → (v : Voted) → Contains (r.logs log).voted v → (t : Table) → apply (base_of (r.logs log).ended v.epoch) v.epoch v.changes ≡ Some t → Listed (hashed r) t
+pub voted-listed : (r : Records) (log : ℕ) → IsHonestLog r log → (v : Voted) → Contains (r.logs log).voted v → (t : Table) → apply (base_of (r.logs log).ended v.epoch) v.epoch v.changes ≡ Some t → Contains (listed_tables r) t
 voted-listed r log is v there t leads =
     let l : LogRecord = r.logs log in
     let votes : List Table = flat_map (λ (w : Voted). table_list (voted_table l.ended w)) l.voted in
     let ends : List Table = flat_map (λ (x : Ended). table_list (ended_table l.ended x.epoch x.how)) l.ended in
-    log-listed r log is t (Contains-append_left votes ends t (in-flat (λ (w : Voted). table_list (voted_table l.ended w)) l.voted v t there (one-table (voted_table l.ended v) t leads)))
+    table-listed r log is t (Contains-append_left votes ends t (in-flat (λ (w : Voted). table_list (voted_table l.ended w)) l.voted v t there (one-table (voted_table l.ended v) t leads)))
 
 -- where an epoch ended, its entry is there
 pub ended-entry : (ended : List Ended) (epoch : ℕ) (how : How) → ending ended epoch ≡ Some how → (x : Ended) × (Contains ended x × (x.epoch ≡ epoch) × (x.how ≡ how))
@@ -84,7 +88,7 @@ ended-entry ended epoch how is = by (find (λ (x : Ended). x.epoch == epoch) end
 
 -- the table of an epoch that an honest log decided
 pub decided-listed : (r : Records) (log : ℕ) → IsHonestLog r log → (epoch : ℕ) (changes : List Change) (to : List ℕ) → ending (r.logs log).ended epoch ≡ Some (Decided changes to)
-    → (t : Table) → apply (base_of (r.logs log).ended epoch) epoch changes ≡ Some t → Listed (hashed r) t
+    → (t : Table) → apply (base_of (r.logs log).ended epoch) epoch changes ≡ Some t → Contains (listed_tables r) t
 decided-listed r log is epoch changes to ended t leads =
     let l : LogRecord = r.logs log in
     let votes : List Table = flat_map (λ (w : Voted). table_list (voted_table l.ended w)) l.voted in
@@ -92,5 +96,5 @@ decided-listed r log is epoch changes to ended t leads =
     let e = ended-entry l.ended epoch (Decided changes to) ended in
     let same : ended_table l.ended e.0.epoch e.0.how ≡ Some t =
     ap (λ n. ended_table l.ended n e.0.how) e.1.1 ∙ ap (ended_table l.ended epoch) e.1.2 ∙ leads in
-    log-listed r log is t (Contains-append_right votes ends t
+    table-listed r log is t (Contains-append_right votes ends t
     (in-flat (λ (x : Ended). table_list (ended_table l.ended x.epoch x.how)) l.ended e.0 t e.1.0 (one-table (ended_table l.ended e.0.epoch e.0.how) t same)))

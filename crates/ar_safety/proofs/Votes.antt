@@ -9,11 +9,12 @@ use Rattle.std.proofs.lemmas.Slice.Eq.{bytes_eq-Decides}
 use Rattle.ar_base.specs.Bytes.{IsDigest}
 use Rattle.ar_base.specs.Counting.{one_if}
 use Rattle.ar_base.proofs.Digests.{sha256-IsDigest}
+use Rattle.ar_statement.specs.declared.party.Role.{Role}
 use Rattle.ar_statement.specs.declared.party.Role.TheVariants.{LogServer}
 use Rattle.ar_statement.specs.declared.party.Party.{Party}
 use Rattle.ar_statement.specs.declared.text.SeenText.{SeenText}
 use Rattle.ar_cert.specs.Changes.{Change}
-use Rattle.ar_statement.specs.Claims.{is_party, role_number, text_of}
+use Rattle.ar_statement.specs.Claims.{is_party, party, role_number, text_of}
 use Rattle.ar_statement.specs.Ranges.{IsValid}
 use Rattle.party_keys.specs.Seen.{Saw, log_party}
 use Rattle.vote_quorum.specs.Counted.{AtLeast, count_below}
@@ -40,7 +41,7 @@ use Rattle.ar_safety.specs.Safe.{Backed, Backs}
 -- ---- an honest log in both quorums
 
 -- where a test passes below n, a number passes
-some_below : (n : ℕ) (p : ℕ → Bool) → 0 < count_below n p → (k : ℕ) × ((k < n) × (p k ≡ true))
+pub some_below : (n : ℕ) (p : ℕ → Bool) → 0 < count_below n p → (k : ℕ) × ((k < n) × (p k ≡ true))
 some_below zero p more = absurd (omega (arith, more))
 some_below (suc n) p more = by (p n) refl (some_below n p)
   where
@@ -58,37 +59,36 @@ or-true false b e = e
 numbers : List Party → List ℕ
 numbers parties = map (λ p. p.number) parties
 
--- a dishonest log's number is among those of the dishonest parties
-dishonest-among : (parties : List Party) (log : ℕ) → list_any (is_party (log_party log)) parties ≡ true → among log (numbers parties) ≡ true
+-- a dishonest party's number is among those of the dishonest parties
+dishonest-among : (role : Role) (parties : List Party) (k : ℕ) → list_any (is_party (party role k)) parties ≡ true → among k (numbers parties) ≡ true
 unfolding numbers
-dishonest-among [] log e = absurd cc
-dishonest-among (p ∷ parties) log e = by (is_party (log_party log) p) refl (dishonest-among parties log)
+dishonest-among role [] k e = absurd cc
+dishonest-among role (p ∷ parties) k e = by (is_party (party role k) p) refl (dishonest-among role parties k)
   where
-    by : (b : Bool) → is_party (log_party log) p ≡ b → (list_any (is_party (log_party log)) parties ≡ true → among log (map (λ (q : Party). q.number) parties) ≡ true)
-        → among log (p.number ∷ map (λ (q : Party). q.number) parties) ≡ true
+    by : (b : Bool) → is_party (party role k) p ≡ b → (list_any (is_party (party role k)) parties ≡ true → among k (map (λ (q : Party). q.number) parties) ≡ true)
+        → among k (p.number ∷ map (λ (q : Party). q.number) parties) ≡ true
     by true is rest =
-        let two = both (eqb (role_number LogServer) (role_number p.role)) (eqb log p.number) is in
-        let same : eqb p.number log ≡ true = eq-eqb p.number log (sym (eqb-true log p.number two.1)) in
-        ap (λ b. b || among log (map (λ (q : Party). q.number) parties)) same
+        let two = both (eqb (role_number role) (role_number p.role)) (eqb k p.number) is in
+        let same : eqb p.number k ≡ true = eq-eqb p.number k (sym (eqb-true k p.number two.1)) in
+        ap (λ b. b || among k (map (λ (q : Party). q.number) parties)) same
     by false is rest =
-        let later : (false || list_any (is_party (log_party log)) parties) ≡ true = subst (λ b. (b || list_any (is_party (log_party log)) parties) ≡ true) is e in
-        or-true (eqb p.number log) (among log (map (λ (q : Party). q.number) parties)) (rest later)
+        let later : (false || list_any (is_party (party role k)) parties) ≡ true = subst (λ b. (b || list_any (is_party (party role k)) parties) ≡ true) is e in
+        or-true (eqb p.number k) (among k (map (λ (q : Party). q.number) parties)) (rest later)
 
--- at most two logs are dishonest
-few-dishonest : (r : Records) → Few r → count_below r.council.logs (λ log. is_dishonest r (log_party log)) ≤ 2
+-- at most two parties of a role are dishonest
+pub few-dishonest : (r : Records) → Few r → (role : Role) (n : ℕ) → count_below n (λ k. is_dishonest r (party role k)) ≤ 2
 unfolding numbers
-few-dishonest r few =
-    let n : ℕ = r.council.logs in
-    let wider = count_below-wider n (λ log. is_dishonest r (log_party log)) (λ log. among log (numbers r.dishonest)) (λ log less is. dishonest-among r.dishonest log is) in
+few-dishonest r few role n =
+    let wider = count_below-wider n (λ k. is_dishonest r (party role k)) (λ k. among k (numbers r.dishonest)) (λ k less is. dishonest-among role r.dishonest k is) in
     let most = count_below-among n (numbers r.dishonest) in
     let many = length-map r.dishonest (λ (p : Party). p.number) in
     omega (arith, wider, most, many, few)
 
-not-false : (b : Bool) → not b ≡ true → b ≡ false
+pub not-false : (b : Bool) → not b ≡ true → b ≡ false
 not-false true e = absurd cc
 not-false false e = refl
 
-split : (d b : Bool) → b ≡ true → (d || (b && not d)) ≡ true
+pub split : (d b : Bool) → b ≡ true → (d || (b && not d)) ≡ true
 split true b e = refl
 split false true e = refl
 split false false e = absurd cc
@@ -111,7 +111,7 @@ witness r honest few P Q a b =
     let in-both = count_below-both n p s in
     let wider = count_below-wider n (λ k. p k && s k) (λ k. d k || good k) (λ k less is. split (d k) (p k && s k) is) in
     let either = count_below-either n d good in
-    let some = some_below n good (omega (arith, counted r.council.quorum n P a, counted r.council.quorum n Q b, in-both, wider, either, few-dishonest r few, honest.quorums.wide)) in
+    let some = some_below n good (omega (arith, counted r.council.quorum n P a, counted r.council.quorum n Q b, in-both, wider, either, few-dishonest r few LogServer n, honest.quorums.wide)) in
     let k : ℕ = some.0 in
     let parts = both (p k && s k) (not (d k)) some.1.1 in
     let two = both (p k) (s k) parts.0 in
@@ -174,7 +174,7 @@ decided-backed r honest forged j is epoch changes to ended =
 pub backed-not-skipped : (r : Records) → AreHonest r → Few r → NoForgery r → (j : ℕ) → IsHonestLog r j → (epoch : ℕ) (to : List ℕ) (statuses : List Status)
     → Backed r epoch to → ending (r.logs j).ended epoch ≡ Some (Skipped statuses) → ⊥
 backed-not-skipped r honest few forged j is epoch to statuses backed ended =
-    no_quorum r.council.logs r.council.quorum statuses to (λ log. is_dishonest r (log_party log)) (Backs r epoch to) right.are_seen.of_logs right.excludes (few-dishonest r few) each backed
+    no_quorum r.council.logs r.council.quorum statuses to (λ log. is_dishonest r (log_party log)) (Backs r epoch to) right.are_seen.of_logs right.excludes (few-dishonest r few LogServer r.council.logs) each backed
   where
     h : HonestLog r.council j (r.logs j)
     h = honest.logs j is

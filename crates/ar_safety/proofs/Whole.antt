@@ -8,6 +8,7 @@ use Rattle.ar_safety.proofs.Agreement.{agreed-stays, one-agreed, same-bases, sam
 use Rattle.ar_safety.proofs.Clients.{accepted-absence, accepted-newest, judged-timely}
 use Rattle.ar_safety.proofs.Confirming.{one-confirmed}
 use Rattle.ar_safety.proofs.Votes.{one-root}
+use Rattle.ar_safety.proofs.Vouched.{vouched-for}
 
 pub agree : (r : Records) → AreHonest r → Few r → NoForgery r → NoCollision r → Safe r
 agree r honest few forged clean = record {
@@ -20,6 +21,7 @@ agree r honest few forged clean = record {
         same-bases r honest few forged clean j k is_j is_k (epoch + 1) (omega (arith, within_j.1)) (omega (arith, within_k.1)),
       );
   stays = agreed-stays r honest few forged clean;
+  vouched = vouched-for r honest few forged clean;
   one_confirmed = one-confirmed r honest few forged;
   accepted = accepted-newest r honest few forged clean;
   absence = accepted-absence r honest few forged clean;

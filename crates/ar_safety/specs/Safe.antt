@@ -2,16 +2,17 @@
 -- confirmed; and that what clients accepted stands in the table that is agreed.
 use Rattle.std.specs.Prelude.{◌≡◌, ℕ, ◌+◌, ◌-◌, ◌<◌, ◌≤◌, ◌⊎◌, true, List, Contains, Option, Some, None}
 use Rattle.std.specs.FinMap.{get}
-use Rattle.ar_cert.specs.Certificate.{Certificate}
+use Rattle.lms_tree.specs.PublicKey.{key_text}
+use Rattle.ar_cert.specs.Certificate.{Certificate, digest_of}
 use Rattle.ar_cert.specs.Changes.{Change}
 use Rattle.ar_cert.specs.Judging.{IsChain}
 use Rattle.ar_message.specs.Confirmation.{present, absent}
 use Rattle.client_rule.specs.Meaning.{IsCurrent, IsLive, IsYoung}
 use Rattle.ar_statement.specs.declared.party.Party.{Party}
-use Rattle.ar_statement.specs.Claims.{Claim, confirm, confirm_absent, text_of}
+use Rattle.ar_statement.specs.Claims.{Claim, confirm, confirm_absent, endorse, text_of}
 use Rattle.ar_statement.specs.Ranges.{IsValid}
 use Rattle.tree_proof.specs.declared.path.Bottom.{Bottom}
-use Rattle.party_keys.specs.Seen.{log_party}
+use Rattle.party_keys.specs.Seen.{authority_party, log_party}
 use Rattle.vote_quorum.specs.Counted.{AtLeast}
 use Rattle.domain_table.specs.Applying.{apply}
 use Rattle.domain_table.specs.Tables.{Begins, SameTable, Table, certificates, newest}
@@ -21,6 +22,8 @@ use Rattle.epoch_log.specs.Told.{HasVoted}
 use Rattle.epoch_log.specs.declared.entries.How.{How}
 use Rattle.epoch_log.specs.declared.entries.How.TheVariants.{Decided, Skipped}
 use Rattle.epoch_log.specs.declared.entries.Voted.{Voted}
+use Rattle.authority_core.specs.declared.entries.Asked.{Asked}
+use Rattle.ar_safety.specs.Hashed.{StandsIn}
 use Rattle.ar_safety.specs.Records.{IsHonest, IsHonestLog, Judged, Records, is_dishonest, signed_by}
 
 -- a log backs a root in an epoch: it is dishonest, or it voted for the root
@@ -79,6 +82,18 @@ pub record HasNone (r : Records) (name : List ℕ) (epoch : ℕ) (to : List ℕ)
   pub is_root : root_of table ≡ to
   pub none : get table.chains name ≡ None
 
+-- An honest authority vouches for a certificate that stands for a name: it signed the endorsement, and its check said yes to
+-- this name with the certificate's key.
+pub record IsVouchedFor (r : Records) (name : List ℕ) (certificate : Certificate) : Type 0 where
+  pub authority : ℕ
+  pub honest : IsHonest r (authority_party authority)
+  pub signed : Contains (signed_by r (authority_party authority)) (text_of (endorse authority (digest_of certificate)))
+  pub asked : Asked
+  pub was_asked : Contains (r.authorities authority).asked asked
+  pub is_digest : asked.certificate ≡ digest_of certificate
+  pub is_name : (certificate.name ≡ name) × (asked.name ≡ name)
+  pub is_key : asked.key ≡ key_text certificate.subject
+
 -- what a client accepted is not of a later epoch than it asks for, not older than it and the certificate allow, and
 -- neither revoked nor expired
 pub record IsTimely (j : Judged) : Type 0 where
@@ -100,6 +115,9 @@ pub record Safe (r : Records) : Type 0 where
   -- of two agreed tables the chains of the later begin with those of the earlier
   pub stays : (epoch later : ℕ) (one other : Table) → Agreed r epoch one → Agreed r later other → epoch < later → (name : List ℕ)
       → Begins (certificates one name) (certificates other name)
+  -- an honest authority vouches for each certificate of an agreed table, in a chain or waiting
+  pub vouched : (epoch : ℕ) (table : Table) → Agreed r epoch table → (name : List ℕ) (certificate : Certificate) → StandsIn table name certificate
+      → IsVouchedFor r name certificate
   -- what two honest parties confirm of one epoch is under one root
   pub one_confirmed : (p q : Party) → IsHonest r p → IsHonest r q → (epoch : ℕ) (one other : List ℕ) → Confirms r p epoch one → Confirms r q epoch other → one ≡ other
   -- a certificate that a client accepted is the newest of its name's chain in the table that is agreed

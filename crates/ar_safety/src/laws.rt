@@ -9,9 +9,9 @@ ghost use Rattle.ar_safety.specs.Safe.{Safe};
 /// With at most two dishonest logs and authorities, and where no signature of an honest one was forged and no two of the
 /// listed strings collide, whatever messages came: one root alone is backed in an epoch and one table alone agreed; where
 /// two honest logs ended an epoch, they ended it alike and begin the next with equal tables; the chains of an agreed table
-/// begin those of each later one; what honest parties confirm of an epoch is under one root; and what a client accepted
-/// is, within its ages, the newest certificate of the name's one chain in the table that is agreed, or that it has none
-/// there.
+/// begin those of each later one; an honest authority vouches for each certificate of an agreed table, in a chain or
+/// waiting; what honest parties confirm of an epoch is under one root; and what a client accepted is, within its ages, the
+/// newest certificate of the name's one chain in the table that is agreed, or that it has none there.
 pub fn records_are_safe()
     ensures { (r : Records) → AreHonest r → Few r → NoForgery r → NoCollision r → Safe r }
 {}

@@ -1,0 +1,168 @@
+-- An honest authority vouches for each certificate of an agreed table: of at least three endorsers, whose endorsements were
+-- seen, one is honest.
+use Rattle.std.proofs.Common.{◌≡◌, ℕ, zero, suc, ◌+◌, ◌<◌, ◌≤◌, inl, inr, List, [], ◌∷◌, length, get_or, refl, sym, ap, ◌∙◌, subst, arith, Bool, not, ◌&&◌, ◌||◌, Option, Some, None}
+use Rattle.std.specs.Prelude.{All, Contains, unwrap_or}
+use Rattle.std.specs.FinMap.{get}
+use Rattle.std.specs.Option.{option_map}
+use Rattle.std.proofs.lemmas.List.Elements.{All-contains, recursion_from_All}
+use Rattle.ar_base.proofs.Digests.{sha256-IsDigest}
+use Rattle.ar_base.specs.Bytes.{IsDigest}
+use Rattle.ar_cert.specs.Certificate.{Certificate, digest_of}
+use Rattle.ar_cert.specs.Changes.{Change}
+use Rattle.ar_cert.specs.Judging.{IsAccepted, endorsers_of}
+use Rattle.ar_statement.specs.Claims.{Claim, endorse, text_of}
+use Rattle.ar_statement.specs.Ranges.{IsTextOf, IsValid}
+use Rattle.ar_statement.specs.declared.party.Role.TheVariants.{Authority}
+use Rattle.ar_statement.specs.declared.text.SeenText.{SeenText}
+use Rattle.ar_statement.proofs.OneText.{text_is}
+use Rattle.key_roll.specs.Book.{texts_of}
+use Rattle.party_keys.specs.Seen.{Saw, authority_party}
+use Rattle.vote_quorum.specs.Numbers.{distinct_count}
+use Rattle.vote_quorum.proofs.Below.{distinct_count-below}
+use Rattle.vote_quorum.proofs.Counting.{among}
+use Rattle.vote_quorum.proofs.Counts.{Contains-from_among, count_below-either, count_below-wider}
+use Rattle.domain_table.specs.Sound.{IsChainOf, Waits}
+use Rattle.domain_table.specs.Tables.{Pending, Table, certificates_of, chain_of, pair_of}
+use Rattle.epoch_log.specs.Council.{IsMember}
+use Rattle.epoch_log.specs.Honest.{HonestLog}
+use Rattle.epoch_log.specs.Right.{SawEndorsements}
+use Rattle.epoch_log.proofs.Lists.{both}
+use Rattle.authority_core.specs.Honest.{HasAsked, ToldBy}
+use Rattle.authority_core.specs.Record.{AuthorityRecord}
+use Rattle.ar_safety.specs.Hashed.{NoCollision, StandsIn}
+use Rattle.ar_safety.specs.Records.{AreHonest, Few, IsHonest, NoForgery, Records, is_dishonest}
+use Rattle.ar_safety.specs.Safe.{Agreed, IsVouchedFor}
+use Rattle.ar_safety.proofs.Agreement.{Endorsed, agreed-follows, agreed-listed}
+use Rattle.ar_safety.proofs.Votes.{few-dishonest, not-false, some_below, split}
+
+-- ---- at least three endorsers
+
+three-of : (old : Option Certificate) (change : Change) → IsAccepted old change → 3 ≤ distinct_count (endorsers_of change)
+unfolding IsAccepted
+three-of None change is = is.registers.endorsed
+three-of (Some old) change (inl full) = full.updates.succeeds.endorsed
+three-of (Some old) change (inr recovery) = recovery.updates.succeeds.endorsed
+
+in-chain : (name : List ℕ) (chain : List Change) (change : Change) → IsChainOf name chain → Contains chain change → 3 ≤ distinct_count (endorsers_of change)
+in-chain name chain change is there = by there.0 there.1 there.2
+  where
+    by : (k : ℕ) → k < length chain → get_or chain k change ≡ change → 3 ≤ distinct_count (endorsers_of change)
+    by zero within at = three-of None change (subst (IsAccepted None) at (is.chain.first change))
+    by (suc k) within at =
+        let next : k + 1 ≡ suc k = omega arith in
+        let old : Option Certificate = Some (get_or chain k change).cert in
+        three-of old change (subst (IsAccepted old) (ap (λ n. get_or chain n change) next ∙ at) (is.chain.next k change (omega (arith, within))))
+
+-- a certificate of a chain is that of one of its changes
+change-of : (chain : List Change) (certificate : Certificate) → Contains (certificates_of chain) certificate → (change : Change) × (Contains chain change × (change.cert ≡ certificate))
+change-of [] certificate there = absurd (omega (arith, there.1))
+change-of (c ∷ chain) certificate there = by there.0 there.1 there.2 (change-of chain certificate)
+  where
+    by : (k : ℕ) → k < length (c.cert ∷ certificates_of chain) → get_or (c.cert ∷ certificates_of chain) k certificate ≡ certificate
+        → (Contains (certificates_of chain) certificate → (change : Change) × (Contains chain change × (change.cert ≡ certificate)))
+        → (change : Change) × (Contains (c ∷ chain) change × (change.cert ≡ certificate))
+    by zero within at rest = (c, ((0, omega arith, refl), at))
+    by (suc k) within at rest =
+        let later = rest (k, omega (arith, within), at) in
+        (later.0, ((suc later.1.0.0, omega (arith, later.1.0.1), later.1.0.2), later.1.1))
+
+-- ---- one of them is honest
+
+record HonestEndorser (r : Records) (seen : List SeenText) (change : Change) : Type 0 where
+  number : ℕ
+  honest : IsHonest r (authority_party number)
+  saw : Saw seen (authority_party number) (endorse number (digest_of change.cert))
+
+honest-endorser : (r : Records) → Few r → (seen : List SeenText) → All (λ s. IsMember r.council s.party) seen → (change : Change) → SawEndorsements seen change → 3 ≤ distinct_count (endorsers_of change)
+    → HonestEndorser r seen change
+honest-endorser r few seen members change saw three =
+    let n : ℕ = r.council.authorities in
+    let xs : List ℕ = endorsers_of change in
+    let p : ℕ → Bool = λ k. among k xs in
+    let d : ℕ → Bool = λ k. is_dishonest r (authority_party k) in
+    let good : ℕ → Bool = λ k. p k && not (d k) in
+    let below : All (λ k. k < n) xs = λ k e within. member (get_or xs k e) (saw k e within) in
+    let many = distinct_count-below n xs (recursion_from_All (λ k. k < n) xs below) in
+    let wider = count_below-wider n p (λ k. d k || good k) (λ k less is. split (d k) (p k) is) in
+    let either = count_below-either n d good in
+    let some = some_below n good (omega (arith, many, wider, either, few-dishonest r few Authority n, three)) in
+    let parts = both (p some.0) (not (d some.0)) some.1.1 in
+    record {
+      number = some.0;
+      honest = record { known = some.1.0; honest = not-false (d some.0) parts.1 };
+      saw = All-contains (λ a. Saw seen (authority_party a) (endorse a (digest_of change.cert))) xs some.0 saw (Contains-from_among xs some.0 parts.0);
+    }
+  where
+    member : (a : ℕ) → Saw seen (authority_party a) (endorse a (digest_of change.cert)) → a < r.council.authorities
+    member a there = All-contains (λ (s : SeenText). IsMember r.council s.party) seen (record { party = authority_party a; text = text_of (endorse a (digest_of change.cert)) }) members there
+
+-- ---- and vouches
+
+digest-fits : (certificate : Certificate) → IsDigest (digest_of certificate)
+unfolding digest_of
+digest-fits certificate = sha256-IsDigest _
+
+told-asked : (r : Records) (me : ℕ) (own : AuthorityRecord) (certificate : List ℕ) → ToldBy r.council me own.seen own.asked own.kept (endorse me certificate) → HasAsked own.asked certificate
+unfolding ToldBy
+told-asked r me own certificate t = t.1
+
+was-asked : (r : Records) → AreHonest r → (a : ℕ) → IsHonest r (authority_party a) → (certificate : Certificate) → Contains (texts_of (r.authorities a).signed) (text_of (endorse a (digest_of certificate)))
+    → HasAsked (r.authorities a).asked (digest_of certificate)
+was-asked r honest a is certificate there =
+    let own : AuthorityRecord = r.authorities a in
+    let claim : Claim = endorse a (digest_of certificate) in
+    let valid : IsValid claim = record { held = record { signer = omega (arith, is.known, honest.quorums.few_authorities); fields = digest-fits certificate }; ranges = refl } in
+    told-asked r a own (digest_of certificate)
+    (text_is (ToldBy r.council a own.seen own.asked own.kept) claim valid.held
+    (All-contains (IsTextOf (ToldBy r.council a own.seen own.asked own.kept)) (texts_of own.signed) (text_of claim) (honest.authorities a is).told there))
+
+-- a change that stands in an agreed table, with its endorsements seen, is vouched for
+change-vouched : (r : Records) → AreHonest r → Few r → NoForgery r → NoCollision r → (e : ℕ) (t : Table) (a : Agreed r e t) (name : List ℕ) (change : Change)
+    → StandsIn t name change.cert → change.cert.name ≡ name → SawEndorsements (r.logs a.log).seen change → 3 ≤ distinct_count (endorsers_of change) → IsVouchedFor r name change.cert
+change-vouched r honest few forged clean e t a name change stands named saw three =
+    let h : HonestLog r.council a.log (r.logs a.log) = honest.logs a.log a.honest in
+    let v = honest-endorser r few (r.logs a.log).seen h.sees_members change saw three in
+    let signed = forged.logs a.log a.honest (authority_party v.number) (text_of (endorse v.number (digest_of change.cert))) v.honest v.saw in
+    let asked = was-asked r honest v.number v.honest change.cert signed in
+    let same = clean.asked v.number v.honest asked.0 asked.1.0 t (agreed-listed r e t a) name change.cert stands (sym asked.1.1) in
+    record {
+      authority = v.number;
+      honest = v.honest;
+      signed = signed;
+      asked = asked.0;
+      was_asked = asked.1.0;
+      is_digest = asked.1.1;
+      is_name = (named, sym same.0 ∙ named);
+      is_key = sym same.1;
+    }
+
+-- what waits, with its certificate
+waiting-of : (o : Option Pending) (certificate : Certificate) (since : ℕ) → option_map pair_of o ≡ Some (certificate, since) → (p : Pending) × ((o ≡ Some p) × (p.change.cert ≡ certificate))
+waiting-of None certificate since e = absurd cc
+waiting-of (Some p) certificate since e =
+    let same : ◌≡◌ {A = Certificate × ℕ} (pair_of p) (certificate, since) = cc in
+    (p, (refl, ap (λ (x : Certificate × ℕ). x.0) same))
+
+chain-there : (o : Option (List Change)) (change : Change) → Contains (unwrap_or o []) change → o ≡ Some (unwrap_or o [])
+chain-there None change there = absurd (omega (arith, there.1))
+chain-there (Some chain) change there = refl
+
+pub vouched-for : (r : Records) → AreHonest r → Few r → NoForgery r → NoCollision r → (e : ℕ) (t : Table) → Agreed r e t → (name : List ℕ) (certificate : Certificate) → StandsIn t name certificate
+    → IsVouchedFor r name certificate
+vouched-for r honest few forged clean e t a name certificate (inl stands) =
+    let f = agreed-follows r honest e t a in
+    let c = change-of (chain_of t name) certificate stands in
+    let there = chain-there (get t.chains name) c.0 c.1.0 in
+    let is : IsChainOf name (chain_of t name) = f.sound.chains name (chain_of t name) there in
+    let named : c.0.cert.name ≡ name = All-contains (λ (x : Change). x.cert.name ≡ name) (chain_of t name) c.0 is.named c.1.0 in
+    let saw : SawEndorsements (r.logs a.log).seen c.0 = All-contains (Endorsed (r.logs a.log).seen name) (chain_of t name) c.0 (f.holds.chains name (chain_of t name) there) c.1.0 in
+    subst (IsVouchedFor r name) c.1.1
+    (change-vouched r honest few forged clean e t a name c.0 (inl (subst (Contains (certificates_of (chain_of t name))) (sym c.1.1) stands)) named saw (in-chain name (chain_of t name) c.0 is c.1.0))
+vouched-for r honest few forged clean e t a name certificate (inr stands) =
+    let f = agreed-follows r honest e t a in
+    let w = waiting-of (get t.waiting name) certificate stands.0 stands.1 in
+    let waits : Waits name (chain_of t name) w.0 = f.sound.waits name w.0 w.1.0 in
+    let saw : SawEndorsements (r.logs a.log).seen w.0.change = f.holds.waiting name w.0 w.1.0 in
+    let here : StandsIn t name w.0.change.cert = subst (StandsIn t name) (sym w.1.1) (inr stands) in
+    subst (IsVouchedFor r name) w.1.1
+    (change-vouched r honest few forged clean e t a name w.0.change here waits.named saw waits.recovers.updates.succeeds.endorsed)
