@@ -1,6 +1,9 @@
 pub mod Agreement
 pub mod Clients
 pub mod Confirming
+pub mod Empty
+pub mod ExampleLogs
+pub mod Examples
 pub mod Fresh
 pub mod Listed
 pub mod Votes

@@ -150,7 +150,7 @@ votes-back r honest seen signed n less value are saw =
         let there = signed (log_party log) (text_of (vote_claim log (n + 1) value)) is one in
         inr (is, (value.base, (votes-signed r.council log (r.logs log) (n + 1) value (honest.logs log is) valid).0 there))
 
-root-digest : (table : Table) → IsDigest (root_of table)
+pub root-digest : (table : Table) → IsDigest (root_of table)
 root-digest table = sha256-IsDigest _
 
 before : (epoch : ℕ) → 1 ≤ epoch → (n : ℕ) × (epoch ≡ n + 1)

@@ -1,3 +1,4 @@
+pub mod Examples
 pub mod Hashed
 pub mod Records
 pub mod Safe

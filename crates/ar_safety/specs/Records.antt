@@ -108,12 +108,16 @@ pub record NoForgery (r : Records) : Type 0 where
 
 -- ---- the beginning
 
+-- an authority that has done nothing yet
+abbrev pub fresh_authority : ℕ → AuthorityRecord
+fresh_authority leaves = record { seen = []; signed = record { leaves = leaves; newest = 0; list = [] }; asked = []; kept = [] }
+
 -- no party is dishonest, each log and authority has done nothing yet, and no client accepted anything
 abbrev pub fresh_records : Council → ℕ → Records
 fresh_records council leaves = record {
   council = council;
   dishonest = [];
   logs = λ log. (fresh log council leaves).past;
-  authorities = λ authority. record { seen = []; signed = record { leaves = leaves; newest = 0; list = [] }; asked = []; kept = [] };
+  authorities = λ authority. fresh_authority leaves;
   judged = [];
 }
