@@ -1,5 +1,5 @@
 -- What a run takes of its source, and what it leaves in its sink.
-use Rattle.std.specs.Prelude.{◌≡◌, ◌≢◌, ◌+◌, ◌<◌, ◌≤◌, ℕ, List, length, Option, Some, None}
+use Rattle.std.specs.Prelude.{◌≡◌, ◌+◌, ◌≤◌, ℕ, List, length, Option}
 use Rattle.std.specs.Io.KnownBytes.{Consumes, IsAtEnd}
 use Rattle.ar_io.specs.Wrote.{Appended, AppendedFront}
 use Rattle.ar_run.specs.Answers.{Answer, written_of}

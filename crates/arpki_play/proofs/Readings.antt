@@ -11,17 +11,16 @@ use Rattle.party_keys.proofs.Bounds.{length_first}
 use Rattle.lms_tree.specs.declared.public_key.LmsPublic.{LmsPublic}
 use Rattle.ar_lines.specs.Forms.{bytes_of_hex, key_of_hex, name_of, number_of}
 use Rattle.ar_lines.specs.Lines.{is_text}
-use Rattle.arpki_play.specs.Inquiries.{Inquiry, authorities_at, confirmation_at, directory_at, first_keys_at, inquiry_at, key_at, keys_at, logs_at, name_at, number_at, party_count_of, quorum_of, learnt_of_hex, most_rolls, roll_at, rolls_at}
+use Rattle.arpki_play.specs.Inquiries.{authorities_at, confirmation_at, directory_at, first_keys_at, inquiry_at, key_at, keys_at, logs_at, name_at, number_at, party_count_of, quorum_of, learnt_of_hex, most_rolls, roll_at, rolls_at}
 use Rattle.ar_lines.specs.Readings.{start_of_lines}
 use Rattle.ar_lines.specs.Rows.{is_next}
-use Rattle.ar_base.specs.Chaining.{◌>>=◌}
 use Rattle.arpki_play.specs.Notes.{learnt_from}
 use Rattle.arpki_play.specs.Questions.{Question, question_at}
 use Rattle.ar_lines.specs.Written.{IsKey, hex_of_key}
 use Rattle.arpki_play.specs.Written.{Asking, IsAsking, IsQuestion, first_directory, learnt_from_all, roll_line, asked_lines, authorities_line, directory_lines, inquiry_lines, inquiry_of, inquiry_text, key_line, logs_line, question_lines, question_text}
 use Rattle.ar_lines.proofs.Spelled.{bytes_of_hex-encode, decimal_is_word, hex_is_word, key_is_word, key_of_hex-key, name_is_word, name_of-name, number_of-decimal}
 use Rattle.ar_lines.proofs.TextLaws.{is_word, words_of-first, text_joined, word_is_text}
-use Rattle.ar_lines.proofs.RowsRead.{before, field_reads, named_is_text, start_of-text, two_fields_read, value_reads, word_reads}
+use Rattle.ar_lines.proofs.RowsRead.{before, named_is_text, start_of-text, two_fields_read, value_reads, word_reads}
 
 -- ---- the question of `sig`
 

@@ -1,5 +1,5 @@
 -- What is read for `sig` and for `check` is read from the lines that write it, and from no others.
-use Rattle.std.proofs.Common.{◌≡◌, ℕ, zero, suc, ◌+◌, Bool, true, false, cond, if◌then◌else◌, List, [], ◌∷◌, ◌++◌, length, map, Option, Some, None, option_and_then, Result, Ok, Err, refl, sym, ap, ◌∙◌, append_assoc, codes}
+use Rattle.std.proofs.Common.{◌≡◌, ℕ, zero, suc, Bool, true, false, if◌then◌else◌, List, [], ◌∷◌, ◌++◌, length, map, Option, Some, None, option_and_then, Ok, refl, sym, ap, ◌∙◌, append_assoc, codes}
 use Rattle.std.specs.Fmt.{decimal}
 use Rattle.hex.specs.Hex.{encode_lower}
 use Rattle.lms_tree.specs.declared.public_key.LmsPublic.{LmsPublic}
@@ -13,7 +13,7 @@ use Rattle.ar_base.specs.Chaining.{◌>>=◌}
 use Rattle.arpki_play.specs.Notes.{learnt_from}
 use Rattle.arpki_play.specs.Questions.{Question, question_at}
 use Rattle.ar_lines.specs.Written.{Writes, hex_of_key, named}
-use Rattle.arpki_play.specs.Written.{Asking, IsLearnt, authorities_line, directory_lines, inquiry_lines, inquiry_of, key_line, learnt_from_all, roll_line, logs_line, question_lines}
+use Rattle.arpki_play.specs.Written.{Asking, IsLearnt, authorities_line, inquiry_lines, inquiry_of, key_line, learnt_from_all, roll_line, logs_line, question_lines}
 use Rattle.ar_lines.proofs.RowsWritten.{behind, bind_ok, field_is, hex_writes, no_line_is, no_row_is, ok_is, spelled_some, two_fields_are, value_is, word_is}
 use Rattle.ar_lines.proofs.Respelled.{key_hex_own, name_own, number_own, passing_some}
 
