@@ -41,9 +41,10 @@ use Rattle.domain_table.proofs.Trees.{chain_listed, entry_at, good_chain, holds_
 use Rattle.client_rule.specs.Meaning.{HasParties, IsShown}
 use Rattle.client_rule.specs.Rule.{claim_on}
 use Rattle.epoch_log.specs.Council.{Council, IsMember}
+use Rattle.authority_core.specs.Calls.{confirmation_by}
 use Rattle.ar_safety.specs.Hashed.{NoCollision, body_strings, hashed, judged_strings, listed_tables}
 use Rattle.ar_safety.specs.Records.{AreHonest, AreSigned, Few, IsHonest, IsJudged, Judged, NoForgery, Records, carried, carried_by, signed_by}
-use Rattle.ar_safety.specs.Safe.{Backed, Confirms, HasNewest, HasNone, IsTimely, confirmation_by}
+use Rattle.ar_safety.specs.Safe.{Backed, Confirms, HasNewest, HasNone, IsTimely}
 use Rattle.ar_safety.proofs.Agreement.{Fine, agreed-fine}
 use Rattle.ar_safety.proofs.Confirming.{IsAgreed, backed-agreed, confirms-backed, one-of-three}
 

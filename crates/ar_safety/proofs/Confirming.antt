@@ -8,17 +8,15 @@ use Rattle.ar_base.specs.Bytes.{IsDigest}
 use Rattle.ar_statement.specs.declared.party.Role.{Role}
 use Rattle.ar_statement.specs.declared.party.Role.TheVariants.{LogServer, Authority, Owner, Client}
 use Rattle.ar_statement.specs.declared.party.Party.{Party}
-use Rattle.ar_statement.specs.Claims.{Claim, is_party, party, text_of}
+use Rattle.ar_statement.specs.Claims.{is_party, party, text_of}
 use Rattle.ar_statement.specs.Fields.{is_epoch}
-use Rattle.ar_statement.specs.Ranges.{IsTextOf, IsValid}
-use Rattle.ar_statement.proofs.OneText.{text_is}
+use Rattle.ar_statement.specs.Ranges.{IsValid}
 use Rattle.key_roll.specs.Book.{texts_of}
 use Rattle.party_keys.specs.Seen.{authority_party, log_party}
 use Rattle.vote_quorum.specs.declared.value.Value.{Value}
 use Rattle.domain_table.specs.Applying.{apply}
 use Rattle.domain_table.specs.Tables.{Table}
 use Rattle.domain_table.specs.Tree.{root_of}
-use Rattle.epoch_log.specs.Council.{Council}
 use Rattle.epoch_log.specs.Honest.{HonestLog}
 use Rattle.epoch_log.specs.Record.{base_of}
 use Rattle.epoch_log.specs.Right.{IsRightConfirmation, IsRightVote, IsValue, SawVotes}
@@ -28,10 +26,12 @@ use Rattle.epoch_log.specs.declared.entries.Voted.{Voted}
 use Rattle.epoch_log.proofs.Lists.{both, found}
 use Rattle.epoch_log.proofs.Read.{confirmations-signed}
 use Rattle.epoch_log.proofs.Seeing.{one_party}
-use Rattle.authority_core.specs.Honest.{HasKept, HonestAuthority, ToldBy}
+use Rattle.authority_core.specs.Calls.{confirmation_by}
+use Rattle.authority_core.specs.Honest.{HasKept, HonestAuthority}
 use Rattle.authority_core.specs.Record.{AuthorityRecord}
+use Rattle.authority_core.proofs.Read.{confirmed-kept}
 use Rattle.ar_safety.specs.Records.{AreHonest, Few, IsHonest, IsHonestLog, NoForgery, Records}
-use Rattle.ar_safety.specs.Safe.{Agreed, Backed, Backs, Confirms, confirmation_by}
+use Rattle.ar_safety.specs.Safe.{Agreed, Backed, Backs, Confirms}
 use Rattle.ar_safety.proofs.Votes.{backs-voted, decided-backed, one-root, votes-back, witness}
 
 -- ---- a backed root is that of an agreed table
@@ -82,12 +82,6 @@ same-claim : (log e : ℕ) (name : List ℕ) (certificate : Option (List ℕ)) (
 same-claim log e name None to = refl
 same-claim log e name (Some certificate) to = refl
 
-told-kept : (council : Council) (me : ℕ) (r : AuthorityRecord) (p : Party) (e : ℕ) (name : List ℕ) (certificate : Option (List ℕ)) (to : List ℕ)
-    → ToldBy council me r.seen r.asked r.kept (confirmation_by p e name certificate to) → HasKept council r.seen r.kept e name certificate to
-unfolding ToldBy
-told-kept council me r p e name None to t = t.1
-told-kept council me r p e name (Some certificate) to t = t.1
-
 log-backed : (r : Records) → AreHonest r → NoForgery r → (log : ℕ) → IsHonestLog r log → (e : ℕ) (to : List ℕ) → Confirms r (log_party log) e to → Backed r e to
 log-backed r honest forged log is e to c =
     let h : HonestLog r.council log (r.logs log) = honest.logs log is in
@@ -107,11 +101,7 @@ authority-backed : (r : Records) → AreHonest r → NoForgery r → (a : ℕ) �
 authority-backed r honest forged a is e to c =
     let h : HonestAuthority r.council a (r.authorities a) = honest.authorities a is in
     let own : AuthorityRecord = r.authorities a in
-    let claim : Claim = confirmation_by (authority_party a) e c.name c.certificate to in
-    let told : ToldBy r.council a own.seen own.asked own.kept claim =
-    text_is (ToldBy r.council a own.seen own.asked own.kept) claim c.valid.held
-    (All-contains (IsTextOf (ToldBy r.council a own.seen own.asked own.kept)) (texts_of own.signed) (text_of claim) h.told c.signed) in
-    let kept : HasKept r.council own.seen own.kept e c.name c.certificate to = told-kept r.council a own (authority_party a) e c.name c.certificate to told in
+    let kept : HasKept r.council own.seen own.kept e c.name c.certificate to = confirmed-kept r.council a own e c.name c.certificate to h c.valid c.signed in
     let value : Value = record { base = kept.0.base; root = to } in
     let are : IsValue value = record { base = kept.1.5; root = root-of-claim (authority_party a) e c.name c.certificate to c.valid } in
     let n = before e (epoch-of (authority_party a) e c.name c.certificate to c.valid) in

@@ -1,7 +1,7 @@
 -- The records of the small runs' logs are honest.
 use Rattle.std.proofs.Common.{◌≡◌, ◌≢◌, ℕ, zero, suc, ◌+◌, ◌<◌, ◌≤◌, inl, List, [], ◌∷◌, refl, sym, ap, ◌∙◌, subst, arith, false, Some, None}
 use Rattle.std.specs.Prelude.{All, AllPairs, Contains, IfSome, map, slice_get, slice_index}
-use Rattle.std.proofs.lemmas.List.Elements.{All-cons, All-map, All-nil, All-weaker, Contains-append_right}
+use Rattle.std.proofs.lemmas.List.Elements.{All-cons, All-map, All-nil}
 use Rattle.ar_cert.specs.Changes.{IsChange}
 use Rattle.ar_statement.specs.Claims.{Claim, text_of}
 use Rattle.ar_statement.specs.Ranges.{IsTextOf}
@@ -29,6 +29,7 @@ use Rattle.epoch_log.proofs.Called.{empty-book}
 use Rattle.epoch_log.proofs.Endings.{ending-within}
 use Rattle.epoch_log.proofs.Growing.{own-text}
 use Rattle.epoch_log.proofs.Texts.{plain-status, plain-vote, valid-status, valid-vote}
+use Rattle.authority_core.proofs.Growing.{map-has}
 use Rattle.ar_safety.specs.Examples.{book_with, deciding_log, five, seen_statuses, seen_votes, skipping_log, unchanged}
 use Rattle.ar_safety.proofs.Votes.{root-digest}
 use Rattle.ar_safety.proofs.Empty.{applied-none}
@@ -40,12 +41,6 @@ only P x p = All-cons P x [] p (All-nil P)
 
 single : {X : Type 0} (R : X → X → Type 0) (x : X) → AllPairs R (x ∷ [])
 single R x = λ i j d before within. absurd (omega (arith, before, within))
-
-pub map-has : {X Y : Type 0} (f : X → Y) (xs : List X) → All (λ x. Contains (map f xs) (f x)) xs
-map-has f [] = All-nil (λ x. Contains [] (f x))
-map-has f (z ∷ xs) =
-    All-cons (λ x. Contains (f z ∷ map f xs) (f x)) z xs (0, omega arith, refl)
-    (All-weaker (λ x. Contains (map f xs) (f x)) (λ x. Contains (f z ∷ map f xs) (f x)) (λ x there. Contains-append_right (f z ∷ []) (map f xs) (f x) there) xs (map-has f xs))
 
 one-book : (claim : Claim) → is_roll (text_of claim) ≡ false → IsRollBook (book_with claim)
 one-book claim plain = after_entry_keeps (record { leaves = 32; newest = 0; list = [] }) (text_of claim) (empty-book 32 (omega arith)) (inl plain)

@@ -23,7 +23,7 @@ use Rattle.ar_safety.specs.Hashed.{NoCollision, hashed, judged_strings, log_tabl
 use Rattle.ar_safety.specs.Records.{AreHonest, AreQuorums, AreSigned, Few, IsHonest, IsHonestLog, NoForgery, Records, is_dishonest, signed_by}
 use Rattle.ar_safety.specs.Safe.{Agreed, Backed, Backs, Safe}
 use Rattle.ar_safety.proofs.Confirming.{backed-agreed}
-use Rattle.ar_safety.proofs.Fresh.{honest-idle}
+use Rattle.authority_core.proofs.Growing.{honest-fresh}
 use Rattle.ar_safety.proofs.Empty.{applied-none, one-apart, own-string, tables-string}
 use Rattle.ar_safety.proofs.ExampleLogs.{base-one, deciding-honest, first-ending, four-below, only, skipping-honest}
 
@@ -79,7 +79,7 @@ pub decided-honest : (dishonest : List Party) → AreHonest (decided_run dishone
 decided-honest dishonest = record {
   quorums = five-quorums;
   logs = λ log is. deciding-honest (0 ∷ 1 ∷ 2 ∷ 3 ∷ 4 ∷ []) log is.known all-below five-many;
-  authorities = λ authority is. honest-idle five authority 32 (omega arith);
+  authorities = λ authority is. honest-fresh five authority 32 (omega arith);
   judged = λ k d less. absurd (omega (arith, less));
 }
 
@@ -136,7 +136,7 @@ pub split-honest : AreHonest split_run
 split-honest = record {
   quorums = five-quorums;
   logs = λ log is. by log (split-logs log is);
-  authorities = λ authority is. honest-idle five authority 32 (omega arith);
+  authorities = λ authority is. honest-fresh five authority 32 (omega arith);
   judged = λ k d less. absurd (omega (arith, less));
 } where
   by : (log : ℕ) → (log ≡ 3) ⊎ (log ≡ 4) → HonestLog five log (split_run.logs log)

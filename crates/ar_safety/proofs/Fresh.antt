@@ -5,20 +5,16 @@ use Rattle.ar_base.specs.Apart.{none_collide}
 use Rattle.domain_table.specs.Tables.{Table}
 use Rattle.domain_table.specs.Tree.{table_strings}
 use Rattle.epoch_log.specs.Council.{Council}
-use Rattle.epoch_log.proofs.Called.{empty-book, kept-fresh}
-use Rattle.authority_core.specs.Honest.{HonestAuthority}
+use Rattle.epoch_log.proofs.Called.{kept-fresh}
+use Rattle.authority_core.proofs.Growing.{honest-fresh}
 use Rattle.ar_safety.specs.Hashed.{NoCollision, tables_below}
-use Rattle.ar_safety.specs.Records.{AreHonest, AreQuorums, Few, NoForgery, fresh_authority, fresh_records}
-
-pub honest-idle : (council : Council) (authority leaves : ℕ) → 0 < leaves → HonestAuthority council authority (fresh_authority leaves)
-honest-idle council authority leaves some =
-    record { sound = empty-book leaves some; told = λ k d less. absurd (omega (arith, less)); sees_members = λ k d less. absurd (omega (arith, less)) }
+use Rattle.ar_safety.specs.Records.{AreHonest, AreQuorums, Few, NoForgery, fresh_records}
 
 pub fresh-honest : (council : Council) (leaves : ℕ) → AreQuorums council → 0 < leaves → AreHonest (fresh_records council leaves)
 fresh-honest council leaves quorums some = record {
   quorums = quorums;
   logs = λ log is. (kept-fresh log council leaves (omega (arith, is.known, quorums.few)) some).honest;
-  authorities = λ authority is. honest-idle council authority leaves some;
+  authorities = λ authority is. honest-fresh council authority leaves some;
   judged = λ k d less. absurd (omega (arith, less));
 }
 

@@ -10,11 +10,10 @@ use Rattle.ar_base.specs.Bytes.{IsDigest}
 use Rattle.ar_cert.specs.Certificate.{Certificate, digest_of}
 use Rattle.ar_cert.specs.Changes.{Change}
 use Rattle.ar_cert.specs.Judging.{IsAccepted, endorsers_of}
-use Rattle.ar_statement.specs.Claims.{Claim, endorse, text_of}
-use Rattle.ar_statement.specs.Ranges.{IsTextOf, IsValid}
+use Rattle.ar_statement.specs.Claims.{endorse, text_of}
+use Rattle.ar_statement.specs.Ranges.{IsValid}
 use Rattle.ar_statement.specs.declared.party.Role.TheVariants.{Authority}
 use Rattle.ar_statement.specs.declared.text.SeenText.{SeenText}
-use Rattle.ar_statement.proofs.OneText.{text_is}
 use Rattle.key_roll.specs.Book.{texts_of}
 use Rattle.party_keys.specs.Seen.{Saw, authority_party}
 use Rattle.vote_quorum.specs.Numbers.{distinct_count}
@@ -27,8 +26,8 @@ use Rattle.epoch_log.specs.Council.{IsMember}
 use Rattle.epoch_log.specs.Honest.{HonestLog}
 use Rattle.epoch_log.specs.Right.{SawEndorsements}
 use Rattle.epoch_log.proofs.Lists.{both}
-use Rattle.authority_core.specs.Honest.{HasAsked, ToldBy}
-use Rattle.authority_core.specs.Record.{AuthorityRecord}
+use Rattle.authority_core.specs.Honest.{HasAsked}
+use Rattle.authority_core.proofs.Read.{endorsed-asked}
 use Rattle.ar_safety.specs.Hashed.{NoCollision, StandsIn}
 use Rattle.ar_safety.specs.Records.{AreHonest, Few, IsHonest, NoForgery, Records, is_dishonest}
 use Rattle.ar_safety.specs.Safe.{Agreed, IsVouchedFor}
@@ -102,19 +101,11 @@ digest-fits : (certificate : Certificate) → IsDigest (digest_of certificate)
 unfolding digest_of
 digest-fits certificate = sha256-IsDigest _
 
-told-asked : (r : Records) (me : ℕ) (own : AuthorityRecord) (certificate : List ℕ) → ToldBy r.council me own.seen own.asked own.kept (endorse me certificate) → HasAsked own.asked certificate
-unfolding ToldBy
-told-asked r me own certificate t = t.1
-
 was-asked : (r : Records) → AreHonest r → (a : ℕ) → IsHonest r (authority_party a) → (certificate : Certificate) → Contains (texts_of (r.authorities a).signed) (text_of (endorse a (digest_of certificate)))
     → HasAsked (r.authorities a).asked (digest_of certificate)
 was-asked r honest a is certificate there =
-    let own : AuthorityRecord = r.authorities a in
-    let claim : Claim = endorse a (digest_of certificate) in
-    let valid : IsValid claim = record { held = record { signer = omega (arith, is.known, honest.quorums.few_authorities); fields = digest-fits certificate }; ranges = refl } in
-    told-asked r a own (digest_of certificate)
-    (text_is (ToldBy r.council a own.seen own.asked own.kept) claim valid.held
-    (All-contains (IsTextOf (ToldBy r.council a own.seen own.asked own.kept)) (texts_of own.signed) (text_of claim) (honest.authorities a is).told there))
+    let valid : IsValid (endorse a (digest_of certificate)) = record { held = record { signer = omega (arith, is.known, honest.quorums.few_authorities); fields = digest-fits certificate }; ranges = refl } in
+    endorsed-asked r.council a (r.authorities a) (digest_of certificate) (honest.authorities a is) valid there
 
 -- a change that stands in an agreed table, with its endorsements seen, is vouched for
 change-vouched : (r : Records) → AreHonest r → Few r → NoForgery r → NoCollision r → (e : ℕ) (t : Table) (a : Agreed r e t) (name : List ℕ) (change : Change)

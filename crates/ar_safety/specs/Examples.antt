@@ -14,7 +14,8 @@ use Rattle.epoch_log.specs.Council.{Council}
 use Rattle.epoch_log.specs.Record.{LogRecord}
 use Rattle.epoch_log.specs.Told.{status_claim, vote_claim}
 use Rattle.epoch_log.specs.declared.entries.How.TheVariants.{Decided, Skipped}
-use Rattle.ar_safety.specs.Records.{Records, fresh_authority}
+use Rattle.authority_core.specs.Calls.{fresh_authority}
+use Rattle.ar_safety.specs.Records.{Records}
 
 -- five logs, of which four are a quorum, and three authorities
 abbrev pub five : Council

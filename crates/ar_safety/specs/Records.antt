@@ -17,6 +17,7 @@ use Rattle.epoch_log.specs.Calls.{fresh, seen_of}
 use Rattle.epoch_log.specs.Council.{Council, IsMember, council_of}
 use Rattle.epoch_log.specs.Honest.{HonestLog}
 use Rattle.epoch_log.specs.Record.{LogRecord}
+use Rattle.authority_core.specs.Calls.{fresh_authority}
 use Rattle.authority_core.specs.Honest.{HonestAuthority}
 use Rattle.authority_core.specs.Record.{AuthorityRecord}
 
@@ -107,10 +108,6 @@ pub record NoForgery (r : Records) : Type 0 where
   pub judged : All (λ j. AreSigned r (carried j.confirmation)) r.judged
 
 -- ---- the beginning
-
--- an authority that has done nothing yet
-abbrev pub fresh_authority : ℕ → AuthorityRecord
-fresh_authority leaves = record { seen = []; signed = record { leaves = leaves; newest = 0; list = [] }; asked = []; kept = [] }
 
 -- no party is dishonest, each log and authority has done nothing yet, and no client accepted anything
 abbrev pub fresh_records : Council → ℕ → Records

@@ -9,7 +9,7 @@ use Rattle.ar_cert.specs.Judging.{IsChain}
 use Rattle.ar_message.specs.Confirmation.{present, absent}
 use Rattle.client_rule.specs.Meaning.{IsCurrent, IsLive, IsYoung}
 use Rattle.ar_statement.specs.declared.party.Party.{Party}
-use Rattle.ar_statement.specs.Claims.{Claim, confirm, confirm_absent, endorse, text_of}
+use Rattle.ar_statement.specs.Claims.{endorse, text_of}
 use Rattle.ar_statement.specs.Ranges.{IsValid}
 use Rattle.tree_proof.specs.declared.path.Bottom.{Bottom}
 use Rattle.party_keys.specs.Seen.{authority_party, log_party}
@@ -22,6 +22,7 @@ use Rattle.epoch_log.specs.Told.{HasVoted}
 use Rattle.epoch_log.specs.declared.entries.How.{How}
 use Rattle.epoch_log.specs.declared.entries.How.TheVariants.{Decided, Skipped}
 use Rattle.epoch_log.specs.declared.entries.Voted.{Voted}
+use Rattle.authority_core.specs.Calls.{confirmation_by}
 use Rattle.authority_core.specs.declared.entries.Asked.{Asked}
 use Rattle.ar_safety.specs.Hashed.{StandsIn}
 use Rattle.ar_safety.specs.Records.{IsHonest, IsHonestLog, Judged, Records, is_dishonest, signed_by}
@@ -52,11 +53,6 @@ SameEnding (Skipped one) (Skipped other) = Unit {0}
 SameEnding (Decided changes to) (Decided others root) = to ≡ root
 SameEnding (Skipped statuses) (Decided others root) = ⊥
 SameEnding (Decided changes to) (Skipped statuses) = ⊥
-
--- the statement by which a party confirms what a name has, or that it has none
-abbrev pub confirmation_by : Party → ℕ → List ℕ → Option (List ℕ) → List ℕ → Claim
-confirmation_by party epoch name None root = confirm_absent party epoch name root
-confirmation_by party epoch name (Some certificate) root = confirm party epoch name certificate root
 
 -- a party confirmed something of an epoch under the root
 pub record Confirms (r : Records) (party : Party) (epoch : ℕ) (to : List ℕ) : Type 0 where

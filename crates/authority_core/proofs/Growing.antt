@@ -1,0 +1,244 @@
+-- A record stays an honest authority's when more is seen, asked, kept or signed.
+use Rattle.std.proofs.Common.{◌≡◌, ℕ, ◌<◌, ◌^◌, inl, List, [], ◌∷◌, ◌++◌, refl, sym, ap, subst, arith, Bool, true, false, cond, ◌&&◌, ◌==◌, Option, Some, None}
+use Rattle.std.specs.Prelude.{All, Contains, IfSome, map, nat_le}
+use Rattle.std.specs.List.{list_any}
+use Rattle.std.specs.Str.{bytes_eq}
+use Rattle.std.proofs.lemmas.Bool.{eqb-true, leb-true}
+use Rattle.std.proofs.lemmas.List.Elements.{All-append, All-cons, All-contains, All-contains_itself, All-map, All-nil, All-weaker, Contains-append_left, Contains-append_right, Contains-push}
+use Rattle.std.proofs.lemmas.Slice.Eq.{bytes_eq-Decides}
+use Rattle.ar_base.specs.Bytes.{IsDigest}
+use Rattle.ar_names.specs.Names.{IsName}
+use Rattle.ar_statement.specs.declared.party.Party.{Party}
+use Rattle.ar_statement.specs.declared.text.SeenText.{SeenText}
+use Rattle.ar_statement.specs.Claims.{Claim, answer, confirm, confirm_absent, endorse, handover, object, propose, roll, status, text_of, vote}
+use Rattle.ar_statement.specs.Fields.{is_epoch}
+use Rattle.ar_statement.specs.Ranges.{IsTextOf, IsValid}
+use Rattle.key_roll.specs.Book.{texts_of}
+use Rattle.key_roll.specs.Entry.{after_entry}
+use Rattle.key_roll.specs.Rolls.{is_roll}
+use Rattle.key_roll.proofs.Books.{after_entry_keeps, is_roll-kind, named-roll, roll_keeps}
+use Rattle.party_keys.specs.Seen.{Saw, authority_party, log_party}
+use Rattle.epoch_log.specs.Calls.{HasRoom, is_same_digest, seen_after, seen_of}
+use Rattle.epoch_log.specs.Council.{Council, IsMember}
+use Rattle.epoch_log.specs.Right.{SawVotes}
+use Rattle.epoch_log.specs.Told.{vote_claim}
+use Rattle.epoch_log.proofs.Books.{entry-all, entry-has, roll-all}
+use Rattle.epoch_log.proofs.Called.{empty-book}
+use Rattle.epoch_log.proofs.Counted.{All-unmap}
+use Rattle.epoch_log.proofs.Growing.{own-text, pushed-within, same-within, votes-more}
+use Rattle.epoch_log.proofs.Lists.{Within, both, found}
+use Rattle.epoch_log.proofs.Seeing.{seen-all, seen-has, seen-keeps}
+use Rattle.authority_core.specs.Calls.{MayConfirm, MayRoll, after_endorse, after_half_confirmed, after_learn, after_log_confirmed, after_roll, confirming, confirmation_by, fresh_authority, is_same_asked, is_same_kept, kept_claim, kept_value, seen_of_half, seen_of_log, with_asked, with_kept}
+use Rattle.authority_core.specs.Honest.{HasAsked, HasKept, HonestAuthority, ToldBy}
+use Rattle.authority_core.specs.Record.{AuthorityRecord}
+use Rattle.authority_core.specs.declared.entries.Asked.{Asked}
+use Rattle.authority_core.specs.declared.entries.Kept.{Kept}
+
+-- ---- what is told stays told
+
+kept-more : (council : Council) (seen seen' : List SeenText) (kept kept' : List Kept) → Within seen seen' → Within kept kept' → (epoch : ℕ) (name : List ℕ) (certificate : Option (List ℕ)) (root : List ℕ)
+    → HasKept council seen kept epoch name certificate root → HasKept council seen' kept' epoch name certificate root
+kept-more council seen seen' kept kept' s k epoch name certificate root has =
+    (has.0, (k has.0 has.1.0, has.1.1, has.1.2, has.1.3, has.1.4, has.1.5, votes-more council seen seen' s epoch (record { base = has.0.base; root = root }) has.1.6))
+
+told-more : (council : Council) (me : ℕ) (seen seen' : List SeenText) (asked asked' : List Asked) (kept kept' : List Kept) → Within seen seen' → Within asked asked' → Within kept kept' → (claim : Claim)
+    → ToldBy council me seen asked kept claim → ToldBy council me seen' asked' kept' claim
+unfolding ToldBy
+told-more council me seen seen' asked asked' kept kept' s a k (endorse authority certificate) t = (t.0, (t.1.0, (a t.1.0 t.1.1.0, t.1.1.1)))
+told-more council me seen seen' asked asked' kept kept' s a k (confirm signer epoch name certificate root) t =
+    (t.0, kept-more council seen seen' kept kept' s k epoch name (Some certificate) root t.1)
+told-more council me seen seen' asked asked' kept kept' s a k (confirm_absent signer epoch name root) t =
+    (t.0, kept-more council seen seen' kept kept' s k epoch name None root t.1)
+told-more council me seen seen' asked asked' kept kept' s a k (roll signer generation key) t = t
+told-more council me seen seen' asked asked' kept kept' s a k (handover certificate) t = t
+told-more council me seen seen' asked asked' kept kept' s a k (propose log epoch base root) t = t
+told-more council me seen seen' asked asked' kept kept' s a k (vote log epoch base root) t = t
+told-more council me seen seen' asked asked' kept kept' s a k (answer name certificate challenge) t = t
+told-more council me seen seen' asked asked' kept kept' s a k (status log epoch value) t = t
+told-more council me seen seen' asked asked' kept kept' s a k (object certificate) t = t
+
+texts-more : (council : Council) (me : ℕ) (r : AuthorityRecord) (seen' : List SeenText) (asked' : List Asked) (kept' : List Kept) → Within r.seen seen' → Within r.asked asked' → Within r.kept kept'
+    → HonestAuthority council me r → All (IsTextOf (ToldBy council me seen' asked' kept')) (texts_of r.signed)
+texts-more council me r seen' asked' kept' s a k h =
+    All-weaker (IsTextOf (ToldBy council me r.seen r.asked r.kept)) (IsTextOf (ToldBy council me seen' asked' kept'))
+    (λ text t. record { claim = t.claim; valid = t.valid; holds = told-more council me r.seen seen' r.asked asked' r.kept kept' s a k t.claim t.holds; is = t.is }) (texts_of r.signed) h.told
+
+-- one more statement, of which the entries tell
+honest-signing : (council : Council) (me : ℕ) (r : AuthorityRecord) (more : List SeenText) (asked' : List Asked) (kept' : List Kept) (claim : Claim) → HonestAuthority council me r
+    → All (λ s. IsMember council s.party) more → Within r.asked asked' → Within r.kept kept' → IsValid claim → is_roll (text_of claim) ≡ false
+    → ToldBy council me (seen_after r.seen more) asked' kept' claim
+    → HonestAuthority council me (record { seen = seen_after r.seen more; signed = after_entry r.signed (text_of claim); asked = asked'; kept = kept' })
+honest-signing council me r more asked' kept' claim h members a k valid plain told =
+    let P : Claim → Type 0 = ToldBy council me (seen_after r.seen more) asked' kept' in
+    record {
+      sound = after_entry_keeps r.signed (text_of claim) h.sound (inl plain);
+      told = entry-all (IsTextOf P) r.signed (text_of claim) (texts-more council me r (seen_after r.seen more) asked' kept' (seen-keeps more r.seen) a k h) (own-text P claim valid told);
+      sees_members = seen-all (λ (s : SeenText). IsMember council s.party) more r.seen h.sees_members members;
+    }
+
+-- ---- lists with one more
+
+asked-within : (asked : List Asked) (a : Asked) → Within asked (with_asked asked a)
+asked-within asked a = by (list_any (λ b. is_same_asked b a) asked)
+  where
+    by : (b : Bool) → Within asked (cond b asked (asked ++ a ∷ []))
+    by true = same-within asked
+    by false = pushed-within asked a
+
+asked-has : (asked : List Asked) (a : Asked) → HasAsked (with_asked asked a) a.certificate
+asked-has asked a = by (list_any (λ b. is_same_asked b a) asked) refl
+  where
+    by : (b : Bool) → list_any (λ b. is_same_asked b a) asked ≡ b → HasAsked (cond b asked (asked ++ a ∷ [])) a.certificate
+    by true is =
+        let f = found (λ (b : Asked). is_same_asked b a) asked is in
+        let two = both (bytes_eq f.0.name a.name) (bytes_eq f.0.key a.key && bytes_eq f.0.certificate a.certificate) f.1.1 in
+        let rest = both (bytes_eq f.0.key a.key) (bytes_eq f.0.certificate a.certificate) two.1 in
+        (f.0, (f.1.0, (bytes_eq-Decides f.0.certificate a.certificate).0 rest.1))
+    by false is = (a, (Contains-push asked a, refl))
+
+kept-within : (kept : List Kept) (k : Kept) → Within kept (with_kept kept k)
+kept-within kept k = by (list_any (λ l. is_same_kept l k) kept)
+  where
+    by : (b : Bool) → Within kept (cond b kept (kept ++ k ∷ []))
+    by true = same-within kept
+    by false = pushed-within kept k
+
+digests-same : (one other : Option (List ℕ)) → is_same_digest one other ≡ true → one ≡ other
+digests-same None None is = refl
+digests-same (Some one) (Some other) is = ap (λ d. Some d) ((bytes_eq-Decides one other).0 is)
+digests-same None (Some other) is = absurd cc
+digests-same (Some one) None is = absurd cc
+
+kept-has : (council : Council) (seen : List SeenText) (kept : List Kept) (k : Kept) → IsDigest k.base → SawVotes council seen k.epoch (kept_value k)
+    → HasKept council seen (with_kept kept k) k.epoch k.name k.certificate k.root
+kept-has council seen kept k base saw = by (list_any (λ l. is_same_kept l k) kept) refl
+  where
+    by : (b : Bool) → list_any (λ l. is_same_kept l k) kept ≡ b → HasKept council seen (cond b kept (kept ++ k ∷ [])) k.epoch k.name k.certificate k.root
+    by true is =
+        let f = found (λ (l : Kept). is_same_kept l k) kept is in
+        let l : Kept = f.0 in
+        let epoch = both (l.epoch == k.epoch) (bytes_eq l.name k.name && (is_same_digest l.certificate k.certificate && (bytes_eq l.base k.base && bytes_eq l.root k.root))) f.1.1 in
+        let name = both (bytes_eq l.name k.name) (is_same_digest l.certificate k.certificate && (bytes_eq l.base k.base && bytes_eq l.root k.root)) epoch.1 in
+        let certificate = both (is_same_digest l.certificate k.certificate) (bytes_eq l.base k.base && bytes_eq l.root k.root) name.1 in
+        let roots = both (bytes_eq l.base k.base) (bytes_eq l.root k.root) certificate.1 in
+        let same : l.base ≡ k.base = (bytes_eq-Decides l.base k.base).0 roots.0 in (
+          l,
+          (
+            f.1.0,
+            eqb-true l.epoch k.epoch epoch.0,
+            (bytes_eq-Decides l.name k.name).0 name.0,
+            digests-same l.certificate k.certificate certificate.0,
+            (bytes_eq-Decides l.root k.root).0 roots.1,
+            subst IsDigest (sym same) base,
+            subst (λ b. SawVotes council seen k.epoch (record { base = b; root = k.root })) (sym same) saw,
+          ),
+        )
+    by false is = (k, (Contains-push kept k, refl, refl, refl, refl, base, saw))
+
+-- ---- what an authority does
+
+pub honest-fresh : (council : Council) (me leaves : ℕ) → 0 < leaves → HonestAuthority council me (fresh_authority leaves)
+honest-fresh council me leaves some =
+    record { sound = empty-book leaves some; told = λ k d less. absurd (omega (arith, less)); sees_members = λ k d less. absurd (omega (arith, less)) }
+
+pub honest-endorse : (council : Council) (me : ℕ) (r : AuthorityRecord) (a : Asked) → HonestAuthority council me r → me < 2 ^ 16 → IsDigest a.certificate → HonestAuthority council me (after_endorse me r a)
+unfolding ToldBy
+honest-endorse council me r a h small digest =
+    honest-signing council me r [] (with_asked r.asked a) r.kept (endorse me a.certificate) h (All-nil (λ (s : SeenText). IsMember council s.party)) (asked-within r.asked a) (same-within r.kept)
+    (record { held = record { signer = small; fields = digest }; ranges = refl }) (is_roll-kind (endorse me a.certificate)) (refl, asked-has r.asked a)
+
+claim-valid : (me : ℕ) (epoch : ℕ) (name : List ℕ) (certificate : Option (List ℕ)) (root : List ℕ) → me < 2 ^ 16 → is_epoch epoch ≡ true → IsName name → IfSome certificate IsDigest → IsDigest root
+    → IsValid (confirmation_by (authority_party me) epoch name certificate root)
+claim-valid me epoch name None root small is is-name are digest = record {
+  held = record { signer = small; fields = (omega (arith, leb-true epoch (2 ^ 63) (both (nat_le 1 epoch) (nat_le epoch (2 ^ 63)) is).1), (is-name, digest)) };
+  ranges = is;
+}
+claim-valid me epoch name (Some certificate) root small is is-name are digest = record {
+  held = record { signer = small; fields = (omega (arith, leb-true epoch (2 ^ 63) (both (nat_le 1 epoch) (nat_le epoch (2 ^ 63)) is).1), (is-name, (are, digest))) };
+  ranges = is;
+}
+
+claim-plain : (me : ℕ) (epoch : ℕ) (name : List ℕ) (certificate : Option (List ℕ)) (root : List ℕ) → is_roll (text_of (confirmation_by (authority_party me) epoch name certificate root)) ≡ false
+claim-plain me epoch name None root = is_roll-kind (confirmation_by (authority_party me) epoch name None root)
+claim-plain me epoch name (Some certificate) root = is_roll-kind (confirmation_by (authority_party me) epoch name (Some certificate) root)
+
+claim-told : (council : Council) (me : ℕ) (seen : List SeenText) (asked : List Asked) (kept : List Kept) (epoch : ℕ) (name : List ℕ) (certificate : Option (List ℕ)) (root : List ℕ)
+    → HasKept council seen kept epoch name certificate root → ToldBy council me seen asked kept (confirmation_by (authority_party me) epoch name certificate root)
+unfolding ToldBy
+claim-told council me seen asked kept epoch name None root has = (refl, has)
+claim-told council me seen asked kept epoch name (Some certificate) root has = (refl, has)
+
+-- it confirms where the votes are among what it sees
+honest-confirming : (council : Council) (me : ℕ) (r : AuthorityRecord) (log : ℕ) (voters : List ℕ) (k : Kept) (more : List SeenText) → HonestAuthority council me r → me < 2 ^ 16
+    → MayConfirm council log voters k → All (λ s. IsMember council s.party) more → All (λ voter. Saw more (log_party voter) (vote_claim voter k.epoch (kept_value k))) voters
+    → HonestAuthority council me (confirming me r more k)
+honest-confirming council me r log voters k more h small may members votes =
+    let later : List SeenText = seen_after r.seen more in
+    let saw : SawVotes council later k.epoch (kept_value k) = record {
+      numbers = voters;
+      many = may.many;
+      below = may.voted;
+      each = All-weaker (λ voter. Saw more (log_party voter) (vote_claim voter k.epoch (kept_value k))) (λ voter. Saw later (log_party voter) (vote_claim voter k.epoch (kept_value k)))
+          (λ voter there. All-contains (Contains later) more (seen_of (log_party voter) (vote_claim voter k.epoch (kept_value k))) (seen-has more r.seen) there) voters votes;
+    } in
+    honest-signing council me r more r.asked (with_kept r.kept k) (kept_claim (authority_party me) k) h members (same-within r.asked) (kept-within r.kept k)
+    (claim-valid me k.epoch k.name k.certificate k.root small may.epoch may.name may.certificate may.value.root) (claim-plain me k.epoch k.name k.certificate k.root)
+    (claim-told council me later r.asked (with_kept r.kept k) k.epoch k.name k.certificate k.root (kept-has council later r.kept k may.value.base saw))
+
+pub map-has : {X Y : Type 0} (f : X → Y) (xs : List X) → All (λ x. Contains (map f xs) (f x)) xs
+map-has f xs = All-unmap (Contains (map f xs)) f xs (All-contains_itself (map f xs))
+
+log-members : (council : Council) (log : ℕ) (voters : List ℕ) (k : Kept) → MayConfirm council log voters k → All (λ s. IsMember council s.party) (seen_of_log log voters k)
+log-members council log voters k may =
+    All-cons (λ (s : SeenText). IsMember council s.party) (seen_of (log_party log) (kept_claim (log_party log) k)) (map (λ voter. seen_of (log_party voter) (vote_claim voter k.epoch (kept_value k))) voters) may.known
+    (All-map (λ (s : SeenText). IsMember council s.party) (λ voter. seen_of (log_party voter) (vote_claim voter k.epoch (kept_value k))) voters may.voted)
+
+log-votes : (log : ℕ) (voters : List ℕ) (k : Kept) → All (λ voter. Saw (seen_of_log log voters k) (log_party voter) (vote_claim voter k.epoch (kept_value k))) voters
+log-votes log voters k =
+    let f : ℕ → SeenText = λ voter. seen_of (log_party voter) (vote_claim voter k.epoch (kept_value k)) in
+    All-weaker (λ voter. Contains (map f voters) (f voter)) (λ voter. Saw (seen_of_log log voters k) (log_party voter) (vote_claim voter k.epoch (kept_value k)))
+    (λ voter there. Contains-append_right (seen_of (log_party log) (kept_claim (log_party log) k) ∷ []) (map f voters) (f voter) there) voters (map-has f voters)
+
+pub honest-first : (council : Council) (me : ℕ) (r : AuthorityRecord) (log : ℕ) (voters : List ℕ) (k : Kept) → HonestAuthority council me r → me < 2 ^ 16 → MayConfirm council log voters k
+    → HonestAuthority council me (after_log_confirmed me r log voters k)
+honest-first council me r log voters k h small may =
+    honest-confirming council me r log voters k (seen_of_log log voters k) h small may (log-members council log voters k may) (log-votes log voters k)
+
+pub honest-second : (council : Council) (me : ℕ) (r : AuthorityRecord) (log : ℕ) (voters : List ℕ) (first : ℕ) (k : Kept) → HonestAuthority council me r → me < 2 ^ 16 → MayConfirm council log voters k
+    → first < council.authorities → HonestAuthority council me (after_half_confirmed me r log voters first k)
+honest-second council me r log voters first k h small may known =
+    let own : List SeenText = seen_of (authority_party first) (kept_claim (authority_party first) k) ∷ [] in
+    honest-confirming council me r log voters k (seen_of_half log voters first k) h small may
+    (All-append (λ (s : SeenText). IsMember council s.party) (seen_of_log log voters k) own (log-members council log voters k may)
+    (All-cons (λ (s : SeenText). IsMember council s.party) (seen_of (authority_party first) (kept_claim (authority_party first) k)) [] known (All-nil (λ (s : SeenText). IsMember council s.party))))
+    (All-weaker (λ voter. Saw (seen_of_log log voters k) (log_party voter) (vote_claim voter k.epoch (kept_value k))) (λ voter. Saw (seen_of_half log voters first k) (log_party voter) (vote_claim voter k.epoch (kept_value k)))
+    (λ voter there. Contains-append_left (seen_of_log log voters k) own (seen_of (log_party voter) (vote_claim voter k.epoch (kept_value k))) there) voters (log-votes log voters k))
+
+pub honest-learn : (council : Council) (me : ℕ) (r : AuthorityRecord) (party : Party) (generation : ℕ) (key : List ℕ) → HonestAuthority council me r → IsMember council party
+    → HonestAuthority council me (after_learn r party generation key)
+honest-learn council me r party generation key h member =
+    let more : List SeenText = seen_of party (roll party generation key) ∷ [] in
+    record {
+      sound = h.sound;
+      told = texts-more council me r (seen_after r.seen more) r.asked r.kept (seen-keeps more r.seen) (same-within r.asked) (same-within r.kept) h;
+      sees_members = seen-all (λ (s : SeenText). IsMember council s.party) more r.seen h.sees_members
+          (All-cons (λ (s : SeenText). IsMember council s.party) (seen_of party (roll party generation key)) [] member (All-nil (λ (s : SeenText). IsMember council s.party)));
+    }
+
+pub honest-roll : (council : Council) (me : ℕ) (r : AuthorityRecord) (key : List ℕ) → HonestAuthority council me r → me < 2 ^ 16 → MayRoll r key → HonestAuthority council me (after_roll me r key)
+unfolding ToldBy
+honest-roll council me r key h small may =
+    let claim : Claim = roll (authority_party me) r.signed.newest key in
+    let valid : IsValid claim = record { held = record { signer = small; fields = (omega (arith, may.not_last), may.is_key) }; ranges = may.readable } in
+    record {
+      sound = roll_keeps r.signed (text_of claim) h.sound (is_roll-kind claim) (named-roll (authority_party me) r.signed.newest key (omega (arith, may.not_last))) may.not_last;
+      told = roll-all (IsTextOf (ToldBy council me r.seen r.asked r.kept)) r.signed (text_of claim) h.told (own-text (ToldBy council me r.seen r.asked r.kept) claim valid refl);
+      sees_members = h.sees_members;
+    }
+
+pub endorse-signed : (me : ℕ) (r : AuthorityRecord) (a : Asked) → HasRoom r.signed (text_of (endorse me a.certificate) ∷ []) → Contains (texts_of (after_endorse me r a).signed) (text_of (endorse me a.certificate))
+endorse-signed me r a room = entry-has r.signed (text_of (endorse me a.certificate)) room
+
+pub confirm-signed : (me : ℕ) (r : AuthorityRecord) (log : ℕ) (voters : List ℕ) (k : Kept) → HasRoom r.signed (text_of (kept_claim (authority_party me) k) ∷ [])
+    → Contains (texts_of (after_log_confirmed me r log voters k).signed) (text_of (kept_claim (authority_party me) k))
+confirm-signed me r log voters k room = entry-has r.signed (text_of (kept_claim (authority_party me) k)) room

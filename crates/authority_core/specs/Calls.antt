@@ -1,0 +1,120 @@
+-- What each thing that an authority does makes of its record, and when it may do so.
+use Rattle.std.specs.Prelude.{ℕ, ◌<◌, ◌≤◌, ◌==◌, Bool, ◌&&◌, if◌then◌else◌, List, [], ◌∷◌, ◌++◌, map, All, Option, Some, None, IfSome, IsTrue}
+use Rattle.std.specs.List.{list_any}
+use Rattle.std.specs.Str.{bytes_eq}
+use Rattle.ar_base.specs.Bytes.{IsDigest}
+use Rattle.ar_names.specs.Names.{IsName}
+use Rattle.ar_statement.specs.declared.party.Party.{Party}
+use Rattle.ar_statement.specs.declared.text.SeenText.{SeenText}
+use Rattle.ar_statement.specs.Claims.{Claim, confirm, confirm_absent, endorse, roll, text_of}
+use Rattle.ar_statement.specs.Fields.{is_epoch}
+use Rattle.ar_statement.specs.Ranges.{IsKeyText, is_readable}
+use Rattle.key_roll.specs.Entry.{after_entry, with_roll}
+use Rattle.party_keys.specs.Seen.{authority_party, log_party}
+use Rattle.vote_quorum.specs.Numbers.{distinct_count}
+use Rattle.vote_quorum.specs.declared.value.Value.{Value}
+use Rattle.epoch_log.specs.Calls.{is_same_digest, seen_after, seen_of}
+use Rattle.epoch_log.specs.Council.{Council}
+use Rattle.epoch_log.specs.Right.{IsValue}
+use Rattle.epoch_log.specs.Told.{vote_claim}
+use Rattle.authority_core.specs.Record.{AuthorityRecord}
+use Rattle.authority_core.specs.declared.entries.Asked.{Asked}
+use Rattle.authority_core.specs.declared.entries.Kept.{Kept}
+
+-- an authority that has done nothing yet, whose keys have this many leaves
+abbrev pub fresh_authority : ℕ → AuthorityRecord
+fresh_authority leaves = record { seen = []; signed = record { leaves = leaves; newest = 0; list = [] }; asked = []; kept = [] }
+
+-- ---- an endorsement
+
+abbrev pub is_same_asked : Asked → Asked → Bool
+is_same_asked a b = bytes_eq a.name b.name && (bytes_eq a.key b.key && bytes_eq a.certificate b.certificate)
+
+-- what the check said yes to, with one more, unless it is among them
+abbrev pub with_asked : List Asked → Asked → List Asked
+with_asked asked a = if list_any (λ b. is_same_asked b a) asked then asked else asked ++ a ∷ []
+
+-- the check said yes, and the authority endorses the certificate
+abbrev pub after_endorse : ℕ → AuthorityRecord → Asked → AuthorityRecord
+after_endorse me r a = record {
+  seen = r.seen;
+  signed = after_entry r.signed (text_of (endorse me a.certificate));
+  asked = with_asked r.asked a;
+  kept = r.kept;
+}
+
+-- ---- a confirmation
+
+-- the statement by which a party confirms what a name has, or that it has none
+abbrev pub confirmation_by : Party → ℕ → List ℕ → Option (List ℕ) → List ℕ → Claim
+confirmation_by party epoch name None root = confirm_absent party epoch name root
+confirmation_by party epoch name (Some certificate) root = confirm party epoch name certificate root
+
+-- a party confirms what is kept
+abbrev pub kept_claim : Party → Kept → Claim
+kept_claim party k = confirmation_by party k.epoch k.name k.certificate k.root
+
+-- what the votes are for
+abbrev pub kept_value : Kept → Value
+kept_value k = record { base = k.base; root = k.root }
+
+-- both say the same, by votes over the same base; how the path leads to the root is not compared
+abbrev pub is_same_kept : Kept → Kept → Bool
+is_same_kept k l = (k.epoch == l.epoch) && (bytes_eq k.name l.name && (is_same_digest k.certificate l.certificate && (bytes_eq k.base l.base && bytes_eq k.root l.root)))
+
+-- what is kept, with one more, unless it is among them
+abbrev pub with_kept : List Kept → Kept → List Kept
+with_kept kept k = if list_any (λ l. is_same_kept l k) kept then kept else kept ++ k ∷ []
+
+-- of a log's confirmation that statement and the votes are seen
+abbrev pub seen_of_log : ℕ → List ℕ → Kept → List SeenText
+seen_of_log log voters k =
+    seen_of (log_party log) (kept_claim (log_party log) k) ∷ map (λ voter. seen_of (log_party voter) (vote_claim voter k.epoch (kept_value k))) voters
+
+-- and of one that a first authority confirmed, that authority's statement too
+abbrev pub seen_of_half : ℕ → List ℕ → ℕ → Kept → List SeenText
+seen_of_half log voters first k = seen_of_log log voters k ++ seen_of (authority_party first) (kept_claim (authority_party first) k) ∷ []
+
+-- The authority may confirm what a log says: the log and those that voted are of the council, they are a quorum, and the
+-- values are in their ranges. (That the path leads to the root it checks too; no clause of its record speaks of that.)
+pub record MayConfirm (council : Council) (log : ℕ) (voters : List ℕ) (k : Kept) : Type 0 where
+  pub known : log < council.logs
+  pub voted : All (λ voter. voter < council.logs) voters
+  pub many : council.quorum ≤ distinct_count voters
+  pub epoch : IsTrue (is_epoch k.epoch)
+  pub name : IsName k.name
+  pub certificate : IfSome k.certificate IsDigest
+  pub value : IsValue (kept_value k)
+
+-- these are seen, the confirmation is kept, and the authority confirms it too
+abbrev pub confirming : ℕ → AuthorityRecord → List SeenText → Kept → AuthorityRecord
+confirming me r more k = record {
+  seen = seen_after r.seen more;
+  signed = after_entry r.signed (text_of (kept_claim (authority_party me) k));
+  asked = r.asked;
+  kept = with_kept r.kept k;
+}
+
+-- the first of two authorities confirms what a log says
+abbrev pub after_log_confirmed : ℕ → AuthorityRecord → ℕ → List ℕ → Kept → AuthorityRecord
+after_log_confirmed me r log voters k = confirming me r (seen_of_log log voters k) k
+
+-- the second confirms it, by what the log and the first say
+abbrev pub after_half_confirmed : ℕ → AuthorityRecord → ℕ → List ℕ → ℕ → Kept → AuthorityRecord
+after_half_confirmed me r log voters first k = confirming me r (seen_of_half log voters first k) k
+
+-- ---- Rolls
+
+-- a party's Roll is seen
+abbrev pub after_learn : AuthorityRecord → Party → ℕ → List ℕ → AuthorityRecord
+after_learn r party generation key = record r { seen = seen_after r.seen (seen_of party (roll party generation key) ∷ []) }
+
+-- the authority announces its next key, a key that can be read
+pub record MayRoll (r : AuthorityRecord) (key : List ℕ) : Type 0 where
+  pub not_last : r.signed.newest < 999
+  pub is_key : IsKeyText key
+  pub readable : IsTrue (is_readable key)
+
+-- its own Roll is signed, and the book is at the next generation
+abbrev pub after_roll : ℕ → AuthorityRecord → List ℕ → AuthorityRecord
+after_roll me r key = record r { signed = with_roll r.signed (text_of (roll (authority_party me) r.signed.newest key)) }
