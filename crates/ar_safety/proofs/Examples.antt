@@ -1,4 +1,4 @@
--- The two small runs meet what they are said to meet.
+-- The small runs meet what they are said to meet.
 use Rattle.std.proofs.Common.{◌≡◌, ℕ, zero, suc, ◌+◌, ◌<◌, ◌≤◌, ◌⊎◌, inl, inr, List, [], ◌∷◌, get_or, refl, ap, ◌∙◌, subst, arith, Bool, true, false, cond, ◌==◌, Some, None}
 use Rattle.std.specs.Prelude.{All, Contains, flat_map, map}
 use Rattle.std.proofs.lemmas.List.Elements.{All-append, All-cons, All-contains, All-map, All-nil}
@@ -12,17 +12,18 @@ use Rattle.vote_quorum.specs.Numbers.{distinct_count}
 use Rattle.vote_quorum.proofs.Counting.{among, distinct_count-cons}
 use Rattle.domain_table.specs.Tables.{Table, no_table}
 use Rattle.domain_table.specs.Tree.{root_of, table_strings}
-use Rattle.epoch_log.specs.Calls.{seen_of}
+use Rattle.epoch_log.specs.Calls.{fresh, seen_of}
 use Rattle.epoch_log.specs.Honest.{HonestLog}
 use Rattle.epoch_log.specs.Record.{ending}
 use Rattle.epoch_log.specs.Told.{status_claim, vote_claim}
 use Rattle.epoch_log.specs.declared.entries.How.{How}
 use Rattle.epoch_log.specs.declared.entries.How.TheVariants.{Decided, Skipped}
-use Rattle.ar_safety.specs.Examples.{decided_run, deciding_log, five, seen_statuses, seen_votes, skipping_log, split_run, unchanged}
+use Rattle.ar_safety.specs.Examples.{decided_run, deciding_log, five, seen_statuses, seen_votes, skipping_log, forged_run, split_run, unchanged}
 use Rattle.ar_safety.specs.Hashed.{NoCollision, hashed, judged_strings, log_tables, tables_below}
 use Rattle.ar_safety.specs.Records.{AreHonest, AreQuorums, AreSigned, Few, IsHonest, IsHonestLog, NoForgery, Records, is_dishonest, signed_by}
 use Rattle.ar_safety.specs.Safe.{Agreed, Backed, Backs, Safe}
 use Rattle.ar_safety.proofs.Confirming.{backed-agreed}
+use Rattle.epoch_log.proofs.Called.{kept-fresh}
 use Rattle.authority_core.proofs.Growing.{honest-fresh}
 use Rattle.ar_safety.proofs.Empty.{applied-none, one-apart, own-string, tables-string}
 use Rattle.ar_safety.proofs.ExampleLogs.{base-one, deciding-honest, first-ending, four-below, only, skipping-honest}
@@ -172,8 +173,44 @@ split-clean = clean-of split_run refl (λ log. by log (log == 4)) (λ authority.
     by log true = All-nil (λ t. t ≡ no_table)
     by log false = deciding-tables (0 ∷ 1 ∷ 2 ∷ 3 ∷ []) log
 
+-- one of two honest logs decided the first epoch, and the other skipped it
 pub split-unsafe : Safe split_run → ⊥
 split-unsafe safe =
     let skip : How = Skipped (map (λ log. (log, None)) (0 ∷ 1 ∷ 2 ∷ 4 ∷ [])) in
     let decide : How = Decided [] (root_of no_table) in
     (safe.one_ending 3 4 honest-3 honest-4 1 decide skip (first-ending decide) (first-ending skip)).0
+
+-- ---- the run with forged statements
+
+pub forged-honest : AreHonest forged_run
+forged-honest = record {
+  quorums = five-quorums;
+  logs = λ log is. by log is.known;
+  authorities = λ authority is. honest-fresh five authority 32 (omega arith);
+  judged = λ k d less. absurd (omega (arith, less));
+} where
+  by : (log : ℕ) → log < 5 → HonestLog five log (forged_run.logs log)
+  by zero less = (kept-fresh 0 five 32 (omega arith) (omega arith)).honest
+  by (suc zero) less = (kept-fresh 1 five 32 (omega arith) (omega arith)).honest
+  by (suc (suc zero)) less = (kept-fresh 2 five 32 (omega arith) (omega arith)).honest
+  by (suc (suc (suc zero))) less =
+      deciding-honest (0 ∷ 1 ∷ 2 ∷ 3 ∷ []) 3 (omega arith) (four-below 0 1 2 3 5 (omega arith) (omega arith) (omega arith) (omega arith)) four-many
+  by (suc (suc (suc (suc zero)))) less = skipping-honest
+  by (suc (suc (suc (suc (suc log))))) less = absurd (omega (arith, less))
+
+pub forged-clean : NoCollision forged_run
+forged-clean = clean-of forged_run refl (λ log. by log (log == 4) (log == 3)) (λ authority. refl)
+  where
+    by : (log : ℕ) (b c : Bool)
+        → All (λ t. t ≡ no_table) (log_tables (cond b (skipping_log (0 ∷ 1 ∷ 2 ∷ 4 ∷ []) log) (cond c (deciding_log (0 ∷ 1 ∷ 2 ∷ 3 ∷ []) log) (fresh log five 32).past)))
+    by log true c = All-nil (λ t. t ≡ no_table)
+    by log false true = deciding-tables (0 ∷ 1 ∷ 2 ∷ 3 ∷ []) log
+    by log false false = All-nil (λ t. t ≡ no_table)
+
+pub forged-unsafe : Safe forged_run → ⊥
+forged-unsafe safe =
+    let skip : How = Skipped (map (λ log. (log, None)) (0 ∷ 1 ∷ 2 ∷ 4 ∷ [])) in
+    let decide : How = Decided [] (root_of no_table) in
+    let one : IsHonestLog forged_run 3 = record { known = omega arith; honest = refl } in
+    let other : IsHonestLog forged_run 4 = record { known = omega arith; honest = refl } in
+    (safe.one_ending 3 4 one other 1 decide skip (first-ending decide) (first-ending skip)).0

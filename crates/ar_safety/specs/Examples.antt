@@ -1,5 +1,6 @@
--- Two small runs. In one an epoch is decided, and all that the theorem asks for is met; in the other all is met but that three
--- logs are dishonest, one more than may be, and two honest logs end an epoch differently.
+-- Three small runs. In one an epoch is decided, and all that the theorem asks for is met. In each of the others one premise
+-- fails alone, and two honest logs end an epoch differently: three logs are dishonest, one more than may be; or statements
+-- were forged.
 use Rattle.std.specs.Prelude.{ℕ, ◌==◌, if◌then◌else◌, List, [], ◌∷◌, map, None}
 use Rattle.ar_statement.specs.declared.party.Party.{Party}
 use Rattle.ar_statement.specs.declared.text.SeenText.{SeenText}
@@ -9,7 +10,7 @@ use Rattle.party_keys.specs.Seen.{log_party}
 use Rattle.vote_quorum.specs.declared.value.Value.{Value}
 use Rattle.domain_table.specs.Tables.{no_table}
 use Rattle.domain_table.specs.Tree.{root_of}
-use Rattle.epoch_log.specs.Calls.{seen_of}
+use Rattle.epoch_log.specs.Calls.{fresh, seen_of}
 use Rattle.epoch_log.specs.Council.{Council}
 use Rattle.epoch_log.specs.Record.{LogRecord}
 use Rattle.epoch_log.specs.Told.{status_claim, vote_claim}
@@ -76,6 +77,20 @@ split_run = record {
   council = five;
   dishonest = log_party 0 ∷ log_party 1 ∷ log_party 2 ∷ [];
   logs = λ log. if log == 4 then skipping_log (0 ∷ 1 ∷ 2 ∷ 4 ∷ []) log else deciding_log (0 ∷ 1 ∷ 2 ∷ 3 ∷ []) log;
+  authorities = λ authority. fresh_authority 32;
+  judged = [];
+}
+
+-- No party is dishonest, and the logs 0, 1 and 2 did nothing. Log 3 saw votes of them and log 4 saw statuses, which they never
+-- signed: log 3 decided the first epoch, and log 4 skipped it.
+abbrev pub forged_run : Records
+forged_run = record {
+  council = five;
+  dishonest = [];
+  logs = λ log.
+      if log == 4 then skipping_log (0 ∷ 1 ∷ 2 ∷ 4 ∷ []) log
+      else if log == 3 then deciding_log (0 ∷ 1 ∷ 2 ∷ 3 ∷ []) log
+      else (fresh log five 32).past;
   authorities = λ authority. fresh_authority 32;
   judged = [];
 }

@@ -7,7 +7,7 @@ ghost use Rattle.domain_table.specs.Tables.{Table, no_table};
 ghost use Rattle.domain_table.specs.Tree.{root_of};
 ghost use Rattle.epoch_log.specs.Record.{ending};
 ghost use Rattle.epoch_log.specs.declared.entries.How.TheVariants.{Decided};
-ghost use Rattle.ar_safety.specs.Examples.{decided_run, split_run};
+ghost use Rattle.ar_safety.specs.Examples.{decided_run, forged_run, split_run};
 ghost use Rattle.ar_safety.specs.Hashed.{NoCollision};
 ghost use Rattle.ar_safety.specs.Records.{AreHonest, AreQuorums, Few, IsHonestLog, NoForgery, Records, fresh_records};
 ghost use Rattle.ar_safety.specs.Safe.{Agreed, Safe};
@@ -51,4 +51,12 @@ pub fn three_dishonest_logs_are_too_many()
     ensures premises { NoForgery split_run × NoCollision split_run }
     ensures three { length split_run.dishonest ≡ 3 }
     ensures not_safe { Safe split_run → ⊥ }
+{}
+
+/// That no signature was forged is needed: no party is dishonest and all else is met, and of two honest logs, which saw votes
+/// and statuses that three others never signed, one decided the first epoch and the other skipped it.
+pub fn forged_statements_are_too_many()
+    ensures honest { AreHonest forged_run }
+    ensures premises { Few forged_run × NoCollision forged_run }
+    ensures not_safe { Safe forged_run → ⊥ }
 {}
