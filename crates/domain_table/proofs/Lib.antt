@@ -9,3 +9,8 @@ pub mod Trees
 pub mod Epochs
 pub mod Once
 pub mod Ripe
+pub mod RowLists
+pub mod Retrie
+pub mod Places
+pub mod RipeRows
+pub mod ChangedRow

@@ -1,9 +1,11 @@
 -- The newest certificate of a chain.
-use Rattle.std.proofs.Common.{◌≡◌, ℕ, zero, suc, ◌+◌, ◌<◌, List, [], ◌∷◌, ◌++◌, length, get_or, refl, ap, subst, arith, Some, None}
-use Rattle.std.specs.Prelude.{unwrap_or, All}
+use Rattle.std.proofs.Common.{◌≡◌, ℕ, zero, suc, ◌+◌, ◌-◌, ◌<◌, List, [], ◌∷◌, ◌++◌, length, get_or, refl, sym, ap, ◌∙◌, subst, arith, Option, Some, None, Bor}
+use Rattle.std.specs.Prelude.{unwrap_or, slice_get, All}
+use Rattle.std.specs.Option.{option_map, option_copied}
 use Rattle.std.proofs.lemmas.List.Elements.{All-head, All-tail}
 use Rattle.ar_cert.specs.Certificate.{Certificate}
 use Rattle.ar_cert.specs.Changes.{Change}
+use Rattle.domain_table.specs.Tree.{value_of, value_of_cert}
 use Rattle.domain_table.specs.Tables.{newest}
 
 -- it is that of the last change
@@ -40,3 +42,26 @@ newest_has P (b ∷ []) c each e =
     let same : b.cert ≡ c = cc in
     subst P same (All-head (λ r. P r.cert) b [] each)
 newest_has P (b ∷ d ∷ chain) c each e = newest_has P (d ∷ chain) c (All-tail (λ r. P r.cert) b (d ∷ chain) each) e
+
+-- it is that of the change at the last place
+pub newest_got : (chain : List Change) → option_map (λ c. c.cert) (slice_get chain (length chain - 1)) ≡ newest chain
+newest_got [] = refl
+newest_got (c ∷ chain) =
+    let k : ℕ = length chain in
+    let at : length (c ∷ chain) - 1 ≡ k = omega arith in
+    ap (λ n. option_map (λ x. x.cert) (slice_get (c ∷ chain) n)) at
+    ∙ ap (option_map (λ x. x.cert)) (got (c ∷ chain) k c (omega arith))
+    ∙ sym (newest_is (c ∷ chain) k c (omega arith)) where
+      got : (xs : List Change) (n : ℕ) (d : Change) → n < length xs → slice_get xs n ≡ Some (get_or xs n d)
+      got [] n d l = absurd (omega (arith, l))
+      got (x ∷ xs) zero d l = refl
+      got (x ∷ xs) (suc n) d l = got xs n d (omega (arith, l))
+
+-- through a borrow
+pub now_cert : (o : Option (Bor Change)) → option_map (λ c. c.now.cert) o ≡ option_map (λ c. c.cert) (option_copied o)
+now_cert None = refl
+now_cert (Some b) = refl
+
+-- the value of a chain with one more change is that change's
+pub value-push : (chain : List Change) (c : Change) → value_of (chain ++ c ∷ []) ≡ value_of_cert c.cert
+value-push chain c = ap (λ o. unwrap_or (option_map value_of_cert o) []) (newest-push chain c)

@@ -92,6 +92,11 @@ judge_ripe table change =
 abbrev pub judge : Table → ℕ → Change → Result Manner ChangeRefusal
 judge table epoch change = judge_ripe (ripen table epoch) change
 
+-- the answer to whoever asks whether a change is taken
+abbrev pub answer_of : Result Manner ChangeRefusal → Result (Unit {0}) ChangeRefusal
+answer_of (Ok manner) = Ok tt
+answer_of (Err refusal) = Err refusal
+
 -- ---- applying
 
 -- The table with a change that is taken in a manner. A full update is appended and ends what waits, a recovery

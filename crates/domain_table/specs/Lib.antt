@@ -2,3 +2,4 @@ pub mod Tables
 pub mod Applying
 pub mod Tree
 pub mod Sound
+pub mod Rows

@@ -4,9 +4,17 @@
 //! `specs/Tables.antt` says what a table is, `specs/Applying.antt` what ripens in an epoch, how a change is
 //! judged and what a list of changes makes of a table, `specs/Tree.antt` which entries of the integrity tree
 //! and which root a table has, and `specs/Sound.antt` what a table keeps that comes from the one without names.
+//!
+//! Of the code there are the rows: `specs/Rows.antt` says which table rows are, and what the tree has of them.
+//! A row is found and a change judged among them (`rows`), a row is changed (`change_row`), and the tree follows
+//! (`tree`). A type that keeps the two together is not there yet.
 #![tactic(auto)]
 
 pub use refusal::ChangeRefusal;
 
+mod change_row;
 pub mod laws;
 mod refusal;
+mod row;
+mod rows;
+mod tree;

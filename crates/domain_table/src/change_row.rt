@@ -1,0 +1,199 @@
+ghost use Rattle.std.specs.Prelude.{◌≡◌, ◌<◌, ◌+◌, ◌++◌, ◌∷◌, [], length, take, drop, get_or, None, Some, IfErr, OnOk, OnErr, vec_len, vec_capacity};
+ghost use Rattle.std.specs.FinMap.{from_entries};
+ghost use Rattle.domain_table.specs.Tree.{pending_value, value_of_cert};
+ghost use Rattle.domain_table.specs.Rows.{RowData, AreRows, IsChanged, data_in, data_of, marked, marks_of, with_row};
+
+use crate::row::{Marks, Row, Waiting};
+use crate::tree::{retrie_both, retrie_name, retrie_pending};
+use ar_cert::{Cert, Change};
+use hash_tree::{Trie, pending_digest, value_digest};
+use std::alloc::{AllocError, Global};
+
+/// The value of a certificate in the tree.
+pub(crate) fn value_of(cert: &Cert) -> [u8; 32]
+    ensures { result ≡ value_of_cert cert.now }
+{
+    value_digest(cert.serial, &cert.digest())
+}
+
+/// The value of a change in the tree once it is the newest.
+fn newest_value(change: &Change) -> [u8; 32]
+    ensures { result ≡ value_of_cert change.now.cert }
+{
+    value_of(&change.cert)
+}
+
+/// The value of a change in the tree while it waits since this epoch.
+fn waiting_value(change: &Change, since: u64) -> [u8; 32]
+    ensures { result ≡ pending_value (record { change = change.now; since = since }) }
+{
+    pending_digest(since, &change.cert.digest())
+}
+
+/// The rows before a place, and those behind it.
+fn parts(rows: &[Row], i: usize) -> (&[Row], &[Row])
+    requires { i < length rows.now }
+    ensures front { data_in result.0.now ≡ take i (data_in rows.now) }
+    ensures back { data_in result.1.now ≡ drop (i + 1) (data_in rows.now) }
+{
+    let (front, _) = rows.split_at(i);
+    let (_, back) = rows.split_at(i + 1);
+    (front, back)
+}
+
+/// Makes room for one more change in the row at a place.
+fn make_room(rows: &mut Vec<Row>, i: usize) -> Result<(), AllocError>
+    requires { i < length rows.old.items }
+    ensures same { data_in rows.new.items ≡ data_in rows.old.items }
+    ensures ok { OnOk result ((d : Row) → vec_len (get_or rows.new.items i d).chain < vec_capacity (get_or rows.new.items i d).chain) }
+{
+    rows[i].chain.reserve(1)
+}
+
+/// Appends a change, for which there is room, to the chain of a row. Nothing waits then.
+fn grow(row: &mut Row, change: Change, marks: Marks)
+    requires { vec_len row.old.chain < vec_capacity row.old.chain }
+    ensures { data_of row.new ≡ with_row (data_of row.old) ((data_of row.old).chain ++ change ∷ []) None marks }
+{
+    match row.chain.push(change) {
+        Ok(()) => {}
+        Err(_) => unreachable!(),
+    }
+    row.waiting = None;
+    row.marks = marks;
+}
+
+/// Brings the tree up to date where a row grows and nothing waits.
+fn retrie(
+    alloc: Global,
+    trie: &mut Trie,
+    front: &[Row],
+    old: &Marks,
+    new: &Marks,
+    back: &[Row],
+) -> Result<(), AllocError>
+    requires key { new.now.key ≡ old.now.key }
+    requires pending_key { new.now.pending_key ≡ old.now.pending_key }
+    requires pending { new.now.pending_value ≡ None }
+    requires tree { trie.old ≡ from_entries (marked (marks_of (data_in front.now) ++ old.now ∷ marks_of (data_in back.now))) }
+    ensures ok { OnOk result (trie.new ≡ from_entries (marked (marks_of (data_in front.now) ++ new.now ∷ marks_of (data_in back.now)))) }
+    ensures err { OnErr result (trie.new ≡ trie.old) }
+{
+    match old.pending_value {
+        None => retrie_name(alloc, trie, front, old, new, back),
+        Some(_) => retrie_both(alloc, trie, front, old, new, back),
+    }
+}
+
+/// Appends a change to the chain of the row at a place, and brings the tree up to date. What waits there waits
+/// no longer.
+pub(crate) fn append(
+    alloc: Global,
+    rows: &mut Vec<Row>,
+    trie: &mut Trie,
+    i: usize,
+    change: Change,
+) -> Result<(), (Change, AllocError)>
+    requires place { i < length rows.old.items }
+    requires are { AreRows (data_in rows.old.items) }
+    requires tree { trie.old ≡ from_entries (marked (marks_of (data_in rows.old.items))) }
+    ensures ok { OnOk result ((d : RowData) → IsChanged (data_in rows.old.items) (data_in rows.new.items) trie.new i (get_or (data_in rows.old.items) i d)
+        ((get_or (data_in rows.old.items) i d).chain ++ change ∷ []) None) }
+    ensures back { IfErr result (λ e. e.0 ≡ change) }
+    ensures same { OnErr result (data_in rows.new.items ≡ data_in rows.old.items) }
+    ensures same_tree { OnErr result (trie.new ≡ trie.old) }
+{
+    if let Err(error) = make_room(rows, i) {
+        return Err((change, error));
+    }
+    let old = rows[i].marks;
+    let new = Marks {
+        key: old.key,
+        value: newest_value(&change),
+        pending_key: old.pending_key,
+        pending_value: None,
+    };
+    let (front, back) = parts(rows, i);
+    if let Err(error) = retrie(alloc, trie, front, &old, &new, back) {
+        return Err((change, error));
+    }
+    grow(&mut rows[i], change, new);
+    Ok(())
+}
+
+/// The change waits in a row since this epoch.
+fn hold(row: &mut Row, change: Change, since: u64, marks: Marks)
+    ensures { data_of row.new ≡ with_row (data_of row.old) (data_of row.old).chain (Some (record { change = change; since = since })) marks }
+{
+    row.waiting = Some(Waiting { change, since });
+    row.marks = marks;
+}
+
+/// Nothing waits in a row.
+fn release(row: &mut Row, marks: Marks)
+    ensures { data_of row.new ≡ with_row (data_of row.old) (data_of row.old).chain None marks }
+{
+    row.waiting = None;
+    row.marks = marks;
+}
+
+/// The change waits in the row at a place since this epoch, and the tree is brought up to date.
+pub(crate) fn wait(
+    alloc: Global,
+    rows: &mut Vec<Row>,
+    trie: &mut Trie,
+    i: usize,
+    change: Change,
+    since: u64,
+) -> Result<(), (Change, AllocError)>
+    requires place { i < length rows.old.items }
+    requires are { AreRows (data_in rows.old.items) }
+    requires tree { trie.old ≡ from_entries (marked (marks_of (data_in rows.old.items))) }
+    ensures ok { OnOk result ((d : RowData) → IsChanged (data_in rows.old.items) (data_in rows.new.items) trie.new i (get_or (data_in rows.old.items) i d)
+        (get_or (data_in rows.old.items) i d).chain (Some (record { change = change; since = since }))) }
+    ensures back { IfErr result (λ e. e.0 ≡ change) }
+    ensures same { OnErr result (data_in rows.new.items ≡ data_in rows.old.items) }
+    ensures same_tree { OnErr result (trie.new ≡ trie.old) }
+{
+    let old = rows[i].marks;
+    let new = Marks {
+        key: old.key,
+        value: old.value,
+        pending_key: old.pending_key,
+        pending_value: Some(waiting_value(&change, since)),
+    };
+    let (front, back) = parts(rows, i);
+    if let Err(error) = retrie_pending(alloc, trie, front, &old, &new, back) {
+        return Err((change, error));
+    }
+    hold(&mut rows[i], change, since, new);
+    Ok(())
+}
+
+/// Nothing waits in the row at a place any longer, and the tree is brought up to date.
+pub(crate) fn end_wait(
+    alloc: Global,
+    rows: &mut Vec<Row>,
+    trie: &mut Trie,
+    i: usize,
+) -> Result<(), AllocError>
+    requires place { i < length rows.old.items }
+    requires are { AreRows (data_in rows.old.items) }
+    requires tree { trie.old ≡ from_entries (marked (marks_of (data_in rows.old.items))) }
+    ensures ok { OnOk result ((d : RowData) → IsChanged (data_in rows.old.items) (data_in rows.new.items) trie.new i (get_or (data_in rows.old.items) i d)
+        (get_or (data_in rows.old.items) i d).chain None) }
+    ensures same { OnErr result (data_in rows.new.items ≡ data_in rows.old.items) }
+    ensures same_tree { OnErr result (trie.new ≡ trie.old) }
+{
+    let old = rows[i].marks;
+    let new = Marks {
+        key: old.key,
+        value: old.value,
+        pending_key: old.pending_key,
+        pending_value: None,
+    };
+    let (front, back) = parts(rows, i);
+    retrie_pending(alloc, trie, front, &old, &new, back)?;
+    release(&mut rows[i], new);
+    Ok(())
+}

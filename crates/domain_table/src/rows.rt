@@ -1,0 +1,158 @@
+ghost use Rattle.std.specs.Prelude.{◌≡◌, ◌++◌, ◌∷◌, ◌&&◌, ◌≤◌, ◌<◌, nat_le, length, map, ℕ, get_or, Some, None, IfErr, IfSome, IfNone, IfOk, OnOk, OnErr, IsTrue, true, false, position};
+ghost use Rattle.std.specs.Option.{option_map};
+ghost use Rattle.std.specs.Ordering.{eq_by_cmp, is_lt};
+ghost use Rattle.std.specs.List.Sorted.{IsPartitionedBy};
+ghost use Rattle.std.specs.FinMap.{get, is_sorted};
+ghost use Rattle.hash_tree.specs.Entries.{key_cmp};
+ghost use Rattle.domain_table.specs.Tables.{chain_of, newest};
+ghost use Rattle.domain_table.specs.declared.row.Row.{Row};
+ghost use Rattle.domain_table.specs.Applying.{is_over, manner_of, ripen, with_room};
+ghost use Rattle.domain_table.specs.Rows.{AreRows, IsPlace, chain_pair, data_in, data_of, table_of, is_ripe_row, newest_at, pending_at};
+
+use crate::refusal::ChangeRefusal;
+use crate::row::Row;
+use ar_cert::{Change, judge_change, judge_update};
+use cert_policy::{Manner, PolicyRefusal};
+
+/// How many certificates and waiting changes a table may have.
+const MOST_KEPT: usize = 4096;
+
+/// Whether a row has a lesser name.
+fn is_before(row: &Row, name: &[u8]) -> bool
+    ensures { result ≡ is_lt (key_cmp row.now.name.items name.now) }
+{
+    row.name.as_slice().cmp(name).is_lt()
+}
+
+/// The place of a name among rows whose names ascend: the rows before it have lesser names.
+pub(crate) fn place(rows: &[Row], name: &[u8]) -> usize
+    ensures in_range { result ≤ length rows.now }
+    ensures point { IsPartitionedBy (λ r. is_lt (key_cmp r.name.items name.now)) rows.now → IsPlace rows.now name.now result }
+{
+    rows.partition_point(|row| is_before(row, name))
+}
+
+/// Whether a change that waits since then has waited as long as the policy says.
+fn is_over(epoch: u64, since: u64, wait: Option<u16>) -> bool
+    ensures { result ≡ is_over epoch since wait }
+{
+    let Some(wait) = wait else {
+        return false;
+    };
+    match since.checked_add(wait as u64) {
+        Some(end) => end <= epoch,
+        None => false,
+    }
+}
+
+/// The newest change of a chain.
+pub(crate) fn newest(chain: &[Change]) -> Option<&Change>
+    ensures { option_map (λ c. c.now.cert) result ≡ newest chain.now }
+{
+    chain.last()
+}
+
+/// Whether what waits in a row is ripe at an epoch.
+pub(crate) fn is_ripe(row: &Row, epoch: u64) -> bool
+    ensures { result ≡ is_ripe_row epoch (data_of row.now) }
+{
+    let (Some(last), Some(waiting)) = (newest(&row.chain), &row.waiting) else {
+        return false;
+    };
+    is_over(epoch, waiting.since, last.cert.policy.wait)
+}
+
+/// How a change that registers its name is taken, where the name has no row.
+fn judge_first(change: &Change) -> Result<Manner, PolicyRefusal>
+    ensures { result ≡ manner_of None None change.now }
+{
+    if change.objection.is_some() {
+        return Err(PolicyRefusal::NotPending);
+    }
+    judge_change(None, change)?;
+    Ok(Manner::Full)
+}
+
+/// How a change is taken behind the changes of a row as they stand at the epoch.
+fn judge_next(row: &Row, epoch: u64, change: &Change) -> Result<Manner, PolicyRefusal>
+    requires { 0 < length row.now.chain.items }
+    ensures { result ≡ manner_of (newest_at epoch (Some (data_of row.now))) (pending_at epoch (Some (data_of row.now))) change.now }
+{
+    if is_ripe(row, epoch) {
+        let Some(waiting) = &row.waiting else {
+            unreachable!();
+        };
+        return judge_update(&waiting.change.cert, None, change);
+    }
+    let Some(last) = newest(&row.chain) else {
+        unreachable!();
+    };
+    match &row.waiting {
+        None => judge_update(&last.cert, None, change),
+        Some(waiting) => judge_update(&last.cert, Some(&waiting.change.cert.digest()), change),
+    }
+}
+
+/// Whether a row has this name.
+fn has_name(row: &Row, name: &[u8]) -> bool
+    ensures { result ≡ eq_by_cmp key_cmp name.now row.now.name.items }
+{
+    name.cmp(row.name.as_slice()).is_eq()
+}
+
+/// The place of the row with this name, or the place that the name has among the others.
+pub(crate) fn find(rows: &[Row], name: &[u8]) -> Result<usize, usize>
+    requires { IsTrue (is_sorted key_cmp (map chain_pair (data_in rows.now))) }
+    ensures found { IfOk result (λ i. (i < length rows.now) × ((d : Row) → (get_or rows.now i d).name.items ≡ name.now)) }
+    ensures absent { IfErr result (λ i. (i ≤ length rows.now) × (IsPlace rows.now name.now i
+        × ((k : ℕ) (d : Row) → k < length rows.now → eq_by_cmp key_cmp name.now (get_or rows.now k d).name.items ≡ false))) }
+{
+    let i = place(rows, name);
+    if i == rows.len() {
+        return Err(i);
+    }
+    if has_name(&rows[i], name) {
+        Ok(i)
+    } else {
+        Err(i)
+    }
+}
+
+/// The name of a change's certificate.
+fn name_of(change: &Change) -> &[u8]
+    ensures { result.now ≡ change.now.cert.name }
+{
+    change.cert.name.text()
+}
+
+/// How a change is taken at an epoch among rows.
+pub(crate) fn judge_rows(rows: &[Row], epoch: u64, change: &Change) -> Result<Manner, PolicyRefusal>
+    requires { AreRows (data_in rows.now) }
+    ensures { result ≡ manner_of (newest (chain_of (ripen (table_of (data_in rows.now)) epoch) change.now.cert.name))
+        (get (ripen (table_of (data_in rows.now)) epoch).waiting change.now.cert.name) change.now }
+{
+    match find(rows, name_of(change)) {
+        Ok(i) => judge_next(&rows[i], epoch, change),
+        Err(_) => judge_first(change),
+    }
+}
+
+/// The manner, unless no place is left for it.
+pub(crate) fn with_room(
+    kept: usize,
+    answer: Result<Manner, PolicyRefusal>,
+) -> Result<Manner, ChangeRefusal>
+    ensures { result ≡ with_room kept answer }
+{
+    match answer {
+        Err(refusal) => Err(ChangeRefusal::Policy(refusal)),
+        Ok(Manner::Objected) => Ok(Manner::Objected),
+        Ok(manner) => {
+            if kept >= MOST_KEPT {
+                Err(ChangeRefusal::Full)
+            } else {
+                Ok(manner)
+            }
+        }
+    }
+}
