@@ -14,3 +14,7 @@ pub mod Retrie
 pub mod Places
 pub mod RipeRows
 pub mod ChangedRow
+pub mod Changed
+pub mod Taking
+pub mod Ripening
+pub mod Copies

@@ -11,9 +11,9 @@ use Rattle.hash_tree.specs.Entries.{key_cmp}
 use Rattle.hash_tree.proofs.Maps.{total, exact}
 use Rattle.domain_table.specs.Tables.{Pending, Table, chain_of, newest, size}
 use Rattle.domain_table.specs.Applying.{is_ripe, is_ripe_behind, ripened, change_list, ripen}
-use Rattle.domain_table.specs.Rows.{RowData, chain_pair, pending_pair, table_of, is_ripe_row, newest_at, pending_at}
+use Rattle.domain_table.specs.Rows.{RowData, chain_pair, pending_pair, table_of, is_ripe_row, newest_at, pending_at, waiting_count}
 use Rattle.domain_table.proofs.Maps.{same_name, own_name, get-ripen, waiting-ripen}
-use Rattle.domain_table.proofs.RowLists.{split_map, between, Between, none_waits, waits_at, waiting_count, places, size_rows}
+use Rattle.domain_table.proofs.RowLists.{split_map, between, Between, none_waits, waits_at, places, size_rows}
 use Rattle.domain_table.proofs.Places.{split_at}
 use Rattle.domain_table.proofs.Newest.{newest-push}
 use Rattle.ar_cert.specs.Certificate.{Certificate}

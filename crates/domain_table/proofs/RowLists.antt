@@ -21,7 +21,7 @@ use Rattle.ar_cert.specs.Changes.{Change}
 use Rattle.domain_table.specs.declared.row.Marks.{Marks}
 use Rattle.domain_table.specs.Tables.{Pending, size}
 use Rattle.domain_table.specs.Tree.{value_of, pending_value, tagged, keyed, tree_entries}
-use Rattle.domain_table.specs.Rows.{RowData, hit, chain_pair, pending_pair, table_of, name_entry, pending_entry, marked, marks_of, with_entry, IsMarked, AreRows}
+use Rattle.domain_table.specs.Rows.{RowData, hit, chain_pair, pending_pair, table_of, name_entry, pending_entry, marked, marks_of, with_entry, IsMarked, AreRows, waiting_count}
 use Rattle.domain_table.proofs.Maps.{same_name}
 use Rattle.domain_table.proofs.Keyed.{find_both}
 
@@ -303,10 +303,6 @@ tree_rows rows are =
     ∙ (λ i. named rows (recursion_from_All IsMarked rows are.marked) i ++ waiting_named rows (recursion_from_All IsMarked rows are.marked) i))
 
 -- ---- how many there are
-
-abbrev pub waiting_count : Option Pending → ℕ
-waiting_count None = 0
-waiting_count (Some w) = 1
 
 abbrev pub places : List RowData → ℕ
 places [] = 0

@@ -1,5 +1,6 @@
 -- What the code keeps for a table: rows whose names ascend, each with what it has in the integrity tree.
-use Rattle.std.specs.Prelude.{◌≡◌, ℕ, ◌<◌, List, ◌∷◌, ◌++◌, map, length, take, drop, ◌+◌, Bool, true, false, if◌then◌else◌, All, IsTrue, Option, Some, None}
+use Rattle.std.specs.Borrow.{Bor}
+use Rattle.std.specs.Prelude.{[], ◌≡◌, ℕ, ◌<◌, ◌≤◌, List, ◌∷◌, ◌++◌, map, length, take, drop, ◌+◌, Bool, true, false, if◌then◌else◌, All, IsTrue, Option, Some, None}
 use Rattle.std.specs.List.{filter_map}
 use Rattle.std.specs.Option.{option_map}
 use Rattle.std.specs.Ordering.{eq_by_cmp, is_lt}
@@ -13,8 +14,8 @@ use Rattle.ar_cert.specs.Certificate.{Certificate}
 use Rattle.domain_table.specs.declared.row.Waiting.{Waiting}
 use Rattle.domain_table.specs.declared.row.Marks.{Marks}
 use Rattle.domain_table.specs.declared.row.Row.{Row}
-use Rattle.domain_table.specs.Tables.{Pending, Table, newest}
-use Rattle.domain_table.specs.Applying.{is_ripe_behind}
+use Rattle.domain_table.specs.Tables.{Pending, Table, newest, size}
+use Rattle.domain_table.specs.Applying.{is_ripe_behind, most_kept, ripen}
 use Rattle.domain_table.specs.Tree.{value_of, pending_value}
 
 -- what a row says, whatever room its vectors keep
@@ -57,6 +58,10 @@ pending_entry m = option_map (λ v. (m.pending_key, v)) m.pending_value
 abbrev pub marked : List Marks → List Entry
 marked ms = map name_entry ms ++ filter_map pending_entry ms
 
+-- the marks of rows
+abbrev pub marks_of : List RowData → List Marks
+marks_of rows = map (λ r. r.marks) rows
+
 -- the marks of a row are those of its name, its chain and what waits
 pub record IsMarked (r : RowData) : Type 0 where
   pub some : 0 < length r.chain
@@ -69,6 +74,18 @@ pub record IsMarked (r : RowData) : Type 0 where
 pub record AreRows (rows : List RowData) : Type 0 where
   pub rise : IsTrue (is_sorted key_cmp (map chain_pair rows))
   pub marked : All IsMarked rows
+
+-- what is kept of a table: its rows, their entries in the tree, and how many certificates and waiting changes
+-- there are
+pub record IsKept (rows : List RowData) (trie : Entries) (kept : ℕ) : Type 0 where
+  pub are : AreRows rows
+  pub tree : trie ≡ from_entries (marked (marks_of rows))
+  pub count : kept ≡ size (table_of rows)
+  pub most : kept ≤ most_kept
+
+-- what is told of a change that waits, as the table has it
+abbrev pub pending_told : Bor Change × ℕ → Pending
+pending_told told = record { change = told.0.now; since = told.1 }
 
 -- ---- what a row says at an epoch
 
@@ -94,10 +111,6 @@ IsPlace rows name i = IsPartitionPoint (λ r. is_lt (key_cmp r.name.items name) 
 
 -- ---- the tree
 
--- the entries of these marks, with others in the place between two parts
-abbrev pub marks_of : List RowData → List Marks
-marks_of rows = map (λ r. r.marks) rows
-
 -- a map with this at a key: a value, or nothing
 abbrev pub with_entry : Entries → List ℕ → Option (List ℕ) → Entries
 with_entry m key (Some value) = insert m key value
@@ -120,3 +133,37 @@ pub record IsChanged (old new : List RowData) (trie : Entries) (i : ℕ) (r : Ro
   pub rows : new ≡ take i old ++ with_row r chain waiting marks ∷ drop (i + 1) old
   pub is_marked : IsMarked (with_row r chain waiting marks)
   pub tree : trie ≡ from_entries (marked (marks_of new))
+
+-- ---- a row that comes in
+
+-- the row of a name whose first change this is
+abbrev pub first_row : List ℕ → Change → Marks → RowData
+first_row name change marks = record { name = name; chain = change ∷ []; waiting = None; marks = marks }
+
+-- before the row at a place stands now one that begins with this change, all others are as before, and the tree
+-- is theirs
+pub record IsCome (old new : List RowData) (trie : Entries) (i : ℕ) (change : Change) : Type 0 where
+  pub marks : Marks
+  pub rows : new ≡ take i old ++ first_row change.cert.name change marks ∷ drop i old
+  pub is_marked : IsMarked (first_row change.cert.name change marks)
+  pub tree : trie ≡ from_entries (marked (marks_of new))
+
+-- ---- what ripens
+
+-- whether what waits in some row is ripe
+abbrev pub any_ripe : ℕ → List RowData → Bool
+any_ripe epoch [] = false
+any_ripe epoch (r ∷ rows) = if is_ripe_row epoch r then true else any_ripe epoch rows
+
+-- up to a place nothing is ripe any longer, and the rows ripen to the table to which the first ones do
+pub record IsRipeUpTo (epoch : ℕ) (first rows : List RowData) (trie : Entries) (i : ℕ) : Type 0 where
+  pub are : AreRows rows
+  pub tree : trie ≡ from_entries (marked (marks_of rows))
+  pub count : length rows ≡ length first
+  pub done : any_ripe epoch (take i rows) ≡ false
+  pub same : ripen (table_of rows) epoch ≡ ripen (table_of first) epoch
+
+-- how many changes wait in a row
+abbrev pub waiting_count : Option Pending → ℕ
+waiting_count None = 0
+waiting_count (Some w) = 1

@@ -10,11 +10,19 @@
 //! (`tree`). A type that keeps the two together is not there yet.
 #![tactic(auto)]
 
+pub use fault::ApplyFault;
 pub use refusal::ChangeRefusal;
+pub use table::Table;
 
 mod change_row;
+mod fault;
 pub mod laws;
+mod new_row;
 mod refusal;
+mod ripe_rows;
 mod row;
+mod row_copy;
 mod rows;
+mod table;
+mod take;
 mod tree;

@@ -1,13 +1,13 @@
-ghost use Rattle.std.specs.Prelude.{◌≡◌, ◌++◌, ◌∷◌, ◌&&◌, ◌≤◌, ◌<◌, nat_le, length, map, ℕ, get_or, Some, None, IfErr, IfSome, IfNone, IfOk, OnOk, OnErr, IsTrue, true, false, position};
+ghost use Rattle.std.specs.Prelude.{option_and_then, ◌≡◌, ◌++◌, ◌∷◌, ◌&&◌, ◌≤◌, ◌<◌, nat_le, length, map, ℕ, get_or, Some, None, IfErr, IfSome, IfNone, IfOk, OnOk, OnErr, IsTrue, true, false, position};
 ghost use Rattle.std.specs.Option.{option_map};
 ghost use Rattle.std.specs.Ordering.{eq_by_cmp, is_lt};
 ghost use Rattle.std.specs.List.Sorted.{IsPartitionedBy};
 ghost use Rattle.std.specs.FinMap.{get, is_sorted};
 ghost use Rattle.hash_tree.specs.Entries.{key_cmp};
-ghost use Rattle.domain_table.specs.Tables.{chain_of, newest};
+ghost use Rattle.domain_table.specs.Tables.{chain_of, newest, size};
 ghost use Rattle.domain_table.specs.declared.row.Row.{Row};
-ghost use Rattle.domain_table.specs.Applying.{is_over, manner_of, ripen, with_room};
-ghost use Rattle.domain_table.specs.Rows.{AreRows, IsPlace, chain_pair, data_in, data_of, table_of, is_ripe_row, newest_at, pending_at};
+ghost use Rattle.domain_table.specs.Applying.{is_over, judge, manner_of, ripen, with_room};
+ghost use Rattle.domain_table.specs.Rows.{AreRows, IsPlace, chain_pair, data_in, data_of, table_of, is_ripe_row, newest_at, pending_at, pending_of, pending_told};
 
 use crate::refusal::ChangeRefusal;
 use crate::row::Row;
@@ -118,8 +118,28 @@ pub(crate) fn find(rows: &[Row], name: &[u8]) -> Result<usize, usize>
     }
 }
 
+/// The row with this name.
+pub(crate) fn row_of<'a>(rows: &'a [Row], name: &[u8]) -> Option<&'a Row>
+    requires { IsTrue (is_sorted key_cmp (map chain_pair (data_in rows.now))) }
+    ensures chain { option_map (λ row. row.now.chain.items) result ≡ get (table_of (data_in rows.now)).chains name.now }
+    ensures waiting { option_and_then (λ row. option_map pending_of row.now.waiting) result ≡ get (table_of (data_in rows.now)).waiting name.now }
+{
+    match find(rows, name) {
+        Ok(i) => Some(&rows[i]),
+        Err(_) => None,
+    }
+}
+
+/// What waits in a row, and since when.
+pub(crate) fn waiting_of(row: &Row) -> Option<(&Change, u64)>
+    ensures { option_map pending_told result ≡ option_map pending_of row.now.waiting }
+{
+    let waiting = row.waiting.as_ref()?;
+    Some((&waiting.change, waiting.since))
+}
+
 /// The name of a change's certificate.
-fn name_of(change: &Change) -> &[u8]
+pub(crate) fn name_of(change: &Change) -> &[u8]
     ensures { result.now ≡ change.now.cert.name }
 {
     change.cert.name.text()
@@ -155,4 +175,19 @@ pub(crate) fn with_room(
             }
         }
     }
+}
+
+/// How a change is taken at an epoch among rows that are so many certificates and waiting changes, or why it is
+/// refused.
+pub(crate) fn judged(
+    rows: &[Row],
+    kept: usize,
+    epoch: u64,
+    change: &Change,
+) -> Result<Manner, ChangeRefusal>
+    requires are { AreRows (data_in rows.now) }
+    requires count { kept ≡ size (table_of (data_in rows.now)) }
+    ensures { result ≡ judge (table_of (data_in rows.now)) epoch change.now }
+{
+    with_room(kept, judge_rows(rows, epoch, change))
 }

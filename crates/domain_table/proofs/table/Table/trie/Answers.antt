@@ -1,0 +1,8 @@
+use Rattle.std.proofs.Common.{ap, ◌∙◌}
+use Rattle.domain_table.specs.Tree.{tree_entries}
+use Rattle.domain_table.specs.Rows.{data_in}
+use Rattle.domain_table.proofs.Taking.{kept_tree}
+use Rattle.domain_table.proofs.table.Table.trie.Goals as goal
+
+pub returns : goal.returns
+returns c = kept_tree (data_in c.self.inside.rows.items) c.self.inside.trie c.self.inside.kept c.self.invariant ∙ ap tree_entries c.self.view_is
