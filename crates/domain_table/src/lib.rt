@@ -5,9 +5,10 @@
 //! judged and what a list of changes makes of a table, `specs/Tree.antt` which entries of the integrity tree
 //! and which root a table has, and `specs/Sound.antt` what a table keeps that comes from the one without names.
 //!
-//! Of the code there are the rows: `specs/Rows.antt` says which table rows are, and what the tree has of them.
-//! A row is found and a change judged among them (`rows`), a row is changed (`change_row`), and the tree follows
-//! (`tree`). A type that keeps the two together is not there yet.
+//! A `Table` keeps rows in the order of their names, and the tree of their entries: `specs/Rows.antt` says which
+//! table rows are, and what the tree has of them. A row is found and a change judged among them (`rows`); a row
+//! comes in (`new_row`) or changes (`change_row`), and the tree follows (`tree`); `take` does so by the manner in
+//! which a change is judged; `ripe_rows` appends what is ripe.
 #![tactic(auto)]
 
 pub use fault::ApplyFault;
@@ -25,4 +26,6 @@ mod row_copy;
 mod rows;
 mod table;
 mod take;
+#[cfg(test)]
+mod tests;
 mod tree;
