@@ -1,24 +1,10 @@
 ghost use Rattle.std.specs.Prelude.{◌≡◌, IfOk};
-ghost use Rattle.ar_names.specs.Names.{IsName};
 ghost use Rattle.ar_cert.specs.Lists.{numbers_in};
 
 use crate::cert::{Cert, Policy};
 use crate::change::{Change, Endorsement};
 use ar_base::Items;
-use ar_names::{Name, NameFault};
 use std::alloc::{AllocError, Global};
-
-/// The name with this text, which is one.
-pub(crate) fn name_of(alloc: Global, text: &[u8]) -> Result<Name, AllocError>
-    requires { IsName text.now }
-    ensures { IfOk result (λ name. name ≡ text.now) }
-{
-    match Name::read(alloc, text) {
-        Ok(name) => Ok(name),
-        Err(NameFault::Memory) => Err(AllocError),
-        Err(NameFault::Refused(_)) => unreachable!(),
-    }
-}
 
 /// The numbers that stand in the bytes, two bytes for each.
 pub(crate) fn numbers_of(alloc: Global, bytes: &[u8]) -> Result<Vec<u16>, AllocError>
@@ -37,7 +23,7 @@ impl Cert {
     pub fn copy(&self, alloc: Global) -> Result<Cert, AllocError>
         ensures { IfOk result (λ cert. cert ≡ self.now) }
     {
-        let name = name_of(alloc, self.name.text())?;
+        let name = self.name.view().to_name(alloc)?;
         let policy = &self.policy;
         let trusted = Vec::from_slice(alloc, policy.trusted.as_slice())?;
         Ok(Cert {

@@ -1,10 +1,11 @@
 ghost use Rattle.std.specs.Prelude.{◌≡◌};
 
 use crate::cert::{Cert, Policy};
-use crate::copies::{name_of, numbers_of};
+use crate::copies::numbers_of;
 use crate::fields::{key, trusted, version, wait};
 use ar_base::Items;
 use ar_bytes::{Fields, are_bytes};
+use ar_names::NameView;
 use ar_statement::fields::{digest, name};
 use lms_tree::LmsPublic;
 use sha2::{Digest, Sha256};
@@ -275,7 +276,7 @@ impl<'a> CertView<'a> {
     {
         let fields = &self.fields;
         let terms = &fields.terms;
-        let name = name_of(alloc, fields.name)?;
+        let name = NameView::from_name(fields.name).to_name(alloc)?;
         let trusted = numbers_of(alloc, terms.trusted)?;
         Ok(Cert {
             name,

@@ -1,4 +1,5 @@
 pub mod Faults
+pub mod HexWords
 pub mod LineLaws
 pub mod Numerals
 pub mod Respelled

@@ -47,7 +47,7 @@ passing_some test None y e = absurd cc
 abbrev digit_is_own : ℕ → Bool
 digit_is_own c = not (is_lower_hex_digit c) || eqb (get_or lower_digits (unwrap_or (hex_digit_value c) 99) 0) c
 
-is_small : (c : ℕ) → is_lower_hex_digit c ≡ true → c < 103
+pub is_small : (c : ℕ) → is_lower_hex_digit c ≡ true → c < 103
 is_small c h =
     elim (or_cases (leb 48 c && leb c 57) (leb 97 c && leb c 102) h) [
       | inl digit ↦ let most = leb-true c 57 (and_parts (leb 48 c) (leb c 57) digit).1 in omega arith

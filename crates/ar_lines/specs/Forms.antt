@@ -1,5 +1,5 @@
 -- The forms of words, and what a word of each spells.
-use Rattle.std.specs.Prelude.{ℕ, ◌^◌, nat_le, nat_lt, ◌==◌, Bool, not, ◌&&◌, ◌||◌, if◌then◌else◌, List, length, slice_index, Option, Some, None, option_and_then}
+use Rattle.std.specs.Prelude.{ℕ, ◌%◌, ◌^◌, nat_le, nat_lt, ◌==◌, Bool, not, ◌&&◌, ◌||◌, if◌then◌else◌, List, length, slice_index, Option, Some, None, option_and_then}
 use Rattle.std.specs.Char.{is_ascii_digit}
 use Rattle.std.specs.List.{list_all}
 use Rattle.std.specs.Result.{result_ok}
@@ -19,6 +19,10 @@ passing test (Some value) = if test value then Some value else None
 -- `0` to `9` or `a` to `f`
 abbrev pub is_lower_hex_digit : ℕ → Bool
 is_lower_hex_digit byte = (nat_le 48 byte && nat_le byte 57) || (nat_le 97 byte && nat_le byte 102)
+
+-- whether a word is such digits, an even number of them
+abbrev pub is_hex : List ℕ → Bool
+is_hex word = list_all is_lower_hex_digit word && length word % 2 == 0
 
 -- the bytes that a word spells, where it has an even number of lower-case digits and nothing else
 abbrev pub bytes_of_hex : List ℕ → Option (List ℕ)

@@ -13,7 +13,7 @@
 
 pub use lines::{Lines, first_word, is_text};
 pub use refusal::{LineFault, Reason, Refusal};
-pub use word::{Word, are_hex_digits, number_of};
+pub use word::{Word, are_hex_digits, is_hex, number_of};
 
 pub mod laws;
 mod lines;

@@ -1,13 +1,12 @@
 ghost use Rattle.std.specs.Prelude.{◌≡◌, Option, List, ℕ};
 ghost use Rattle.std.specs.List.{list_all};
-ghost use Rattle.ar_lines.specs.Forms.{bytes_of_hex, is_lower_hex_digit, is_numeral, key_of_hex, name_of, number_of};
+ghost use Rattle.ar_lines.specs.Forms.{bytes_of_hex, is_hex, is_lower_hex_digit, is_numeral, key_of_hex, name_of, number_of};
 ghost use Rattle.std.specs.Char.{is_ascii_digit};
-ghost use Rattle.ar_lines.specs.Readings.{ReadsOrWants, ReadsUnless, spelled};
+ghost use Rattle.ar_lines.specs.Readings.{ReadsOrWants, spelled};
 ghost use Rattle.ar_lines.specs.declared.refusal.Reason.TheVariants.{Field};
 
 use crate::refusal::{LineFault, Reason, Refusal};
 use ar_names::{Name, NameFault};
-use hex::FromHexError;
 use lms_tree::LmsPublic;
 use std::alloc::Global;
 use std::marker::Model;
@@ -41,6 +40,13 @@ pub fn are_hex_digits(word: &[u8]) -> bool
         .all(|byte| matches!(byte, b'0'..=b'9' | b'a'..=b'f'))
 }
 
+/// Whether a word is two lower-case digits for each of some bytes.
+pub fn is_hex(word: &[u8]) -> bool
+    ensures { result ≡ is_hex word.now }
+{
+    are_hex_digits(word) && word.len() % 2 == 0
+}
+
 impl<'a> Word<'a> {
     /// The word of this number, from 0, of a line.
     pub fn new(line: u64, number: usize, text: &'a [u8]) -> Word<'a>
@@ -71,26 +77,24 @@ impl<'a> Word<'a> {
     }
 
     /// The bytes that a hex word spells: two lower-case digits for each byte.
+    #[tactic(auto, using(crate::proofs::HexWords::hex_laws))]
     pub fn bytes(&self, alloc: Global) -> Result<Vec<u8>, LineFault>
-        ensures { ReadsUnless (λ bytes. bytes.items) result (spelled self.now (bytes_of_hex self.now.text)) }
+        ensures { ReadsOrWants (λ bytes. bytes.items) result (spelled self.now (bytes_of_hex self.now.text)) }
     {
-        if !are_hex_digits(self.text) {
+        if !is_hex(self.text) {
             return Err(LineFault::Refused(self.refusal()));
         }
         match hex::decode(alloc, self.text) {
             Ok(bytes) => Ok(bytes),
-            Err(FromHexError::OutOfMemory) => Err(LineFault::Memory),
-            Err(_) => Err(LineFault::Refused(self.refusal())),
+            Err(_) => Err(LineFault::Memory),
         }
     }
 
-    /// The public key whose text a hex word of 112 digits spells.
-    pub fn key(&self, alloc: Global) -> Result<LmsPublic, LineFault>
-        ensures { ReadsUnless (λ key. key) result (spelled self.now (key_of_hex self.now.text)) }
+    /// The public key whose text a hex word of 112 digits spells. It takes no memory.
+    pub fn key(&self) -> Result<LmsPublic, Refusal>
+        ensures { result ≡ spelled self.now (key_of_hex self.now.text) }
     {
-        let bytes = self.bytes(alloc)?;
-        let key = LmsPublic::read(&bytes).ok_or(self.refusal())?;
-        Ok(key)
+        key_of_hex(self.text).ok_or(self.refusal())
     }
 
     /// The number below 2^64 that the word spells in decimal digits, without a sign and without leading
@@ -110,6 +114,21 @@ impl<'a> Word<'a> {
             Err(NameFault::Refused(_)) => Err(LineFault::Refused(self.refusal())),
             Err(NameFault::Memory) => Err(LineFault::Memory),
         }
+    }
+}
+
+/// The public key whose text a hex word of 112 digits spells; `None` exactly where it spells none.
+#[tactic(auto, using(crate::proofs::HexWords::key_laws))]
+fn key_of_hex(word: &[u8]) -> Option<LmsPublic>
+    ensures { result ≡ key_of_hex word.now }
+{
+    if !are_hex_digits(word) {
+        return None;
+    }
+    let mut text = [0; 56];
+    match hex::decode_to_slice(word, &mut text) {
+        Ok(()) => LmsPublic::read(&text),
+        Err(_) => None,
     }
 }
 

@@ -1,4 +1,4 @@
-ghost use Rattle.std.specs.Prelude.{◌≡◌};
+ghost use Rattle.std.specs.Prelude.{◌≡◌, IfOk};
 ghost use Rattle.ar_base.specs.Gives.{GivesOrWants};
 ghost use Rattle.ar_names.specs.Names.{IsName, name_digest_of};
 ghost use Rattle.ar_names.specs.NameReading.{name_in};
@@ -8,7 +8,7 @@ use crate::fault::NameFault;
 use crate::key::name_digest;
 use crate::rule::first_fault;
 use crate::view::NameView;
-use std::alloc::Global;
+use std::alloc::{AllocError, Global};
 use std::marker::Model;
 use std::str;
 
@@ -74,5 +74,16 @@ impl Name {
         ensures { result ≡ name_digest_of self.now }
     {
         name_digest(&self.text)
+    }
+}
+
+impl<'a> NameView<'a> {
+    /// The name as a value of its own. Its text is not looked at again.
+    pub fn to_name(&self, alloc: Global) -> Result<Name, AllocError>
+        ensures { IfOk result (λ name. name ≡ self.now) }
+    {
+        Ok(Name {
+            text: Vec::from_slice(alloc, self.text())?,
+        })
     }
 }

@@ -21,7 +21,7 @@ use Rattle.ar_statement.proofs.FieldsByKind.{IsOfKind, fields_again, fields_pass
 
 -- ---- a signer
 
-role_again : (role : Role) → ReadsBack role_at role (number_text w8 (role_number role))
+pub role_again : (role : Role) → ReadsBack role_at role (number_text w8 (role_number role))
 unfolding role_at
 role_again LogServer at new p = rw (number_again w8 (2 ^ 8) wide8 1 (omega arith) at new p) refl
 role_again Authority at new p = rw (number_again w8 (2 ^ 8) wide8 2 (omega arith) at new p) refl
@@ -52,7 +52,7 @@ some_ok : {A B : Type 0} (f : A → B) (o : Option A) (place : ℕ) (y : B) → 
 some_ok f None place y e = absurd cc
 some_ok f (Some x) place y e = (x, refl, cc)
 
-role_pass : IsSpelledBy role_at (λ role. number_text w8 (role_number role)) (λ _. Unit {0})
+pub role_pass : IsSpelledBy role_at (λ role. number_text w8 (role_number role)) (λ _. Unit {0})
 unfolding role_at
 role_pass at new role bytes e =
     let n = bind_ok {B = Role × Cursor} (number_at w8 at) (λ n. ok_or (option_map (λ role. (role, n.1)) (role_with n.0)) at.place) (role, new) e in

@@ -3,9 +3,12 @@
 //! whole input of `fields`. After a fault the reader is of no further use.
 
 ghost use Rattle.std.specs.Prelude.{◌≡◌};
+ghost use Rattle.ar_bytes.specs.Joined.{optional_at};
 ghost use Rattle.ar_bytes.specs.Reading.{Tells};
 ghost use Rattle.ar_statement.specs.Fields.{digest_at, epoch_at, is_epoch, name_at};
+ghost use Rattle.ar_statement.specs.Texts.{role_at, roots_at};
 
+use crate::party::Role;
 use ar_bytes::Fields;
 use ar_names::NameView;
 
@@ -52,4 +55,35 @@ pub fn name<'a>(fields: &mut Fields<'a>) -> Result<NameView<'a>, usize>
     let place = fields.place();
     let text = fields.take_bytes(len as usize)?;
     NameView::of(text).ok_or(place)
+}
+
+/// The number of a role in one byte, from 1 to 4.
+#[tactic(auto, unfolding(crate::specs::Texts::role_at))]
+pub fn role(fields: &mut Fields) -> Result<Role, usize>
+    ensures { Tells (λ role. role) result fields.new (role_at fields.old) }
+{
+    let place = fields.place();
+    let number = fields.take_u8()?;
+    Role::with_number(number).ok_or(place)
+}
+
+/// A base and a root, two digests.
+pub fn roots(fields: &mut Fields) -> Result<([u8; 32], [u8; 32]), usize>
+    ensures { Tells (λ roots. roots) result fields.new (roots_at fields.old) }
+{
+    let base = digest(fields)?;
+    let root = digest(fields)?;
+    Ok((base, root))
+}
+
+/// A flag in one byte, 0 for no and 1 for yes, and for 1 a base and a root.
+#[tactic(auto, unfolding(ar_bytes::specs::Joined::optional_at))]
+pub fn value(fields: &mut Fields) -> Result<Option<([u8; 32], [u8; 32])>, usize>
+    ensures { Tells (λ value. value) result fields.new (optional_at roots_at fields.old) }
+{
+    if !fields.take_flag()? {
+        return Ok(None);
+    }
+    let roots = roots(fields)?;
+    Ok(Some(roots))
 }

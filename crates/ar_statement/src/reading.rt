@@ -8,19 +8,10 @@ ghost use Rattle.ar_statement.specs.Claims.{Claim, claim_of, text_of};
 ghost use Rattle.ar_statement.specs.Ranges.{IsValid};
 ghost use Rattle.ar_statement.specs.Texts.{party_at, role_at, roots_at, endorse_at, handover_at, propose_at, vote_at, confirm_at, absent_at, answer_at, status_at, roll_at, object_at, fields_at, statement_at};
 
-use crate::fields::{digest, name};
-use crate::party::{Party, Role};
+use crate::fields::{digest, name, role, roots, value};
+use crate::party::Party;
 use crate::statement::Statement;
 use ar_bytes::Fields;
-
-#[tactic(auto, unfolding(crate::specs::Texts::role_at))]
-fn role(fields: &mut Fields) -> Result<Role, usize>
-    ensures { Tells (λ role. role) result fields.new (role_at fields.old) }
-{
-    let place = fields.place();
-    let number = fields.take_u8()?;
-    Role::with_number(number).ok_or(place)
-}
 
 #[tactic(auto, unfolding(crate::specs::Texts::party_at))]
 fn party(fields: &mut Fields) -> Result<Party, usize>
@@ -29,27 +20,6 @@ fn party(fields: &mut Fields) -> Result<Party, usize>
     let role = role(fields)?;
     let number = fields.take_u16()?;
     Ok(role.party(number))
-}
-
-/// Two digests.
-fn roots(fields: &mut Fields) -> Result<([u8; 32], [u8; 32]), usize>
-    ensures { Tells (λ roots. roots) result fields.new (roots_at fields.old) }
-{
-    let first = digest(fields)?;
-    let second = digest(fields)?;
-    Ok((first, second))
-}
-
-/// A flag, and for 1 two digests.
-#[tactic(auto, unfolding(ar_bytes::specs::Joined::optional_at))]
-fn value(fields: &mut Fields) -> Result<Option<([u8; 32], [u8; 32])>, usize>
-    ensures { Tells (λ value. value) result fields.new (optional_at roots_at fields.old) }
-{
-    if !fields.take_flag()? {
-        return Ok(None);
-    }
-    let roots = roots(fields)?;
-    Ok(Some(roots))
 }
 
 #[tactic(auto, unfolding(crate::specs::Texts::endorse_at))]

@@ -1,9 +1,9 @@
-ghost use Rattle.std.specs.Prelude.{◌≡◌, ◌<◌, ◌≤◌, ◌+◌, ◌⊎◌, [], Some, None, Err, Contains, OnOk, OnErr, false, true, length, max, ◌↔◌};
+ghost use Rattle.std.specs.Prelude.{◌≡◌, ◌<◌, ◌≤◌, ◌+◌, ◌⊎◌, [], Some, None, Err, Contains, OnOk, OnErr, false, is_some, true, length, max, ◌↔◌};
 ghost use Rattle.ar_base.specs.Gives.{GivesOrWants};
 ghost use Rattle.ar_base.specs.Places.{place_of};
 ghost use Rattle.ar_statement.specs.Claims.{claim_of, text_of};
 ghost use Rattle.key_roll.specs.Book.{IsRollBook, texts_of};
-ghost use Rattle.key_roll.specs.Entry.{after_entry, due_at, entered, entered_new, roll_text, rolled, with_roll, with_text};
+ghost use Rattle.key_roll.specs.Entry.{after_entry, due_at, due_of, entered, entered_new, roll_text, rolled, with_roll, with_text};
 ghost use Rattle.key_roll.specs.Rolls.{is_roll, named_generation, plain_count};
 ghost use Rattle.key_roll.specs.declared.fault.BookFault.TheVariants as book_fault;
 ghost use Rattle.key_roll.specs.declared.fault.RollFault.TheVariants as roll_fault;
@@ -200,6 +200,39 @@ impl RollBook {
         let count = plain_count(&self.list[..place], entry.generation);
         let leaf = leaf_number(count, self.leaves);
         RollDue::new(entry.generation, leaf, entry.text, self.leaves)
+    }
+
+    /// Whether the book holds the statement, at whatever generation.
+    pub fn holds(&self, statement: &Statement) -> bool
+        ensures { result ≡ is_some (place_of (texts_of self.now.book) (text_of (claim_of statement.now))) }
+    {
+        place_of(&self.list, &Text::of(statement)).is_some()
+    }
+
+    /// What is due for a statement that the book holds: the generation and leaf that it has. It is `None` exactly
+    /// where the book does not hold the statement.
+    pub fn held(&self, statement: &Statement) -> Option<RollDue>
+        ensures { result ≡ due_of self.now.book (text_of (claim_of statement.now)) }
+    {
+        match place_of(&self.list, &Text::of(statement)) {
+            Some(place) => Some(self.due(place)),
+            None => None,
+        }
+    }
+
+    /// The newest generation.
+    pub fn generation(&self) -> u32
+        ensures { result ≡ self.now.book.newest }
+    {
+        self.newest
+    }
+
+    /// How many statements more the newest generation has a leaf for, beside its last, which is kept for its Roll.
+    pub fn free(&self) -> u32
+        ensures { plain_count self.now.book.newest self.now.book.list + result + 1 ≡ self.now.book.leaves }
+    {
+        let count = plain_count(&self.list, self.newest);
+        self.leaves - leaf_number(count, self.leaves) - 1
     }
 
     /// The statements that have a leaf, in the order of entry.

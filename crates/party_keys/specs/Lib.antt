@@ -4,3 +4,4 @@ pub mod Learning
 pub mod Seen
 pub mod Seeds
 pub mod Signatures
+pub mod Signers

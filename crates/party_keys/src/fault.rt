@@ -33,6 +33,17 @@ pub enum VerifyFault {
     Bad(u8),
 }
 
+/// Why a list of signers was not accepted.
+#[derive(Clone, Copy, Debug, Error, PartialEq, Eq)]
+pub enum SignerFault {
+    /// The party is no log and no authority of the directory; it is the first such.
+    #[error("a signer is not in the directory")]
+    Unknown(Party),
+    /// The signature of the party is not valid, by the number of `VerifyFault::Bad`; it is the first such.
+    #[error("a signature is bad, by test {1}")]
+    Bad(Party, u8),
+}
+
 /// Why an announced key was not learnt.
 #[derive(Clone, Copy, Debug, Error, PartialEq, Eq)]
 pub enum LearnFault {

@@ -3,7 +3,8 @@
 //! secret from which a party's own key is made.
 //!
 //! `specs/Directory.antt` says which directories there are, `Signatures` what verifying answers, `Learning`
-//! how a directory comes to know further keys, and `Seeds` has the secrets.
+//! how a directory comes to know further keys, `Signers` what a list of signers is answered, and `Seeds` has
+//! the secrets.
 #![tactic(auto)]
 
 mod directory;
@@ -12,11 +13,13 @@ pub mod laws;
 mod learning;
 mod role_keys;
 mod seed;
+mod signers;
 #[cfg(test)]
 mod tests;
 mod verifying;
 
 pub use directory::{Directory, is_party_count, is_quorum};
-pub use fault::{DirectoryFault, LearnFault, VerifyFault};
+pub use fault::{DirectoryFault, LearnFault, SignerFault, VerifyFault};
 pub use learning::Learned;
 pub use seed::party_seed;
+pub use signers::Claimed;
