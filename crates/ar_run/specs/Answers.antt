@@ -1,11 +1,16 @@
 -- What a command answers, where nothing fails.
-use Rattle.std.specs.Prelude.{ℕ, List, [], ◌∷◌, ◌++◌}
+use Rattle.std.specs.Prelude.{ℕ, List, [], ◌∷◌, ◌++◌, Vec}
+use Rattle.std.specs.declared.alloc.Global.{Global}
 use Rattle.std.specs.List.{flat_map}
 
 -- the lines that are written, each with the newline that ends it, and the status, which is 0 to 3
 pub record Answer : Type 0 where
   pub lines : List (List ℕ)
   pub status : ℕ
+
+-- the bytes of a line
+abbrev pub bytes_of : Vec ℕ Global → List ℕ
+bytes_of line = line.items
 
 -- a line of this text, with its newline
 abbrev pub line_of : List ℕ → List ℕ

@@ -94,7 +94,7 @@ pub fn write_answer<K: Sink>(sink: &mut K, answer: &Answer) -> Result<(), Fault>
     ensures faults { K.faults sink.old ≤ K.faults sink.new }
 {
     for line in answer.lines() {
-        write_line(sink, line.as_bytes())?;
+        write_line(sink, line.as_slice())?;
     }
     Ok(())
 }

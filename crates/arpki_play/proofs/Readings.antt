@@ -11,8 +11,9 @@ use Rattle.party_keys.proofs.Bounds.{length_first}
 use Rattle.lms_tree.specs.declared.public_key.LmsPublic.{LmsPublic}
 use Rattle.ar_lines.specs.Forms.{bytes_of_hex, key_of_hex, name_of, number_of}
 use Rattle.ar_lines.specs.Lines.{is_text}
-use Rattle.arpki_play.specs.Inquiries.{authorities_at, confirmation_at, directory_at, first_keys_at, inquiry_at, key_at, keys_at, logs_at, name_at, number_at, party_count_of, quorum_of, learnt_of_hex, most_rolls, roll_at, rolls_at}
+use Rattle.arpki_play.specs.Inquiries.{authorities_at, confirmation_at, directory_at, first_keys_at, inquiry_at, key_at, keys_at, logs_at, name_at, number_at, learnt_of_hex, most_rolls, roll_at, rolls_at}
 use Rattle.ar_lines.specs.Readings.{start_of_lines}
+use Rattle.script_text.specs.Forms.{party_count_of, quorum_of}
 use Rattle.ar_lines.specs.Rows.{is_next}
 use Rattle.arpki_play.specs.Notes.{learnt_from}
 use Rattle.arpki_play.specs.Questions.{Question, question_at}

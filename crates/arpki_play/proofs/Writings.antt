@@ -3,10 +3,12 @@ use Rattle.std.proofs.Common.{◌≡◌, ℕ, zero, suc, Bool, true, false, if�
 use Rattle.std.specs.Fmt.{decimal}
 use Rattle.hex.specs.Hex.{encode_lower}
 use Rattle.lms_tree.specs.declared.public_key.LmsPublic.{LmsPublic}
-use Rattle.party_keys.specs.Directory.{Directory, directory_with, is_party_count, is_quorum}
-use Rattle.arpki_play.specs.Inquiries.{Inquiry, authorities_at, confirmation_at, directory_at, first_keys_at, inquiry_at, key_at, keys_at, logs_at, name_at, number_at, party_count_of, quorum_of, learnt_of_hex, most_rolls, roll_at, rolls_at}
+use Rattle.party_keys.specs.Directory.{Directory, directory_with}
+use Rattle.arpki_play.specs.Inquiries.{Inquiry, authorities_at, confirmation_at, directory_at, first_keys_at, inquiry_at, key_at, keys_at, logs_at, name_at, number_at, learnt_of_hex, most_rolls, roll_at, rolls_at}
 use Rattle.ar_lines.specs.Forms.{bytes_of_hex, key_of_hex, name_of, number_of}
 use Rattle.ar_lines.specs.Lines.{lines_of}
+use Rattle.script_text.specs.Forms.{party_count_of, quorum_of}
+use Rattle.script_text.proofs.WordsWritten.{party_count_writes, quorum_writes}
 use Rattle.ar_lines.specs.Readings.{LineCursor, no_line_at, spelled, start_of_lines, word_at}
 use Rattle.ar_lines.specs.Rows.{field_at, is_next, no_row_at, two_fields_at, value_at}
 use Rattle.ar_base.specs.Chaining.{◌>>=◌}
@@ -50,16 +52,8 @@ number_is name at new n h = value_is name number_of decimal at new n number_own 
 confirmation_is : (at new : LineCursor) (bytes : List ℕ) → confirmation_at at ≡ Ok (bytes, new) → at.ahead ≡ named (codes "confirmation") (encode_lower bytes) ∷ new.ahead
 confirmation_is at new bytes h = value_is (codes "confirmation") bytes_of_hex encode_lower at new bytes hex_writes h
 
-count_writes : Writes party_count_of decimal
-unfolding party_count_of
-count_writes word n h = number_own word n (passing_some is_party_count (number_of word) n h).0
-
-quorum_writes : (logs : ℕ) → Writes (quorum_of logs) decimal
-unfolding quorum_of
-quorum_writes logs word q h = number_own word q (passing_some (λ x. is_quorum x logs) (number_of word) q h).0
-
 authorities_are : (at new : LineCursor) (count : ℕ) → authorities_at at ≡ Ok (count, new) → at.ahead ≡ authorities_line count ∷ new.ahead
-authorities_are at new count h = value_is (codes "authorities") party_count_of decimal at new count count_writes h
+authorities_are at new count h = value_is (codes "authorities") party_count_of decimal at new count party_count_writes h
 
 logs_are : (at new : LineCursor) (logs : ℕ × ℕ) → logs_at at ≡ Ok (logs, new) → at.ahead ≡ logs_line logs.0 logs.1 ∷ new.ahead
 unfolding logs_at
@@ -69,7 +63,7 @@ logs_are at new logs h =
     let two = fields.0.0.1 in
     let count = bind_ok (spelled one (party_count_of one.text)) _ (logs, new) fields.2 in
     let quorum = bind_ok (spelled two (quorum_of count.0 two.text)) _ (logs, new) count.2 in
-    let first = count_writes one.text count.0 (spelled_some one (party_count_of one.text) count.0 count.1) in
+    let first = party_count_writes one.text count.0 (spelled_some one (party_count_of one.text) count.0 count.1) in
     let second = quorum_writes count.0 two.text quorum.0 (spelled_some two (quorum_of count.0 two.text) quorum.0 quorum.1) in
     two_fields_are (codes "logs") at fields.0.1 fields.0.0 fields.1
     ∙ ap (λ (t : List ℕ). named (codes "logs") (named t two.text) ∷ fields.0.1.ahead) (sym first)

@@ -1,13 +1,15 @@
 -- What the program answers to words and an input: the line that it writes, and its status.
 use Rattle.std.specs.Prelude.{ℕ, nat_lt, if◌then◌else◌, List, ◌++◌, codes, length, Result, Ok, Err}
 use Rattle.std.specs.Fmt.{decimal}
-use Rattle.hex.specs.Hex.{encode_lower}
 use Rattle.lms_tree.specs.declared.validity.Verdict.{Verdict}
 use Rattle.lms_tree.specs.declared.validity.Verdict.TheVariants as verdict
 use Rattle.lms_tree.specs.Validity.{verdict_of}
 use Rattle.client_rule.specs.Rule.{judgement}
 use Rattle.client_rule.specs.declared.judgement.Judgement.{Judgement}
 use Rattle.client_rule.specs.declared.judgement.Judgement.TheVariants as judgement
+use Rattle.report_text.specs.Lines.{said_text}
+use Rattle.report_text.specs.declared.happening.Said.{Said}
+use Rattle.report_text.specs.declared.happening.Said.TheVariants as said
 use Rattle.ar_lines.specs.Readings.{start_of_lines}
 use Rattle.ar_lines.specs.Refusals.{refusal_text}
 use Rattle.ar_lines.specs.declared.refusal.Reason.TheVariants.{Limit}
@@ -37,35 +39,23 @@ judged question =
 
 -- ---- the judgement on a confirmation
 
--- the name has a certificate with this serial number and digest, in the table with this root that was
--- agreed for the epoch; digests are 64 digits of hex
-abbrev pub accepted_text : List ℕ → ℕ → ℕ → List ℕ → List ℕ → List ℕ
-accepted_text name serial epoch root certificate =
-    codes "accepted " ++ (name ++ (codes " serial " ++ (decimal serial ++ (codes " epoch " ++ (decimal epoch
-    ++ (codes " root " ++ (encode_lower root ++ (codes " certificate " ++ encode_lower certificate))))))))
+-- what the client says that judges a confirmation of a name
+abbrev pub said_of : List ℕ → Judgement → Said
+said_of name (judgement.Accepted certificate digest epoch root) =
+    said.Accepted name certificate.serial epoch root digest
+said_of name (judgement.Absent epoch root) = said.Absent name epoch root
+said_of name (judgement.Refused check) = said.Refused check
 
--- the name has none
-abbrev pub absent_text : List ℕ → ℕ → List ℕ → List ℕ
-absent_text name epoch root =
-    codes "absent " ++ (name ++ (codes " epoch " ++ (decimal epoch ++ (codes " root " ++ encode_lower root))))
-
--- what is told of a judgement on a name
-abbrev pub judgement_text : List ℕ → Judgement → List ℕ
-judgement_text name (judgement.Accepted certificate digest epoch root) =
-    accepted_text name certificate.serial epoch root digest
-judgement_text name (judgement.Absent epoch root) = absent_text name epoch root
-judgement_text name (judgement.Refused check) = codes "refused " ++ decimal check
-
-abbrev pub judgement_status : Judgement → ℕ
-judgement_status (judgement.Accepted certificate digest epoch root) = 0
-judgement_status (judgement.Absent epoch root) = 0
-judgement_status (judgement.Refused check) = 1
+abbrev pub said_status : Said → ℕ
+said_status (said.Accepted name serial epoch root certificate) = 0
+said_status (said.Absent name epoch root) = 0
+said_status (said.Refused check) = 1
 
 -- what the client's rule makes of the confirmation
 abbrev pub found : Inquiry → Answer
 found inquiry =
-    let told = judgement inquiry.keys inquiry.name inquiry.confirmation inquiry.now inquiry.age
-    in one_line (judgement_text inquiry.name told) (judgement_status told)
+    let told = said_of inquiry.name (judgement inquiry.keys inquiry.name inquiry.confirmation inquiry.now inquiry.age)
+    in one_line (said_text told) (said_status told)
 
 -- ---- answers
 

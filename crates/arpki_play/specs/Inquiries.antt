@@ -1,8 +1,9 @@
 -- What `check` is asked: an inquiry, and the lines that it is read from.
 use Rattle.std.specs.Prelude.{ℕ, zero, suc, if◌then◌else◌, List, [], ◌∷◌, codes, Option, option_and_then, Result, Ok}
 use Rattle.lms_tree.specs.declared.public_key.LmsPublic.{LmsPublic}
-use Rattle.party_keys.specs.Directory.{Directory, directory_with, is_party_count, is_quorum}
-use Rattle.ar_lines.specs.Forms.{bytes_of_hex, key_of_hex, name_of, number_of, passing}
+use Rattle.party_keys.specs.Directory.{Directory, directory_with}
+use Rattle.script_text.specs.Forms.{party_count_of, quorum_of}
+use Rattle.ar_lines.specs.Forms.{bytes_of_hex, key_of_hex, name_of, number_of}
 use Rattle.ar_base.specs.Chaining.{◌>>=◌}
 use Rattle.ar_lines.specs.Readings.{LineCursor, LineReading, spelled}
 use Rattle.arpki_play.specs.Notes.{learnt_from}
@@ -19,14 +20,6 @@ pub record Inquiry : Type 0 where
   pub confirmation : List ℕ
 
 -- ---- the directory
-
--- how many logs, or authorities, a word says that there are
-unfoldable pub party_count_of : List ℕ → Option ℕ
-party_count_of word = passing is_party_count (number_of word)
-
--- how many of so many logs make a quorum, as a word says
-unfoldable pub quorum_of : ℕ → List ℕ → Option ℕ
-quorum_of logs word = passing (λ q. is_quorum q logs) (number_of word)
 
 -- `logs <N> <q>`: how many logs, and how many of them make a quorum
 unfoldable pub logs_at : LineCursor → LineReading (ℕ × ℕ)

@@ -1,10 +1,11 @@
 ghost use Rattle.std.specs.Prelude.{◌≡◌, true, IfOk, length};
 ghost use Rattle.arpki_play.specs.Answers.{found, unless_refused};
-ghost use Rattle.arpki_play.specs.Inquiries.{authorities_at, confirmation_at, directory_at, first_keys_at, inquiry_at, key_at, keys_at, logs_at, name_at, number_at, party_count_of, quorum_of};
+ghost use Rattle.arpki_play.specs.Inquiries.{authorities_at, confirmation_at, directory_at, first_keys_at, inquiry_at, key_at, keys_at, logs_at, name_at, number_at};
+ghost use Rattle.script_text.specs.Forms.{party_count_of, quorum_of};
 ghost use Rattle.ar_lines.specs.Readings.{Follows, FollowsUnless, ReadsUnless, spelled, start_of_lines};
 ghost use Rattle.party_keys.specs.Directory.{is_party_count, is_quorum};
 
-use crate::judgements::tell;
+use crate::judgements::{said, tell};
 use crate::rolls::rolls;
 use crate::verdicts::refuse;
 use ar_lines::{LineFault, Lines, Refusal, Word};
@@ -12,7 +13,8 @@ use ar_names::Name;
 use ar_run::Answer;
 use client_rule::judge;
 use lms_tree::LmsPublic;
-use party_keys::{Directory, is_party_count, is_quorum};
+use party_keys::Directory;
+use script_text::{party_count_of, quorum_of};
 use std::alloc::{AllocError, Global};
 use std::marker::Model;
 
@@ -36,47 +38,37 @@ impl Model for Inquiry {
 }
 
 /// How many logs or authorities a word says that there are.
-#[tactic(auto, unfolding(crate::specs::Inquiries::party_count_of))]
-fn party_count(word: &Word) -> Result<usize, Refusal>
+fn party_count(word: &Word) -> Result<u16, Refusal>
     ensures reads { result ≡ spelled word.now (party_count_of word.now.text) }
     ensures fits { IfOk result (λ n. is_party_count n ≡ true) }
 {
-    let count = word.number()? as usize;
-    if !is_party_count(count) {
-        return Err(word.refusal());
-    }
-    Ok(count)
+    party_count_of(word.text()).ok_or(word.refusal())
 }
 
 /// How many of so many logs make a quorum, as a word says.
-#[tactic(auto, unfolding(crate::specs::Inquiries::quorum_of))]
-fn quorum_of(word: &Word, logs: usize) -> Result<usize, Refusal>
+fn quorum(word: &Word, logs: u16) -> Result<u16, Refusal>
     ensures reads { result ≡ spelled word.now (quorum_of logs word.now.text) }
     ensures fits { IfOk result (λ q. is_quorum q logs ≡ true) }
 {
-    let quorum = word.number()? as usize;
-    if !is_quorum(quorum, logs) {
-        return Err(word.refusal());
-    }
-    Ok(quorum)
+    quorum_of(logs, word.text()).ok_or(word.refusal())
 }
 
 /// `logs <N> <q>`: how many logs there are, and how many of them make a quorum.
 #[tactic(auto, unfolding(crate::specs::Inquiries::logs_at))]
-fn logs(lines: &mut Lines) -> Result<(usize, usize), Refusal>
+fn logs(lines: &mut Lines) -> Result<(u16, u16), Refusal>
     ensures tells { Follows (λ x. x) result lines.new (logs_at lines.old) }
     ensures count { IfOk result (λ x. is_party_count x.0 ≡ true) }
     ensures quorum { IfOk result (λ x. is_quorum x.1 x.0 ≡ true) }
 {
-    let (count, quorum) = lines.two_fields(b"logs")?;
+    let (count, needed) = lines.two_fields(b"logs")?;
     let count = party_count(&count)?;
-    let quorum = quorum_of(&quorum, count)?;
+    let quorum = quorum(&needed, count)?;
     Ok((count, quorum))
 }
 
 /// `authorities <M>`: how many authorities there are.
 #[tactic(auto, unfolding(ar_lines::specs::Rows::value_at))]
-fn authorities(lines: &mut Lines) -> Result<usize, Refusal>
+fn authorities(lines: &mut Lines) -> Result<u16, Refusal>
     ensures tells { Follows (λ n. n) result lines.new (authorities_at lines.old) }
     ensures count { IfOk result (λ n. is_party_count n ≡ true) }
 {
@@ -86,22 +78,22 @@ fn authorities(lines: &mut Lines) -> Result<usize, Refusal>
 
 /// `key <112 hex>`: the key of the next party.
 #[tactic(auto, unfolding(ar_lines::specs::Rows::value_at))]
-fn key(alloc: Global, lines: &mut Lines) -> Result<LmsPublic, LineFault>
-    ensures { FollowsUnless (λ key. key) result lines.new (key_at lines.old) }
+fn key(lines: &mut Lines) -> Result<LmsPublic, Refusal>
+    ensures { Follows (λ key. key) result lines.new (key_at lines.old) }
 {
     let field = lines.field(b"key")?;
-    field.key(alloc)
+    field.key()
 }
 
 /// So many keys, a line each.
 #[tactic(auto, using(crate::proofs::KeyLines::key_lines))]
-fn keys(alloc: Global, lines: &mut Lines, count: usize) -> Result<Vec<LmsPublic>, LineFault>
+fn keys(alloc: Global, lines: &mut Lines, count: u16) -> Result<Vec<LmsPublic>, LineFault>
     ensures tells { FollowsUnless (λ keys. keys.items) result lines.new (keys_at count lines.old) }
     ensures count { IfOk result (λ keys. length keys.items ≡ count) }
 {
     let mut keys = Vec::new(alloc);
     for _ in 0..count {
-        let next = key(alloc, lines)?;
+        let next = key(lines)?;
         keys.push(next)?;
     }
     Ok(keys)
@@ -116,7 +108,7 @@ fn first_keys(alloc: Global, lines: &mut Lines) -> Result<Directory, LineFault>
     let logs = keys(alloc, lines, count)?;
     let count = authorities(lines)?;
     let authorities = keys(alloc, lines, count)?;
-    match Directory::new(logs, authorities, quorum) {
+    match Directory::new(logs, authorities, usize::from(quorum)) {
         Ok(directory) => Ok(directory),
         // The counts were tested where they were read.
         Err(_) => unreachable!(),
@@ -192,7 +184,7 @@ fn judged(alloc: Global, inquiry: Inquiry) -> Result<Answer, AllocError>
         confirmation,
     } = inquiry;
     let judgement = judge(&directory, name.text(), &confirmation, now, age);
-    tell(alloc, &name, &judgement)
+    tell(alloc, &said(name, &judgement))
 }
 
 /// The answer to an input that is not too long.

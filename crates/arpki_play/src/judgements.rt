@@ -1,33 +1,17 @@
-ghost use Rattle.std.specs.Prelude.{◌≡◌, ◌<◌, IfOk, string_bytes};
+ghost use Rattle.std.specs.Prelude.{◌≡◌, ◌<◌, IfOk};
 ghost use Rattle.ar_run.specs.Answers.{one_line};
-ghost use Rattle.arpki_play.specs.Answers.{absent_text, accepted_text, judgement_status, judgement_text};
+ghost use Rattle.arpki_play.specs.Answers.{said_of, said_status};
+ghost use Rattle.report_text.specs.Lines.{said_text};
 
 use ar_names::Name;
 use ar_run::Answer;
 use client_rule::Judgement;
+use report_text::{Said, say};
 use std::alloc::{AllocError, Global};
 
-/// The answer that tells what a client judges of a confirmation of a name.
-pub fn tell(alloc: Global, name: &Name, judgement: &Judgement) -> Result<Answer, AllocError>
-    ensures { IfOk result (λ answer. answer ≡ one_line (judgement_text name.now judgement.now) (judgement_status judgement.now)) }
-{
-    Answer::one_line(alloc, line(alloc, name, judgement)?, status(judgement))
-}
-
-/// The status.
-fn status(judgement: &Judgement) -> u8
-    ensures status { result ≡ judgement_status judgement.now }
-    ensures bound { result < 4 }
-{
-    match judgement {
-        Judgement::Accepted { .. } | Judgement::Absent { .. } => 0,
-        Judgement::Refused(_) => 1,
-    }
-}
-
-/// The line that is written, without its newline.
-fn line(alloc: Global, name: &Name, judgement: &Judgement) -> Result<String, AllocError>
-    ensures { IfOk result (λ text. string_bytes text ≡ judgement_text name.now judgement.now) }
+/// What the client says that judges a confirmation of a name.
+pub fn said(name: Name, judgement: &Judgement) -> Said
+    ensures { result ≡ said_of name judgement.now }
 {
     match judgement {
         Judgement::Accepted {
@@ -35,36 +19,38 @@ fn line(alloc: Global, name: &Name, judgement: &Judgement) -> Result<String, All
             digest,
             epoch,
             root,
-        } => accepted(alloc, name, certificate.serial(), *epoch, root, digest),
-        Judgement::Absent { epoch, root } => absent(alloc, name, *epoch, root),
-        Judgement::Refused(check) => format!(in alloc; "refused {check}"),
+        } => Said::Accepted {
+            name,
+            serial: certificate.serial(),
+            epoch: *epoch,
+            root: *root,
+            certificate: *digest,
+        },
+        Judgement::Absent { epoch, root } => Said::Absent {
+            name,
+            epoch: *epoch,
+            root: *root,
+        },
+        Judgement::Refused(check) => Said::Refused(*check),
     }
 }
 
-/// The line of a confirmation that is accepted.
-fn accepted(
-    alloc: Global,
-    name: &Name,
-    serial: u64,
-    epoch: u64,
-    root: &[u8; 32],
-    certificate: &[u8; 32],
-) -> Result<String, AllocError>
-    ensures { IfOk result (λ text. string_bytes text ≡ accepted_text name.now serial epoch root.now certificate.now) }
+/// The status.
+fn status(said: &Said) -> u8
+    ensures status { result ≡ said_status said.now }
+    ensures bound { result < 4 }
 {
-    let root = hex::encode(alloc, root.as_slice())?;
-    let certificate = hex::encode(alloc, certificate.as_slice())?;
-    let name = name.as_str();
-    format!(in alloc;
-        "accepted {name} serial {serial} epoch {epoch} root {root} certificate {certificate}"
-    )
+    match said {
+        Said::Accepted { .. } | Said::Absent { .. } => 0,
+        Said::Refused(_) => 1,
+    }
 }
 
-/// The line of a confirmation that a name has no certificate.
-fn absent(alloc: Global, name: &Name, epoch: u64, root: &[u8; 32]) -> Result<String, AllocError>
-    ensures { IfOk result (λ text. string_bytes text ≡ absent_text name.now epoch root.now) }
+/// The answer that tells it.
+pub fn tell(alloc: Global, said: &Said) -> Result<Answer, AllocError>
+    ensures { IfOk result (λ answer. answer ≡ one_line (said_text said.now) (said_status said.now)) }
 {
-    let root = hex::encode(alloc, root.as_slice())?;
-    let name = name.as_str();
-    format!(in alloc; "absent {name} epoch {epoch} root {root}")
+    let mut line = Vec::new(alloc);
+    say(alloc, said, &mut line)?;
+    Answer::one_line(alloc, line, status(said))
 }

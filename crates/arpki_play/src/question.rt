@@ -2,10 +2,10 @@ ghost use Rattle.std.specs.Prelude.{◌≡◌, IfOk};
 ghost use Rattle.arpki_play.specs.Answers.{judged, unless_refused};
 ghost use Rattle.arpki_play.specs.Questions.{question_at};
 ghost use Rattle.ar_lines.specs.Forms.{bytes_of_hex, key_of_hex};
-ghost use Rattle.ar_lines.specs.Readings.{FollowsUnless, ReadsUnless, start_of_lines, word_at};
+ghost use Rattle.ar_lines.specs.Readings.{Follows, FollowsUnless, ReadsUnless, start_of_lines, word_at};
 
 use crate::verdicts::{refuse, tell};
-use ar_lines::{LineFault, Lines};
+use ar_lines::{LineFault, Lines, Refusal};
 use ar_run::Answer;
 use lms_tree::{LmsPublic, valid};
 use std::alloc::{AllocError, Global};
@@ -30,11 +30,11 @@ impl Model for Question {
 
 /// A line with a public key.
 #[tactic(auto, unfolding(ar_lines::specs::Readings::word_at))]
-fn key(alloc: Global, lines: &mut Lines) -> Result<LmsPublic, LineFault>
-    ensures { FollowsUnless (λ key. key) result lines.new (word_at key_of_hex lines.old) }
+fn key(lines: &mut Lines) -> Result<LmsPublic, Refusal>
+    ensures { Follows (λ key. key) result lines.new (word_at key_of_hex lines.old) }
 {
     let word = lines.line()?;
-    word.key(alloc)
+    word.key()
 }
 
 /// A line with the hex of some bytes.
@@ -52,7 +52,7 @@ fn read(alloc: Global, input: &[u8]) -> Result<Question, LineFault>
     ensures { ReadsUnless (λ question. question) result (question_at (start_of_lines input.now)) }
 {
     let mut lines = Lines::new(input);
-    let key = key(alloc, &mut lines)?;
+    let key = key(&mut lines)?;
     let message = bytes(alloc, &mut lines)?;
     let signature = bytes(alloc, &mut lines)?;
     lines.no_line()?;

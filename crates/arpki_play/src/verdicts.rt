@@ -1,4 +1,4 @@
-ghost use Rattle.std.specs.Prelude.{◌≡◌, IfOk, string_bytes};
+ghost use Rattle.std.specs.Prelude.{◌≡◌, IfOk};
 ghost use Rattle.ar_run.specs.Answers.{one_line};
 ghost use Rattle.arpki_play.specs.Answers.{refused_line, verdict_status, verdict_text};
 
@@ -12,9 +12,10 @@ pub fn tell(alloc: Global, verdict: Verdict) -> Result<Answer, AllocError>
     ensures { IfOk result (λ answer. answer ≡ one_line (verdict_text verdict) (verdict_status verdict)) }
 {
     match verdict {
-        Verdict::Valid => Answer::one_line(alloc, format!(in alloc; "valid")?, 0),
+        Verdict::Valid => Answer::one_line(alloc, b"valid".to_vec(alloc)?, 0),
         Verdict::Invalid(condition) => {
-            Answer::one_line(alloc, format!(in alloc; "invalid {condition}")?, 1)
+            let line = format!(in alloc; "invalid {condition}")?;
+            Answer::one_line(alloc, line.into_bytes(), 1)
         }
     }
 }
@@ -23,5 +24,6 @@ pub fn tell(alloc: Global, verdict: Verdict) -> Result<Answer, AllocError>
 pub fn refuse(alloc: Global, refusal: Refusal) -> Result<Answer, AllocError>
     ensures { IfOk result (λ answer. answer ≡ refused_line refusal) }
 {
-    Answer::one_line(alloc, format!(in alloc; "{refusal}")?, 3)
+    let line = format!(in alloc; "{refusal}")?;
+    Answer::one_line(alloc, line.into_bytes(), 3)
 }

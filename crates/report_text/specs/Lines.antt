@@ -119,14 +119,15 @@ learning_text (Some unlearnt.Unknown) = codes " refused unknown\n"
 learning_text (Some (unlearnt.Bad condition)) = codes " refused bad " ++ (decimal condition ++ codes "\n")
 learning_text (Some unlearnt.Other) = codes " refused other\n"
 
--- what a client says
+-- what a client says of a confirmation: the name has this certificate, in the table with this root that was agreed
+-- for the epoch; or it has none; or a check fails. Digests are 64 digits of hex
 abbrev pub said_text : Said → List ℕ
 said_text (said.Accepted name serial epoch root certificate) =
-    codes " accepted " ++ (name ++ (codes " serial " ++ (decimal serial ++ (codes " epoch " ++ (decimal epoch
-    ++ (codes " root " ++ (encode_lower root ++ (codes " certificate " ++ (encode_lower certificate ++ codes "\n")))))))))
+    codes "accepted " ++ (name ++ (codes " serial " ++ (decimal serial ++ (codes " epoch " ++ (decimal epoch
+    ++ (codes " root " ++ (encode_lower root ++ (codes " certificate " ++ encode_lower certificate))))))))
 said_text (said.Absent name epoch root) =
-    codes " absent " ++ (name ++ (codes " epoch " ++ (decimal epoch ++ (codes " root " ++ (encode_lower root ++ codes "\n")))))
-said_text (said.Refused check) = codes " refused " ++ (decimal check ++ codes "\n")
+    codes "absent " ++ (name ++ (codes " epoch " ++ (decimal epoch ++ (codes " root " ++ encode_lower root))))
+said_text (said.Refused check) = codes "refused " ++ decimal check
 
 -- the numbers of deliveries in a burst, each behind a space
 abbrev pub taken_text : List ℕ → List ℕ
@@ -188,5 +189,5 @@ line_of (happening.Ended log epoch root) = ended_text log epoch root
 line_of (happening.Learnt message refused) = codes "learn " ++ (decimal message ++ learning_text refused)
 line_of (happening.Entered message kind from to length digest) = entry_text message kind from to length digest
 line_of (happening.SignRefused party) = party_text party ++ codes " sign refused\n"
-line_of (happening.Judged message said) = codes "judge " ++ (decimal message ++ said_text said)
+line_of (happening.Judged message said) = codes "judge " ++ (decimal message ++ (codes " " ++ (said_text said ++ codes "\n")))
 line_of (happening.Order party taken) = order_text party taken

@@ -6,10 +6,12 @@
 
 pub use happening::{Code, Happening, Kind, Said, Shown, Target, Unlearnt, Values, What};
 pub use printing::print;
+pub use said::say;
 
 mod happening;
 pub mod laws;
 mod printing;
+mod said;
 #[cfg(test)]
 mod tests;
 mod words;

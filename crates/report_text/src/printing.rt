@@ -1,8 +1,9 @@
 ghost use Rattle.std.specs.Prelude.{◌≡◌, ◌+◌, ◌≤◌, ◌++◌, length, vec_len, vec_capacity, IsOk, OnOk, OnErr};
 ghost use Rattle.ar_text.specs.Parts.{Appends};
-ghost use Rattle.report_text.specs.Lines.{check_text, digest_text, draft_text, ended_text, ending_text, entry_text, learning_text, line_of, made_text, message_text, order_text, outcome_text, route_text, said_text, step_text};
+ghost use Rattle.report_text.specs.Lines.{check_text, digest_text, draft_text, ended_text, ending_text, entry_text, learning_text, line_of, made_text, message_text, order_text, outcome_text, route_text, step_text};
 
 use crate::happening::{Code, Happening, Kind, Said, Target, Unlearnt, What};
+use crate::said::say;
 use crate::words::{
     kind_word, put, put_code, put_numbered, put_party, put_sender, put_taken, put_target, put_what,
 };
@@ -70,56 +71,6 @@ fn put_learning(
             append(alloc, out, &parts)
         }
         Some(Unlearnt::Other) => put(alloc, out, b" refused other\n"),
-    }
-}
-
-/// Appends what a client says.
-fn put_said(alloc: Global, out: &mut Vec<u8>, said: &Said) -> Result<(), AllocError>
-    ensures { Appends (said_text said.now) out.old out.new result }
-{
-    match said {
-        Said::Accepted {
-            name,
-            serial,
-            epoch,
-            root,
-            certificate,
-        } => {
-            let parts = [
-                Part::Bytes(b" accepted "),
-                Part::Bytes(name.text()),
-                Part::Bytes(b" serial "),
-                Part::Number(*serial),
-                Part::Bytes(b" epoch "),
-                Part::Number(*epoch),
-                Part::Bytes(b" root "),
-                Part::Digest(root),
-                Part::Bytes(b" certificate "),
-                Part::Digest(certificate),
-                Part::Bytes(b"\n"),
-            ];
-            append(alloc, out, &parts)
-        }
-        Said::Absent { name, epoch, root } => {
-            let parts = [
-                Part::Bytes(b" absent "),
-                Part::Bytes(name.text()),
-                Part::Bytes(b" epoch "),
-                Part::Number(*epoch),
-                Part::Bytes(b" root "),
-                Part::Digest(root),
-                Part::Bytes(b"\n"),
-            ];
-            append(alloc, out, &parts)
-        }
-        Said::Refused(check) => {
-            let parts = [
-                Part::Bytes(b" refused "),
-                Part::Number(u64::from(*check)),
-                Part::Bytes(b"\n"),
-            ];
-            append(alloc, out, &parts)
-        }
     }
 }
 
@@ -274,7 +225,9 @@ fn put_judged(alloc: Global, out: &mut Vec<u8>, message: u64, said: &Said) -> Re
     ensures { Appends (line_of (Happening.Judged message said.now)) out.old out.new result }
 {
     put_numbered(alloc, out, b"judge ", message)?;
-    put_said(alloc, out, said)
+    put(alloc, out, b" ")?;
+    say(alloc, said, out)?;
+    put(alloc, out, b"\n")
 }
 
 /// Appends the line of what a party took.

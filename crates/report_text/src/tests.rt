@@ -17,20 +17,14 @@ fn keys_parties_drafts_and_epochs(rt: HostRuntime) -> Result<(), Fail> {
     let lines = [
         (
             Happening::Made {
-                party: Party {
-                    role: Role::LogServer,
-                    number: 0,
-                },
+                party: Role::LogServer.party(0),
                 digest: [0xab; 32],
             },
             "party L0 abababababababababababababababababababababababababababababababab",
         ),
         (
             Happening::Dishonest {
-                party: Party {
-                    role: Role::Authority,
-                    number: 15,
-                },
+                party: Role::Authority.party(15),
             },
             "dishonest A15",
         ),
@@ -62,10 +56,7 @@ fn keys_parties_drafts_and_epochs(rt: HostRuntime) -> Result<(), Fail> {
         ),
         (
             Happening::SignRefused {
-                party: Party {
-                    role: Role::Authority,
-                    number: 2,
-                },
+                party: Role::Authority.party(2),
             },
             "A2 sign refused",
         ),
@@ -76,124 +67,76 @@ fn keys_parties_drafts_and_epochs(rt: HostRuntime) -> Result<(), Fail> {
     Ok(())
 }
 
+/// A code of a rule.
+fn code(role: Role, number: u8, values: Values) -> Option<Code> {
+    Some(Code {
+        role,
+        number,
+        values,
+    })
+}
+
 #[test]
-fn steps(rt: HostRuntime) -> Result<(), Fail> {
+fn steps_that_succeed(rt: HostRuntime) -> Result<(), Fail> {
+    let lines = [
+        (Role::LogServer.party(2), What::Take(12), "L2 take 12 ok"),
+        (Role::LogServer.party(0), What::Pass, "L0 pass ok"),
+        (Role::Owner.party(0), What::Object(9), "D0 object 9 ok"),
+    ];
+    for (party, what, line) in &lines {
+        let step = Happening::Step {
+            party: *party,
+            what: *what,
+            refused: None,
+        };
+        assert!(rt; is_printed(rt.alloc(), &step, line)?);
+    }
+    Ok(())
+}
+
+#[test]
+fn steps_that_are_refused(rt: HostRuntime) -> Result<(), Fail> {
+    let (log, authority, owner) = (Role::LogServer, Role::Authority, Role::Owner);
+    let of_one = Values::Two(Shown::Party(authority.party(1)), Shown::Number(4294967295));
+    let of_digest = Values::One(Shown::Digest([0xab; 32]));
+    let of_zero = Values::Two(Shown::Party(authority.party(0)), Shown::Number(5));
+    let full = Values::Two(Shown::Number(2), Shown::Full);
+    let no_root = Values::Two(Shown::NoRoot, Shown::Number(0));
     let lines = [
         (
-            Party {
-                role: Role::LogServer,
-                number: 2,
-            },
-            What::Take(12),
-            None,
-            "L2 take 12 ok",
-        ),
-        (
-            Party {
-                role: Role::LogServer,
-                number: 0,
-            },
+            log.party(0),
             What::Propose,
-            Some(Code {
-                role: Role::LogServer,
-                number: 8,
-                values: Values::Nothing,
-            }),
+            code(log, 8, Values::Nothing),
             "L0 propose refused L8",
         ),
         (
-            Party {
-                role: Role::LogServer,
-                number: 0,
-            },
-            What::Pass,
-            None,
-            "L0 pass ok",
-        ),
-        (
-            Party {
-                role: Role::Authority,
-                number: 1,
-            },
+            authority.party(1),
             What::Roll,
-            Some(Code {
-                role: Role::Authority,
-                number: 11,
-                values: Values::Two(
-                    Shown::Party(Party {
-                        role: Role::Authority,
-                        number: 1,
-                    }),
-                    Shown::Number(4294967295),
-                ),
-            }),
+            code(authority, 11, of_one),
             "A1 roll refused A11 A1 4294967295",
         ),
         (
-            Party {
-                role: Role::Owner,
-                number: 7,
-            },
+            owner.party(7),
             What::Submit(3),
-            Some(Code {
-                role: Role::Owner,
-                number: 2,
-                values: Values::One(Shown::Digest([0xab; 32])),
-            }),
+            code(owner, 2, of_digest),
             "D7 submit 3 refused O2 abababababababababababababababababababababababababababababababab",
         ),
         (
-            Party {
-                role: Role::Owner,
-                number: 511,
-            },
+            owner.party(511),
             What::Handover(1),
-            Some(Code {
-                role: Role::Owner,
-                number: 4,
-                values: Values::Two(
-                    Shown::Party(Party {
-                        role: Role::Authority,
-                        number: 0,
-                    }),
-                    Shown::Number(5),
-                ),
-            }),
+            code(owner, 4, of_zero),
             "D511 handover 1 refused O4 A0 5",
         ),
         (
-            Party {
-                role: Role::Owner,
-                number: 0,
-            },
-            What::Object(9),
-            None,
-            "D0 object 9 ok",
-        ),
-        (
-            Party {
-                role: Role::LogServer,
-                number: 1,
-            },
+            log.party(1),
             What::Take(1),
-            Some(Code {
-                role: Role::LogServer,
-                number: 10,
-                values: Values::Two(Shown::Number(2), Shown::Full),
-            }),
+            code(log, 10, full),
             "L1 take 1 refused L10 2 full",
         ),
         (
-            Party {
-                role: Role::LogServer,
-                number: 1,
-            },
+            log.party(1),
             What::Take(2),
-            Some(Code {
-                role: Role::LogServer,
-                number: 15,
-                values: Values::Two(Shown::NoRoot, Shown::Number(0)),
-            }),
+            code(log, 15, no_root),
             "L1 take 2 refused L15 none 0",
         ),
     ];
@@ -227,112 +170,69 @@ fn messages_that_are_learnt(rt: HostRuntime) -> Result<(), Fail> {
     Ok(())
 }
 
+/// A message that enters the pool with the number 9.
+fn entered(kind: Kind, from: Option<Party>, to: Target) -> Happening {
+    Happening::Entered {
+        message: 9,
+        kind,
+        from,
+        to,
+        length: 2348,
+        digest: [0xab; 32],
+    }
+}
+
 #[test]
-fn messages_that_enter_the_pool(rt: HostRuntime) -> Result<(), Fail> {
-    let from = Party {
-        role: Role::Authority,
-        number: 1,
-    };
-    let to = Party {
-        role: Role::Client,
-        number: 0,
-    };
-    let lines = [
+fn the_kinds_of_messages(rt: HostRuntime) -> Result<(), Fail> {
+    let kinds = [
+        (Kind::Raw, "Raw"),
+        (Kind::EndorseAsk, "EndorseAsk"),
+        (Kind::Endorsed, "Endorsed"),
+        (Kind::Submit, "Submit"),
+        (Kind::Propose, "Propose"),
+        (Kind::Ballot, "Ballot"),
+        (Kind::StatusNote, "StatusNote"),
+        (Kind::Decision, "Decision"),
+        (Kind::SkipNote, "SkipNote"),
+        (Kind::ConfirmAsk, "ConfirmAsk"),
+        (Kind::LogConfirmed, "LogConfirmed"),
+        (Kind::HalfConfirmed, "HalfConfirmed"),
+        (Kind::Confirmation, "Confirmation"),
+        (Kind::RollNote, "RollNote"),
+    ];
+    let (from, to) = (Role::Authority.party(1), Role::Client.party(0));
+    for (kind, word) in &kinds {
+        let line = format!(in rt.alloc();
+            "message 9 {word} from A1 to C0 2348 abababababababababababababababababababababababababababababababab"
+        )?;
+        let happening = entered(*kind, Some(from), Target::One(to));
+        assert!(rt; is_printed(rt.alloc(), &happening, line.as_str())?);
+    }
+    Ok(())
+}
+
+#[test]
+fn who_sent_a_message_and_to_whom_it_goes(rt: HostRuntime) -> Result<(), Fail> {
+    let (one, other) = (Role::Owner.party(511), Role::LogServer.party(0));
+    let routes = [
         (
-            Kind::Raw,
             None,
             Target::Logs,
             "message 9 Raw from none to logs 2348 abababababababababababababababababababababababababababababababab",
         ),
         (
-            Kind::EndorseAsk,
-            Some(from),
-            Target::One(to),
-            "message 9 EndorseAsk from A1 to C0 2348 abababababababababababababababababababababababababababababababab",
+            Some(one),
+            Target::One(other),
+            "message 9 Raw from D511 to L0 2348 abababababababababababababababababababababababababababababababab",
         ),
         (
-            Kind::Endorsed,
-            Some(from),
-            Target::One(to),
-            "message 9 Endorsed from A1 to C0 2348 abababababababababababababababababababababababababababababababab",
-        ),
-        (
-            Kind::Submit,
-            Some(from),
-            Target::One(to),
-            "message 9 Submit from A1 to C0 2348 abababababababababababababababababababababababababababababababab",
-        ),
-        (
-            Kind::Propose,
-            Some(from),
-            Target::One(to),
-            "message 9 Propose from A1 to C0 2348 abababababababababababababababababababababababababababababababab",
-        ),
-        (
-            Kind::Ballot,
-            Some(from),
-            Target::Logs,
-            "message 9 Ballot from A1 to logs 2348 abababababababababababababababababababababababababababababababab",
-        ),
-        (
-            Kind::StatusNote,
-            Some(from),
-            Target::One(to),
-            "message 9 StatusNote from A1 to C0 2348 abababababababababababababababababababababababababababababababab",
-        ),
-        (
-            Kind::Decision,
-            Some(from),
-            Target::One(to),
-            "message 9 Decision from A1 to C0 2348 abababababababababababababababababababababababababababababababab",
-        ),
-        (
-            Kind::SkipNote,
-            Some(from),
-            Target::One(to),
-            "message 9 SkipNote from A1 to C0 2348 abababababababababababababababababababababababababababababababab",
-        ),
-        (
-            Kind::ConfirmAsk,
-            Some(from),
-            Target::One(to),
-            "message 9 ConfirmAsk from A1 to C0 2348 abababababababababababababababababababababababababababababababab",
-        ),
-        (
-            Kind::LogConfirmed,
-            Some(from),
-            Target::One(to),
-            "message 9 LogConfirmed from A1 to C0 2348 abababababababababababababababababababababababababababababababab",
-        ),
-        (
-            Kind::HalfConfirmed,
-            Some(from),
-            Target::One(to),
-            "message 9 HalfConfirmed from A1 to C0 2348 abababababababababababababababababababababababababababababababab",
-        ),
-        (
-            Kind::Confirmation,
-            Some(from),
-            Target::One(to),
-            "message 9 Confirmation from A1 to C0 2348 abababababababababababababababababababababababababababababababab",
-        ),
-        (
-            Kind::RollNote,
-            Some(from),
+            Some(other),
             Target::Nobody,
-            "message 9 RollNote from A1 to none 2348 abababababababababababababababababababababababababababababababab",
+            "message 9 Raw from L0 to none 2348 abababababababababababababababababababababababababababababababab",
         ),
     ];
-    for (kind, from, to, line) in &lines {
-        let entered = Happening::Entered {
-            message: 9,
-            kind: *kind,
-            from: *from,
-            to: *to,
-            length: 2348,
-            digest: [0xab; 32],
-        };
-        assert!(rt; is_printed(rt.alloc(), &entered, line)?);
+    for (from, to, line) in &routes {
+        assert!(rt; is_printed(rt.alloc(), &entered(Kind::Raw, *from, *to), line)?);
     }
     Ok(())
 }
@@ -383,10 +283,7 @@ fn judgements(rt: HostRuntime) -> Result<(), Fail> {
 fn an_order_behind_another_line(rt: HostRuntime) -> Result<(), Fail> {
     let mut out = b"D0 pass ok\n".to_vec(rt.alloc())?;
     let order = Happening::Order {
-        party: Party {
-            role: Role::LogServer,
-            number: 0,
-        },
+        party: Role::LogServer.party(0),
         taken: Items::from_vec([3, 1, 20000].to_vec(rt.alloc())?),
     };
     print(rt.alloc(), &order, &mut out)?;

@@ -1,10 +1,10 @@
 -- The forms of the words of a script, and what a word of each means. The forms of names and of numbers, and
 -- the digits of hex, are those of all lines.
-use Rattle.std.specs.Prelude.{ℕ, ◌%◌, ◌==◌, nat_le, nat_lt, Bool, true, false, ◌&&◌, ◌||◌, if◌then◌else◌, List, [], ◌∷◌, length, take, drop, codes, Option, Some, None, option_and_then, option_map}
+use Rattle.std.specs.Prelude.{ℕ, ◌==◌, nat_le, nat_lt, Bool, true, false, ◌&&◌, ◌||◌, if◌then◌else◌, List, [], ◌∷◌, length, take, drop, codes, Option, Some, None, option_and_then, option_map}
 use Rattle.std.specs.List.{list_all, list_any, slice_split}
 use Rattle.std.specs.Option.{is_some}
 use Rattle.std.specs.Str.{bytes_eq}
-use Rattle.ar_lines.specs.Forms.{bytes_of_hex, is_lower_hex_digit, number_of, passing}
+use Rattle.ar_lines.specs.Forms.{bytes_of_hex, is_hex, number_of, passing}
 use Rattle.ar_statement.specs.Claims.{party, role_number}
 use Rattle.ar_base.specs.Ranges.{is_from_to}
 use Rattle.ar_statement.specs.Ranges.{is_witness}
@@ -19,11 +19,11 @@ use Rattle.party_keys.specs.Directory.{is_party_count, is_quorum}
 unfoldable pub number_in : ℕ → ℕ → List ℕ → Option ℕ
 number_in least most word = passing (is_from_to least most) (number_of word)
 
--- how many logs, or authorities, there are
+-- how many logs, or authorities, a word says that there are
 unfoldable pub party_count_of : List ℕ → Option ℕ
 party_count_of word = passing is_party_count (number_of word)
 
--- how many of so many logs make a quorum
+-- how many of so many logs make a quorum, as a word says
 unfoldable pub quorum_of : ℕ → List ℕ → Option ℕ
 quorum_of logs word = passing (λ q. is_quorum q logs) (number_of word)
 
@@ -146,10 +146,6 @@ unfoldable pub binding_of : List ℕ → Option (Bool × Option ℕ)
 binding_of word = binding_in (behind (codes "keyed") word) (behind (codes "free") word)
 
 -- ---- pieces of composed bytes
-
--- whether a word is two lower-case digits for each of some bytes
-abbrev pub is_hex : List ℕ → Bool
-is_hex word = list_all is_lower_hex_digit word && length word % 2 == 0
 
 -- three numbers
 abbrev pub are_three_numbers : List (List ℕ) → Bool

@@ -1,8 +1,9 @@
-ghost use Rattle.std.specs.Prelude.{◌≡◌, ◌<◌, ◌≤◌, ◌^◌, ◌∷◌, IfSome, length, ℕ};
+ghost use Rattle.std.specs.Prelude.{◌≡◌, ◌<◌, ◌≤◌, ◌^◌, ◌∷◌, true, IfSome, length, ℕ};
 ghost use Rattle.std.specs.Option.{option_copied, option_map};
 ghost use Rattle.std.specs.List.{slice_split};
-ghost use Rattle.script_text.specs.Forms.{ascending_of, asks_of, behind, binding_of, is_hex, is_piece, is_slice, judged_of, lms_of, list_of, new_owner_of, number_in, number_with, ots_of, party_count_of, party_of, quorum_of, receiver_of, role_of, secret_of, trusted_of, wait_of, witness_of, parts_of};
+ghost use Rattle.script_text.specs.Forms.{ascending_of, asks_of, behind, binding_of, is_piece, is_slice, judged_of, lms_of, list_of, new_owner_of, number_in, number_with, ots_of, party_count_of, party_of, quorum_of, receiver_of, role_of, secret_of, trusted_of, wait_of, witness_of, parts_of};
 ghost use Rattle.ar_lines.specs.Forms.{number_of};
+ghost use Rattle.party_keys.specs.Directory.{is_party_count, is_quorum};
 
 use crate::numbers::Numbers;
 use ar_lines::{are_hex_digits, number_of};
@@ -38,11 +39,11 @@ pub(crate) fn short_of(word: &[u8]) -> Option<u32>
     Some(number as u32)
 }
 
-/// How many logs, or authorities, there are.
+/// How many logs, or authorities, a word says that there are.
 #[tactic(auto, unfolding(crate::specs::Forms::party_count_of))]
-pub(crate) fn party_count_of(word: &[u8]) -> Option<u16>
+pub fn party_count_of(word: &[u8]) -> Option<u16>
     ensures value { result ≡ party_count_of word.now }
-    ensures most { IfSome result (λ n. n ≤ 16) }
+    ensures fits { IfSome result (λ n. is_party_count n ≡ true) }
 {
     let count = number_of(word)? as usize;
     if !is_party_count(count) {
@@ -51,11 +52,11 @@ pub(crate) fn party_count_of(word: &[u8]) -> Option<u16>
     Some(count as u16)
 }
 
-/// How many of so many logs make a quorum.
+/// How many of so many logs make a quorum, as a word says.
 #[tactic(auto, unfolding(crate::specs::Forms::quorum_of))]
-pub(crate) fn quorum_of(logs: u16, word: &[u8]) -> Option<u16>
-    requires { logs ≤ 16 }
-    ensures { result ≡ quorum_of logs word.now }
+pub fn quorum_of(logs: u16, word: &[u8]) -> Option<u16>
+    ensures value { result ≡ quorum_of logs word.now }
+    ensures fits { IfSome result (λ q. is_quorum q logs ≡ true) }
 {
     let quorum = number_of(word)? as usize;
     if !is_quorum(quorum, usize::from(logs)) {
@@ -188,11 +189,4 @@ pub(crate) fn judged_of(word: &[u8]) -> Option<Option<u64>>
     }
     let number = number_of(word)?;
     Some(Some(number))
-}
-
-/// Whether a word is two lower-case digits for each of some bytes.
-pub(crate) fn is_hex(word: &[u8]) -> bool
-    ensures { result ≡ is_hex word.now }
-{
-    are_hex_digits(word) && word.len() % 2 == 0
 }

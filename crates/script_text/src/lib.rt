@@ -5,6 +5,7 @@
 #![tactic(auto)]
 
 pub use ar_lines::Reason;
+pub use forms::{party_count_of, quorum_of};
 pub use line::{Line, PolicyWords};
 pub use numbers::Numbers;
 pub use pieces::Pieces;

@@ -4,9 +4,8 @@ ghost use Rattle.ar_lines.specs.Lines.{words_of};
 ghost use Rattle.script_text.specs.Forms.{is_piece, is_slice};
 ghost use Rattle.script_text.specs.Grammar.{are_pieces};
 
-use crate::forms::is_hex;
 use crate::lists::first_part;
-use ar_lines::{Reason, first_word, number_of};
+use ar_lines::{Reason, first_word, is_hex, number_of};
 use std::marker::Model;
 
 /// The pieces of bytes that a line composes: one or more words, with one space between each two. A piece is

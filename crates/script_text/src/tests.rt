@@ -1,67 +1,78 @@
 use crate::{Line, Reason};
 use ar_statement::{Party, Role};
+use std::process::Abort;
 use std::test::Fail;
 
+/// Each of these lines is refused for its reason.
+fn expect_refused(rt: &impl Abort, lines: &[(&str, Reason)]) {
+    for (line, reason) in lines {
+        assert_eq!(rt; Line::read(line.as_bytes()).err(), Some(*reason), "{line}");
+    }
+}
+
 #[test]
-fn lines_of_other_words_are_refused(rt: HostRuntime) -> Result<(), Fail> {
+fn lines_without_a_row_are_refused(rt: HostRuntime) {
     let lines = [
         ("flush\t", Reason::Text),
         ("Flush", Reason::Word),
         (" flush", Reason::Word),
-        ("flush ", Reason::Words),
         ("unknown 1", Reason::Word),
-        ("flush 1", Reason::Words),
-        ("secret", Reason::Words),
-        (
-            "secret abababababababababababababababababababababababababababababababab 1",
-            Reason::Words,
-        ),
-        ("keys 5", Reason::Words),
-        ("keys 5 3 3", Reason::Words),
-        ("logs 5", Reason::Words),
-        ("authorities", Reason::Words),
-        ("authorities 3 4", Reason::Words),
-        ("dishonest", Reason::Words),
-        ("owner", Reason::Words),
-        ("owner D1 D2", Reason::Words),
-        ("teach A0 a.example", Reason::Words),
-        ("teach A0 a.example D1 D2", Reason::Words),
-        ("forget A0 a.example", Reason::Words),
-        ("retire", Reason::Words),
-        ("retire A0 A1", Reason::Words),
-        ("register D0 a.example 2 free 8 1000 0,1,2", Reason::Words),
-        (
-            "register D0 a.example 2 free 8 1000 0,1,2 0,1,2 0",
-            Reason::Words,
-        ),
-        ("update D0 1 2 free 8 1000 0,1,2", Reason::Words),
-        ("revoke D0 1", Reason::Words),
-        ("handover D0", Reason::Words),
-        ("object D0 1 2", Reason::Words),
-        ("submit", Reason::Words),
-        ("propose", Reason::Words),
-        ("pass L0 L1", Reason::Words),
-        ("roll", Reason::Words),
-        ("learn", Reason::Words),
-        ("ask L0 a.example A0 A1", Reason::Words),
-        ("ask L0 a.example A0 A1 C0 C1", Reason::Words),
-        ("deliver 1", Reason::Words),
-        ("judge 1 a.example 1", Reason::Words),
-        ("judge 1 a.example 1 4 4", Reason::Words),
-        ("sign", Reason::Words),
-        ("sign L0", Reason::Words),
-        ("inject logs", Reason::Words),
-        ("burst 1", Reason::Words),
-        ("end 1", Reason::Words),
     ];
-    for (line, reason) in &lines {
-        assert_eq!(rt; Line::read(line.as_bytes()).err(), Some(*reason), "{line}");
-    }
-    Ok(())
+    expect_refused(&rt, &lines);
 }
 
 #[test]
-fn words_of_the_setup_and_of_owners_are_refused(rt: HostRuntime) -> Result<(), Fail> {
+fn other_counts_of_words_are_refused(rt: HostRuntime) {
+    for line in [
+        "flush ",
+        "flush 1",
+        "secret",
+        "secret abababababababababababababababababababababababababababababababab 1",
+        "keys 5",
+        "keys 5 3 3",
+        "logs 5",
+        "authorities",
+        "authorities 3 4",
+        "dishonest",
+        "owner",
+        "owner D1 D2",
+        "teach A0 a.example",
+        "teach A0 a.example D1 D2",
+        "forget A0 a.example",
+        "retire",
+        "retire A0 A1",
+        "register D0 a.example 2 free 8 1000 0,1,2",
+        "register D0 a.example 2 free 8 1000 0,1,2 0,1,2 0",
+        "update D0 1 2 free 8 1000 0,1,2",
+        "revoke D0 1",
+        "handover D0",
+        "object D0 1 2",
+        "submit",
+        "propose",
+        "pass L0 L1",
+        "roll",
+        "learn",
+        "ask L0 a.example A0 A1",
+        "ask L0 a.example A0 A1 C0 C1",
+        "deliver 1",
+        "judge 1 a.example 1",
+        "judge 1 a.example 1 4 4",
+        "sign",
+        "sign L0",
+        "inject logs",
+        "burst 1",
+        "end 1",
+    ] {
+        assert_eq!(rt;
+            Line::read(line.as_bytes()).err(),
+            Some(Reason::Words),
+            "{line}"
+        );
+    }
+}
+
+#[test]
+fn words_of_the_setup_are_refused(rt: HostRuntime) {
     let lines = [
         ("logs  3", Reason::Field(1)),
         (
@@ -100,6 +111,13 @@ fn words_of_the_setup_and_of_owners_are_refused(rt: HostRuntime) -> Result<(), F
         ("dishonest L", Reason::Field(1)),
         ("dishonest l0", Reason::Field(1)),
         ("dishonest A00", Reason::Field(1)),
+    ];
+    expect_refused(&rt, &lines);
+}
+
+#[test]
+fn words_of_owners_are_refused(rt: HostRuntime) {
+    let lines = [
         ("owner D512", Reason::Field(1)),
         ("owner L0", Reason::Field(1)),
         ("owner D01", Reason::Field(1)),
@@ -112,97 +130,62 @@ fn words_of_the_setup_and_of_owners_are_refused(rt: HostRuntime) -> Result<(), F
         ("forget A0 a.example D", Reason::Field(3)),
         ("retire D0", Reason::Field(1)),
     ];
-    for (line, reason) in &lines {
-        assert_eq!(rt; Line::read(line.as_bytes()).err(), Some(*reason), "{line}");
-    }
-    Ok(())
+    expect_refused(&rt, &lines);
 }
 
 #[test]
-fn words_of_policies_are_refused(rt: HostRuntime) -> Result<(), Fail> {
+fn words_of_policies_are_refused(rt: HostRuntime) {
     let lines = [
-        ("register A0 a.example 2 free 8 1000 0 0", Reason::Field(1)),
+        ("register A0 a 2 free 8 1000 0 0", Reason::Field(1)),
         ("register D0 . 2 free 8 1000 0 0", Reason::Field(2)),
+        ("register D0 a 256 free 8 1000 0 0", Reason::Field(3)),
+        ("register D0 a 02 free 8 1000 0 0", Reason::Field(3)),
+        ("register D0 a 2 free 4294967296 1000 0 0", Reason::Field(5)),
         (
-            "register D0 a.example 256 free 8 1000 0 0",
-            Reason::Field(3),
-        ),
-        ("register D0 a.example 02 free 8 1000 0 0", Reason::Field(3)),
-        (
-            "register D0 a.example 2 keyed/ 8 1000 0 0",
-            Reason::Field(4),
-        ),
-        (
-            "register D0 a.example 2 keyed/0 8 1000 0 0",
-            Reason::Field(4),
-        ),
-        (
-            "register D0 a.example 2 free/03 8 1000 0 0",
-            Reason::Field(4),
-        ),
-        (
-            "register D0 a.example 2 free/10001 8 1000 0 0",
-            Reason::Field(4),
-        ),
-        ("register D0 a.example 2 Free 8 1000 0 0", Reason::Field(4)),
-        (
-            "register D0 a.example 2 keyedx 8 1000 0 0",
-            Reason::Field(4),
-        ),
-        (
-            "register D0 a.example 2 free/1/2 8 1000 0 0",
-            Reason::Field(4),
-        ),
-        (
-            "register D0 a.example 2 free 4294967296 1000 0 0",
-            Reason::Field(5),
-        ),
-        (
-            "register D0 a.example 2 free 8 18446744073709551616 0 0",
+            "register D0 a 2 free 8 18446744073709551616 0 0",
             Reason::Field(6),
         ),
+        ("register D0 a 2 free 8 1000 1,0 0", Reason::Field(7)),
+        ("register D0 a 2 free 8 1000 0,0 0", Reason::Field(7)),
+        ("register D0 a 2 free 8 1000 65536 0", Reason::Field(7)),
         (
-            "register D0 a.example 2 free 8 1000 1,0 0",
+            "register D0 a 2 free 8 1000 0,1,2,3,4,5,6,7,8,9,10,11,12,13,14,15,16 0",
             Reason::Field(7),
         ),
+        ("register D0 a 2 free 8 1000 0, 0", Reason::Field(7)),
+        ("register D0 a 2 free 8 1000 -- 0", Reason::Field(7)),
+        ("register D0 a 2 free 8 1000 - -", Reason::Field(8)),
         (
-            "register D0 a.example 2 free 8 1000 0,0 0",
-            Reason::Field(7),
-        ),
-        (
-            "register D0 a.example 2 free 8 1000 65536 0",
-            Reason::Field(7),
-        ),
-        (
-            "register D0 a.example 2 free 8 1000 0,1,2,3,4,5,6,7,8,9,10,11,12,13,14,15,16 0",
-            Reason::Field(7),
-        ),
-        ("register D0 a.example 2 free 8 1000 0, 0", Reason::Field(7)),
-        ("register D0 a.example 2 free 8 1000 -- 0", Reason::Field(7)),
-        ("register D0 a.example 2 free 8 1000 - -", Reason::Field(8)),
-        (
-            "register D0 a.example 2 free 8 1000 - 0,1,2,3,4,5,6,7,8",
+            "register D0 a 2 free 8 1000 - 0,1,2,3,4,5,6,7,8",
             Reason::Field(8),
         ),
-        (
-            "register D0 a.example 2 free 8 1000 - 2,1",
-            Reason::Field(8),
-        ),
-        ("register D0 a.example 2 free 8 1000 - 00", Reason::Field(8)),
+        ("register D0 a 2 free 8 1000 - 2,1", Reason::Field(8)),
+        ("register D0 a 2 free 8 1000 - 00", Reason::Field(8)),
         ("update C0 1 2 free 8 1000 - 0", Reason::Field(1)),
         ("update D0 01 2 free 8 1000 - 0", Reason::Field(2)),
         ("update D0 1 300 free 8 1000 - 0", Reason::Field(3)),
-        ("update D0 1 2 - 8 1000 - 0", Reason::Field(4)),
         ("update D0 1 2 free 8 1000 - x", Reason::Field(8)),
     ];
-    for (line, reason) in &lines {
-        assert_eq!(rt; Line::read(line.as_bytes()).err(), Some(*reason), "{line}");
-    }
-    Ok(())
+    expect_refused(&rt, &lines);
 }
 
 #[test]
-fn words_of_orders_and_messages_are_refused(rt: HostRuntime) -> Result<(), Fail> {
+fn other_bindings_are_refused(rt: HostRuntime) {
+    let lines = [
+        ("register D0 a 2 keyed/ 8 1000 0 0", Reason::Field(4)),
+        ("register D0 a 2 keyed/0 8 1000 0 0", Reason::Field(4)),
+        ("register D0 a 2 free/03 8 1000 0 0", Reason::Field(4)),
+        ("register D0 a 2 free/10001 8 1000 0 0", Reason::Field(4)),
+        ("register D0 a 2 Free 8 1000 0 0", Reason::Field(4)),
+        ("register D0 a 2 keyedx 8 1000 0 0", Reason::Field(4)),
+        ("register D0 a 2 free/1/2 8 1000 0 0", Reason::Field(4)),
+        ("update D0 1 2 - 8 1000 - 0", Reason::Field(4)),
+    ];
+    expect_refused(&rt, &lines);
+}
+
+#[test]
+fn words_of_orders_are_refused(rt: HostRuntime) {
     let lines = [
         ("revoke L0 1 0", Reason::Field(1)),
         ("revoke D0 -1 0", Reason::Field(2)),
@@ -224,6 +207,13 @@ fn words_of_orders_and_messages_are_refused(rt: HostRuntime) -> Result<(), Fail>
         ("ask L0 a L0 A1 C0", Reason::Field(3)),
         ("ask L0 a A0 D1 C0", Reason::Field(4)),
         ("ask L0 a A0 A1 A0", Reason::Field(5)),
+    ];
+    expect_refused(&rt, &lines);
+}
+
+#[test]
+fn words_of_messages_are_refused(rt: HostRuntime) {
+    let lines = [
         ("deliver -1 L0", Reason::Field(1)),
         ("deliver 1 logs", Reason::Field(2)),
         ("deliver 1 X0", Reason::Field(2)),
@@ -244,10 +234,7 @@ fn words_of_orders_and_messages_are_refused(rt: HostRuntime) -> Result<(), Fail>
         ("inject logs m:0:1", Reason::Field(2)),
         ("inject L0 x00 m1:0:x", Reason::Field(3)),
     ];
-    for (line, reason) in &lines {
-        assert_eq!(rt; Line::read(line.as_bytes()).err(), Some(*reason), "{line}");
-    }
-    Ok(())
+    expect_refused(&rt, &lines);
 }
 
 #[test]
@@ -348,6 +335,11 @@ fn lines_of_owners_are_read(rt: HostRuntime) -> Result<(), Fail> {
             Ok(Some(Line::Retire { authority: 3 }))
         )
     );
+    Ok(())
+}
+
+#[test]
+fn lines_of_drafts_are_read(rt: HostRuntime) -> Result<(), Fail> {
     match Line::read(b"revoke D2 1 0,1,2,3,4,5,6,7") {
         Ok(
             Some(
@@ -382,7 +374,7 @@ fn lines_of_owners_are_read(rt: HostRuntime) -> Result<(), Fail> {
 }
 
 #[test]
-fn policies_are_read(rt: HostRuntime) -> Result<(), Fail> {
+fn a_registration_is_read(rt: HostRuntime) -> Result<(), Fail> {
     let line =
         b"register D0 a.example 255 keyed/10000 4294967295 18446744073709551615 0,1,65535 3,18446744073709551615";
     match Line::read(line) {
@@ -407,6 +399,11 @@ fn policies_are_read(rt: HostRuntime) -> Result<(), Fail> {
         }
         _ => return Err("not registered".into()),
     }
+    Ok(())
+}
+
+#[test]
+fn updates_are_read(rt: HostRuntime) -> Result<(), Fail> {
     match Line::read(b"update D1 4096 0 free/1 0 7 - 0") {
         Ok(
             Some(
@@ -439,7 +436,7 @@ fn policies_are_read(rt: HostRuntime) -> Result<(), Fail> {
 }
 
 #[test]
-fn lines_of_logs_and_clients_are_read(rt: HostRuntime) -> Result<(), Fail> {
+fn lines_of_logs_are_read(rt: HostRuntime) {
     assert!(rt;
         matches!(
             Line::read(b"propose L4"),
@@ -459,6 +456,10 @@ fn lines_of_logs_and_clients_are_read(rt: HostRuntime) -> Result<(), Fail> {
         )
     );
     assert!(rt; matches!(Line::read(b"learn 7"), Ok(Some(Line::Learn { message: 7 }))));
+}
+
+#[test]
+fn lines_of_clients_are_read(rt: HostRuntime) -> Result<(), Fail> {
     match Line::read(b"ask L1 b.example A2 A3 C65535") {
         Ok(
             Some(

@@ -1,6 +1,6 @@
 -- What was written before the failing line, and the front of that line, are a front of all lines.
 use Rattle.std.proofs.Common.{rules, ℕ, List, ap, subst, ◌∙◌}
-use Rattle.std.specs.Prelude.{string_bytes}
+use Rattle.ar_run.specs.Answers.{bytes_of}
 use Rattle.std.specs.List.{flat_map}
 use Rattle.ar_base.specs.Faults.{HasRisen}
 use Rattle.ar_io.specs.Wrote.{AppendedFront}
@@ -17,7 +17,7 @@ returns-in_err-write_line-clause-sink g c =
     let Cut : List ℕ → Type 0 = λ line. AppendedFront wrote c.loop-line.sink new line in
     let Whole : List (List ℕ) → Type 0 = λ lines. AppendedFront wrote old new (flat_map (λ line. line) lines) in
     let Risen : ℕ → Type 0 = λ count. HasRisen count (g.K.Sink.faults new) in
-    let cut = subst Cut (c.as_bytes.ensures.value ∙ ap string_bytes c.line-item.is) failed.1 in
-    let whole = subst Whole c.lines-line-items.ensures (cut_off wrote old c.loop-line.sink new string_bytes items c.loop-line.line-index c.line-item.result c.loop-line-test.true c.loop-line.invariant.0 cut) in
+    let cut = subst Cut (c.as_slice.ensures.value ∙ ap bytes_of c.line-item.is) failed.1 in
+    let whole = subst Whole c.lines-line-items.ensures (cut_off wrote old c.loop-line.sink new bytes_of items c.loop-line.line-index c.line-item.result c.loop-line-test.true c.loop-line.invariant.0 cut) in
     let risen = subst Risen c.loop-line.invariant.1 failed.0 in
     search (rules, risen, whole)
