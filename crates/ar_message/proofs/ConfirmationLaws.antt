@@ -4,6 +4,7 @@ use Rattle.std.specs.Int.{w8, w16, w64}
 use Rattle.std.proofs.lemmas.Bool.{le-leb, leb-true, le-ltb, ltb-false}
 use Rattle.std.proofs.lemmas.List.{take_at, drop_at, take-append-drop, length-take}
 use Rattle.ar_base.specs.Bytes.{AreBytes, IsDigest}
+use Rattle.ar_base.specs.Ranges.{is_from_to}
 use Rattle.ar_bytes.specs.Reading.{Cursor, Reading, behind, counted_at, number_at, such_that}
 use Rattle.ar_bytes.specs.RoundTrip.{Passes, ReadsBack, IsSpelledBy, number_text, counted_text}
 use Rattle.ar_bytes.specs.Tested.{byte_at, flag_at, flag_text}
@@ -26,9 +27,9 @@ use Rattle.ar_message.specs.Confirmation.{Subject, Body, present, absent, Signed
 pub form_again : (b : Bool) → ReadsBack form_at b (form_text b)
 unfolding form_at
 form_again true at new p =
-    rw (such_that_again (λ n. leb 1 n && leb n 2) (number_at w8) 1 (number_text w8 1) (number_again w8 (2 ^ 8) wide8 1 (omega arith)) refl at new p) refl
+    rw (such_that_again (is_from_to 1 2) (number_at w8) 1 (number_text w8 1) (number_again w8 (2 ^ 8) wide8 1 (omega arith)) refl at new p) refl
 form_again false at new p =
-    rw (such_that_again (λ n. leb 1 n && leb n 2) (number_at w8) 2 (number_text w8 2) (number_again w8 (2 ^ 8) wide8 2 (omega arith)) refl at new p) refl
+    rw (such_that_again (is_from_to 1 2) (number_at w8) 2 (number_text w8 2) (number_again w8 (2 ^ 8) wide8 2 (omega arith)) refl at new p) refl
 
 both : (x y : Bool) → (x && y) ≡ true → (x ≡ true) × (y ≡ true)
 both true y e = (refl, e)
@@ -43,7 +44,7 @@ form_number (suc (suc (suc n))) e = absurd (omega (arith, leb-true (suc (suc (su
 pub form_pass : IsSpelledBy form_at form_text (λ _. Unit {0})
 unfolding form_at
 form_pass at new b bytes e =
-    let n = next (such_that (λ n. leb 1 n && leb n 2) (number_at w8)) (number_text w8) (λ n. (n < 2 ^ 8) × ((leb 1 n && leb n 2) ≡ true)) (such_that_pass (λ n. leb 1 n && leb n 2) (number_at w8) (number_text w8) (λ n. n < 2 ^ 8) (number_pass w8 (2 ^ 8) wide8)) (λ n. Ok (eqb n.0 1, n.1)) at (b, new) bytes e in
+    let n = next (such_that (is_from_to 1 2) (number_at w8)) (number_text w8) (λ n. (n < 2 ^ 8) × ((leb 1 n && leb n 2) ≡ true)) (such_that_pass (is_from_to 1 2) (number_at w8) (number_text w8) (λ n. n < 2 ^ 8) (number_pass w8 (2 ^ 8) wide8)) (λ n. Ok (eqb n.0 1, n.1)) at (b, new) bytes e in
     let form = subst (λ (t : List ℕ). Passes at t n.1) (form_number n.0 n.3.1) n.2 in
     subst (λ (x : Bool × Cursor). Passes at (form_text x.0) x.1 × Unit {0}) (ok_is (eqb n.0 1, n.1) (b, new) n.5) (form, tt)
 

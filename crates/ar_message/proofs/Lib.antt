@@ -4,4 +4,8 @@ pub mod Filled
 pub mod Places
 pub mod ListSteps
 pub mod ListLaws
+pub mod ConfirmingLaws
+pub mod KindLaws
+pub mod MessageLaws
 pub mod Written
+pub mod PathBytes

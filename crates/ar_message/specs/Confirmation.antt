@@ -1,8 +1,9 @@
 -- Confirmations: what one says, the fields of its text in their order with the place of the first that
 -- fails, and the one text of each.
-use Rattle.std.specs.Prelude.{◌≡◌, ℕ, ◌+◌, ◌*◌, ◌/◌, ◌^◌, ◌<◌, ◌≤◌, ◌==◌, ◌&&◌, nat_lt, nat_le, Bool, true, false, if◌then◌else◌, List, ◌++◌, length, take, Option, Some, None, Ok, Err}
+use Rattle.std.specs.Prelude.{◌≡◌, ℕ, ◌+◌, ◌*◌, ◌/◌, ◌^◌, ◌<◌, ◌≤◌, ◌==◌, nat_lt, nat_le, Bool, true, false, if◌then◌else◌, List, ◌++◌, length, take, Option, Some, None, Ok, Err}
 use Rattle.std.specs.Int.{w8, w16, w64}
 use Rattle.ar_base.specs.Bytes.{IsDigest}
+use Rattle.ar_base.specs.Ranges.{is_from_to}
 use Rattle.ar_base.specs.Chaining.{◌>>=◌}
 use Rattle.ar_bytes.specs.Reading.{Cursor, Reading, behind, counted_at, number_at, such_that}
 use Rattle.ar_bytes.specs.RoundTrip.{number_text, counted_text}
@@ -60,7 +61,7 @@ bottom_in (absent bottom) = Some bottom
 -- the form: 1 for presence, 2 for absence; whether the name is present
 unfoldable pub form_at : Cursor → Reading Bool
 form_at at = do
-  form ← such_that (λ n. nat_le 1 n && nat_le n 2) (number_at w8) at
+  form ← such_that (is_from_to 1 2) (number_at w8) at
   Ok (form.0 == 1, form.1)
 
 -- what the confirmation is about

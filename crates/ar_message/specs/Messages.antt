@@ -1,8 +1,9 @@
 -- Messages: the fields of each kind in their order with the place of the first that fails, and the one text of
 -- each message.
-use Rattle.std.specs.Prelude.{ℕ, ◌^◌, ◌<◌, ◌==◌, ◌&&◌, nat_le, nat_lt, Bool, IsTrue, if◌then◌else◌, List, ◌++◌, length, IfSome, Result, Ok, Err}
+use Rattle.std.specs.Prelude.{ℕ, ◌^◌, ◌<◌, ◌==◌, nat_lt, Bool, IsTrue, if◌then◌else◌, List, ◌++◌, length, IfSome, Result, Ok, Err}
 use Rattle.std.specs.Int.{w8, w16, w32, w64}
 use Rattle.ar_base.specs.Bytes.{IsDigest}
+use Rattle.ar_base.specs.Ranges.{is_from_to}
 use Rattle.ar_base.specs.Chaining.{◌>>=◌}
 use Rattle.ar_bytes.specs.Reading.{Cursor, Reading, counted_at, number_at, such_that, whole}
 use Rattle.ar_bytes.specs.RoundTrip.{number_text, counted_text}
@@ -123,7 +124,7 @@ roll_note_at =
 
 -- the numbers of the kinds
 abbrev pub is_kind : ℕ → Bool
-is_kind n = nat_le 1 n && nat_le n 13
+is_kind n = is_from_to 1 13 n
 
 -- the fields of the kind with this number
 unfoldable pub fields_at : ℕ → Cursor → Reading Message

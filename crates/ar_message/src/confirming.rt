@@ -11,10 +11,10 @@ ghost use Rattle.ar_message.specs.Views.{body_of, confirming_of};
 ghost use Rattle.ar_message.specs.declared.lists.Vote.{Vote};
 
 use crate::fields::{BodyView, SignedView, SubjectView, body, form, path, signed, subject};
-use crate::kinds::owned;
 use crate::take_lists::take_votes;
 use crate::{Body, ConfView, Confirming, Message, MessageFault, Signature, Steps, Votes};
 use ar_bytes::Fields;
+use ar_names::NameView;
 use ar_statement::fields::digest;
 use std::alloc::{AllocError, Global};
 
@@ -60,7 +60,7 @@ fn with_votes(
     ensures { (list : List Vote) → IfOk votes (λ v. v ≡ list) → IfOk result (λ part. part ≡ confirming_of view.now list) }
 {
     let votes = votes?;
-    let name = owned(alloc, view.about.name)?;
+    let name = NameView::from_name(view.about.name).to_name(alloc)?;
     let body = owned_body(alloc, &view.shown, view.path)?;
     let signature = Signature::of(alloc, view.log.signature)?;
     Ok(Confirming {

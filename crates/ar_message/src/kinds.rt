@@ -2,13 +2,11 @@
 //! taken only once all that is left was found in order.
 
 ghost use Rattle.std.specs.Prelude.{◌≡◌, IfOk};
-ghost use Rattle.ar_bytes.specs.Joined.{optional_at};
 ghost use Rattle.ar_bytes.specs.Reading.{Tells, such_that};
 ghost use Rattle.ar_cert.specs.Certificate.{key_at};
 ghost use Rattle.ar_cert.specs.Changes.{IsSignature};
-ghost use Rattle.ar_names.specs.Names.{IsName};
 ghost use Rattle.ar_statement.specs.Ranges.{is_witness};
-ghost use Rattle.ar_statement.specs.Texts.{role_at, roots_at};
+ghost use Rattle.ar_statement.specs.Texts.{role_at};
 ghost use Rattle.ar_message.specs.Answers.{Fills};
 ghost use Rattle.ar_message.specs.Messages.{endorse_ask_at, endorsed_at, submit_at, propose_at, ballot_at, status_note_at, decision_at, skip_note_at, confirm_ask_at, witness_at, roll_note_at};
 
@@ -16,47 +14,13 @@ use crate::take_lists::{take_changes, take_statuses, take_votes};
 use crate::{Message, MessageFault, Signature};
 use ar_bytes::Fields;
 use ar_cert::{CertView, ChangeView};
-use ar_names::{Name, NameFault};
-use ar_statement::fields::{digest, epoch, name};
+use ar_statement::fields::{digest, epoch, name, role, roots, value};
 use ar_statement::{Party, Role};
 use lms_tree::LmsPublic;
-use std::alloc::{AllocError, Global};
+use std::alloc::Global;
 
 /// The bytes of a key.
 const KEY_LEN: usize = 56;
-
-/// The name with this text, which is one.
-pub(crate) fn owned(alloc: Global, text: &[u8]) -> Result<Name, AllocError>
-    requires { IsName text.now }
-    ensures { IfOk result (λ name. name ≡ text.now) }
-{
-    match Name::read(alloc, text) {
-        Ok(name) => Ok(name),
-        Err(NameFault::Memory) => Err(AllocError),
-        Err(NameFault::Refused(_)) => unreachable!(),
-    }
-}
-
-/// Two digests.
-fn roots(fields: &mut Fields) -> Result<([u8; 32], [u8; 32]), usize>
-    ensures { Tells (λ roots. roots) result fields.new (roots_at fields.old) }
-{
-    let base = digest(fields)?;
-    let root = digest(fields)?;
-    Ok((base, root))
-}
-
-/// A flag, and for 1 two digests.
-#[tactic(auto, unfolding(ar_bytes::specs::Joined::optional_at))]
-pub(crate) fn value(fields: &mut Fields) -> Result<Option<([u8; 32], [u8; 32])>, usize>
-    ensures { Tells (λ value. value) result fields.new (optional_at roots_at fields.old) }
-{
-    if !fields.take_flag()? {
-        return Ok(None);
-    }
-    let roots = roots(fields)?;
-    Ok(Some(roots))
-}
 
 #[tactic(auto, unfolding(crate::specs::Messages::endorse_ask_at))]
 pub(crate) fn endorse_ask(alloc: Global, fields: &mut Fields) -> Result<Message, MessageFault>
@@ -192,11 +156,11 @@ pub(crate) fn confirm_ask(alloc: Global, fields: &mut Fields) -> Result<Message,
     ensures { Fills result confirm_ask_at fields.old }
 {
     let client = fields.take_u16()?;
-    let name = name(fields)?.text();
+    let name = name(fields)?;
     let first = fields.take_u16()?;
     let second = fields.take_u16()?;
     fields.take_end()?;
-    let name = owned(alloc, name)?;
+    let name = name.to_name(alloc)?;
     Ok(Message::ConfirmAsk {
         client,
         name,
@@ -206,15 +170,12 @@ pub(crate) fn confirm_ask(alloc: Global, fields: &mut Fields) -> Result<Message,
 }
 
 /// The role of a log or an authority.
-#[tactic(auto, unfolding(ar_statement::specs::Texts::role_at, ar_bytes::specs::Reading::such_that))]
+#[tactic(auto, unfolding(ar_bytes::specs::Reading::such_that))]
 fn witness_role(fields: &mut Fields) -> Result<Role, usize>
     ensures { Tells (λ role. role) result fields.new (such_that is_witness role_at fields.old) }
 {
     let place = fields.place();
-    let number = fields.take_u8()?;
-    let Some(role) = Role::with_number(number) else {
-        return Err(place);
-    };
+    let role = role(fields)?;
     if !role.is_witness() {
         return Err(place);
     }

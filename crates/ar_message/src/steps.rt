@@ -2,6 +2,7 @@ ghost use Rattle.std.specs.Prelude.{◌≡◌, IfOk};
 
 use std::alloc::{AllocError, Global};
 use std::marker::Model;
+use tree_proof::Path;
 
 /// The steps of a path as they stand in a message: at most 256 digests of 32 bytes, the deepest first, one
 /// behind the other.
@@ -23,7 +24,8 @@ impl Model for Steps {
 }
 
 impl Steps {
-    ghost use Rattle.std.specs.Prelude.{◌≡◌, IfOk};
+    ghost use Rattle.std.specs.Prelude.{◌≡◌, ◌≤◌, IfOk, length};
+    ghost use Rattle.std.specs.List.{flat_map};
     ghost use Rattle.ar_message.specs.Confirmation.{AreSteps};
 
     /// The bytes.
@@ -32,6 +34,14 @@ impl Steps {
         ensures steps { AreSteps self.now }
     {
         &self.bytes
+    }
+
+    /// The steps of a path in the tree, which has at most 256: its digests are copied once.
+    pub fn of_path(alloc: Global, path: &Path) -> Result<Steps, AllocError>
+        requires { length path.now.steps ≤ 256 }
+        ensures { IfOk result (λ steps. steps ≡ flat_map (λ step. step) path.now.steps) }
+    {
+        Steps::of(alloc, path.steps.as_slice().as_flattened())
     }
 
     /// These bytes as steps of their own.

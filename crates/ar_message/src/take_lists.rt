@@ -8,10 +8,10 @@ ghost use Rattle.ar_message.specs.Answers.{Finds};
 ghost use Rattle.ar_message.specs.Lists.{changes_at, status_from, statuses_at, vote_from, votes_at};
 ghost use Rattle.ar_message.specs.Views.{status_of, vote_of};
 
-use crate::kinds::value;
 use crate::{Changes, LogStatus, Signature, Statuses, Vote, Votes};
 use ar_bytes::{Fields, are_bytes};
 use ar_cert::{Change, ChangeView};
+use ar_statement::fields::value;
 use std::alloc::{AllocError, Global};
 
 /// The most changes.

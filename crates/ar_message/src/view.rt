@@ -2,10 +2,10 @@ ghost use Rattle.std.specs.Prelude.{◌≡◌};
 
 use crate::confirming::owned_body;
 use crate::fields::{BodyView, SignedView, SubjectView, body, form, path, signed, subject};
-use crate::kinds::owned;
 use crate::{Message, Signature};
 use ar_bytes::{Fields, are_bytes};
 use ar_cert::CertView;
+use ar_names::NameView;
 use std::alloc::{AllocError, Global};
 use std::marker::Model;
 use tree_proof::Bottom;
@@ -96,7 +96,7 @@ impl<'a> ConfView<'a> {
     pub fn to_message(&self, alloc: Global) -> Result<Message, AllocError>
         ensures { IfOk result (λ message. message ≡ with_confirmation self.now) }
     {
-        let name = owned(alloc, self.about.name)?;
+        let name = NameView::from_name(self.about.name).to_name(alloc)?;
         let body = owned_body(alloc, &self.body, self.steps)?;
         let log_signature = Signature::of(alloc, self.log.signature)?;
         let first_signature = Signature::of(alloc, self.first.signature)?;

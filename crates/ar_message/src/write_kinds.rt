@@ -2,6 +2,7 @@
 
 ghost use Rattle.std.specs.Prelude.{◌≡◌, ◌+◌, ◌≤◌, ◌++◌, length, vec_len, vec_capacity, IsOk, OnOk, OnErr};
 ghost use Rattle.std.specs.Int.{w8, w16, w32, w64};
+ghost use Rattle.ar_base.specs.Ranges.{IsFromTo};
 ghost use Rattle.ar_bytes.specs.Joined.{optional_text};
 ghost use Rattle.ar_bytes.specs.RoundTrip.{counted_text, number_text};
 ghost use Rattle.ar_cert.specs.Certificate.{certificate_text};
@@ -165,20 +166,13 @@ fn put_roll_note(
     put_signature(alloc, out, signature)
 }
 
-/// The fields behind the number of the kind.
-#[tactic(auto, unfolding(crate::specs::Messages::fields_text, crate::specs::Confirmation::confirmation_fields_text))]
-fn put_fields(alloc: Global, out: &mut Vec<u8>, message: &Message) -> Result<(), AllocError>
+/// The fields of a message about an epoch that ends, behind the number of its kind.
+#[tactic(auto, unfolding(crate::specs::Messages::fields_text))]
+fn put_ending(alloc: Global, out: &mut Vec<u8>, message: &Message) -> Result<(), AllocError>
+    requires { IsFromTo 4 8 (kind_of message.now) }
     ensures { Appends (fields_text message.now) out.old out.new result }
 {
     match message {
-        Message::EndorseAsk { owner, cert } => put_endorse_ask(alloc, out, *owner, cert),
-        Message::Endorsed {
-            owner,
-            authority,
-            certificate,
-            signature,
-        } => put_endorsed(alloc, out, *owner, *authority, certificate, signature),
-        Message::Submit { change } => put_change(alloc, out, change),
         Message::Propose {
             log,
             epoch,
@@ -217,12 +211,17 @@ fn put_fields(alloc: Global, out: &mut Vec<u8>, message: &Message) -> Result<(),
             put_u64(alloc, out, *epoch)?;
             put_statuses(alloc, out, statuses)
         }
-        Message::ConfirmAsk {
-            client,
-            name,
-            first,
-            second,
-        } => put_confirm_ask(alloc, out, *client, name, *first, *second),
+        _ => unreachable!(),
+    }
+}
+
+/// The fields of a message that brings a confirmation to its client, behind the number of its kind.
+#[tactic(auto, unfolding(crate::specs::Messages::fields_text, crate::specs::Confirmation::confirmation_fields_text))]
+fn put_confirmed_to(alloc: Global, out: &mut Vec<u8>, message: &Message) -> Result<(), AllocError>
+    requires { IsFromTo 10 12 (kind_of message.now) }
+    ensures { Appends (fields_text message.now) out.old out.new result }
+{
+    match message {
         Message::LogConfirmed { part } => put_confirming(alloc, out, part),
         Message::HalfConfirmed {
             part,
@@ -249,12 +248,44 @@ fn put_fields(alloc: Global, out: &mut Vec<u8>, message: &Message) -> Result<(),
             put_signed(alloc, out, *first, first_signature)?;
             put_signed(alloc, out, *second, second_signature)
         }
+        _ => unreachable!(),
+    }
+}
+
+/// The fields behind the number of the kind.
+#[tactic(auto, unfolding(crate::specs::Messages::fields_text))]
+fn put_fields(alloc: Global, out: &mut Vec<u8>, message: &Message) -> Result<(), AllocError>
+    ensures { Appends (fields_text message.now) out.old out.new result }
+{
+    match message {
+        Message::EndorseAsk { owner, cert } => put_endorse_ask(alloc, out, *owner, cert),
+        Message::Endorsed {
+            owner,
+            authority,
+            certificate,
+            signature,
+        } => put_endorsed(alloc, out, *owner, *authority, certificate, signature),
+        Message::Submit { change } => put_change(alloc, out, change),
+        Message::ConfirmAsk {
+            client,
+            name,
+            first,
+            second,
+        } => put_confirm_ask(alloc, out, *client, name, *first, *second),
         Message::RollNote {
             party,
             generation,
             key,
             signature,
         } => put_roll_note(alloc, out, *party, *generation, key, signature),
+        Message::Propose { .. }
+        | Message::Ballot { .. }
+        | Message::StatusNote { .. }
+        | Message::Decision { .. }
+        | Message::SkipNote { .. } => put_ending(alloc, out, message),
+        Message::LogConfirmed { .. }
+        | Message::HalfConfirmed { .. }
+        | Message::Confirmation { .. } => put_confirmed_to(alloc, out, message),
     }
 }
 

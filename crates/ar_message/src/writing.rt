@@ -21,7 +21,6 @@ use crate::{
 use ar_cert::{Cert, Change};
 use ar_names::Name;
 use ar_statement::Party;
-use ar_text::{Part, append};
 use std::alloc::{AllocError, Global};
 use tree_proof::Bottom;
 
@@ -31,34 +30,34 @@ use tree_proof::Bottom;
 pub(crate) fn put_u8(alloc: Global, out: &mut Vec<u8>, n: u8) -> Result<(), AllocError>
     ensures { Appends (number_text w8 n) out.old out.new result }
 {
-    append(alloc, out, &[Part::Bytes(&[n])])
+    ar_bytes::put_u8(alloc, out, n)
 }
 
 #[tactic(auto, unfolding(ar_bytes::specs::RoundTrip::number_text))]
 pub(crate) fn put_u16(alloc: Global, out: &mut Vec<u8>, n: u16) -> Result<(), AllocError>
     ensures { Appends (number_text w16 n) out.old out.new result }
 {
-    append(alloc, out, &[Part::Bytes(&n.to_be_bytes())])
+    ar_bytes::put_u16(alloc, out, n)
 }
 
 #[tactic(auto, unfolding(ar_bytes::specs::RoundTrip::number_text))]
 pub(crate) fn put_u32(alloc: Global, out: &mut Vec<u8>, n: u32) -> Result<(), AllocError>
     ensures { Appends (number_text w32 n) out.old out.new result }
 {
-    append(alloc, out, &[Part::Bytes(&n.to_be_bytes())])
+    ar_bytes::put_u32(alloc, out, n)
 }
 
 #[tactic(auto, unfolding(ar_bytes::specs::RoundTrip::number_text))]
 pub(crate) fn put_u64(alloc: Global, out: &mut Vec<u8>, n: u64) -> Result<(), AllocError>
     ensures { Appends (number_text w64 n) out.old out.new result }
 {
-    append(alloc, out, &[Part::Bytes(&n.to_be_bytes())])
+    ar_bytes::put_u64(alloc, out, n)
 }
 
 pub(crate) fn put(alloc: Global, out: &mut Vec<u8>, bytes: &[u8]) -> Result<(), AllocError>
     ensures { Appends bytes.now out.old out.new result }
 {
-    append(alloc, out, &[Part::Bytes(bytes)])
+    ar_bytes::put_bytes(alloc, out, bytes)
 }
 
 /// Two digests.
