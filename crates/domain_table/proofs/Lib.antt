@@ -18,3 +18,4 @@ pub mod Changed
 pub mod Taking
 pub mod Ripening
 pub mod Copies
+pub mod ByKeys

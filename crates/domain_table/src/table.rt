@@ -1,6 +1,6 @@
 ghost use Rattle.std.specs.Prelude.{◌≡◌, ◌↔◌, Some, None, Ok, Err, IfErr, IfOk, OnOk, OnErr, [], ◌∷◌};
 ghost use Rattle.std.specs.Option.{option_map};
-ghost use Rattle.std.specs.FinMap.{get};
+ghost use Rattle.std.specs.FinMap.{entries, get};
 ghost use Rattle.domain_table.specs.Tables.{no_table};
 ghost use Rattle.domain_table.specs.declared.fault.ApplyFault.TheVariants as faults;
 ghost use Rattle.domain_table.specs.declared.refusal.ChangeRefusal.{ChangeRefusal};
@@ -9,6 +9,7 @@ ghost use Rattle.domain_table.specs.Tree.{root_of, tree_entries};
 ghost use Rattle.domain_table.specs.Rows.{pending_told};
 
 use crate::fault::ApplyFault;
+use crate::listing::list_entries;
 use crate::refusal::ChangeRefusal;
 use crate::ripe_rows::{has_ripe, ripen_rows};
 use crate::row::Row;
@@ -93,6 +94,13 @@ impl Table {
         ensures { result.now ≡ tree_entries self.now }
     {
         &self.trie
+    }
+
+    /// The entries in the integrity tree, in the order of their keys. The only error is want of memory.
+    pub fn entries(&self, alloc: Global) -> Result<Vec<([u8; 32], [u8; 32])>, AllocError>
+        ensures { IfOk result (λ list. list.items ≡ entries (tree_entries self.now)) }
+    {
+        list_entries(alloc, &self.rows)
     }
 
     /// Whether a change is taken at an epoch, in the table as it has ripened then, or why it is refused. The

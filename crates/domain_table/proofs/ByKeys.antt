@@ -1,0 +1,50 @@
+-- A map that is filled from the last entry to the first has the entries of the finite map that they make.
+use Rattle.std.proofs.Common.{◌≡◌, ℕ, suc, ◌+◌, ◌<◌, List, [], ◌∷◌, ◌++◌, map, length, get_or, drop, drop-cons, refl, sym, ap, ◌∙◌, arith}
+use Rattle.std.specs.List.{filter_map, cons_option}
+use Rattle.std.specs.declared.cmp.Ordering.{Ordering}
+use Rattle.std.specs.declared.cmp.Ordering.TheVariants.{Less, Equal, Greater}
+use Rattle.std.specs.Ordering.{match_ordering}
+use Rattle.std.specs.FinMap.{entries, entries-insert}
+use Rattle.std.specs.FinMap.Entries.{by_order, put}
+use Rattle.std.specs.BTreeMap.{insert_entry}
+use Rattle.hash_tree.specs.Entries.{Entry, entries_of, key_cmp}
+use Rattle.hash_tree.proofs.Maps.{total, entries-entries_of}
+use Rattle.domain_table.specs.declared.row.Row.{Row}
+use Rattle.domain_table.specs.Rows.{data_in, marks_of, name_entry, pending_entry}
+
+insert-put : (es : List Entry) (key value : List ℕ) → insert_entry key_cmp es key value ≡ put key_cmp key value es
+insert-put [] key value = refl
+insert-put (e ∷ es) key value = at (key_cmp key e.0) (insert-put es key value) where
+  at : (o : Ordering) → insert_entry key_cmp es key value ≡ put key_cmp key value es
+      → match_ordering o ((key, value) ∷ e ∷ es) ((e.0, value) ∷ es) (e ∷ insert_entry key_cmp es key value)
+      ≡ by_order o ((key, value) ∷ e ∷ es) ((e.0, value) ∷ es) (e ∷ put key_cmp key value es)
+  at Less rest = refl
+  at Equal rest = refl
+  at Greater rest = ap (λ xs. e ∷ xs) rest
+
+pub first_put : (list es : List Entry) (key value : List ℕ) → list ≡ entries (entries_of es) → insert_entry key_cmp list key value ≡ entries (entries_of ((key, value) ∷ es))
+first_put list es key value is =
+    ap (λ xs. insert_entry key_cmp xs key value) is ∙ insert-put (entries (entries_of es)) key value ∙ sym (entries-insert total (entries_of es) key value)
+
+next : (n : ℕ) → suc n ≡ n + 1
+next n = omega arith
+
+-- the rows from a place on, by the row there
+rest_from : (rows : List Row) (i : ℕ) (d : Row) → i < length rows → drop i rows ≡ get_or rows i d ∷ drop (i + 1) rows
+rest_from rows i d l = drop-cons rows i d l ∙ ap (λ n. get_or rows i d ∷ drop n rows) (next i)
+
+pub pending_from : (rows : List Row) (i : ℕ) (d : Row) → i < length rows
+    → cons_option (pending_entry (get_or rows i d).marks) (filter_map pending_entry (marks_of (data_in (drop (i + 1) rows)))) ≡ filter_map pending_entry (marks_of (data_in (drop i rows)))
+pending_from rows i d l = ap (λ rs. filter_map pending_entry (marks_of (data_in rs))) (sym (rest_from rows i d l))
+
+pub names_from : (rows : List Row) (i : ℕ) (d : Row) (es : List Entry) → i < length rows
+    → name_entry (get_or rows i d).marks ∷ (map name_entry (marks_of (data_in (drop (i + 1) rows))) ++ es) ≡ map name_entry (marks_of (data_in (drop i rows))) ++ es
+names_from rows i d es l = ap (λ rs. map name_entry (marks_of (data_in rs)) ++ es) (sym (rest_from rows i d l))
+
+drop_all : {A : Type 0} (xs : List A) → drop (length xs) xs ≡ []
+drop_all [] = refl
+drop_all (x ∷ xs) = drop_all xs
+
+-- behind the last row nothing is listed
+pub none_behind : (rows : List Row) → entries (entries_of (filter_map pending_entry (marks_of (data_in (drop (length rows) rows))))) ≡ []
+none_behind rows = ap (λ rs. entries (entries_of (filter_map pending_entry (marks_of (data_in rs))))) (drop_all rows) ∙ entries-entries_of [] refl
