@@ -1,0 +1,5 @@
+pub mod Books
+pub mod Lists
+pub mod Seeing
+pub mod Texts
+pub mod Votes

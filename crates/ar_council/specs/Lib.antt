@@ -1,0 +1,5 @@
+pub mod Council
+pub mod Room
+pub mod Seen
+pub mod Values
+pub mod Votes
