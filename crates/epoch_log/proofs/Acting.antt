@@ -6,10 +6,13 @@ use Rattle.std.proofs.lemmas.Bool.{eq-eqb, eqb-true}
 use Rattle.std.proofs.lemmas.List.Elements.{All-contains}
 use Rattle.ar_cert.specs.Changes.{Change}
 use Rattle.vote_quorum.specs.declared.value.Value.{Value}
-use Rattle.epoch_log.specs.Calls.{HasRoom, MayConfirm, MayRoll, MayState, after_confirm, after_roll, casting, confirmation_text, confirmed_of, own_status_text, own_value, own_vote_text, proposing, stating, vote_of}
+use Rattle.ar_council.proofs.Lists.{find-nothing, find-some}
+use Rattle.ar_council.specs.Room.{HasRoom}
+use Rattle.ar_council.specs.Values.{IsValue}
+use Rattle.epoch_log.specs.Calls.{MayConfirm, MayRoll, MayState, after_confirm, after_roll, casting, confirmation_text, confirmed_of, own_status_text, own_value, own_vote_text, proposing, stating, vote_of}
 use Rattle.epoch_log.specs.Ending.{own_vote}
 use Rattle.epoch_log.specs.Record.{base_of}
-use Rattle.epoch_log.specs.Right.{Fits, IsRightConfirmation, IsRightVote, IsValue, newest_digest}
+use Rattle.epoch_log.specs.Right.{Fits, IsRightConfirmation, IsRightVote, newest_digest}
 use Rattle.epoch_log.specs.State.{IsKept, IsNewest, IsNewestDecision, LogState, epoch_of, table_of}
 use Rattle.epoch_log.specs.Told.{value_of}
 use Rattle.epoch_log.specs.declared.entries.How.TheVariants.{Decided}
@@ -18,7 +21,6 @@ use Rattle.epoch_log.specs.declared.entries.Voted.{Voted}
 use Rattle.epoch_log.proofs.Closings.{honest-confirming}
 use Rattle.epoch_log.proofs.Endings.{base-newest, ending-within}
 use Rattle.epoch_log.proofs.Growing.{honest-casting, honest-proposing, honest-rolling, honest-stating}
-use Rattle.epoch_log.proofs.Lists.{find-nothing, find-some}
 use Rattle.epoch_log.proofs.Texts.{a-roll, names-generation, plain-confirm, plain-propose, plain-status, plain-vote, valid-confirm, valid-propose, valid-roll, valid-status, valid-vote}
 
 pub kept-casting : (s : LogState) (value : Value) (changes : List Change) → IsKept s → All (λ w. w.epoch ≢ epoch_of s) s.past.voted → All (λ t. t.epoch ≢ epoch_of s) s.past.stated

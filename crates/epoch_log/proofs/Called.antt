@@ -10,27 +10,27 @@ use Rattle.ar_cert.specs.Judging.{endorsers_of}
 use Rattle.ar_statement.specs.declared.party.Party.{Party}
 use Rattle.ar_statement.specs.declared.text.SeenText.{SeenText}
 use Rattle.ar_statement.specs.Claims.{endorse, propose, roll, text_of}
-use Rattle.key_roll.specs.Book.{IsRollBook}
-use Rattle.key_roll.specs.declared.signed.Signed.{Signed}
 use Rattle.party_keys.specs.Seen.{Saw, authority_party, log_party}
 use Rattle.vote_quorum.specs.Numbers.{distinct_count}
 use Rattle.vote_quorum.specs.Statuses.{Status}
 use Rattle.vote_quorum.specs.declared.value.Value.{Value}
-use Rattle.epoch_log.specs.Calls.{AreEndorsers, HasRoom, IsProposed, IsTurn, MayDecide, MaySkip, MayState, MayVote, SignedStatus, after_ballot, after_decide, after_endorsed, after_learn, after_propose, after_skip, after_state, after_status_seen, after_vote, casting, counting_own, counting_status, counting_vote, decision_seen, endorsements_of, fresh, is_turn, own_status_text, own_value, own_vote_text, plain_statuses, proposal_of, proposal_texts, propose_claim, proposing, seeing, seen_after, seen_of, stating, statuses_seen, vote_of, votes_seen}
-use Rattle.epoch_log.specs.Council.{Council, IsMember}
+use Rattle.ar_council.proofs.Books.{empty-book, second-room}
+use Rattle.ar_council.proofs.Lists.{All-unmap, both}
+use Rattle.ar_council.proofs.Seeing.{seen-has}
+use Rattle.ar_council.specs.Council.{Council, IsMember}
+use Rattle.ar_council.specs.Room.{HasRoom}
+use Rattle.ar_council.specs.Seen.{seen_after, seen_of}
+use Rattle.ar_council.specs.Values.{IsValue, status_claim, vote_claim}
+use Rattle.ar_council.specs.Votes.{SawVotes}
+use Rattle.epoch_log.specs.Calls.{AreEndorsers, IsProposed, IsTurn, MayDecide, MaySkip, MayState, MayVote, SignedStatus, after_ballot, after_decide, after_endorsed, after_learn, after_propose, after_skip, after_state, after_status_seen, after_vote, casting, counting_own, counting_status, counting_vote, decision_seen, endorsements_of, fresh, is_turn, own_status_text, own_value, own_vote_text, plain_statuses, proposal_of, proposal_texts, propose_claim, proposing, seeing, stating, statuses_seen, vote_of, votes_seen}
 use Rattle.epoch_log.specs.Ending.{decided, may_end, skipped}
 use Rattle.epoch_log.specs.Record.{current, ending}
-use Rattle.epoch_log.specs.Right.{IsValue, LeadsTo, SawEndorsements, SawVotes}
+use Rattle.epoch_log.specs.Right.{LeadsTo, SawEndorsements}
 use Rattle.epoch_log.specs.State.{IsKept, LogState, epoch_of, table_of}
-use Rattle.epoch_log.specs.Told.{status_claim, vote_claim}
 use Rattle.epoch_log.specs.declared.entries.Closing.{Closing}
 use Rattle.epoch_log.specs.declared.entries.Closing.TheVariants as closings
 use Rattle.epoch_log.proofs.Acting.{kept-casting, kept-proposing, kept-stating, own-value}
-use Rattle.epoch_log.proofs.Books.{second-room}
-use Rattle.epoch_log.proofs.Counted.{All-unmap}
 use Rattle.epoch_log.proofs.Kept.{kept-closed, kept-counting_status, kept-counting_vote, kept-decided, kept-seeing, kept-skipped}
-use Rattle.epoch_log.proofs.Lists.{both}
-use Rattle.epoch_log.proofs.Seeing.{seen-has}
 
 -- ---- endorsements
 
@@ -219,17 +219,6 @@ kept-learn s party generation key kept member =
     kept-seeing s (one ∷ []) kept (All-cons (λ (t : SeenText). IsMember s.council t.party) one [] member (All-nil (λ (t : SeenText). IsMember s.council t.party)))
 
 -- ---- the beginning
-
-pub empty-book : (leaves : ℕ) → 0 < leaves → IsRollBook (record { leaves = leaves; newest = 0; list = [] })
-empty-book leaves some = record {
-  once = λ i j d before within. absurd (omega (arith, within));
-  upto = All-nil (λ (s : Signed). s.generation ≤ 0);
-  within = λ g. omega (arith, some);
-  rolled = λ g less. absurd (omega (arith, less));
-  unrolled = λ g more. refl;
-  named = λ k d within. absurd (omega (arith, within));
-  last = omega arith;
-}
 
 pub kept-fresh : (me : ℕ) (council : Council) (leaves : ℕ) → me < 2 ^ 16 → 0 < leaves → IsKept (fresh me council leaves)
 unfolding ending

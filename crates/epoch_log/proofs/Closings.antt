@@ -16,22 +16,26 @@ use Rattle.key_roll.specs.Rolls.{is_roll}
 use Rattle.key_roll.proofs.Books.{after_entry_keeps}
 use Rattle.vote_quorum.specs.Statuses.{Status}
 use Rattle.domain_table.specs.Tree.{root_of}
-use Rattle.epoch_log.specs.Calls.{HasRoom, is_same_confirmation, is_same_digest, with_confirmed}
-use Rattle.epoch_log.specs.Council.{Council}
+use Rattle.ar_council.proofs.Books.{entry-has, entry-keeps}
+use Rattle.ar_council.proofs.Lists.{Within, both, found, same-within}
+use Rattle.ar_council.proofs.Texts.{own-text}
+use Rattle.ar_council.specs.Council.{Council}
+use Rattle.ar_council.specs.Room.{HasRoom}
+use Rattle.ar_council.specs.Values.{confirm_claim, is_same_digest}
+use Rattle.ar_council.specs.Votes.{SawVotes}
+use Rattle.epoch_log.specs.Calls.{is_same_confirmation, with_confirmed}
 use Rattle.epoch_log.specs.Ending.{with_ending}
 use Rattle.epoch_log.specs.Honest.{EndsInOrder, HonestLog}
 use Rattle.epoch_log.specs.Record.{LogRecord, base_of, current, ending}
-use Rattle.epoch_log.specs.Right.{IsRightConfirmation, IsRightDecision, IsRightSkip, IsRightVote, LeadsTo, SawVotes, newest_digest}
-use Rattle.epoch_log.specs.Told.{HasConfirmed, Told, confirm_claim}
+use Rattle.epoch_log.specs.Right.{IsRightConfirmation, IsRightDecision, IsRightSkip, IsRightVote, LeadsTo, newest_digest}
+use Rattle.epoch_log.specs.Told.{HasConfirmed, Told}
 use Rattle.epoch_log.specs.declared.entries.Confirmed.{Confirmed}
 use Rattle.epoch_log.specs.declared.entries.Ended.{Ended}
 use Rattle.epoch_log.specs.declared.entries.How.{How}
 use Rattle.epoch_log.specs.declared.entries.How.TheVariants.{Decided, Skipped}
 use Rattle.epoch_log.specs.declared.entries.Voted.{Voted}
-use Rattle.epoch_log.proofs.Books.{entry-has, entry-keeps}
 use Rattle.epoch_log.proofs.Endings.{base-stays, ending-here, ending-other, ending-within, order-kept, with}
-use Rattle.epoch_log.proofs.Growing.{confirmations-kept, has_confirmation, own-text, same-within, signs-more, statuses-kept, votes-kept}
-use Rattle.epoch_log.proofs.Lists.{Within, both, found}
+use Rattle.epoch_log.proofs.Growing.{confirmations-kept, has_confirmation, signs-more, statuses-kept, votes-kept}
 
 -- ---- an ending
 

@@ -5,7 +5,7 @@ use Rattle.std.specs.List.{AllByRecursion, list_all, list_any}
 use Rattle.std.specs.List.Sorted.{IsStrictlyIncreasing}
 use Rattle.std.proofs.lemmas.Bool.{eq-eqb, ltb-true}
 use Rattle.std.proofs.lemmas.List.{length-map, get_or-map}
-use Rattle.std.proofs.lemmas.List.Elements.{All-filter, All-from_recursion, All-map, filter_passes, recursion_from_All}
+use Rattle.std.proofs.lemmas.List.Elements.{All-filter, All-map, filter_passes}
 use Rattle.std.proofs.lemmas.List.Kept.{AllPairs-from_increasing}
 use Rattle.std.proofs.lemmas.List.Sums.{sum_by-cons}
 use Rattle.std.proofs.lemmas.Slice.Eq.{bytes_eq-Decides}
@@ -16,13 +16,15 @@ use Rattle.ar_base.specs.Counting.{one_if}
 use Rattle.vote_quorum.specs.Numbers.{distinct_count}
 use Rattle.vote_quorum.specs.Statuses.{Excludes, Status, is_for, logs_of, report_count}
 use Rattle.vote_quorum.specs.declared.value.Value.{Value}
+use Rattle.ar_council.proofs.Lists.{All-unmap, both}
+use Rattle.ar_council.specs.Council.{Council}
+use Rattle.ar_council.specs.Values.{IsValue, status_claim, vote_claim}
+use Rattle.ar_council.specs.Votes.{SawVotes}
 use Rattle.epoch_log.specs.Calls.{placed, with_status, with_vote}
-use Rattle.epoch_log.specs.Council.{Council}
 use Rattle.epoch_log.specs.Ending.{excludes_all, falls_short, is_excluded, votes_for}
-use Rattle.epoch_log.specs.Right.{AreSeen, IsValue, SawVotes}
+use Rattle.epoch_log.specs.Right.{AreSeen}
 use Rattle.epoch_log.specs.State.{CountedStatus, CountedVote, IsSeenVote, ballots_of, reports_of}
-use Rattle.epoch_log.specs.Told.{status_claim, vote_claim}
-use Rattle.epoch_log.proofs.Lists.{All-placed, AllPairs-placed, both}
+use Rattle.epoch_log.proofs.Lists.{All-placed, AllPairs-placed}
 
 -- ---- values
 
@@ -97,14 +99,6 @@ quorum-seen council seen epoch votes value all many =
     }
 
 -- ---- one more status
-
-unmapped : {X Y : Type 0} (P : Y → Type 0) (f : X → Y) (xs : List X) → AllByRecursion P (map f xs) → AllByRecursion (λ x. P (f x)) xs
-unmapped P f [] all = tt
-unmapped P f (x ∷ xs) all = (all.0, unmapped P f xs all.1)
-
--- what a list has under a function
-pub All-unmap : {X Y : Type 0} (P : Y → Type 0) (f : X → Y) (xs : List X) → All P (map f xs) → All (λ x. P (f x)) xs
-All-unmap {X} P f xs all = All-from_recursion (λ x. P (f x)) xs (unmapped P f xs (recursion_from_All P (map f xs) all))
 
 logs-plain : (l : List CountedStatus) → logs_of (reports_of l) ≡ map (λ (s : CountedStatus). s.0) l
 logs-plain [] = refl

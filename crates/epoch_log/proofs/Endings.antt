@@ -11,12 +11,12 @@ use Rattle.std.proofs.lemmas.Option.{get_or_from_slice_get, slice_get-get_or, sl
 use Rattle.std.proofs.Math.ListN.{get_or-append}
 use Rattle.std.proofs.Math.Seq.{get_or-append_seam}
 use Rattle.ar_cert.specs.Changes.{Change}
+use Rattle.ar_council.proofs.Lists.{find-none}
 use Rattle.epoch_log.specs.Honest.{EndsInOrder}
 use Rattle.epoch_log.specs.Record.{after_ending, base_of, current, ending}
 use Rattle.epoch_log.specs.declared.entries.Ended.{Ended}
 use Rattle.epoch_log.specs.declared.entries.How.{How}
 use Rattle.epoch_log.specs.declared.entries.How.TheVariants.{Decided, Skipped}
-use Rattle.epoch_log.proofs.Lists.{find-none}
 
 abbrev pub with : List Ended → ℕ → How → List Ended
 with ended epoch how = ended ++ record { epoch = epoch; how = how } ∷ []

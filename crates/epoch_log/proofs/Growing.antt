@@ -3,7 +3,7 @@
 use Rattle.std.proofs.Common.{◌≡◌, ◌≢◌, ℕ, ◌<◌, inl, List, [], ◌∷◌, ◌++◌, refl, sym, ap, ◌∙◌, subst, arith, true, false, Option, Some, None}
 use Rattle.std.specs.Prelude.{All, Contains}
 use Rattle.std.specs.Option.{option_map}
-use Rattle.std.proofs.lemmas.List.Elements.{All-push, All-weaker, Contains-append_left, Contains-push}
+use Rattle.std.proofs.lemmas.List.Elements.{All-push, All-weaker, Contains-push}
 use Rattle.std.proofs.lemmas.List.Quantifiers.{all_pairs_push}
 use Rattle.ar_cert.specs.Certificate.{digest_of}
 use Rattle.ar_cert.specs.Changes.{Change}
@@ -16,23 +16,26 @@ use Rattle.key_roll.specs.Entry.{after_entry, with_roll}
 use Rattle.key_roll.specs.Rolls.{is_roll, named_generation}
 use Rattle.key_roll.proofs.Books.{after_entry_keeps, roll_keeps}
 use Rattle.party_keys.specs.Seen.{Saw, authority_party, log_party}
-use Rattle.vote_quorum.proofs.Counts.{at_least_wider}
 use Rattle.vote_quorum.specs.Statuses.{Status}
 use Rattle.vote_quorum.specs.declared.value.Value.{Value}
 use Rattle.domain_table.specs.Tables.{Table}
 use Rattle.domain_table.specs.Tree.{root_of}
-use Rattle.epoch_log.specs.Calls.{HasRoom, seen_after}
-use Rattle.epoch_log.specs.Council.{Council, IsMember}
+use Rattle.ar_council.proofs.Books.{entry-all, entry-has, entry-keeps, roll-all, roll-keeps}
+use Rattle.ar_council.proofs.Lists.{Within, pushed-within, same-within}
+use Rattle.ar_council.proofs.Seeing.{seen-all, seen-keeps}
+use Rattle.ar_council.specs.Council.{Council, IsMember}
+use Rattle.ar_council.specs.Room.{HasRoom}
+use Rattle.ar_council.specs.Seen.{seen_after}
+use Rattle.ar_council.specs.Values.{confirm_claim, roots_of, status_claim, value_of_roots, vote_claim}
+use Rattle.ar_council.proofs.Votes.{votes-more}
+use Rattle.ar_council.proofs.Texts.{own-text}
 use Rattle.epoch_log.specs.Honest.{HonestLog, IsUpToNow, SignsWhatItTells}
 use Rattle.epoch_log.specs.Record.{LogRecord, base_of, current}
-use Rattle.epoch_log.specs.Right.{AreSeen, Fits, IsRightVote, LeadsTo, SawEndorsements, SawVotes}
-use Rattle.epoch_log.specs.Told.{HasStated, Told, confirm_claim, roots_of, status_claim, value_of, value_of_roots, vote_claim}
+use Rattle.epoch_log.specs.Right.{AreSeen, Fits, IsRightVote, LeadsTo, SawEndorsements}
+use Rattle.epoch_log.specs.Told.{HasStated, Told, value_of}
 use Rattle.epoch_log.specs.declared.entries.Confirmed.{Confirmed}
 use Rattle.epoch_log.specs.declared.entries.Stated.{Stated}
 use Rattle.epoch_log.specs.declared.entries.Voted.{Voted}
-use Rattle.epoch_log.proofs.Books.{entry-all, entry-has, entry-keeps, roll-all, roll-keeps}
-use Rattle.epoch_log.proofs.Lists.{Within}
-use Rattle.epoch_log.proofs.Seeing.{seen-all, seen-keeps}
 
 -- ---- more is seen
 
@@ -48,11 +51,6 @@ leads-more seen later within epoch before changes to leads = record {
   applies = leads.applies;
   endorsed = All-weaker (SawEndorsements seen) (SawEndorsements later) (endorsements-more seen later within) changes leads.endorsed;
 }
-
-pub votes-more : (council : Council) (seen later : List SeenText) → Within seen later → (epoch : ℕ) (value : Value) → SawVotes council seen epoch value → SawVotes council later epoch value
-votes-more council seen later within epoch value saw =
-    at_least_wider council.quorum council.logs (λ log. Saw seen (log_party log) (vote_claim log epoch value)) (λ log. Saw later (log_party log) (vote_claim log epoch value))
-    (λ log below one. within (record { party = log_party log; text = text_of (vote_claim log epoch value) }) one) saw
 
 pub statuses-more : (council : Council) (seen later : List SeenText) → Within seen later → (epoch : ℕ) (statuses : List Status) → AreSeen council seen epoch statuses → AreSeen council later epoch statuses
 statuses-more council seen later within epoch statuses are = record {
@@ -110,9 +108,6 @@ texts-more : (P Q : Claim → Type 0) → ((claim : Claim) → P claim → Q cla
 texts-more P Q weaker texts all =
     All-weaker (IsTextOf P) (IsTextOf Q) (λ text t. record { claim = t.claim; valid = t.valid; holds = weaker t.claim t.holds; is = t.is }) texts all
 
-pub own-text : (P : Claim → Type 0) (claim : Claim) → IsValid claim → P claim → IsTextOf P (text_of claim)
-own-text P claim valid holds = record { claim = claim; valid = valid; holds = holds; is = refl }
-
 -- what the book of a record tells, where a text was entered and the entries are more
 pub signs-more : (me : ℕ) (book : RollBook) (text : List ℕ) (voted voted' : List Voted) (stated stated' : List Stated) (confirmed confirmed' : List Confirmed)
     → Within voted voted' → Within stated stated' → Within confirmed confirmed'
@@ -143,12 +138,6 @@ statuses-kept me book later within stated all =
 pub confirmations-kept : (me : ℕ) (book later : RollBook) → Within (texts_of book) (texts_of later) → (confirmed : List Confirmed) → All (has_confirmation me (texts_of book)) confirmed → All (has_confirmation me (texts_of later)) confirmed
 confirmations-kept me book later within confirmed all =
     All-weaker (has_confirmation me (texts_of book)) (has_confirmation me (texts_of later)) (λ c has. within (text_of (confirm_claim me c.epoch c.name c.certificate c.root)) has) confirmed all
-
-pub same-within : {X : Type 0} (xs : List X) → Within xs xs
-same-within xs x there = there
-
-pub pushed-within : {X : Type 0} (xs : List X) (y : X) → Within xs (xs ++ y ∷ [])
-pushed-within xs y x there = Contains-append_left xs (y ∷ []) x there
 
 -- ---- a vote
 

@@ -12,14 +12,19 @@ use Rattle.vote_quorum.specs.Numbers.{distinct_count}
 use Rattle.vote_quorum.specs.Statuses.{Status}
 use Rattle.vote_quorum.specs.declared.value.Value.{Value}
 use Rattle.domain_table.specs.Tree.{root_of}
-use Rattle.epoch_log.specs.Calls.{counting_status, counting_vote, seeing, seen_after}
-use Rattle.epoch_log.specs.Council.{Council, IsMember}
+use Rattle.ar_council.proofs.Lists.{Within, find-some}
+use Rattle.ar_council.proofs.Seeing.{seen-keeps}
+use Rattle.ar_council.specs.Council.{Council, IsMember}
+use Rattle.ar_council.specs.Seen.{seen_after}
+use Rattle.ar_council.specs.Values.{IsValue, status_claim, vote_claim}
+use Rattle.ar_council.specs.Votes.{SawVotes}
+use Rattle.epoch_log.specs.Calls.{counting_status, counting_vote, seeing}
 use Rattle.epoch_log.specs.Ending.{closed, closed_by, closed_by_statuses, decided, excludes_all, has_quorum, may_end, own_vote, skipped, votes_for}
 use Rattle.epoch_log.specs.Honest.{EndsInOrder}
 use Rattle.epoch_log.specs.Record.{base_of, current, ending}
-use Rattle.epoch_log.specs.Right.{AreSeen, IsRightDecision, IsRightSkip, IsRightVote, IsValue, LeadsTo, SawVotes}
+use Rattle.epoch_log.specs.Right.{AreSeen, IsRightDecision, IsRightSkip, IsRightVote, LeadsTo}
 use Rattle.epoch_log.specs.State.{CountedStatus, CountedVote, IsKept, IsNewest, IsSeenVote, LogState, ballots_of, epoch_of, newest_value, reports_of, table_of}
-use Rattle.epoch_log.specs.Told.{status_claim, value_of, vote_claim}
+use Rattle.epoch_log.specs.Told.{value_of}
 use Rattle.epoch_log.specs.declared.entries.Closing.{Closing}
 use Rattle.epoch_log.specs.declared.entries.Closing.TheVariants as closings
 use Rattle.epoch_log.specs.declared.entries.Ended.{Ended}
@@ -31,8 +36,6 @@ use Rattle.epoch_log.proofs.Closings.{honest-ending}
 use Rattle.epoch_log.proofs.Counted.{excludes-each, many-votes, quorum-seen, saw-votes, statuses-counted, votes-counted}
 use Rattle.epoch_log.proofs.Endings.{base-stays, ending-here, ending-none, ending-other, ending-within, with}
 use Rattle.epoch_log.proofs.Growing.{honest-seeing, statuses-more}
-use Rattle.epoch_log.proofs.Lists.{Within, find-some}
-use Rattle.epoch_log.proofs.Seeing.{seen-keeps}
 
 -- ---- more is seen
 

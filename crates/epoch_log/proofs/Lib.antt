@@ -1,12 +1,15 @@
 pub mod Acting
-pub mod Books
+pub mod Affirmed
 pub mod Called
 pub mod Closings
 pub mod Counted
 pub mod Endings
 pub mod Growing
 pub mod Kept
+pub mod Learnt
+pub mod Leaves
 pub mod Lists
+pub mod Loops
+pub mod Moved
 pub mod Read
-pub mod Seeing
 pub mod Texts

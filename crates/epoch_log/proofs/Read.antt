@@ -6,29 +6,29 @@ use Rattle.std.specs.List.{list_all, list_any}
 use Rattle.std.specs.Cmp.Derive.{both_true}
 use Rattle.std.proofs.lemmas.Bool.{cases_lt, leb-false, lt-ltb}
 use Rattle.std.proofs.lemmas.List.{length-append}
-use Rattle.std.proofs.lemmas.List.Elements.{All-contains, All-contains_itself, All-weaker}
+use Rattle.std.proofs.lemmas.List.Elements.{All-contains}
 use Rattle.ar_cert.specs.Changes.{Change}
 use Rattle.ar_statement.specs.Claims.{Claim, text_of}
 use Rattle.ar_statement.specs.Ranges.{IsTextOf, IsValid}
 use Rattle.ar_statement.proofs.OneText.{text_is}
-use Rattle.ar_statement.specs.declared.text.SeenText.{SeenText}
 use Rattle.key_roll.specs.Book.{texts_of}
 use Rattle.domain_table.specs.Applying.{apply}
 use Rattle.domain_table.specs.Tables.{Table}
 use Rattle.vote_quorum.specs.Ballots.{has_ballot, log_count}
 use Rattle.vote_quorum.specs.Statuses.{Excludes, Status, report_count}
 use Rattle.vote_quorum.specs.declared.value.Value.{Value}
-use Rattle.epoch_log.specs.Council.{Council}
+use Rattle.ar_council.specs.Council.{Council}
+use Rattle.ar_council.specs.Values.{confirm_claim, status_claim, vote_claim}
 use Rattle.epoch_log.specs.Ending.{closed, closed_by, closed_by_statuses, decided, excludes_all, falls_short, has_quorum, is_excluded, may_end, own_vote, skipped, votes_for}
 use Rattle.epoch_log.specs.State.{CountedStatus, CountedVote, LogState, ballots_of, epoch_of, reports_of, table_of}
-use Rattle.epoch_log.specs.Calls.{seen_after, with_status, with_vote}
+use Rattle.epoch_log.specs.Calls.{with_status, with_vote}
 use Rattle.epoch_log.proofs.Lists.{placed-exactly}
 use Rattle.epoch_log.specs.declared.entries.Closing.{Closing}
 use Rattle.epoch_log.specs.declared.entries.Closing.TheVariants as closings
 use Rattle.epoch_log.specs.Honest.{EndsInOrder, HonestLog}
 use Rattle.epoch_log.specs.Record.{LogRecord, after_ending, base_of, current}
 use Rattle.epoch_log.specs.Right.{Fits}
-use Rattle.epoch_log.specs.Told.{HasConfirmed, HasStated, HasVoted, Told, confirm_claim, status_claim, value_of, vote_claim}
+use Rattle.epoch_log.specs.Told.{HasConfirmed, HasStated, HasVoted, Told, value_of}
 use Rattle.epoch_log.specs.declared.entries.Confirmed.{Confirmed}
 use Rattle.epoch_log.specs.declared.entries.Ended.{Ended}
 use Rattle.epoch_log.specs.declared.entries.How.{How}
@@ -36,7 +36,6 @@ use Rattle.epoch_log.specs.declared.entries.How.TheVariants.{Decided, Skipped}
 use Rattle.epoch_log.specs.declared.entries.Stated.{Stated}
 use Rattle.epoch_log.specs.declared.entries.Voted.{Voted}
 use Rattle.epoch_log.proofs.Endings.{base-stays, ending-here, with}
-use Rattle.epoch_log.proofs.Seeing.{seen-all, seen-has, seen-keeps}
 
 -- ---- one entry of each epoch
 
@@ -153,18 +152,6 @@ excludes-tested council statuses excludes =
     both_true none (all-excluded council statuses statuses excludes none)
 
 -- ---- what is seen
-
-pub seen-exactly : (seen more : List SeenText) (t : SeenText) → Contains (seen_after seen more) t ↔ (Contains seen t ⊎ Contains more t)
-seen-exactly seen more t = (
-  λ there. All-contains (λ x. Contains seen x ⊎ Contains more x) (seen_after seen more) t
-      (seen-all (λ x. Contains seen x ⊎ Contains more x) more seen
-      (All-weaker (Contains seen) (λ x. Contains seen x ⊎ Contains more x) (λ x old. inl old) seen (All-contains_itself seen))
-      (All-weaker (Contains more) (λ x. Contains seen x ⊎ Contains more x) (λ x new. inr new) more (All-contains_itself more))) there,
-  λ either. elim either [
-    | inl old ↦ seen-keeps more seen t old
-    | inr new ↦ All-contains (Contains (seen_after seen more)) more t (seen-has more seen) new
-  ],
-)
 
 -- ---- what an ending makes of the table
 

@@ -12,8 +12,7 @@ use Rattle.key_roll.specs.Rolls.{is_roll, named_generation}
 use Rattle.key_roll.proofs.Books.{is_roll-kind, named-roll}
 use Rattle.party_keys.specs.Seen.{log_party}
 use Rattle.vote_quorum.specs.declared.value.Value.{Value}
-use Rattle.epoch_log.specs.Right.{IsValue}
-use Rattle.epoch_log.specs.Told.{confirm_claim, status_claim, vote_claim}
+use Rattle.ar_council.specs.Values.{IsValue, confirm_claim, status_claim, vote_claim}
 
 pub in-range : (n : ℕ) → n < 2 ^ 63 → is_epoch (n + 1) ≡ true
 in-range n less = both_true (le-leb 1 (n + 1) (omega arith)) (le-leb (n + 1) (2 ^ 63) (omega (arith, less)))

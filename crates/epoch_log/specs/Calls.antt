@@ -1,32 +1,31 @@
 -- What each thing that a log does makes of where it stands, and when it may do so.
-use Rattle.std.specs.Prelude.{◌≡◌, ◌≢◌, ℕ, ◌+◌, ◌%◌, ◌<◌, ◌≤◌, ◌==◌, Bool, true, false, not, ◌&&◌, nat_le, nat_lt, if◌then◌else◌, List, [], ◌∷◌, ◌++◌, map, flat_map, fold, count_by, All, Option, Some, None, is_some, IfSome, IsTrue}
+use Rattle.std.specs.Prelude.{◌≡◌, ◌≢◌, ℕ, ◌+◌, ◌%◌, ◌<◌, ◌≤◌, ◌==◌, Bool, ◌&&◌, nat_le, nat_lt, if◌then◌else◌, List, [], ◌∷◌, ◌++◌, map, flat_map, All, Option, Some, None, IfSome, IsTrue}
 use Rattle.std.specs.List.{list_any}
 use Rattle.std.specs.Option.{option_map}
 use Rattle.std.specs.Str.{bytes_eq}
 use Rattle.ar_base.specs.Bytes.{IsDigest}
-use Rattle.ar_base.specs.Places.{place_of}
 use Rattle.ar_cert.specs.Certificate.{digest_of}
 use Rattle.ar_cert.specs.Changes.{Change}
 use Rattle.ar_cert.specs.Judging.{endorsers_of}
 use Rattle.ar_names.specs.Names.{IsName}
 use Rattle.ar_statement.specs.declared.party.Party.{Party}
 use Rattle.ar_statement.specs.declared.text.SeenText.{SeenText}
-use Rattle.ar_statement.specs.Claims.{Claim, endorse, is_party, propose, roll, text_of}
+use Rattle.ar_statement.specs.Claims.{Claim, endorse, propose, roll, text_of}
 use Rattle.ar_statement.specs.Ranges.{IsKeyText, is_readable}
-use Rattle.key_roll.specs.Book.{RollBook, texts_of}
 use Rattle.key_roll.specs.Entry.{after_entry, with_roll}
-use Rattle.key_roll.specs.Rolls.{plain_count}
 use Rattle.party_keys.specs.Seen.{authority_party, log_party}
 use Rattle.vote_quorum.specs.Ballots.{has_ballot}
 use Rattle.vote_quorum.specs.Statuses.{AreStatuses, Excludes, Status}
 use Rattle.vote_quorum.specs.Numbers.{distinct_count}
 use Rattle.vote_quorum.specs.declared.value.Value.{Value}
 use Rattle.domain_table.specs.Tree.{root_of}
-use Rattle.epoch_log.specs.Council.{Council}
+use Rattle.ar_council.specs.Council.{Council}
+use Rattle.ar_council.specs.Values.{IsValue, confirm_claim, is_same_digest, status_claim, vote_claim}
+use Rattle.ar_council.specs.Seen.{seen_after, seen_of}
 use Rattle.epoch_log.specs.Ending.{closed, decided, may_end, own_vote, skipped}
-use Rattle.epoch_log.specs.Right.{AppliesTo, IsValue, newest_digest}
+use Rattle.epoch_log.specs.Right.{AppliesTo, newest_digest}
 use Rattle.epoch_log.specs.State.{CountedStatus, CountedVote, LogState, ballots_of, epoch_of, table_of}
-use Rattle.epoch_log.specs.Told.{confirm_claim, status_claim, value_of, vote_claim}
+use Rattle.epoch_log.specs.Told.{value_of}
 use Rattle.epoch_log.specs.declared.entries.Closing.{Closing}
 use Rattle.epoch_log.specs.declared.entries.Closing.TheVariants as closings
 use Rattle.epoch_log.specs.declared.entries.Confirmed.{Confirmed}
@@ -34,18 +33,6 @@ use Rattle.epoch_log.specs.declared.entries.Newest.{Newest}
 use Rattle.epoch_log.specs.declared.entries.Voted.{Voted}
 
 -- ---- what is seen
-
--- a party's statement, as it is kept
-abbrev pub seen_of : Party → Claim → SeenText
-seen_of party claim = record { party = party; text = text_of claim }
-
--- what was seen with one more behind it, unless it is among them
-abbrev pub with_seen : List SeenText → SeenText → List SeenText
-with_seen seen more = if list_any (λ s. is_party s.party more.party && bytes_eq s.text more.text) seen then seen else seen ++ more ∷ []
-
--- the same with each of a list
-abbrev pub seen_after : List SeenText → List SeenText → List SeenText
-seen_after seen more = fold with_seen seen more
 
 -- the endorsements of a change, as they are seen
 abbrev pub endorsements_of : Change → List SeenText
@@ -65,16 +52,6 @@ seeing s more = record {
   statuses = s.statuses;
   newest = s.newest;
 }
-
--- ---- what is signed
-
--- how many of the texts the book does not hold
-abbrev pub new_count : RollBook → List (List ℕ) → ℕ
-new_count book texts = count_by (λ text. not (is_some (place_of (texts_of book) text))) texts
-
--- the newest generation has a leaf, beside its last, for each of these texts that the book does not hold
-abbrev pub HasRoom : RollBook → List (List ℕ) → Type 0
-HasRoom book texts = plain_count book.newest book.list + new_count book texts + 1 ≤ book.leaves
 
 -- ---- what is counted
 
@@ -285,13 +262,6 @@ pub record MayConfirm (s : LogState) (w : Newest) (name : List ℕ) : Type 0 whe
 -- the statement of a confirmation
 abbrev pub confirmation_claim : ℕ → Confirmed → Claim
 confirmation_claim me c = confirm_claim me c.epoch c.name c.certificate c.root
-
--- whether two digests, or none, are the same
-abbrev pub is_same_digest : Option (List ℕ) → Option (List ℕ) → Bool
-is_same_digest None None = true
-is_same_digest (Some one) (Some other) = bytes_eq one other
-is_same_digest None (Some other) = false
-is_same_digest (Some one) None = false
 
 abbrev pub is_same_confirmation : Confirmed → Confirmed → Bool
 is_same_confirmation c d = (c.epoch == d.epoch) && (bytes_eq c.name d.name && (is_same_digest c.certificate d.certificate && bytes_eq c.root d.root))

@@ -5,7 +5,7 @@ use Rattle.ar_cert.specs.Changes.{Change}
 use Rattle.vote_quorum.specs.Ballots.{is_same, log_count}
 use Rattle.vote_quorum.specs.Statuses.{Status, report_count}
 use Rattle.vote_quorum.specs.declared.value.Value.{Value}
-use Rattle.epoch_log.specs.Council.{Council}
+use Rattle.ar_council.specs.Council.{Council}
 use Rattle.epoch_log.specs.Record.{LogRecord, current}
 use Rattle.epoch_log.specs.State.{CountedVote, LogState, ballots_of, epoch_of, reports_of}
 use Rattle.epoch_log.specs.Told.{value_of}

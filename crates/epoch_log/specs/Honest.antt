@@ -6,10 +6,12 @@ use Rattle.ar_statement.specs.Claims.{text_of}
 use Rattle.ar_statement.specs.Ranges.{IsTextOf}
 use Rattle.key_roll.specs.Book.{RollBook, IsRollBook, texts_of}
 use Rattle.vote_quorum.specs.Statuses.{Status}
-use Rattle.epoch_log.specs.Council.{Council, IsMember}
+use Rattle.ar_council.specs.Seen.{SeesMembers}
+use Rattle.ar_council.specs.Council.{Council}
+use Rattle.ar_council.specs.Values.{confirm_claim, status_claim, vote_claim}
 use Rattle.epoch_log.specs.Record.{LogRecord, current, ending}
 use Rattle.epoch_log.specs.Right.{Fits, IsRightConfirmation, IsRightDecision, IsRightSkip, IsRightVote}
-use Rattle.epoch_log.specs.Told.{Told, confirm_claim, status_claim, value_of, vote_claim}
+use Rattle.epoch_log.specs.Told.{Told, value_of}
 use Rattle.epoch_log.specs.declared.entries.Confirmed.{Confirmed}
 use Rattle.epoch_log.specs.declared.entries.Ended.{Ended}
 use Rattle.epoch_log.specs.declared.entries.How.TheVariants.{Decided, Skipped}
@@ -62,9 +64,7 @@ pub record SignsWhatItTells (me : ℕ) (book : RollBook) (voted : List Voted) (s
   pub statuses : All (λ s. Contains (texts_of book) (text_of (status_claim me s.epoch s.value))) stated
   pub confirmations : All (λ c. Contains (texts_of book) (text_of (confirm_claim me c.epoch c.name c.certificate c.root))) confirmed
 
--- 9. What it saw is of logs and authorities of the council.
-abbrev pub SeesMembers : Council → List SeenText → Type 0
-SeesMembers council seen = All (λ s. IsMember council s.party) seen
+-- 9. What it saw is of logs and authorities of the council (`SeesMembers`).
 
 -- The record is that of an honest log with this number.
 pub record HonestLog (council : Council) (me : ℕ) (r : LogRecord) : Type 0 where

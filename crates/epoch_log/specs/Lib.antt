@@ -1,7 +1,8 @@
+pub mod Answers
 pub mod Calls
-pub mod Council
 pub mod Ending
 pub mod Honest
+pub mod Log
 pub mod Record
 pub mod Right
 pub mod State

@@ -1,22 +1,22 @@
 -- What makes a vote, a decision, a skip and a confirmation right, by what a log saw and how its epochs ended.
 use Rattle.std.specs.Prelude.{◌≡◌, ◌≢◌, ℕ, ◌+◌, List, All, Contains, Option, Some, None, IfSome}
 use Rattle.std.specs.Option.{option_map}
-use Rattle.ar_base.specs.Bytes.{IsDigest}
 use Rattle.ar_cert.specs.Certificate.{digest_of}
 use Rattle.ar_cert.specs.Changes.{Change, IsChange}
 use Rattle.ar_cert.specs.Judging.{endorsers_of}
 use Rattle.ar_statement.specs.declared.text.SeenText.{SeenText}
 use Rattle.ar_statement.specs.Claims.{endorse}
 use Rattle.party_keys.specs.Seen.{Saw, log_party, authority_party}
-use Rattle.vote_quorum.specs.Counted.{AtLeast}
 use Rattle.vote_quorum.specs.Statuses.{AreStatuses, Excludes, Status}
 use Rattle.vote_quorum.specs.declared.value.Value.{Value}
 use Rattle.domain_table.specs.Applying.{apply}
 use Rattle.domain_table.specs.Tables.{Table, chain_of, newest}
 use Rattle.domain_table.specs.Tree.{root_of}
-use Rattle.epoch_log.specs.Council.{Council}
+use Rattle.ar_council.specs.Council.{Council}
+use Rattle.ar_council.specs.Values.{IsValue, status_claim}
+use Rattle.ar_council.specs.Votes.{SawVotes}
 use Rattle.epoch_log.specs.Record.{base_of, ending}
-use Rattle.epoch_log.specs.Told.{status_claim, value_of, vote_claim}
+use Rattle.epoch_log.specs.Told.{value_of}
 use Rattle.epoch_log.specs.declared.entries.Confirmed.{Confirmed}
 use Rattle.epoch_log.specs.declared.entries.Ended.{Ended}
 use Rattle.epoch_log.specs.declared.entries.How.TheVariants.{Decided}
@@ -27,10 +27,6 @@ use Rattle.epoch_log.specs.declared.entries.Voted.{Voted}
 -- the endorsement of a change's certificate was seen of each authority that endorses the change
 abbrev pub SawEndorsements : List SeenText → Change → Type 0
 SawEndorsements seen change = All (λ a. Saw seen (authority_party a) (endorse a (digest_of change.cert))) (endorsers_of change)
-
--- votes of the epoch for the value were seen of a quorum of the logs
-abbrev pub SawVotes : Council → List SeenText → ℕ → Value → Type 0
-SawVotes council seen epoch value = AtLeast council.quorum council.logs (λ log. Saw seen (log_party log) (vote_claim log epoch value))
 
 -- ---- votes and decisions
 
@@ -45,11 +41,6 @@ pub record AppliesTo (epoch : ℕ) (before : Table) (changes : List Change) (to 
 pub record LeadsTo (seen : List SeenText) (epoch : ℕ) (before : Table) (changes : List Change) (to : List ℕ) : Type 0 where
   pub applies : AppliesTo epoch before changes to
   pub endorsed : All (SawEndorsements seen) changes
-
--- a base and a root, both digests
-pub record IsValue (value : Value) : Type 0 where
-  pub base : IsDigest value.base
-  pub root : IsDigest value.root
 
 -- a vote is for the base of its epoch, and its changes lead from there to its root
 pub record IsRightVote (seen : List SeenText) (ended : List Ended) (v : Voted) : Type 0 where

@@ -10,11 +10,11 @@ use Rattle.vote_quorum.specs.Statuses.{Status}
 use Rattle.vote_quorum.specs.declared.value.Value.{Value}
 use Rattle.domain_table.specs.Tables.{Table}
 use Rattle.domain_table.specs.Tree.{root_of}
-use Rattle.epoch_log.specs.Council.{Council}
+use Rattle.ar_council.specs.Council.{Council}
+use Rattle.ar_council.specs.Values.{vote_claim}
 use Rattle.epoch_log.specs.Honest.{HonestLog}
 use Rattle.epoch_log.specs.Record.{LogRecord, base_of, current, ending}
 use Rattle.epoch_log.specs.Right.{AreSeen}
-use Rattle.epoch_log.specs.Told.{vote_claim}
 use Rattle.epoch_log.specs.declared.entries.Ended.{Ended}
 use Rattle.epoch_log.specs.declared.entries.How.TheVariants.{Decided}
 use Rattle.epoch_log.specs.declared.entries.Newest.{Newest}

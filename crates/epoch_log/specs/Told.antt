@@ -1,39 +1,19 @@
 -- Which statements a log's record tells of.
 use Rattle.std.specs.Prelude.{◌≡◌, ℕ, List, Contains, Option, Some, None}
 use Rattle.std.specs.Option.{option_map}
-use Rattle.ar_statement.specs.Claims.{Claim, Roots, endorse, handover, propose, vote, confirm, confirm_absent, answer, status, roll, object}
+use Rattle.ar_statement.specs.Claims.{Claim, endorse, handover, propose, vote, confirm, confirm_absent, answer, status, roll, object}
 use Rattle.party_keys.specs.Seen.{log_party}
 use Rattle.vote_quorum.specs.declared.value.Value.{Value}
+use Rattle.ar_council.specs.Values.{value_of_roots}
 use Rattle.epoch_log.specs.declared.entries.Confirmed.{Confirmed}
 use Rattle.epoch_log.specs.declared.entries.Stated.{Stated}
 use Rattle.epoch_log.specs.declared.entries.Voted.{Voted}
 
--- ---- values, as statements write them
-
-abbrev pub roots_of : Value → Roots
-roots_of value = (value.base, value.root)
-
-abbrev pub value_of_roots : Roots → Value
-value_of_roots roots = record { base = roots.0; root = roots.1 }
-
 -- ---- the statement of each entry
-
--- a log's vote in an epoch for a value
-abbrev pub vote_claim : ℕ → ℕ → Value → Claim
-vote_claim log epoch value = vote log epoch value.base value.root
-
--- a log's status of an epoch
-abbrev pub status_claim : ℕ → ℕ → Option Value → Claim
-status_claim log epoch value = status log epoch (option_map roots_of value)
 
 -- what an entry's vote is for
 abbrev pub value_of : Voted → Value
 value_of v = record { base = v.base; root = v.root }
-
--- a log's confirmation that under a name there is a certificate, or none
-abbrev pub confirm_claim : ℕ → ℕ → List ℕ → Option (List ℕ) → List ℕ → Claim
-confirm_claim log epoch name None root = confirm_absent (log_party log) epoch name root
-confirm_claim log epoch name (Some certificate) root = confirm (log_party log) epoch name certificate root
 
 -- ---- what the record tells of
 

@@ -12,14 +12,17 @@ ghost use Rattle.vote_quorum.specs.Statuses.{Excludes, Status};
 ghost use Rattle.vote_quorum.specs.declared.value.Value.{Value};
 ghost use Rattle.domain_table.specs.Applying.{apply};
 ghost use Rattle.domain_table.specs.Tables.{Table};
-ghost use Rattle.epoch_log.specs.Calls.{AreEndorsers, HasRoom, IsProposed, IsTurn, MayConfirm, MayDecide, MayRoll, MaySkip, MayState, MayVote, SignedStatus, after_ballot, after_confirm, after_decide, after_endorsed, after_learn, after_propose, after_roll, after_skip, after_state, after_status_seen, after_vote, confirmation_text, fresh, own_status_text, own_vote_text, proposal_texts, seen_after, with_status, with_vote};
-ghost use Rattle.epoch_log.specs.Council.{Council, IsMember};
+ghost use Rattle.ar_council.specs.Council.{Council, IsMember};
+ghost use Rattle.ar_council.specs.Room.{HasRoom};
+ghost use Rattle.ar_council.specs.Seen.{seen_after};
+ghost use Rattle.ar_council.specs.Values.{IsValue, confirm_claim, status_claim, vote_claim};
+ghost use Rattle.epoch_log.specs.Calls.{AreEndorsers, IsProposed, IsTurn, MayConfirm, MayDecide, MayRoll, MaySkip, MayState, MayVote, SignedStatus, after_ballot, after_confirm, after_decide, after_endorsed, after_learn, after_propose, after_roll, after_skip, after_state, after_status_seen, after_vote, confirmation_text, fresh, own_status_text, own_vote_text, proposal_texts, with_status, with_vote};
 ghost use Rattle.epoch_log.specs.Ending.{closed, decided, excludes_all, may_end, own_vote, skipped};
 ghost use Rattle.epoch_log.specs.Honest.{EndsInOrder, HonestLog};
 ghost use Rattle.epoch_log.specs.Record.{LogRecord};
-ghost use Rattle.epoch_log.specs.Right.{IsValue, SawEndorsements};
+ghost use Rattle.epoch_log.specs.Right.{SawEndorsements};
 ghost use Rattle.epoch_log.specs.State.{CountedStatus, CountedVote, IsKept, LogState, ballots_of, epoch_of, reports_of, table_of};
-ghost use Rattle.epoch_log.specs.Told.{HasConfirmed, HasStated, HasVoted, confirm_claim, status_claim, value_of, vote_claim};
+ghost use Rattle.epoch_log.specs.Told.{HasConfirmed, HasStated, HasVoted, value_of};
 ghost use Rattle.epoch_log.specs.declared.entries.Closing.TheVariants as closings;
 ghost use Rattle.epoch_log.specs.declared.entries.Newest.{Newest};
 ghost use Rattle.epoch_log.specs.declared.entries.Voted.{Voted};
@@ -110,11 +113,6 @@ pub fn an_honest_log_tells_one_thing()
         → HasVoted r.voted epoch value → HasVoted r.voted epoch other → value ≡ other }
     ensures status { (council : Council) (me : ℕ) (r : LogRecord) (epoch : ℕ) (value : Option Value) (cast : Value) → HonestLog council me r
         → HasStated r.stated epoch value → HasVoted r.voted epoch cast → value ≡ Some cast }
-{}
-
-/// What is seen afterwards is what was seen and what is new, and nothing else.
-pub fn what_is_seen_is_old_or_new()
-    ensures { (seen more : List SeenText) (t : SeenText) → Contains (seen_after seen more) t ↔ (Contains seen t ⊎ Contains more t) }
 {}
 
 /// A decided epoch leaves the table to which its changes apply, and a skipped one leaves the table as it is.

@@ -1,14 +1,25 @@
-//! Epochs: what a log remembers, and what each thing that it may do makes of that. The definitions stand, with the laws
-//! on them; the code that keeps a log is not there yet.
+//! Epochs: what a log remembers, and what each thing that it may do makes of that. `EpochLog` keeps a log by them.
 //!
 //! `specs/Record.antt` has the record of a log as plain data, and the table in which each epoch begins. `specs/Honest.antt`
 //! has the nine clauses that make a record an honest log's, each a definition over the fields that it speaks of, by what
 //! `specs/Told.antt` and `specs/Right.antt` say of single entries. `specs/State.antt` says where a log stands and what is
 //! kept of that, `specs/Ending.antt` how an epoch ends, and `specs/Calls.antt` what each call makes of where a log stands,
-//! and when it may be made. `laws` says that each call keeps what is kept.
+//! and when it may be made; `specs/Log.antt` says what a log in the program holds and keeps of that, and `specs/Answers.antt`
+//! what a call needs and answers beside that. `laws` says that each call keeps what is kept.
 #![tactic(auto)]
 
+mod confirming;
 mod entries;
+mod keys;
 pub mod laws;
+mod log;
+mod parts;
+mod past;
+mod seeing;
+mod signing;
+mod statements;
+mod voting;
 
 pub use entries::{Closing, Confirmed, Ended, How, Newest, Stated, Voted};
+pub use log::EpochLog;
+pub use past::Record;

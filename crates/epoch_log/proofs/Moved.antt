@@ -1,0 +1,86 @@
+-- What a log keeps where it stands elsewhere.
+use Rattle.std.proofs.Common.{◌≡◌, ◌≢◌, ℕ, ◌<◌, ◌^◌, List, [], ◌∷◌, refl, sym, ap, ◌∙◌, subst, arith, cond, eqb}
+use Rattle.std.specs.Prelude.{All, Result, Ok, Err}
+use Rattle.std.proofs.lemmas.Bool.{eq-eqb}
+use Rattle.std.proofs.lemmas.List.Elements.{All-cons, All-nil}
+use Rattle.ar_council.specs.Council.{IsMember, council_of}
+use Rattle.ar_council.specs.Seen.{seen_of}
+use Rattle.ar_statement.specs.Claims.{roll}
+use Rattle.ar_statement.specs.Ranges.{IsKeyText}
+use Rattle.ar_statement.specs.declared.text.SeenText.{SeenText}
+use Rattle.key_roll.specs.Due.{DueParts}
+use Rattle.key_roll.specs.Entry.{roll_text, rolled}
+use Rattle.key_roll.specs.declared.fault.RollFault.{RollFault}
+use Rattle.key_roll.specs.declared.fault.RollFault.TheVariants as roll_fault
+use Rattle.lms_tree.specs.PublicKey.{HasWidths, key_text}
+use Rattle.lms_tree.specs.declared.public_key.LmsPublic.{LmsPublic}
+use Rattle.party_keys.specs.Directory.{Directory}
+use Rattle.party_keys.specs.Learning.{Announced, after_adopting, after_learning, learned}
+use Rattle.party_keys.specs.Seen.{log_party}
+use Rattle.party_keys.specs.declared.learning.Learned.{Learned}
+use Rattle.domain_table.specs.Sound.{IsSound}
+use Rattle.domain_table.specs.Tables.{no_table}
+use Rattle.domain_table.proofs.Applied.{none_sound}
+use Rattle.epoch_log.specs.Calls.{after_learn, after_roll, fresh}
+use Rattle.epoch_log.specs.Log.{IsLog, LogParts, moved, parts_of, state_in}
+use Rattle.epoch_log.specs.Record.{base_of, ending}
+use Rattle.epoch_log.specs.State.{IsKept, LogState, table_of}
+use Rattle.epoch_log.specs.declared.parts.Parts.{Parts}
+use Rattle.epoch_log.proofs.Acting.{kept-rolling}
+use Rattle.epoch_log.proofs.Called.{kept-fresh}
+use Rattle.epoch_log.proofs.Kept.{kept-seeing}
+use Rattle.epoch_log.proofs.Learnt.{learned-member, readable}
+
+log-stands : (p q : Parts) (s : LogState) → state_in q ≡ s → q.table ≡ p.table → IsLog p → IsKept s → table_of s ≡ table_of (state_in p) → IsLog q
+log-stands p q s state same log kept table = record {
+  kept = subst IsKept (sym state) kept;
+  table = same ∙ log.table ∙ sym table ∙ sym (ap table_of state);
+  sound = subst IsSound (sym same) log.sound;
+}
+
+pub log-moved : (p q : Parts) (s : LogState) → parts_of q ≡ moved (parts_of p) s → q.table ≡ p.table → IsLog p → IsKept s → table_of s ≡ table_of (state_in p) → IsLog q
+log-moved p q s there = log-stands p q s (ap (λ (l : LogParts). l.state) there)
+
+pub log-same : (p q : Parts) → parts_of q ≡ parts_of p → q.table ≡ p.table → IsLog p → IsLog q
+log-same p q there same log = log-moved p q (state_in p) there same log log.kept refl
+
+-- ---- the beginning
+
+fresh-table : (me : ℕ) (keys : Directory) (leaves : ℕ) → table_of (fresh me (council_of keys) leaves) ≡ no_table
+unfolding base_of ending
+fresh-table me keys leaves = refl
+
+pub log-fresh : (p : Parts) (me : ℕ) (keys : Directory) (leaves : ℕ) → parts_of p ≡ record { state = fresh me (council_of keys) leaves; keys = keys } → p.table ≡ no_table
+    → me < 2 ^ 16 → 0 < leaves → IsLog p
+log-fresh p me keys leaves parts table small some =
+    let state : state_in p ≡ fresh me (council_of keys) leaves = ap (λ (l : LogParts). l.state) parts in
+    record {
+      kept = subst IsKept (sym state) (kept-fresh me (council_of keys) leaves small some);
+      table = table ∙ sym (fresh-table me keys leaves) ∙ sym (ap table_of state);
+      sound = subst IsSound (sym table) none_sound;
+    }
+
+-- ---- keys
+
+pub log-learned : (p q : Parts) (a : Announced) (l : Learned) → learned p.directory a ≡ Ok l
+    → parts_of q ≡ record { state = after_learn (state_in p) a.party a.generation (key_text a.key); keys = after_learning p.directory a }
+    → q.table ≡ p.table → IsLog p → IsLog q
+log-learned p q a l is there same log =
+    let one : SeenText = seen_of a.party (roll a.party a.generation (key_text a.key)) in
+    let member : All (λ (t : SeenText). IsMember (council_of p.directory) t.party) (one ∷ []) =
+    All-cons (λ (t : SeenText). IsMember (council_of p.directory) t.party) one [] (learned-member p.directory a l is) (All-nil (λ (t : SeenText). IsMember (council_of p.directory) t.party)) in
+    log-stands p q (after_learn (state_in p) a.party a.generation (key_text a.key)) (ap (λ (k : LogParts). k.state) there) same log
+    (kept-seeing (state_in p) (one ∷ []) log.kept member) refl
+
+not-last : (newest : ℕ) (text : List ℕ) (answer : Result DueParts RollFault) (due : DueParts) → cond (eqb newest 999) (Err roll_fault.Last) answer ≡ Ok due → newest ≢ 999
+not-last newest text answer due is same = let last : cond (eqb newest 999) (Err roll_fault.Last) answer ≡ Err roll_fault.Last = ap (λ b. cond b (Err roll_fault.Last) answer) (eq-eqb newest 999 same) in absurd cc
+
+pub log-rolled : (p q : Parts) (next : LmsPublic) (due : DueParts) → IsKeyText (key_text next) → HasWidths next
+    → rolled (state_in p).past.signed (roll_text (log_party (state_in p).me) (state_in p).past.signed.newest next) ≡ Ok due
+    → parts_of q ≡ record { state = after_roll (state_in p) (key_text next); keys = after_adopting p.directory (log_party (state_in p).me) (state_in p).past.signed.newest next }
+    → q.table ≡ p.table → IsLog p → IsLog q
+log-rolled p q next due text widths is there same log =
+    let other = not-last (state_in p).past.signed.newest (key_text next) _ due is in
+    let most = log.kept.honest.signs_what_it_tells.sound.last in
+    log-stands p q (after_roll (state_in p) (key_text next)) (ap (λ (k : LogParts). k.state) there) same log
+    (kept-rolling (state_in p) (key_text next) log.kept (record { not_last = omega (arith, other, most); is_key = text; readable = readable next widths })) refl

@@ -1,0 +1,55 @@
+-- What a vote needs, and what a vote and a confirmation answer, beside what it makes of where a log stands.
+use Rattle.std.specs.Prelude.{◌≡◌, ◌≢◌, ℕ, ◌+◌, Bool, nat_le, List, All, Some, Result}
+use Rattle.ar_cert.specs.Changes.{Change}
+use Rattle.key_roll.specs.Book.{RollBook}
+use Rattle.key_roll.specs.Due.{DueParts}
+use Rattle.key_roll.specs.Entry.{after_entry, entered}
+use Rattle.key_roll.specs.Rolls.{plain_count}
+use Rattle.key_roll.specs.declared.fault.BookFault.{BookFault}
+use Rattle.ar_council.specs.Room.{new_count}
+use Rattle.vote_quorum.specs.declared.value.Value.{Value}
+use Rattle.domain_table.specs.Applying.{apply}
+use Rattle.domain_table.specs.Tables.{Table}
+use Rattle.domain_table.specs.Tree.{root_of}
+use Rattle.epoch_log.specs.Calls.{confirmation_text, own_vote_text, with_confirmed}
+use Rattle.epoch_log.specs.State.{LogState, epoch_of, table_of}
+use Rattle.epoch_log.specs.declared.entries.Confirmed.{Confirmed}
+use Rattle.epoch_log.specs.declared.entries.Newest.{Newest}
+
+-- ---- what calls need
+
+-- from a table the changes apply in an epoch to a table with this root
+pub record Reaches (epoch : ℕ) (before : Table) (changes : List Change) (to : List ℕ) : Type 0 where
+  pub table : Table
+  pub applied : apply before epoch changes ≡ Some table
+  pub is_root : root_of table ≡ to
+
+-- The log may vote for a value by these changes: it has not voted and has stated nothing in the epoch, the value is for its
+-- base, and the changes lead to its root.
+pub record IsOpenTo (s : LogState) (value : Value) (changes : List Change) : Type 0 where
+  pub not_voted : All (λ v. v.epoch ≢ epoch_of s) s.past.voted
+  pub not_stated : All (λ t. t.epoch ≢ epoch_of s) s.past.stated
+  pub from_base : value.base ≡ root_of (table_of s)
+  pub reaches : Reaches (epoch_of s) (table_of s) changes value.root
+
+-- ---- what calls answer
+
+-- whether the newest generation has a leaf, beside its last, for each of these texts that the book does not hold
+abbrev pub has_leaves : RollBook → List (List ℕ) → Bool
+has_leaves book texts = nat_le (plain_count book.newest book.list + new_count book texts + 1) book.leaves
+
+-- what `vote` answers: the vote's leaf, or that there is none
+abbrev pub voted : LogState → Value → Result DueParts BookFault
+voted s value = entered s.past.signed (own_vote_text s value)
+
+-- what `confirm` answers: the confirmation's leaf, or that there is none
+abbrev pub confirmed : LogState → Newest → List ℕ → Result DueParts BookFault
+confirmed s w name = entered s.past.signed (confirmation_text s w name)
+
+-- ---- one confirmation
+
+-- the log signed the text of this confirmation, and the record tells of it
+abbrev pub confirming : LogState → List ℕ → Confirmed → LogState
+confirming s text c = record s {
+  past = record s.past { confirmed = with_confirmed s.past.confirmed c; signed = after_entry s.past.signed text };
+}

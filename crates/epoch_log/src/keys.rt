@@ -1,0 +1,154 @@
+//! What a log sees, and the keys that it learns.
+ghost use Rattle.std.specs.Prelude.{◌≡◌, OnOk, OnErr};
+ghost use Rattle.ar_base.specs.Gives.{GivesUnless};
+ghost use Rattle.key_roll.specs.Entry.{roll_text, rolled};
+ghost use Rattle.key_roll.specs.declared.fault.RollFault.TheVariants as roll_fault;
+ghost use Rattle.ar_statement.specs.Ranges.{IsKeyText};
+ghost use Rattle.lms_tree.specs.PublicKey.{HasWidths, key_text};
+ghost use Rattle.party_keys.specs.Learning.{after_adopting, after_learning, learned};
+ghost use Rattle.party_keys.specs.Seen.{log_party};
+ghost use Rattle.party_keys.specs.declared.fault.LearnFault.TheVariants as learn_fault;
+ghost use Rattle.epoch_log.specs.Calls.{AreEndorsers, after_endorsed, after_learn, after_roll};
+ghost use Rattle.epoch_log.specs.Log.{IsLog, moved, parts_of, state_in};
+
+use crate::parts::Parts;
+use crate::seeing::{endorsements, see, see_each, seen_text};
+use ar_bytes::are_bytes;
+use ar_cert::Change;
+use ar_statement::{Party, Role, Statement};
+use key_roll::{RollDue, RollFault};
+use lms_tree::LmsPublic;
+use party_keys::{LearnFault, Learned};
+use std::alloc::{AllocError, Global};
+
+/// Tells a proof that the text of a key has its width, and is bytes.
+fn key_told(key: &LmsPublic)
+    ensures text { IsKeyText (key_text key.now) }
+    ensures widths { HasWidths key.now }
+{
+    are_bytes(&key.bytes());
+    are_bytes(&key.id);
+    are_bytes(&key.root);
+}
+
+impl Parts {
+    /// Sees the endorsements of a change.
+    fn see_endorsements(&mut self, alloc: Global, change: &Change) -> Result<(), AllocError>
+        ensures ok { OnOk result (parts_of self.new ≡ moved (parts_of self.old) (after_endorsed (state_in self.old) change.now)) }
+        ensures err { OnErr result (parts_of self.new ≡ parts_of self.old) }
+        ensures table { self.new.table ≡ self.old.table }
+    {
+        let seen = endorsements(alloc, change)?;
+        self.reserve(alloc, seen.len(), 0)?;
+        see_each(&mut self.past.seen, &seen);
+        Ok(())
+    }
+
+    /// `EpochLog::endorsed`.
+    pub(crate) fn endorsed(&mut self, alloc: Global, change: &Change) -> Result<(), AllocError>
+        requires kept { IsLog self.old }
+        requires endorsers { AreEndorsers (state_in self.old).council change.now }
+        ensures ok { OnOk result (parts_of self.new ≡ moved (parts_of self.old) (after_endorsed (state_in self.old) change.now)) }
+        ensures err { OnErr result (parts_of self.new ≡ parts_of self.old) }
+        ensures kept { IsLog self.new }
+    {
+        match self.see_endorsements(alloc, change) {
+            Ok(()) => Ok(()),
+            Err(error) => Err(error),
+        }
+    }
+
+    /// Takes an announced key, and sees the Roll that says so.
+    fn take_key(
+        &mut self,
+        alloc: Global,
+        party: Party,
+        generation: u32,
+        key: LmsPublic,
+        signature: &[u8],
+    ) -> Result<Learned, LearnFault>
+        ensures answer { GivesUnless learn_fault.Memory (λ learned. learned) result
+            (learned self.old.directory (record { party = party; generation = generation; key = key; signature = signature.now })) }
+        ensures ok { OnOk result (parts_of self.new ≡ record {
+          state = after_learn (state_in self.old) party generation (key_text key);
+          keys = after_learning self.old.directory (record { party = party; generation = generation; key = key; signature = signature.now });
+        }) }
+        ensures err { OnErr result (parts_of self.new ≡ parts_of self.old) }
+        ensures table { self.new.table ≡ self.old.table }
+    {
+        let statement = Statement::Roll {
+            signer: party,
+            generation,
+            key: key.bytes(),
+        };
+        self.reserve(alloc, 1, 0)?;
+        let learned = self
+            .directory
+            .learn(alloc, party, generation, key, signature)?;
+        see(&mut self.past.seen, seen_text(party, &statement));
+        Ok(learned)
+    }
+
+    /// `EpochLog::learn`.
+    pub(crate) fn learn(
+        &mut self,
+        alloc: Global,
+        party: Party,
+        generation: u32,
+        key: LmsPublic,
+        signature: &[u8],
+    ) -> Result<Learned, LearnFault>
+        requires { IsLog self.old }
+        ensures answer { GivesUnless learn_fault.Memory (λ learned. learned) result
+            (learned self.old.directory (record { party = party; generation = generation; key = key; signature = signature.now })) }
+        ensures ok { OnOk result (parts_of self.new ≡ record {
+          state = after_learn (state_in self.old) party generation (key_text key);
+          keys = after_learning self.old.directory (record { party = party; generation = generation; key = key; signature = signature.now });
+        }) }
+        ensures err { OnErr result (parts_of self.new ≡ parts_of self.old) }
+        ensures kept { IsLog self.new }
+    {
+        match self.take_key(alloc, party, generation, key, signature) {
+            Ok(learned) => Ok(learned),
+            Err(fault) => Err(fault),
+        }
+    }
+
+    /// Announces the next key, and adopts it.
+    fn announce(&mut self, alloc: Global, next: &LmsPublic) -> Result<RollDue, RollFault>
+        ensures answer { GivesUnless roll_fault.Memory (λ due. due) result
+            (rolled (state_in self.old).past.signed (roll_text (log_party (state_in self.old).me) (state_in self.old).past.signed.newest next.now)) }
+        ensures ok { OnOk result (parts_of self.new ≡ record {
+          state = after_roll (state_in self.old) (key_text next.now);
+          keys = after_adopting self.old.directory (log_party (state_in self.old).me) (state_in self.old).past.signed.newest next.now;
+        }) }
+        ensures err { OnErr result (parts_of self.new ≡ parts_of self.old) }
+        ensures table { self.new.table ≡ self.old.table }
+    {
+        let party = Role::LogServer.party(self.number);
+        let mut directory = self.directory.copy(alloc)?;
+        directory.adopt(alloc, party, self.past.signed.generation(), *next)?;
+        let due = self.past.signed.roll(alloc, party, next)?;
+        self.directory = directory;
+        Ok(due)
+    }
+
+    /// `EpochLog::roll`.
+    pub(crate) fn roll(&mut self, alloc: Global, next: &LmsPublic) -> Result<RollDue, RollFault>
+        requires { IsLog self.old }
+        ensures answer { GivesUnless roll_fault.Memory (λ due. due) result
+            (rolled (state_in self.old).past.signed (roll_text (log_party (state_in self.old).me) (state_in self.old).past.signed.newest next.now)) }
+        ensures ok { OnOk result (parts_of self.new ≡ record {
+          state = after_roll (state_in self.old) (key_text next.now);
+          keys = after_adopting self.old.directory (log_party (state_in self.old).me) (state_in self.old).past.signed.newest next.now;
+        }) }
+        ensures err { OnErr result (parts_of self.new ≡ parts_of self.old) }
+        ensures kept { IsLog self.new }
+    {
+        key_told(next);
+        match self.announce(alloc, next) {
+            Ok(due) => Ok(due),
+            Err(fault) => Err(fault),
+        }
+    }
+}

@@ -1,0 +1,199 @@
+ghost use Rattle.std.specs.Prelude.{◌≡◌, ◌<◌, IfSome, IsSome, OnOk, OnErr};
+ghost use Rattle.std.specs.Option.{option_map};
+ghost use Rattle.ar_base.specs.Gives.{GivesOrWants, GivesUnless};
+ghost use Rattle.ar_council.specs.Council.{council_of};
+ghost use Rattle.ar_statement.specs.Claims.{claim_of, text_of};
+ghost use Rattle.key_roll.specs.Entry.{due_of, roll_text, rolled};
+ghost use Rattle.key_roll.specs.declared.fault.BookFault.TheVariants as book_fault;
+ghost use Rattle.key_roll.specs.declared.fault.RollFault.TheVariants as roll_fault;
+ghost use Rattle.lms_tree.specs.PublicKey.{key_text};
+ghost use Rattle.party_keys.specs.Learning.{after_adopting, after_learning, learned};
+ghost use Rattle.party_keys.specs.Seen.{log_party};
+ghost use Rattle.party_keys.specs.declared.fault.LearnFault.TheVariants as learn_fault;
+ghost use Rattle.domain_table.specs.Sound.{IsSound};
+ghost use Rattle.epoch_log.specs.Answers.{IsOpenTo, confirmed, voted};
+ghost use Rattle.epoch_log.specs.Calls.{AreEndorsers, IsProposed, after_confirm, after_endorsed, after_learn, after_roll, after_vote, fresh};
+ghost use Rattle.epoch_log.specs.Log.{moved, record_of};
+ghost use Rattle.epoch_log.specs.State.{IsKept, epoch_of, table_of};
+
+use crate::parts::Parts;
+use crate::{Newest, Record};
+use ar_cert::Change;
+use ar_names::Name;
+use ar_statement::{Party, Statement};
+use domain_table::Table;
+use key_roll::{BookFault, RollDue, RollFault};
+use lms_tree::LmsPublic;
+use party_keys::{Directory, LearnFault, Learned};
+use std::alloc::{AllocError, Global};
+use std::marker::Model;
+use vote_quorum::Value;
+
+/// Where a log stands: its record, what it has counted in the current epoch, its newest decision, the table in which the
+/// epoch begins, and the keys that it knows. It holds no key of its own.
+///
+/// Each call makes the whole change of its name, or none: all memory is taken before the first change, and after an error
+/// the log is as it was. A call has the conditions of its `requires`, and does not test them.
+#[derive(Drop)]
+pub struct EpochLog {
+    parts: Parts,
+}
+
+// Clauses see where the log stands, and the keys that it knows.
+impl Model for EpochLog {
+    ghost use Rattle.epoch_log.specs.Log.{IsLog, LogParts, parts_of};
+
+    ghost Value = { LogParts };
+
+    ghost view = { λ log. parts_of log.parts };
+
+    ghost invariant = { λ log. IsLog log.parts };
+}
+
+impl EpochLog {
+    /// The log with this number that has done nothing yet, whose keys have this many leaves each. It takes no memory.
+    pub fn new(alloc: Global, number: u16, directory: Directory, leaves: u32) -> EpochLog
+        requires { 0 < leaves }
+        ensures { result ≡ record { state = fresh number (council_of directory) leaves; keys = directory } }
+    {
+        EpochLog {
+            parts: Parts::new(alloc, number, directory, leaves),
+        }
+    }
+
+    /// Tells a proof what the log keeps. It does nothing.
+    pub fn told(&self)
+        ensures kept { IsKept self.now.state }
+        ensures council { self.now.state.council ≡ council_of self.now.keys }
+        ensures sound { IsSound (table_of self.now.state) }
+    {
+        let _parts = &self.parts;
+    }
+
+    /// The number of the log.
+    pub fn number(&self) -> u16
+        ensures { result ≡ self.now.state.me }
+    {
+        self.parts.number
+    }
+
+    /// The current epoch: one more than how many ended.
+    pub fn epoch(&self) -> u64
+        ensures { result ≡ epoch_of self.now.state }
+    {
+        self.parts.epoch()
+    }
+
+    /// The newest decision, where an epoch was decided.
+    pub fn newest(&self) -> Option<&Newest>
+        ensures { option_map (λ w. w.now) result ≡ self.now.state.newest }
+    {
+        self.parts.newest.as_ref()
+    }
+
+    /// What the log remembers.
+    pub fn record(&self) -> &Record
+        ensures { record_of result.now ≡ self.now.state.past }
+    {
+        &self.parts.past
+    }
+
+    /// The table in which the current epoch begins.
+    pub fn table(&self) -> &Table
+        ensures { result.now ≡ table_of self.now.state }
+    {
+        &self.parts.table
+    }
+
+    /// The keys that the log knows, under which signatures are verified.
+    pub fn directory(&self) -> &Directory
+        ensures { result.now ≡ self.now.keys }
+    {
+        &self.parts.directory
+    }
+
+    /// The leaf of a statement that the log signed, for the place of its signature in a message. It is `None` exactly
+    /// where the log has not signed the statement.
+    pub fn due(&self, statement: &Statement) -> Option<RollDue>
+        ensures { result ≡ due_of self.now.state.past.signed (text_of (claim_of statement.now)) }
+    {
+        self.parts.past.signed.held(statement)
+    }
+
+    /// Sees the endorsements of a change, which is queued elsewhere. The only error is want of memory.
+    pub fn endorsed(&mut self, alloc: Global, change: &Change) -> Result<(), AllocError>
+        requires { AreEndorsers self.old.state.council change.now }
+        ensures ok { OnOk result (self.new ≡ moved self.old (after_endorsed self.old.state change.now)) }
+        ensures err { OnErr result (self.new ≡ self.old) }
+    {
+        self.parts.endorsed(alloc, change)
+    }
+
+    /// Votes for another log's proposal, which is seen with the endorsements of its changes.
+    ///
+    /// It gives the leaf of the vote, and is `Spent` exactly where there is none.
+    pub fn vote(
+        &mut self,
+        alloc: Global,
+        proposer: u16,
+        base: [u8; 32],
+        changes: Vec<Change>,
+        root: [u8; 32],
+    ) -> Result<RollDue, BookFault>
+        requires open { IsOpenTo self.old.state (record { base = base; root = root }) changes.items }
+        requires proposal { IsProposed self.old.state proposer changes.items }
+        ensures answer { GivesOrWants book_fault.Memory (λ due. due) result (voted self.old.state (record { base = base; root = root })) }
+        ensures ok { OnOk result (self.new ≡ moved self.old (after_vote self.old.state proposer (record { base = base; root = root }) changes.items)) }
+        ensures err { OnErr result (self.new ≡ self.old) }
+    {
+        self.parts
+            .vote(alloc, proposer, Value { base, root }, changes)
+    }
+
+    /// Confirms, by the newest decision, the newest certificate of a name, or that it has none.
+    ///
+    /// It gives the leaf of the confirmation, and is `Spent` exactly where there is none.
+    pub fn confirm(&mut self, alloc: Global, name: &Name) -> Result<RollDue, BookFault>
+        requires { IsSome self.old.state.newest }
+        ensures answer { IfSome self.old.state.newest (λ w. GivesOrWants book_fault.Memory (λ due. due) result (confirmed self.old.state w name.now)) }
+        ensures ok { OnOk result (IfSome self.old.state.newest (λ w. self.new ≡ moved self.old (after_confirm self.old.state w name.now))) }
+        ensures err { OnErr result (self.new ≡ self.old) }
+    {
+        self.parts.confirm(alloc, name)
+    }
+
+    /// Takes the key that a party announces as the next behind its key of this generation, and sees the Roll that says so.
+    /// The answer and the faults are those of `Directory::learn`, but that `Memory` may come in place of each.
+    pub fn learn(
+        &mut self,
+        alloc: Global,
+        party: Party,
+        generation: u32,
+        key: LmsPublic,
+        signature: &[u8],
+    ) -> Result<Learned, LearnFault>
+        ensures answer { GivesUnless learn_fault.Memory (λ learned. learned) result
+            (learned self.old.keys (record { party = party; generation = generation; key = key; signature = signature.now })) }
+        ensures ok { OnOk result (self.new ≡ record {
+          state = after_learn self.old.state party generation (key_text key);
+          keys = after_learning self.old.keys (record { party = party; generation = generation; key = key; signature = signature.now });
+        }) }
+        ensures err { OnErr result (self.new ≡ self.old) }
+    {
+        self.parts.learn(alloc, party, generation, key, signature)
+    }
+
+    /// Announces the log's next key, which the log knows then. It gives the leaf of the Roll, and is `Last` exactly where
+    /// the newest generation is 999, but that `Memory` may come in place of it.
+    pub fn roll(&mut self, alloc: Global, next: &LmsPublic) -> Result<RollDue, RollFault>
+        ensures answer { GivesUnless roll_fault.Memory (λ due. due) result
+            (rolled self.old.state.past.signed (roll_text (log_party self.old.state.me) self.old.state.past.signed.newest next.now)) }
+        ensures ok { OnOk result (self.new ≡ record {
+          state = after_roll self.old.state (key_text next.now);
+          keys = after_adopting self.old.keys (log_party self.old.state.me) self.old.state.past.signed.newest next.now;
+        }) }
+        ensures err { OnErr result (self.new ≡ self.old) }
+    {
+        self.parts.roll(alloc, next)
+    }
+}

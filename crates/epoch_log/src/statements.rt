@@ -1,0 +1,51 @@
+//! What logs state of a vote.
+ghost use Rattle.std.specs.Prelude.{◌≡◌, All};
+ghost use Rattle.ar_cert.specs.Changes.{IsChange};
+ghost use Rattle.ar_council.specs.Values.{IsValue, vote_claim};
+ghost use Rattle.ar_statement.specs.Claims.{claim_of, propose};
+
+use ar_bytes::are_bytes;
+use ar_cert::Change;
+use ar_statement::Statement;
+use vote_quorum::Value;
+
+/// Tells a proof that the base and the root are digests.
+pub(crate) fn value_told(value: &Value)
+    ensures { IsValue value.now }
+{
+    are_bytes(&value.base);
+    are_bytes(&value.root);
+}
+
+/// Tells a proof that each change has a text.
+pub(crate) fn changes_told(changes: &[Change])
+    ensures { All IsChange changes.now }
+{
+    for change in changes {
+        change.told();
+    }
+}
+
+/// A log's proposal.
+pub(crate) fn propose_statement(log: u16, epoch: u64, value: &Value) -> Statement<'static>
+    ensures { claim_of result ≡ propose log epoch value.now.base value.now.root }
+{
+    Statement::Propose {
+        log,
+        epoch,
+        base: value.base,
+        root: value.root,
+    }
+}
+
+/// A log's vote.
+pub(crate) fn vote_statement(log: u16, epoch: u64, value: &Value) -> Statement<'static>
+    ensures { claim_of result ≡ vote_claim log epoch value.now }
+{
+    Statement::Vote {
+        log,
+        epoch,
+        base: value.base,
+        root: value.root,
+    }
+}
