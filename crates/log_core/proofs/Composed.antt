@@ -1,0 +1,194 @@
+-- What each row sends is composed of drafts, each with zero bytes where a signature of the log's own is due.
+use Rattle.std.proofs.Common.{◌≡◌, ℕ, ◌+◌, List, [], ◌∷◌, ◌++◌, refl, subst, Bool, true, false, cond, Option, Some, None}
+use Rattle.std.specs.Prelude.{Ok, Err, Result}
+use Rattle.std.specs.List.{AllByRecursion}
+use Rattle.std.specs.Option.{option_map}
+use Rattle.ar_cert.specs.Changes.{Change}
+use Rattle.ar_message.specs.declared.address.Address.TheVariants.{Logs, One}
+use Rattle.ar_message.specs.declared.lists.LogStatus.{LogStatus}
+use Rattle.ar_statement.specs.Claims.{text_of}
+use Rattle.key_roll.specs.Entry.{roll_text}
+use Rattle.party_keys.specs.Learning.{Announced}
+use Rattle.party_keys.specs.Seen.{log_party}
+use Rattle.vote_quorum.specs.declared.value.Value.{Value}
+use Rattle.ar_council.specs.Values.{roots_of, value_of_roots}
+use Rattle.epoch_log.specs.Calls.{after_ballot, after_confirm, after_propose, after_state, after_status_seen, after_vote, is_turn, own_status_text, own_value, own_vote_text, propose_claim}
+use Rattle.epoch_log.specs.Ending.{own_vote}
+use Rattle.epoch_log.specs.State.{LogState, epoch_of, newest_value}
+use Rattle.log_core.specs.Checks.{turn_of}
+use Rattle.ar_message.specs.Messages.{message_in}
+use Rattle.ar_message.specs.declared.message.Message.{Message}
+use Rattle.ar_message.specs.declared.message.Message.TheVariants as messages
+use Rattle.lms_tree.specs.declared.public_key.LmsPublic.{LmsPublic}
+use Rattle.epoch_log.specs.declared.entries.Closing.{Closing}
+use Rattle.epoch_log.specs.declared.entries.Closing.TheVariants as closings
+use Rattle.epoch_log.specs.declared.entries.Newest.{Newest}
+use Rattle.log_core.specs.Balloted.{ballot_checks, ballot_reply, ballot_row}
+use Rattle.log_core.specs.Blanks.{IsDraft}
+use Rattle.log_core.specs.Closings.{changes_of_vote, closing_drafts, closing_reply, decision_drafts, ended_by, open_reply}
+use Rattle.log_core.specs.Confirming.{Asked, confirm_checks, confirm_reply, confirm_row, confirmed_draft}
+use Rattle.log_core.specs.Decided.{Decision, decision_checks, decision_reply, decision_row}
+use Rattle.log_core.specs.Learning.{roll_note_checks, roll_note_reply, roll_note_row}
+use Rattle.log_core.specs.Passing.{passing_checks, passing_reply, passing_row, status_draft, status_drafts}
+use Rattle.log_core.specs.Proposed.{Proposal, ballot_draft, proposed_checks, proposed_reply, proposed_row}
+use Rattle.log_core.specs.Proposing.{proposal_draft, proposing_checks, proposing_reply, proposing_row}
+use Rattle.log_core.specs.Rolling.{roll_draft, rolling_checks, rolling_reply, rolling_row}
+use Rattle.log_core.specs.Row.{message_row, read_row, row}
+use Rattle.log_core.specs.Sending.{Draft}
+use Rattle.log_core.specs.Skipped.{skip_checks, skip_reply, skip_row}
+use Rattle.log_core.specs.State.{CoreState, Input, Reply, passes, proposes, rolls, takes}
+use Rattle.log_core.specs.Stated.{status_checks, status_reply, status_row}
+use Rattle.log_core.specs.Submit.{submit_checks, submit_reply, submit_row}
+use Rattle.log_core.specs.Walk.{proposal, proposed_value}
+use Rattle.log_core.proofs.Blanks.{IsComposed, joined}
+use Rattle.log_core.proofs.Checked.{passed}
+use Rattle.log_core.proofs.Drafts.{ballot-is_draft, confirmed-is_draft, decision-is_draft, propose-draft, roll-is_draft, skip-is_draft, status-is_draft}
+
+-- what a reply sends is composed, with the leaves of the book behind it
+abbrev Composed : Reply → Type 0
+Composed reply = IsComposed reply.after.log.past.signed reply.after.signature_len reply.unsigned
+
+-- ---- the closing rule
+
+newest-are : (len : ℕ) (before after : LogState) (newest : Option Newest) → AllByRecursion (IsDraft len) (decision_drafts len before after newest)
+newest-are len before after None = tt
+newest-are len before after (Some w) =
+    (decision-is_draft len (own_vote_text before (newest_value w)) w (changes_of_vote (own_vote after.past.voted w.epoch)), tt)
+
+closing-are : (closing : Closing) (len : ℕ) (before after : LogState) → AllByRecursion (IsDraft len) (closing_drafts closing len before after)
+closing-are closings.Open len before after = tt
+closing-are closings.Decided len before after = newest-are len before after after.newest
+closing-are (closings.Skipped statuses) len before after = (skip-is_draft len (own_status_text before) (epoch_of before) statuses, tt)
+
+closing-composed : (s : CoreState) (before : LogState) (drafts : List Draft) (x : LogState × Closing) → AllByRecursion (IsDraft s.signature_len) drafts
+    → Composed (closing_reply s before drafts x)
+closing-composed s before drafts x each = record {
+  drafts = drafts ++ closing_drafts x.1 s.signature_len before x.0;
+  ended = ended_by x.1 (epoch_of before) x.0.newest;
+  is = refl;
+  each = joined (IsDraft s.signature_len) drafts (closing_drafts x.1 s.signature_len before x.0) each (closing-are x.1 s.signature_len before x.0);
+}
+
+open-composed : (s : CoreState) (after : LogState) (draft : Draft) → IsDraft s.signature_len draft → Composed (open_reply s after (draft ∷ []))
+open-composed s after draft is = record { drafts = draft ∷ []; ended = None; is = refl; each = (is, tt) }
+
+-- ---- each row
+
+proposing-composed : (s : CoreState) (reply : Reply) → proposing_row s ≡ Ok reply → Composed reply
+unfolding proposing_row
+proposing-composed s reply answer =
+    let h = passed (proposing_checks s) (proposing_reply s) reply answer in
+    let value : Value = proposed_value s in
+    let one : IsDraft s.signature_len (proposal_draft s value (proposal s)) =
+    propose-draft Logs s.log.me (epoch_of s.log) value.base value.root (proposal s) s.signature_len (text_of (propose_claim s.log value)) in
+    subst Composed h.1 (closing-composed s s.log (proposal_draft s value (proposal s) ∷ []) (after_propose s.log value (proposal s)) (one, tt))
+
+passing-composed : (s : CoreState) (reply : Reply) → passing_row s ≡ Ok reply → Composed reply
+unfolding passing_row
+passing-composed s reply answer =
+    let h = passed (passing_checks s) (passing_reply s) reply answer in
+    subst Composed h.1 (closing-composed s s.log (status_drafts s) (after_state s.log) (by (is_turn s.log.council s.log.me (epoch_of s.log + 1))))
+  where
+    by : (b : Bool) → AllByRecursion (IsDraft s.signature_len) (cond b [] (status_draft s ∷ []))
+    by true = tt
+    by false = (
+      status-is_draft (One (log_party (turn_of s.log.council (epoch_of s.log + 1)))) s.log.me (epoch_of s.log) (option_map roots_of (own_value s.log))
+          s.signature_len (own_status_text s.log),
+      tt,
+    )
+
+rolling-composed : (s : CoreState) (key : LmsPublic) (reply : Reply) → rolling_row s key ≡ Ok reply → Composed reply
+unfolding rolling_row
+rolling-composed s key reply answer =
+    let h = passed (rolling_checks s) (rolling_reply s key) reply answer in
+    let newest : ℕ = s.log.past.signed.newest in
+    subst Composed h.1 (record {
+      drafts = roll_draft s key ∷ [];
+      ended = None;
+      is = refl;
+      each = (roll-is_draft Logs (log_party s.log.me) newest key s.signature_len (roll_text (log_party s.log.me) newest key), tt);
+    })
+
+submit-composed : (s : CoreState) (change : Change) (reply : Reply) → submit_row s change ≡ Ok reply → Composed reply
+unfolding submit_row
+submit-composed s change reply answer =
+    let h = passed (submit_checks s change) (submit_reply s change) reply answer in
+    subst Composed h.1 (record { drafts = []; ended = None; is = refl; each = tt })
+
+proposed-composed : (s : CoreState) (p : Proposal) (reply : Reply) → proposed_row s p ≡ Ok reply → Composed reply
+unfolding proposed_row
+proposed-composed s p reply answer =
+    let h = passed (proposed_checks s p) (proposed_reply s p) reply answer in
+    subst Composed h.1
+    (open-composed s (after_vote s.log p.log p.value p.changes) (ballot_draft s p.value)
+    (ballot-is_draft (One (log_party (turn_of s.log.council (epoch_of s.log)))) s.log.me (epoch_of s.log) p.value.base p.value.root s.signature_len (own_vote_text s.log p.value)))
+
+ballot-composed : (s : CoreState) (log epoch : ℕ) (value : Value) (signature : List ℕ) (reply : Reply) → ballot_row s log epoch value signature ≡ Ok reply → Composed reply
+unfolding ballot_row
+ballot-composed s log epoch value signature reply answer =
+    let h = passed (ballot_checks s log epoch value signature) (ballot_reply s log value signature) reply answer in
+    subst Composed h.1 (closing-composed s s.log [] (after_ballot s.log log value signature) tt)
+
+status-composed : (s : CoreState) (log epoch : ℕ) (value : Option Value) (signature : List ℕ) (reply : Reply) → status_row s log epoch value signature ≡ Ok reply → Composed reply
+unfolding status_row
+status-composed s log epoch value signature reply answer =
+    let h = passed (status_checks s log epoch value signature) (status_reply s log value signature) reply answer in
+    subst Composed h.1 (closing-composed s s.log [] (after_status_seen s.log log value (Some signature)) tt)
+
+decision-composed : (s : CoreState) (d : Decision) (reply : Reply) → decision_row s d ≡ Ok reply → Composed reply
+unfolding decision_row
+decision-composed s d reply answer =
+    let h = passed (decision_checks s d) (decision_reply s d) reply answer in
+    subst Composed h.1 (record { drafts = []; ended = (decision_reply s d).unsigned.sent.ended; is = refl; each = tt })
+
+skip-composed : (s : CoreState) (epoch : ℕ) (statuses : List LogStatus) (reply : Reply) → skip_row s epoch statuses ≡ Ok reply → Composed reply
+unfolding skip_row
+skip-composed s epoch statuses reply answer =
+    let h = passed (skip_checks s epoch statuses) (skip_reply s statuses) reply answer in
+    subst Composed h.1 (record { drafts = []; ended = (skip_reply s statuses).unsigned.sent.ended; is = refl; each = tt })
+
+confirm-composed : (s : CoreState) (asked : Asked) (reply : Reply) → confirm_row s asked ≡ Ok reply → Composed reply
+unfolding confirm_row
+confirm-composed s asked reply answer =
+    let h = passed (confirm_checks s asked) (confirm_reply s s.log.newest asked) reply answer in
+    subst Composed h.1 (by s.log.newest)
+  where
+    by : (newest : Option Newest) → Composed (confirm_reply s newest asked)
+    by None = record { drafts = []; ended = None; is = refl; each = tt }
+    by (Some w) = open-composed s (after_confirm s.log w asked.name) (confirmed_draft s w asked) (confirmed-is_draft s w asked)
+
+roll_note-composed : (s : CoreState) (a : Announced) (reply : Reply) → roll_note_row s a ≡ Ok reply → Composed reply
+unfolding roll_note_row
+roll_note-composed s a reply answer =
+    let h = passed (roll_note_checks s a) (roll_note_reply s a) reply answer in
+    subst Composed h.1 (record { drafts = []; ended = None; is = refl; each = tt })
+
+message-composed : (s : CoreState) (m : Message) (reply : Reply) → message_row s m ≡ Ok reply → Composed reply
+message-composed s (messages.EndorseAsk owner cert) reply answer = absurd cc
+message-composed s (messages.Endorsed owner authority certificate signature) reply answer = absurd cc
+message-composed s (messages.Submit change) reply answer = submit-composed s change reply answer
+message-composed s (messages.Propose log epoch base root changes signature) reply answer =
+    proposed-composed s (record { log = log; epoch = epoch; value = value_of_roots (base, root); changes = changes; signature = signature }) reply answer
+message-composed s (messages.Ballot log epoch base root signature) reply answer = ballot-composed s log epoch (value_of_roots (base, root)) signature reply answer
+message-composed s (messages.StatusNote log epoch value signature) reply answer = status-composed s log epoch (option_map value_of_roots value) signature reply answer
+message-composed s (messages.Decision epoch base root changes votes) reply answer =
+    decision-composed s (record { epoch = epoch; value = value_of_roots (base, root); changes = changes; votes = votes }) reply answer
+message-composed s (messages.SkipNote epoch statuses) reply answer = skip-composed s epoch statuses reply answer
+message-composed s (messages.ConfirmAsk client name first second) reply answer =
+    confirm-composed s (record { client = client; name = name; first = first; second = second }) reply answer
+message-composed s (messages.LogConfirmed part) reply answer = absurd cc
+message-composed s (messages.HalfConfirmed part first_signature) reply answer = absurd cc
+message-composed s (messages.Confirmation client epoch name root body log log_signature first first_signature second second_signature) reply answer = absurd cc
+message-composed s (messages.RollNote party generation key signature) reply answer =
+    roll_note-composed s (record { party = party; generation = generation; key = key; signature = signature }) reply answer
+
+read-composed : (s : CoreState) (read : Result Message ℕ) (reply : Reply) → read_row s read ≡ Ok reply → Composed reply
+read-composed s (Ok m) reply answer = message-composed s m reply answer
+read-composed s (Err place) reply answer = absurd cc
+
+pub row-composed : (s : CoreState) (input : Input) (reply : Reply) → row s input ≡ Ok reply → Composed reply
+unfolding row
+row-composed s (takes bytes) reply answer = read-composed s (message_in bytes) reply answer
+row-composed s proposes reply answer = proposing-composed s reply answer
+row-composed s passes reply answer = passing-composed s reply answer
+row-composed s (rolls key) reply answer = rolling-composed s key reply answer

@@ -1,0 +1,15 @@
+pub mod Ascending
+pub mod Blanks
+pub mod Checked
+pub mod Composed
+pub mod Drafts
+pub mod Judged
+pub mod KeptCore
+pub mod KeptEndings
+pub mod KeptRows
+pub mod Known
+pub mod Reported
+pub mod Sees
+pub mod Stepping
+pub mod Verified
+pub mod Walked

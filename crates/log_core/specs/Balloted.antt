@@ -1,0 +1,26 @@
+-- The row of Ballot: a ballot is counted by the log whose turn it is.
+use Rattle.std.specs.Prelude.{ℕ, List, [], ◌∷◌}
+use Rattle.party_keys.specs.Seen.{log_party}
+use Rattle.vote_quorum.specs.declared.value.Value.{Value}
+use Rattle.ar_council.specs.Values.{vote_claim}
+use Rattle.epoch_log.specs.Calls.{after_ballot}
+use Rattle.epoch_log.specs.State.{epoch_of}
+use Rattle.log_core.specs.Checks.{Check, checked, in_epoch, in_turn}
+use Rattle.log_core.specs.Closings.{closing_reply}
+use Rattle.log_core.specs.Signers.{signed_by, signers}
+use Rattle.log_core.specs.State.{Answer, CoreState, Reply}
+
+-- the log has signed; it is of this log's epoch, which is its turn
+abbrev pub ballot_checks : CoreState → ℕ → ℕ → Value → List ℕ → List Check
+ballot_checks s log epoch value signature =
+    signers s.keys (signed_by (log_party log) (vote_claim log epoch value) signature ∷ [])
+    ∷ in_epoch s.log epoch
+    ∷ in_turn s.log.council (epoch_of s.log) s.log.me
+    ∷ []
+
+-- it is seen and counted, and the closing rule follows
+abbrev pub ballot_reply : CoreState → ℕ → Value → List ℕ → Reply
+ballot_reply s log value signature = closing_reply s s.log [] (after_ballot s.log log value signature)
+
+unfoldable pub ballot_row : CoreState → ℕ → ℕ → Value → List ℕ → Answer
+ballot_row s log epoch value signature = checked (ballot_checks s log epoch value signature) (ballot_reply s log value signature)

@@ -1,0 +1,113 @@
+-- The row of ConfirmAsk: the log confirms what a name has behind the newest decided epoch.
+use Rattle.std.specs.Prelude.{ℕ, ◌+◌, ◌-◌, List, [], ◌∷◌, ◌++◌, flat_map, length, Option, Some, None, Ok}
+use Rattle.hash_tree.specs.Path.{steps_of}
+use Rattle.tree_proof.specs.Path.{found_of}
+use Rattle.tree_proof.specs.declared.path.Bottom.TheVariants.{Empty}
+use Rattle.tree_proof.specs.declared.path.Found.{Found}
+use Rattle.tree_proof.specs.declared.path.Found.TheVariants as found
+use Rattle.ar_names.specs.Names.{name_digest_of}
+use Rattle.ar_cert.specs.Certificate.{Certificate}
+use Rattle.ar_message.specs.Messages.{message_text}
+use Rattle.ar_message.specs.declared.address.Address.TheVariants.{One}
+use Rattle.ar_message.specs.declared.message.Body.{Body}
+use Rattle.ar_message.specs.declared.message.Body.TheVariants.{Absent, Present}
+use Rattle.ar_message.specs.declared.message.Confirming.{Confirming}
+use Rattle.ar_message.specs.declared.message.Message.TheVariants.{LogConfirmed}
+use Rattle.party_keys.specs.Seen.{authority_party}
+use Rattle.domain_table.specs.Tables.{Table, chain_of, newest}
+use Rattle.domain_table.specs.Tree.{tree_entries}
+use Rattle.ar_council.specs.Values.{vote_claim}
+use Rattle.epoch_log.specs.Calls.{after_confirm, confirmation_text}
+use Rattle.epoch_log.specs.State.{LogState, newest_value, table_of}
+use Rattle.ar_statement.specs.Claims.{text_of}
+use Rattle.epoch_log.specs.declared.entries.Newest.{Newest}
+use Rattle.log_core.specs.Checks.{Check, checked, has_decision, has_leaves}
+use Rattle.log_core.specs.Closings.{open_reply}
+use Rattle.log_core.specs.Sending.{Draft, own_votes, place_for, sent_votes, zeros}
+use Rattle.log_core.specs.Signers.{known}
+use Rattle.log_core.specs.State.{Answer, CoreState, Reply, nothing}
+
+-- what a client asks: to confirm a name, by two authorities of the client's choice
+pub record Asked : Type 0 where
+  pub client : ℕ
+  pub name : List ℕ
+  pub first : ℕ
+  pub second : ℕ
+
+-- ---- what is confirmed
+
+-- what stands at the foot of the path of a name that has no certificate, with the path; where another name has its key
+-- in the tree, which takes a collision, it is empty and there are no steps
+abbrev pub absence : Found → List (List ℕ) → Body
+absence (found.Absent bottom) steps = Absent bottom (flat_map (λ step. step) steps)
+absence (found.Present value) steps = Absent Empty []
+
+-- a name's certificate, or its absence, with the path that shows it
+abbrev pub body_by : Option Certificate → Found → List (List ℕ) → Body
+body_by (Some certificate) at_key steps = Present certificate (flat_map (λ step. step) steps)
+body_by None at_key steps = absence at_key steps
+
+-- what a table has for a name, with its path
+abbrev pub body_of : Table → List ℕ → Body
+body_of table name =
+    body_by (newest (chain_of table name)) (found_of (name_digest_of name) (tree_entries table)) (steps_of (name_digest_of name) (tree_entries table))
+
+-- ---- the message
+
+-- the confirmation, with the votes of the decision
+abbrev pub confirming_of : CoreState → Newest → Asked → Confirming
+confirming_of s w asked = record {
+  client = asked.client;
+  epoch = w.epoch;
+  name = asked.name;
+  root = w.root;
+  base = w.base;
+  body = body_of (table_of s.log) asked.name;
+  votes = sent_votes s.signature_len w.votes;
+  log = s.log.me;
+  signature = zeros s.signature_len;
+  first = asked.first;
+  second = asked.second;
+}
+
+-- the log's own vote for the newest decision
+abbrev pub newest_vote_text : LogState → Newest → List ℕ
+newest_vote_text s w = text_of (vote_claim s.me w.epoch (newest_value w))
+
+-- how many bytes it has
+abbrev pub confirmed_len : CoreState → Newest → Asked → ℕ
+confirmed_len s w asked = length (message_text (LogConfirmed (confirming_of s w asked)))
+
+-- The message to the first authority. Behind the votes stand the log's number, its signature behind two bytes, and the
+-- numbers of the authorities; where its own ballot was counted at once, that signature is due too.
+abbrev pub confirmed_draft : CoreState → Newest → Asked → Draft
+confirmed_draft s w asked = record {
+  to = One (authority_party asked.first);
+  message = LogConfirmed (confirming_of s w asked);
+  own =
+      own_votes s.signature_len (newest_vote_text s.log w) (confirmed_len s w asked - (s.signature_len + 8)) w.votes
+      ++ place_for (confirmed_len s w asked - (s.signature_len + 4)) (confirmation_text s.log w asked.name) ∷ [];
+}
+
+-- ---- the row
+
+-- there is a leaf for the confirmation of the newest decision
+abbrev pub leaf_to_confirm : CoreState → Option Newest → List ℕ → Check
+leaf_to_confirm s None name = Ok tt
+leaf_to_confirm s (Some w) name = has_leaves s.log.past.signed (confirmation_text s.log w name ∷ [])
+
+-- the first and then the second authority is known, an epoch is decided, and there is a leaf
+abbrev pub confirm_checks : CoreState → Asked → List Check
+confirm_checks s asked =
+    known s.keys (authority_party asked.first ∷ authority_party asked.second ∷ [])
+    ∷ has_decision s.log s.log.newest
+    ∷ leaf_to_confirm s s.log.newest asked.name
+    ∷ []
+
+-- by the newest decision the log confirms what the name has
+abbrev pub confirm_reply : CoreState → Option Newest → Asked → Reply
+confirm_reply s None asked = record { unsigned = nothing; after = s }
+confirm_reply s (Some w) asked = open_reply s (after_confirm s.log w asked.name) (confirmed_draft s w asked ∷ [])
+
+unfoldable pub confirm_row : CoreState → Asked → Answer
+confirm_row s asked = checked (confirm_checks s asked) (confirm_reply s s.log.newest asked)

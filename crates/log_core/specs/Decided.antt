@@ -1,0 +1,56 @@
+-- The row of Decision: the log ends the epoch as decided.
+use Rattle.std.specs.Prelude.{ℕ, List, [], ◌∷◌, ◌++◌, flat_map, length, map, Some, None, if◌then◌else◌}
+use Rattle.ar_cert.specs.Changes.{Change}
+use Rattle.ar_message.specs.declared.lists.Vote.{Vote}
+use Rattle.party_keys.specs.Signers.{Claimed}
+use Rattle.vote_quorum.specs.declared.value.Value.{Value}
+use Rattle.epoch_log.specs.Calls.{after_decide}
+use Rattle.epoch_log.specs.Ending.{may_end}
+use Rattle.epoch_log.specs.State.{LogState, epoch_of, table_of}
+use Rattle.log_core.specs.Checks.{Check, all_taken, checked, enough, in_epoch, same_base, same_root}
+use Rattle.log_core.specs.Closings.{core_after, still_wanted}
+use Rattle.log_core.specs.Judged.{judged}
+use Rattle.log_core.specs.Sending.{unsigned_of}
+use Rattle.log_core.specs.Signers.{endorsements_in, signers, votes_in}
+use Rattle.log_core.specs.State.{Answer, CoreState, Reply}
+
+-- a decision of an epoch
+pub record Decision : Type 0 where
+  pub epoch : ℕ
+  pub value : Value
+  pub changes : List Change
+  pub votes : List Vote
+
+-- the votes, and the endorsers of each change in order
+abbrev pub decision_signers : Decision → List Claimed
+decision_signers d = votes_in d.epoch d.value d.votes ++ flat_map endorsements_in d.changes
+
+-- The signers; it is of the log's epoch and for its base, the table accepts each change behind those before it, and they
+-- lead to the root; and the votes are a quorum.
+abbrev pub decision_checks : CoreState → Decision → List Check
+decision_checks s d =
+    signers s.keys (decision_signers d)
+    ∷ in_epoch s.log d.epoch
+    ∷ same_base s.log d.value.base
+    ∷ all_taken (judged (table_of s.log) (epoch_of s.log) d.changes)
+    ∷ same_root (judged (table_of s.log) (epoch_of s.log) d.changes) d.value.root
+    ∷ enough s.log.council (length d.votes)
+    ∷ []
+
+-- the votes as the log keeps them
+abbrev pub plain_votes : List Vote → List (ℕ × List ℕ)
+plain_votes votes = map (λ v. (v.log, v.signature)) votes
+
+-- the log behind it
+abbrev pub decision_state : CoreState → Decision → LogState
+decision_state s d = after_decide s.log d.value d.changes (plain_votes d.votes)
+
+-- the epoch ended as decided, unless it is the last that a statement can name
+abbrev pub decision_reply : CoreState → Decision → Reply
+decision_reply s d = record {
+  unsigned = unsigned_of (decision_state s d).past.signed [] (if may_end s.log.past then Some (epoch_of s.log, Some d.value.root) else None);
+  after = core_after s (decision_state s d) (if may_end s.log.past then still_wanted (decision_state s d) s.queue else s.queue);
+}
+
+unfoldable pub decision_row : CoreState → Decision → Answer
+decision_row s d = checked (decision_checks s d) (decision_reply s d)

@@ -1,0 +1,26 @@
+-- What becomes of a list of changes on a table: each is judged on the table that those before it leave.
+use Rattle.std.specs.Prelude.{ℕ, ◌+◌, List, [], ◌∷◌, Result, Ok, Err}
+use Rattle.ar_cert.specs.Changes.{Change}
+use Rattle.cert_policy.specs.declared.manner.Manner.{Manner}
+use Rattle.domain_table.specs.declared.refusal.ChangeRefusal.{ChangeRefusal}
+use Rattle.domain_table.specs.Applying.{judge_ripe, ripen, taken}
+use Rattle.domain_table.specs.Tables.{Table}
+
+-- the table after the changes, or the index of the first that is refused, and why
+abbrev pub Judged : Type 0
+Judged = Result Table (ℕ × ChangeRefusal)
+
+-- the rest of the changes, behind one that is judged so
+abbrev pub behind_one : Result Manner ChangeRefusal → ℕ → (Manner → Judged) → Judged
+behind_one (Ok manner) index rest = rest manner
+behind_one (Err refusal) index rest = Err (index, refusal)
+
+-- the changes, the first of which has this index, on a table that is ripe
+unfoldable pub judged_from : ℕ → Table → ℕ → List Change → Judged
+judged_from index table epoch [] = Ok table
+judged_from index table epoch (change ∷ changes) =
+    behind_one (judge_ripe table change) index (λ manner. judged_from (index + 1) (taken table epoch change manner) epoch changes)
+
+-- the changes of an epoch, on the table that is ripened once, before the first
+abbrev pub judged : Table → ℕ → List Change → Judged
+judged table epoch changes = judged_from 0 (ripen table epoch) epoch changes

@@ -1,0 +1,59 @@
+-- The row of Propose: the log votes for another log's proposal.
+use Rattle.std.specs.Prelude.{ℕ, List, [], ◌∷◌, flat_map}
+use Rattle.ar_cert.specs.Changes.{Change}
+use Rattle.ar_message.specs.declared.address.Address.TheVariants.{One}
+use Rattle.ar_message.specs.declared.message.Message.TheVariants.{Ballot}
+use Rattle.ar_statement.specs.Claims.{propose}
+use Rattle.party_keys.specs.Seen.{log_party}
+use Rattle.party_keys.specs.Signers.{Claimed}
+use Rattle.vote_quorum.specs.declared.value.Value.{Value}
+use Rattle.epoch_log.specs.Calls.{after_vote, own_vote_text}
+use Rattle.epoch_log.specs.State.{epoch_of, table_of}
+use Rattle.log_core.specs.Checks.{Check, all_taken, checked, has_leaves, in_epoch, in_turn, not_stated, not_voted, same_base, same_root, turn_of}
+use Rattle.log_core.specs.Closings.{open_reply}
+use Rattle.log_core.specs.Judged.{judged}
+use Rattle.log_core.specs.Sending.{Draft, draft_with, zeros}
+use Rattle.log_core.specs.Signers.{endorsements_in, signed_by, signers}
+use Rattle.log_core.specs.State.{Answer, CoreState, Reply}
+
+-- a proposal of a log in an epoch
+pub record Proposal : Type 0 where
+  pub log : ℕ
+  pub epoch : ℕ
+  pub value : Value
+  pub changes : List Change
+  pub signature : List ℕ
+
+-- the proposer, and the endorsers of each change in order
+abbrev pub proposal_signers : Proposal → List Claimed
+proposal_signers p =
+    signed_by (log_party p.log) (propose p.log p.epoch p.value.base p.value.root) p.signature ∷ flat_map endorsements_in p.changes
+
+-- The signers; it is of the log's epoch, by the log whose turn it is; the log has not voted and not stated; the proposal
+-- is for its base, the table accepts each change behind those before it, and they lead to the root; and there is a leaf
+-- for the vote.
+abbrev pub proposed_checks : CoreState → Proposal → List Check
+proposed_checks s p =
+    signers s.keys (proposal_signers p)
+    ∷ in_epoch s.log p.epoch
+    ∷ in_turn s.log.council (epoch_of s.log) p.log
+    ∷ not_voted s.log
+    ∷ not_stated s.log
+    ∷ same_base s.log p.value.base
+    ∷ all_taken (judged (table_of s.log) (epoch_of s.log) p.changes)
+    ∷ same_root (judged (table_of s.log) (epoch_of s.log) p.changes) p.value.root
+    ∷ has_leaves s.log.past.signed (own_vote_text s.log p.value ∷ [])
+    ∷ []
+
+-- the ballot goes to the log whose turn it is
+abbrev pub ballot_draft : CoreState → Value → Draft
+ballot_draft s value =
+    draft_with (One (log_party (turn_of s.log.council (epoch_of s.log))))
+    (Ballot s.log.me (epoch_of s.log) value.base value.root (zeros s.signature_len)) s.signature_len 0 (own_vote_text s.log value)
+
+-- the log votes for it
+abbrev pub proposed_reply : CoreState → Proposal → Reply
+proposed_reply s p = open_reply s (after_vote s.log p.log p.value p.changes) (ballot_draft s p.value ∷ [])
+
+unfoldable pub proposed_row : CoreState → Proposal → Answer
+proposed_row s p = checked (proposed_checks s p) (proposed_reply s p)

@@ -1,0 +1,37 @@
+-- The row of the order to propose.
+use Rattle.std.specs.Prelude.{List, [], ◌∷◌}
+use Rattle.ar_cert.specs.Changes.{Change}
+use Rattle.ar_message.specs.declared.address.Address.TheVariants.{Logs}
+use Rattle.ar_message.specs.declared.message.Message.TheVariants.{Propose}
+use Rattle.ar_statement.specs.Claims.{text_of}
+use Rattle.vote_quorum.specs.declared.value.Value.{Value}
+use Rattle.epoch_log.specs.Calls.{after_propose, proposal_texts, propose_claim}
+use Rattle.epoch_log.specs.State.{epoch_of}
+use Rattle.log_core.specs.Checks.{Check, checked, has_leaves, in_turn, not_stated, not_voted}
+use Rattle.log_core.specs.Closings.{closing_reply}
+use Rattle.log_core.specs.Sending.{Draft, draft_with, zeros}
+use Rattle.log_core.specs.State.{Answer, CoreState, Reply}
+use Rattle.log_core.specs.Walk.{proposal, proposed_value}
+
+-- it is the log's turn, it has not voted and not stated, and there are leaves for the proposal and its own vote
+abbrev pub proposing_checks : CoreState → List Check
+proposing_checks s =
+    in_turn s.log.council (epoch_of s.log) s.log.me
+    ∷ not_voted s.log
+    ∷ not_stated s.log
+    ∷ has_leaves s.log.past.signed (proposal_texts s.log (proposed_value s))
+    ∷ []
+
+-- the proposal, which goes to all logs
+abbrev pub proposal_draft : CoreState → Value → List Change → Draft
+proposal_draft s value changes =
+    draft_with Logs (Propose s.log.me (epoch_of s.log) value.base value.root changes (zeros s.signature_len))
+    s.signature_len 0 (text_of (propose_claim s.log value))
+
+-- the log proposes what it walked over, and counts its own vote at once; the closing rule follows
+abbrev pub proposing_reply : CoreState → Reply
+proposing_reply s =
+    closing_reply s s.log (proposal_draft s (proposed_value s) (proposal s) ∷ []) (after_propose s.log (proposed_value s) (proposal s))
+
+unfoldable pub proposing_row : CoreState → Answer
+proposing_row s = checked (proposing_checks s) (proposing_reply s)

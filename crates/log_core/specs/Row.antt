@@ -1,0 +1,63 @@
+-- The row of each input of a log.
+use Rattle.std.specs.Prelude.{ℕ, Result, Ok, Err, IsTrue}
+use Rattle.ar_base.specs.Bytes.{AreBytes}
+use Rattle.ar_statement.specs.Ranges.{IsKeyText, is_readable}
+use Rattle.lms_tree.specs.PublicKey.{key_text}
+use Rattle.std.specs.Option.{option_map}
+use Rattle.ar_message.specs.Messages.{message_in}
+use Rattle.ar_message.specs.declared.message.Message.{Message}
+use Rattle.ar_message.specs.declared.message.Message.TheVariants as messages
+use Rattle.ar_council.specs.Values.{value_of_roots}
+use Rattle.log_core.specs.Balloted.{ballot_row}
+use Rattle.log_core.specs.Confirming.{confirm_row}
+use Rattle.log_core.specs.Decided.{decision_row}
+use Rattle.log_core.specs.Learning.{roll_note_row}
+use Rattle.log_core.specs.Passing.{passing_row}
+use Rattle.log_core.specs.Proposed.{proposed_row}
+use Rattle.log_core.specs.Proposing.{proposing_row}
+use Rattle.log_core.specs.Rolling.{rolling_row}
+use Rattle.log_core.specs.Skipped.{skip_row}
+use Rattle.log_core.specs.State.{Answer, CoreState, Input, passes, proposes, rolls, takes}
+use Rattle.log_core.specs.Stated.{status_row}
+use Rattle.log_core.specs.Submit.{submit_row}
+use Rattle.log_core.specs.declared.refusal.LogRefusal.TheVariants as refusals
+
+-- the row of a message
+abbrev pub message_row : CoreState → Message → Answer
+message_row s (messages.EndorseAsk owner cert) = Err refusals.NotForLog
+message_row s (messages.Endorsed owner authority certificate signature) = Err refusals.NotForLog
+message_row s (messages.Submit change) = submit_row s change
+message_row s (messages.Propose log epoch base root changes signature) =
+    proposed_row s (record { log = log; epoch = epoch; value = value_of_roots (base, root); changes = changes; signature = signature })
+message_row s (messages.Ballot log epoch base root signature) = ballot_row s log epoch (value_of_roots (base, root)) signature
+message_row s (messages.StatusNote log epoch value signature) = status_row s log epoch (option_map value_of_roots value) signature
+message_row s (messages.Decision epoch base root changes votes) =
+    decision_row s (record { epoch = epoch; value = value_of_roots (base, root); changes = changes; votes = votes })
+message_row s (messages.SkipNote epoch statuses) = skip_row s epoch statuses
+message_row s (messages.ConfirmAsk client name first second) =
+    confirm_row s (record { client = client; name = name; first = first; second = second })
+message_row s (messages.LogConfirmed part) = Err refusals.NotForLog
+message_row s (messages.HalfConfirmed part first_signature) = Err refusals.NotForLog
+message_row s (messages.Confirmation client epoch name root body log log_signature first first_signature second second_signature) =
+    Err refusals.NotForLog
+message_row s (messages.RollNote party generation key signature) =
+    roll_note_row s (record { party = party; generation = generation; key = key; signature = signature })
+
+-- the row of bytes: a message, or the place of the first field that fails
+abbrev pub read_row : CoreState → Result Message ℕ → Answer
+read_row s (Ok message) = message_row s message
+read_row s (Err place) = Err (refusals.Form place)
+
+-- the row of an input
+unfoldable pub row : CoreState → Input → Answer
+row s (takes bytes) = read_row s (message_in bytes)
+row s proposes = proposing_row s
+row s passes = passing_row s
+row s (rolls key) = rolling_row s key
+
+-- an input as a program has it: bytes are bytes, and a key is one that can be read
+abbrev pub IsInput : Input → Type 0
+IsInput (takes bytes) = AreBytes bytes
+IsInput proposes = Unit {0}
+IsInput passes = Unit {0}
+IsInput (rolls key) = IsKeyText (key_text key) × IsTrue (is_readable (key_text key))

@@ -1,0 +1,103 @@
+-- What a step sends. Where a signature of the log's own is due a message has zero bytes, and a blank tells what is signed
+-- there.
+use Rattle.std.specs.Prelude.{ℕ, ◌+◌, ◌-◌, Bool, true, false, List, [], ◌∷◌, ◌++◌, length, flat_map, map, replicate, Option, Some, None, is_none, unwrap_or}
+use Rattle.key_roll.specs.Book.{RollBook}
+use Rattle.key_roll.specs.Due.{DueParts}
+use Rattle.key_roll.specs.Entry.{due_of}
+use Rattle.ar_message.specs.Lists.{status_text, vote_text}
+use Rattle.ar_message.specs.Messages.{message_text}
+use Rattle.ar_message.specs.Sending.{Letter}
+use Rattle.ar_message.specs.declared.address.Address.{Address}
+use Rattle.ar_message.specs.declared.lists.LogStatus.{LogStatus}
+use Rattle.ar_message.specs.declared.lists.Vote.{Vote}
+use Rattle.ar_message.specs.declared.message.Message.{Message}
+use Rattle.ar_message.specs.declared.unsigned.Blank.{Blank}
+use Rattle.ar_message.specs.declared.unsigned.Unsigned.{Unsigned}
+use Rattle.ar_council.specs.Values.{roots_of}
+use Rattle.epoch_log.specs.State.{CountedStatus}
+use Rattle.std.specs.Option.{option_map}
+
+-- ---- drafts
+
+-- a place in a message, from its first byte on, at which the log signs this text
+pub record Place : Type 0 where
+  pub at : ℕ
+  pub text : List ℕ
+
+-- this place, and this text
+abbrev pub place_for : ℕ → List ℕ → Place
+place_for at text = record { at = at; text = text }
+
+-- to whom a message goes, what it says with zero bytes for the log's own signatures, and where these are due
+pub record Draft : Type 0 where
+  pub to : Address
+  pub message : Message
+  pub own : List Place
+
+-- zero bytes in place of a signature
+abbrev pub zeros : ℕ → List ℕ
+zeros len = replicate len 0
+
+-- a message with one signature of the log's own, which has so many bytes and stands in front of so many
+abbrev pub draft_with : Address → Message → ℕ → ℕ → List ℕ → Draft
+draft_with to message len behind text =
+    record { to = to; message = message; own = place_for (length (message_text message) - (len + behind)) text ∷ [] }
+
+-- ---- what is sent
+
+abbrev pub letter_of : Draft → Letter
+letter_of draft = record { to = draft.to; bytes = message_text draft.message }
+
+-- the blank of a place, by what is due for its text
+abbrev pub blanks_by : Option DueParts → ℕ → Place → List Blank
+blanks_by None number place = []
+blanks_by (Some due) number place = record { message = number; at = place.at; due = due } ∷ []
+
+-- the blanks of drafts, the first of which is the message with this number
+abbrev pub blanks_from : RollBook → ℕ → List Draft → List Blank
+blanks_from book number [] = []
+blanks_from book number (draft ∷ drafts) =
+    flat_map (λ place. blanks_by (due_of book place.text) number place) draft.own ++ blanks_from book (number + 1) drafts
+
+-- these drafts, with the leaves that the book has for their signatures, and the epoch that ended
+abbrev pub unsigned_of : RollBook → List Draft → Option (ℕ × Option (List ℕ)) → Unsigned
+unsigned_of book drafts ended = record { sent = record { messages = map letter_of drafts; ended = ended }; blanks = blanks_from book 0 drafts }
+
+-- ---- lists with a signature of the log's own among others
+
+-- a vote as it is sent: zero bytes stand for the log's own signature
+abbrev pub sent_vote : ℕ → ℕ × Option (List ℕ) → Vote
+sent_vote len v = record { log = v.0; signature = unwrap_or v.1 (zeros len) }
+
+abbrev pub sent_votes : ℕ → List (ℕ × Option (List ℕ)) → List Vote
+sent_votes len votes = map (sent_vote len) votes
+
+-- a status as it is sent
+abbrev pub sent_status : ℕ → CountedStatus → LogStatus
+sent_status len s = record { log = s.0; value = option_map roots_of s.1; signature = unwrap_or s.2 (zeros len) }
+
+abbrev pub sent_statuses : ℕ → List CountedStatus → List LogStatus
+sent_statuses len statuses = map (sent_status len) statuses
+
+-- the place of an entry, where it is one of the log's own
+abbrev pub if_own : Bool → Place → List Place
+if_own true place = place ∷ []
+if_own false place = []
+
+-- the places of the entries without a signature of their own, in a list whose first entry begins at this place: each
+-- signature, of so many bytes, is the end of its entry
+abbrev pub own_places : {A : Type 0} → (A → Bool) → (A → ℕ) → ℕ → List ℕ → ℕ → List A → List Place
+own_places is_own size len text at [] = []
+own_places is_own size len text at (x ∷ xs) =
+    if_own (is_own x) (place_for (at + size x - len) text) ++ own_places is_own size len text (at + size x) xs
+
+-- the same in votes and in statuses that are the end of a message with so many bytes
+abbrev pub own_votes : ℕ → List ℕ → ℕ → List (ℕ × Option (List ℕ)) → List Place
+own_votes len text end votes =
+    own_places (λ v. is_none v.1) (λ v. length (vote_text (sent_vote len v))) len text
+    (end - length (flat_map vote_text (sent_votes len votes))) votes
+
+abbrev pub own_statuses : ℕ → List ℕ → ℕ → List CountedStatus → List Place
+own_statuses len text end statuses =
+    own_places (λ s. is_none s.2) (λ s. length (status_text (sent_status len s))) len text
+    (end - length (flat_map status_text (sent_statuses len statuses))) statuses

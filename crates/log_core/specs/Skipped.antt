@@ -1,0 +1,34 @@
+-- The row of SkipNote: the log ends the epoch as skipped.
+use Rattle.std.specs.Prelude.{ℕ, List, [], ◌∷◌, map, Some, None, if◌then◌else◌}
+use Rattle.ar_message.specs.declared.lists.LogStatus.{LogStatus}
+use Rattle.epoch_log.specs.Calls.{SignedStatus, after_skip, plain_statuses}
+use Rattle.epoch_log.specs.Ending.{may_end}
+use Rattle.epoch_log.specs.State.{epoch_of}
+use Rattle.log_core.specs.Checks.{Check, checked, in_epoch, none_can_win}
+use Rattle.log_core.specs.Closings.{core_after}
+use Rattle.log_core.specs.Sending.{unsigned_of}
+use Rattle.log_core.specs.Signers.{signers, status_value, statuses_in}
+use Rattle.log_core.specs.State.{Answer, CoreState, Reply}
+
+-- the statuses of a message, as the log keeps them
+abbrev pub signed_statuses : List LogStatus → List SignedStatus
+signed_statuses statuses = map (λ s. (s.log, status_value s, s.signature)) statuses
+
+-- the statuses are signed; it is of the log's epoch; and by them no root can have a quorum
+abbrev pub skip_checks : CoreState → ℕ → List LogStatus → List Check
+skip_checks s epoch statuses =
+    signers s.keys (statuses_in epoch statuses)
+    ∷ in_epoch s.log epoch
+    ∷ none_can_win s.log.council (plain_statuses (signed_statuses statuses))
+    ∷ []
+
+-- The epoch ended as skipped, unless it is the last that a statement can name. The table does not ripen, and the queue
+-- stays.
+abbrev pub skip_reply : CoreState → List LogStatus → Reply
+skip_reply s statuses = record {
+  unsigned = unsigned_of s.log.past.signed [] (if may_end s.log.past then Some (epoch_of s.log, None) else None);
+  after = core_after s (after_skip s.log (signed_statuses statuses)) s.queue;
+}
+
+unfoldable pub skip_row : CoreState → ℕ → List LogStatus → Answer
+skip_row s epoch statuses = checked (skip_checks s epoch statuses) (skip_reply s statuses)

@@ -1,0 +1,26 @@
+-- The row of StatusNote: a status is counted by the log whose turn is the next epoch.
+use Rattle.std.specs.Prelude.{ℕ, ◌+◌, List, [], ◌∷◌, Option, Some}
+use Rattle.party_keys.specs.Seen.{log_party}
+use Rattle.vote_quorum.specs.declared.value.Value.{Value}
+use Rattle.ar_council.specs.Values.{status_claim}
+use Rattle.epoch_log.specs.Calls.{after_status_seen}
+use Rattle.epoch_log.specs.State.{epoch_of}
+use Rattle.log_core.specs.Checks.{Check, checked, in_epoch, in_turn}
+use Rattle.log_core.specs.Closings.{closing_reply}
+use Rattle.log_core.specs.Signers.{signed_by, signers}
+use Rattle.log_core.specs.State.{Answer, CoreState, Reply}
+
+-- the log has signed; it is of this log's epoch, behind which is its turn
+abbrev pub status_checks : CoreState → ℕ → ℕ → Option Value → List ℕ → List Check
+status_checks s log epoch value signature =
+    signers s.keys (signed_by (log_party log) (status_claim log epoch value) signature ∷ [])
+    ∷ in_epoch s.log epoch
+    ∷ in_turn s.log.council (epoch_of s.log + 1) s.log.me
+    ∷ []
+
+-- it is seen, and counted where it is the log's first; the closing rule follows
+abbrev pub status_reply : CoreState → ℕ → Option Value → List ℕ → Reply
+status_reply s log value signature = closing_reply s s.log [] (after_status_seen s.log log value (Some signature))
+
+unfoldable pub status_row : CoreState → ℕ → ℕ → Option Value → List ℕ → Answer
+status_row s log epoch value signature = checked (status_checks s log epoch value signature) (status_reply s log value signature)

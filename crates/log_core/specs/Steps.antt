@@ -1,0 +1,28 @@
+-- What it is that a step of a log is its row's.
+use Rattle.std.specs.Prelude.{◌≡◌, ◌⊎◌, ℕ, Result, Ok, Err}
+use Rattle.ar_message.specs.declared.unsigned.Unsigned.{Unsigned}
+use Rattle.ar_statement.specs.declared.party.Party.{Party}
+use Rattle.party_keys.specs.declared.fault.LearnFault.{LearnFault}
+use Rattle.party_keys.specs.declared.fault.LearnFault.TheVariants as learn_fault
+use Rattle.party_keys.specs.declared.learning.Learned.{Learned}
+use Rattle.log_core.specs.State.{Answer, CoreState, nothing}
+use Rattle.log_core.specs.declared.refusal.LogRefusal.{LogRefusal}
+use Rattle.log_core.specs.declared.refusal.LogRefusal.TheVariants as refusals
+
+-- The row answers with what is sent and with the log as it is behind the step. After an error the log is as it was, and it
+-- is the row's refusal, or want of memory.
+abbrev pub IsStep : Result Unsigned LogRefusal → CoreState → CoreState → Answer → Type 0
+IsStep (Ok unsigned) before after answer = answer ≡ Ok (record { unsigned = unsigned; after = after })
+IsStep (Err refusal) before after answer = (after ≡ before) × ((refusal ≡ refusals.Memory) ⊎ (answer ≡ Err refusal))
+
+-- the refusal of a key that is not learnt
+abbrev pub learn_refusal : LearnFault → Party → ℕ → LogRefusal
+learn_refusal learn_fault.Unknown party generation = refusals.Unknown party
+learn_refusal (learn_fault.Bad number) party generation = refusals.BadSignature party number
+learn_refusal learn_fault.Other party generation = refusals.OtherRoll party generation
+learn_refusal learn_fault.Memory party generation = refusals.Memory
+
+-- what is answered to a note of a Roll, by what was learnt of it
+abbrev pub noted : Result Learned LearnFault → Party → ℕ → Result Unsigned LogRefusal
+noted (Ok how) party generation = Ok nothing
+noted (Err fault) party generation = Err (learn_refusal fault party generation)

@@ -1,0 +1,47 @@
+-- The row of Submit: a change is queued.
+use Rattle.std.specs.Prelude.{Bool, ◌++◌, List, [], ◌∷◌, Result, Ok, Err, if◌then◌else◌}
+use Rattle.std.specs.List.{list_any}
+use Rattle.std.specs.Str.{bytes_eq}
+use Rattle.ar_cert.specs.Changes.{Change, change_text}
+use Rattle.cert_policy.specs.declared.manner.Manner.{Manner}
+use Rattle.domain_table.specs.declared.refusal.ChangeRefusal.{ChangeRefusal}
+use Rattle.domain_table.specs.Applying.{judge}
+use Rattle.epoch_log.specs.Calls.{after_endorsed}
+use Rattle.epoch_log.specs.State.{epoch_of, table_of}
+use Rattle.log_core.specs.Checks.{Check, checked, has_place}
+use Rattle.log_core.specs.Signers.{endorsements_in, signers}
+use Rattle.log_core.specs.State.{Answer, CoreState, Reply, nothing}
+use Rattle.log_core.specs.Closings.{core_after}
+use Rattle.log_core.specs.declared.refusal.LogRefusal.TheVariants as refusals
+
+-- the change is taken, by how it is judged; it is the only one, with the index 0
+abbrev pub taken_alone : Result Manner ChangeRefusal → Check
+taken_alone (Ok manner) = Ok tt
+taken_alone (Err refusal) = Err (refusals.BadChange 0 refusal)
+
+-- whether an equal change is queued, with the same signatures
+abbrev pub is_queued : List Change → Change → Bool
+is_queued queue change = list_any (λ other. bytes_eq (change_text other) (change_text change)) queue
+
+-- there is a place for the change, or it is queued already
+abbrev pub can_queue : List Change → Change → Check
+can_queue queue change = if is_queued queue change then Ok tt else has_place queue
+
+-- its endorsers have signed, the table accepts it in the epoch, and there is a place for it
+abbrev pub submit_checks : CoreState → Change → List Check
+submit_checks s change =
+    signers s.keys (endorsements_in change)
+    ∷ taken_alone (judge (table_of s.log) (epoch_of s.log) change)
+    ∷ can_queue s.queue change
+    ∷ []
+
+-- the endorsements are seen, and it is the last of the queue
+abbrev pub queueing : CoreState → Change → CoreState
+queueing s change = core_after s (after_endorsed s.log change) (s.queue ++ change ∷ [])
+
+-- where it is queued already, nothing changes
+abbrev pub submit_reply : CoreState → Change → Reply
+submit_reply s change = record { unsigned = nothing; after = if is_queued s.queue change then s else queueing s change }
+
+unfoldable pub submit_row : CoreState → Change → Answer
+submit_row s change = checked (submit_checks s change) (submit_reply s change)

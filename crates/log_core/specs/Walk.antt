@@ -1,0 +1,55 @@
+-- What a log proposes: a walk over its queue, from the front, on the table that is ripe in the epoch.
+use Rattle.std.specs.Prelude.{◌≡◌, ℕ, ◌-◌, ◌==◌, nat_le, if◌then◌else◌, List, [], ◌∷◌, ◌++◌, length, Result, Ok, Err, unwrap_or}
+use Rattle.std.specs.List.{sum_by}
+use Rattle.cert_policy.specs.declared.manner.Manner.{Manner}
+use Rattle.ar_cert.specs.Changes.{Change, change_text}
+use Rattle.vote_quorum.specs.declared.value.Value.{Value}
+use Rattle.domain_table.specs.declared.refusal.ChangeRefusal.{ChangeRefusal}
+use Rattle.domain_table.specs.Applying.{apply, judge_ripe, ripen, taken}
+use Rattle.domain_table.specs.Tables.{Table}
+use Rattle.domain_table.specs.Tree.{root_of}
+use Rattle.epoch_log.specs.State.{epoch_of, table_of}
+use Rattle.log_core.specs.State.{CoreState}
+
+-- the most changes of a proposal, and the most bytes of their texts
+abbrev pub most_changes : ℕ
+most_changes = 64
+
+abbrev pub most_bytes : ℕ
+most_bytes = 4000000
+
+-- The changes that are taken of a queue, by how its first is judged: one that is refused is passed over; one that is
+-- accepted is taken, and the walk goes on behind it, unless its text is longer than what is left, where the walk stops.
+abbrev pub taken_first : Result Manner ChangeRefusal → Change → ℕ → List Change → (Manner → List Change) → List Change
+taken_first (Err refusal) change left passed_over rest = passed_over
+taken_first (Ok manner) change left passed_over rest = if nat_le (length (change_text change)) left then change ∷ rest manner else []
+
+-- The changes that are taken of a queue, where so many more may be, and so many bytes are left for their texts: each
+-- that is accepted on the table which those before it leave.
+unfoldable pub walk : ℕ → Table → ℕ → ℕ → List Change → List Change
+walk epoch table many left [] = []
+walk epoch table many left (change ∷ queue) =
+    if many == 0 then []
+    else taken_first (judge_ripe table change) change left (walk epoch table many left queue)
+    (λ manner. walk epoch (taken table epoch change manner) (many - 1) (left - length (change_text change)) queue)
+
+-- how many bytes the texts of changes have
+abbrev pub bytes_of : List Change → ℕ
+bytes_of changes = sum_by (λ change. length (change_text change)) changes
+
+-- these changes stand in a queue, in this order
+abbrev pub StandIn : List Change → List Change → Type 0
+StandIn [] queue = Unit {0}
+StandIn (change ∷ changes) queue = (before : List Change) × (behind : List Change) × (queue ≡ before ++ change ∷ behind) × StandIn changes behind
+
+-- the changes that the log proposes
+abbrev pub proposal : CoreState → List Change
+proposal s = walk (epoch_of s.log) (ripen (table_of s.log) (epoch_of s.log)) most_changes most_bytes s.queue
+
+-- what it proposes to go to, from the root of its table as it is before it ripens: the root of the table behind the
+-- changes, which has ripened also where there is no change
+abbrev pub proposed_value : CoreState → Value
+proposed_value s = record {
+  base = root_of (table_of s.log);
+  root = root_of (unwrap_or (apply (table_of s.log) (epoch_of s.log) (proposal s)) (table_of s.log));
+}

@@ -1,0 +1,102 @@
+//! Laws on the rows, over the definitions alone: each is the contract of a function with an empty body.
+ghost use Rattle.std.specs.Prelude.{◌≡◌, ◌≤◌, ◌<◌, ◌^◌, ◌++◌, ◌∷◌, [], ℕ, List, All, Option, Some, Ok, Err, length, slice_get, take, filter, flat_map, not};
+ghost use Rattle.std.specs.Result.{result_ok};
+ghost use Rattle.ar_cert.specs.Changes.{Change, IsChange};
+ghost use Rattle.party_keys.specs.Signers.{Claimed};
+ghost use Rattle.ar_message.specs.Filling.{CanFill};
+ghost use Rattle.ar_message.specs.declared.lists.LogStatus.{LogStatus};
+ghost use Rattle.lms_tree.specs.KeyParts.{KeyParts};
+ghost use Rattle.vote_quorum.specs.Statuses.{IsMostReported, Status};
+ghost use Rattle.domain_table.specs.Applying.{apply, judge_ripe};
+ghost use Rattle.domain_table.specs.Tables.{Table};
+ghost use Rattle.domain_table.specs.Tree.{root_of};
+ghost use Rattle.domain_table.specs.declared.refusal.ChangeRefusal.{ChangeRefusal};
+ghost use Rattle.epoch_log.specs.State.{epoch_of, table_of};
+ghost use Rattle.log_core.specs.Blanks.{AreKeysOf, IsZero};
+ghost use Rattle.log_core.specs.Checks.{Check, checked};
+ghost use Rattle.log_core.specs.Judged.{judged};
+ghost use Rattle.log_core.specs.Kept.{IsKeptCore};
+ghost use Rattle.log_core.specs.Reported.{most_reported};
+ghost use Rattle.log_core.specs.Row.{IsInput, row};
+ghost use Rattle.log_core.specs.Sees.{SeesVerified};
+ghost use Rattle.log_core.specs.Signers.{endorsements_in, signers};
+ghost use Rattle.log_core.specs.Skipped.{skip_row};
+ghost use Rattle.log_core.specs.State.{CoreState, Input, Reply};
+ghost use Rattle.log_core.specs.Submit.{is_queued};
+ghost use Rattle.log_core.specs.Walk.{StandIn, bytes_of, proposal, proposed_value};
+ghost use Rattle.log_core.specs.declared.refusal.LogRefusal.{LogRefusal};
+
+/// The first check of a row that refuses is its answer, whatever stands behind it; where none does, the answer is what the
+/// step makes.
+pub fn the_first_refusal_is_the_answer()
+    ensures refused { (holding behind : List Check) (refusal : LogRefusal) (reply : Reply) → All (λ c. c ≡ Ok tt) holding
+        → checked (holding ++ Err refusal ∷ behind) reply ≡ Err refusal }
+    ensures made { (checks : List Check) (reply : Reply) → All (λ c. c ≡ Ok tt) checks → checked checks reply ≡ Ok reply }
+{}
+
+/// A list of changes is judged as it is applied: where none is refused they apply, and else the first is refused that the
+/// table behind those before it does not take.
+pub fn changes_are_judged_as_they_apply()
+    ensures applied { (table : Table) (epoch : ℕ) (changes : List Change) → result_ok (judged table epoch changes) ≡ apply table epoch changes }
+    ensures refused { (table : Table) (epoch : ℕ) (changes : List Change) (index : ℕ) (refusal : ChangeRefusal)
+        → judged table epoch changes ≡ Err (index, refusal)
+        → (before : Table) × (change : Change) × (apply table epoch (take index changes) ≡ Some before)
+        × (slice_get changes index ≡ Some change) × (judge_ripe before change ≡ Err refusal) }
+{}
+
+/// What a log proposes are changes of its queue, in their order, that its table takes one behind the other, from its root
+/// to the one that is proposed; there are at most 64, whose texts have at most 4,000,000 bytes.
+pub fn a_proposal_is_of_the_queue()
+    ensures applies { (s : CoreState) → (after : Table) × (apply (table_of s.log) (epoch_of s.log) (proposal s) ≡ Some after)
+        × (root_of after ≡ (proposed_value s).root) }
+    ensures base { (s : CoreState) → (proposed_value s).base ≡ root_of (table_of s.log) }
+    ensures in_order { (s : CoreState) → StandIn (proposal s) s.queue }
+    ensures few { (s : CoreState) → length (proposal s) ≤ 64 }
+    ensures short { (s : CoreState) → bytes_of (proposal s) ≤ 4000000 }
+{}
+
+/// The root that a refused skip tells, with its count, is the one that the most statuses report, the least by bytes among
+/// equals; or none and 0 where none is reported.
+pub fn a_refused_skip_tells_the_most_reported()
+    ensures { (statuses : List Status) (most : Option (List ℕ)) (count : ℕ) → IsMostReported statuses most count
+        → most_reported statuses ≡ (most, count) }
+{}
+
+/// A skip that another log tells of leaves the table as it is, also what is ripe in it, and the queue.
+pub fn a_skip_leaves_table_and_queue()
+    ensures { (s : CoreState) (epoch : ℕ) (statuses : List LogStatus) (reply : Reply) → IsKeptCore s → skip_row s epoch statuses ≡ Ok reply
+        → (table_of reply.after.log ≡ table_of s.log) × (reply.after.queue ≡ s.queue) }
+{}
+
+/// Whatever a log is asked, what is kept of it stays: its record is an honest log's, what it counts was seen, and the
+/// endorsements of each queued change were seen and are valid.
+pub fn each_row_keeps_a_log()
+    ensures { (s : CoreState) (input : Input) (reply : Reply) → IsKeptCore s → IsInput input → row s input ≡ Ok reply → IsKeptCore reply.after }
+{}
+
+/// Whatever a log newly sees it has verified under its directory: there is a signature by the party that the step accepted;
+/// or it is the log's own, which it counts at once.
+pub fn what_is_newly_seen_was_verified()
+    ensures { (s : CoreState) (input : Input) (reply : Reply) → row s input ≡ Ok reply
+        → SeesVerified s.keys s.log.me s.log.past.seen reply.after.log.past.seen }
+{}
+
+/// The endorsements of queued changes were verified when these were queued, and stay valid: a message's signers are accepted,
+/// or the same one is refused, where those of its queued changes are left out.
+pub fn queued_endorsements_need_no_second_look()
+    ensures { (s : CoreState) (front : List Claimed) (changes : List Change) → IsKeptCore s → All IsChange changes
+        → signers s.keys (front ++ flat_map endorsements_in changes)
+        ≡ signers s.keys (front ++ flat_map endorsements_in (filter (λ change. not (is_queued s.queue change)) changes)) }
+{}
+
+/// Where a signature of the log's own is due a message has zero bytes, as many as the signature has.
+pub fn each_own_signature_is_zero_bytes()
+    ensures { (s : CoreState) (input : Input) (reply : Reply) → row s input ≡ Ok reply
+        → All (IsZero reply.after.signature_len reply.unsigned.sent.messages) reply.unsigned.blanks }
+{}
+
+/// What a step leaves blank the log's keys can sign: those of each generation up to the newest of its book.
+pub fn each_step_can_be_signed()
+    ensures { (s : CoreState) (input : Input) (reply : Reply) (keys : List KeyParts) → IsKeptCore s → IsInput input → row s input ≡ Ok reply
+        → AreKeysOf reply.after.log.past.signed reply.after.signature_len keys → CanFill keys reply.unsigned }
+{}

@@ -1,0 +1,17 @@
+//! The rows of a log: what a log makes of each message and of each order. The definitions stand, with laws on them; of the
+//! code there is `LogCore`, which keeps what they keep, with the row of a RollNote alone.
+//!
+//! `specs/State.antt` has what a log is between two steps and what it is asked, and `specs/Row.antt` the row of each
+//! input. An input has a file of its own, with its checks in order, of which the first that refuses is the answer, and
+//! what it does. What rows share has one definition each: the checks (`specs/Checks.antt`), whose signatures stand in a
+//! message (`specs/Signers.antt`), how a list of changes is judged (`specs/Judged.antt`), the walk over the queue
+//! (`specs/Walk.antt`), what is sent, with zero bytes where a signature of the log's own is due (`specs/Sending.antt`, `specs/Blanks.antt`), and
+//! what follows where an epoch ends (`specs/Closings.antt`).
+#![tactic(auto)]
+
+pub mod laws;
+mod log_core;
+mod refusal;
+
+pub use log_core::LogCore;
+pub use refusal::LogRefusal;
