@@ -4,7 +4,7 @@ use Rattle.std.specs.Prelude.{All, Contains, IfSome, map, nat_le}
 use Rattle.std.specs.List.{list_any}
 use Rattle.std.specs.Str.{bytes_eq}
 use Rattle.std.proofs.lemmas.Bool.{eqb-true, leb-true}
-use Rattle.std.proofs.lemmas.List.Elements.{All-append, All-cons, All-contains, All-contains_itself, All-map, All-nil, All-weaker, Contains-append_left, Contains-append_right, Contains-push}
+use Rattle.std.proofs.lemmas.List.Elements.{All-cons, All-contains, All-contains_itself, All-map, All-nil, All-weaker, Contains-append_right, Contains-push}
 use Rattle.std.proofs.lemmas.Slice.Eq.{bytes_eq-Decides}
 use Rattle.ar_base.specs.Bytes.{IsDigest}
 use Rattle.ar_names.specs.Names.{IsName}
@@ -18,17 +18,17 @@ use Rattle.key_roll.specs.Entry.{after_entry}
 use Rattle.key_roll.specs.Rolls.{is_roll}
 use Rattle.key_roll.proofs.Books.{after_entry_keeps, is_roll-kind, named-roll, roll_keeps}
 use Rattle.party_keys.specs.Seen.{Saw, authority_party, log_party}
-use Rattle.epoch_log.specs.Calls.{HasRoom, is_same_digest, seen_after, seen_of}
-use Rattle.epoch_log.specs.Council.{Council, IsMember}
-use Rattle.epoch_log.specs.Right.{SawVotes}
-use Rattle.epoch_log.specs.Told.{vote_claim}
-use Rattle.epoch_log.proofs.Books.{entry-all, entry-has, roll-all}
-use Rattle.epoch_log.proofs.Called.{empty-book}
-use Rattle.epoch_log.proofs.Counted.{All-unmap}
-use Rattle.epoch_log.proofs.Growing.{own-text, pushed-within, same-within, votes-more}
-use Rattle.epoch_log.proofs.Lists.{Within, both, found}
-use Rattle.epoch_log.proofs.Seeing.{seen-all, seen-has, seen-keeps}
-use Rattle.authority_core.specs.Calls.{MayConfirm, MayRoll, after_endorse, after_half_confirmed, after_learn, after_log_confirmed, after_roll, confirming, confirmation_by, fresh_authority, is_same_asked, is_same_kept, kept_claim, kept_value, seen_of_half, seen_of_log, with_asked, with_kept}
+use Rattle.ar_council.proofs.Books.{empty-book, entry-all, entry-has, roll-all}
+use Rattle.ar_council.proofs.Lists.{All-unmap, Within, both, found, pushed-within, same-within}
+use Rattle.ar_council.proofs.Seeing.{seen-all, seen-has, seen-keeps}
+use Rattle.ar_council.proofs.Texts.{own-text}
+use Rattle.ar_council.specs.Council.{Council, IsMember}
+use Rattle.ar_council.specs.Room.{HasRoom}
+use Rattle.ar_council.specs.Seen.{seen_after, seen_of}
+use Rattle.ar_council.specs.Values.{confirmation_by, is_same_digest, vote_claim}
+use Rattle.ar_council.proofs.Votes.{votes-more}
+use Rattle.ar_council.specs.Votes.{SawVotes}
+use Rattle.authority_core.specs.Calls.{MayConfirm, MayRoll, after_endorse, after_half_confirmed, after_learn, after_log_confirmed, after_roll, confirming, fresh_authority, is_same_asked, is_same_kept, is_same_path, kept_claim, kept_value, seen_of_half, seen_of_log, seen_of_votes, with_asked, with_kept}
 use Rattle.authority_core.specs.Honest.{HasAsked, HasKept, HonestAuthority, ToldBy}
 use Rattle.authority_core.specs.Record.{AuthorityRecord}
 use Rattle.authority_core.specs.declared.entries.Asked.{Asked}
@@ -85,7 +85,7 @@ asked-within asked a = by (list_any (λ b. is_same_asked b a) asked)
     by true = same-within asked
     by false = pushed-within asked a
 
-asked-has : (asked : List Asked) (a : Asked) → HasAsked (with_asked asked a) a.certificate
+pub asked-has : (asked : List Asked) (a : Asked) → HasAsked (with_asked asked a) a.certificate
 asked-has asked a = by (list_any (λ b. is_same_asked b a) asked) refl
   where
     by : (b : Bool) → list_any (λ b. is_same_asked b a) asked ≡ b → HasAsked (cond b asked (asked ++ a ∷ [])) a.certificate
@@ -117,10 +117,11 @@ kept-has council seen kept k base saw = by (list_any (λ l. is_same_kept l k) ke
     by true is =
         let f = found (λ (l : Kept). is_same_kept l k) kept is in
         let l : Kept = f.0 in
-        let epoch = both (l.epoch == k.epoch) (bytes_eq l.name k.name && (is_same_digest l.certificate k.certificate && (bytes_eq l.base k.base && bytes_eq l.root k.root))) f.1.1 in
-        let name = both (bytes_eq l.name k.name) (is_same_digest l.certificate k.certificate && (bytes_eq l.base k.base && bytes_eq l.root k.root)) epoch.1 in
-        let certificate = both (is_same_digest l.certificate k.certificate) (bytes_eq l.base k.base && bytes_eq l.root k.root) name.1 in
-        let roots = both (bytes_eq l.base k.base) (bytes_eq l.root k.root) certificate.1 in
+        let epoch = both (l.epoch == k.epoch) (bytes_eq l.name k.name && (is_same_digest l.certificate k.certificate && (bytes_eq l.base k.base && (bytes_eq l.root k.root && is_same_path l k)))) f.1.1 in
+        let name = both (bytes_eq l.name k.name) (is_same_digest l.certificate k.certificate && (bytes_eq l.base k.base && (bytes_eq l.root k.root && is_same_path l k))) epoch.1 in
+        let certificate = both (is_same_digest l.certificate k.certificate) (bytes_eq l.base k.base && (bytes_eq l.root k.root && is_same_path l k)) name.1 in
+        let roots = both (bytes_eq l.base k.base) (bytes_eq l.root k.root && is_same_path l k) certificate.1 in
+        let root = both (bytes_eq l.root k.root) (is_same_path l k) roots.1 in
         let same : l.base ≡ k.base = (bytes_eq-Decides l.base k.base).0 roots.0 in (
           l,
           (
@@ -128,7 +129,7 @@ kept-has council seen kept k base saw = by (list_any (λ l. is_same_kept l k) ke
             eqb-true l.epoch k.epoch epoch.0,
             (bytes_eq-Decides l.name k.name).0 name.0,
             digests-same l.certificate k.certificate certificate.0,
-            (bytes_eq-Decides l.root k.root).0 roots.1,
+            (bytes_eq-Decides l.root k.root).0 root.0,
             subst IsDigest (sym same) base,
             subst (λ b. SawVotes council seen k.epoch (record { base = b; root = k.root })) (sym same) saw,
           ),
@@ -188,31 +189,40 @@ honest-confirming council me r log voters k more h small may members votes =
 pub map-has : {X Y : Type 0} (f : X → Y) (xs : List X) → All (λ x. Contains (map f xs) (f x)) xs
 map-has f xs = All-unmap (Contains (map f xs)) f xs (All-contains_itself (map f xs))
 
+vote-members : (council : Council) (log : ℕ) (voters : List ℕ) (k : Kept) → MayConfirm council log voters k → All (λ s. IsMember council s.party) (seen_of_votes voters k)
+vote-members council log voters k may =
+    All-map (λ (s : SeenText). IsMember council s.party) (λ voter. seen_of (log_party voter) (vote_claim voter k.epoch (kept_value k))) voters may.voted
+
 log-members : (council : Council) (log : ℕ) (voters : List ℕ) (k : Kept) → MayConfirm council log voters k → All (λ s. IsMember council s.party) (seen_of_log log voters k)
 log-members council log voters k may =
-    All-cons (λ (s : SeenText). IsMember council s.party) (seen_of (log_party log) (kept_claim (log_party log) k)) (map (λ voter. seen_of (log_party voter) (vote_claim voter k.epoch (kept_value k))) voters) may.known
-    (All-map (λ (s : SeenText). IsMember council s.party) (λ voter. seen_of (log_party voter) (vote_claim voter k.epoch (kept_value k))) voters may.voted)
+    All-cons (λ (s : SeenText). IsMember council s.party) (seen_of (log_party log) (kept_claim (log_party log) k)) (seen_of_votes voters k) may.known
+    (vote-members council log voters k may)
 
-log-votes : (log : ℕ) (voters : List ℕ) (k : Kept) → All (λ voter. Saw (seen_of_log log voters k) (log_party voter) (vote_claim voter k.epoch (kept_value k))) voters
-log-votes log voters k =
+half-members : (council : Council) (log : ℕ) (voters : List ℕ) (first : ℕ) (k : Kept) → MayConfirm council log voters k → first < council.authorities
+    → All (λ s. IsMember council s.party) (seen_of_half log voters first k)
+half-members council log voters first k may known =
+    let own : SeenText = seen_of (authority_party first) (kept_claim (authority_party first) k) in
+    All-cons (λ (s : SeenText). IsMember council s.party) (seen_of (log_party log) (kept_claim (log_party log) k)) (own ∷ seen_of_votes voters k) may.known
+    (All-cons (λ (s : SeenText). IsMember council s.party) own (seen_of_votes voters k) known (vote-members council log voters k may))
+
+-- the votes are seen where they stand behind something else
+votes-behind : (front : List SeenText) (voters : List ℕ) (k : Kept) → All (λ voter. Saw (front ++ seen_of_votes voters k) (log_party voter) (vote_claim voter k.epoch (kept_value k))) voters
+votes-behind front voters k =
     let f : ℕ → SeenText = λ voter. seen_of (log_party voter) (vote_claim voter k.epoch (kept_value k)) in
-    All-weaker (λ voter. Contains (map f voters) (f voter)) (λ voter. Saw (seen_of_log log voters k) (log_party voter) (vote_claim voter k.epoch (kept_value k)))
-    (λ voter there. Contains-append_right (seen_of (log_party log) (kept_claim (log_party log) k) ∷ []) (map f voters) (f voter) there) voters (map-has f voters)
+    All-weaker (λ voter. Contains (map f voters) (f voter)) (λ voter. Saw (front ++ seen_of_votes voters k) (log_party voter) (vote_claim voter k.epoch (kept_value k)))
+    (λ voter there. Contains-append_right front (map f voters) (f voter) there) voters (map-has f voters)
 
 pub honest-first : (council : Council) (me : ℕ) (r : AuthorityRecord) (log : ℕ) (voters : List ℕ) (k : Kept) → HonestAuthority council me r → me < 2 ^ 16 → MayConfirm council log voters k
     → HonestAuthority council me (after_log_confirmed me r log voters k)
 honest-first council me r log voters k h small may =
-    honest-confirming council me r log voters k (seen_of_log log voters k) h small may (log-members council log voters k may) (log-votes log voters k)
+    honest-confirming council me r log voters k (seen_of_log log voters k) h small may (log-members council log voters k may)
+    (votes-behind (seen_of (log_party log) (kept_claim (log_party log) k) ∷ []) voters k)
 
 pub honest-second : (council : Council) (me : ℕ) (r : AuthorityRecord) (log : ℕ) (voters : List ℕ) (first : ℕ) (k : Kept) → HonestAuthority council me r → me < 2 ^ 16 → MayConfirm council log voters k
     → first < council.authorities → HonestAuthority council me (after_half_confirmed me r log voters first k)
 honest-second council me r log voters first k h small may known =
-    let own : List SeenText = seen_of (authority_party first) (kept_claim (authority_party first) k) ∷ [] in
-    honest-confirming council me r log voters k (seen_of_half log voters first k) h small may
-    (All-append (λ (s : SeenText). IsMember council s.party) (seen_of_log log voters k) own (log-members council log voters k may)
-    (All-cons (λ (s : SeenText). IsMember council s.party) (seen_of (authority_party first) (kept_claim (authority_party first) k)) [] known (All-nil (λ (s : SeenText). IsMember council s.party))))
-    (All-weaker (λ voter. Saw (seen_of_log log voters k) (log_party voter) (vote_claim voter k.epoch (kept_value k))) (λ voter. Saw (seen_of_half log voters first k) (log_party voter) (vote_claim voter k.epoch (kept_value k)))
-    (λ voter there. Contains-append_left (seen_of_log log voters k) own (seen_of (log_party voter) (vote_claim voter k.epoch (kept_value k))) there) voters (log-votes log voters k))
+    honest-confirming council me r log voters k (seen_of_half log voters first k) h small may (half-members council log voters first k may known)
+    (votes-behind (seen_of (log_party log) (kept_claim (log_party log) k) ∷ (seen_of (authority_party first) (kept_claim (authority_party first) k) ∷ [])) voters k)
 
 pub honest-learn : (council : Council) (me : ℕ) (r : AuthorityRecord) (party : Party) (generation : ℕ) (key : List ℕ) → HonestAuthority council me r → IsMember council party
     → HonestAuthority council me (after_learn r party generation key)

@@ -7,8 +7,8 @@ use Rattle.ar_statement.specs.Ranges.{IsTextOf, IsValid}
 use Rattle.ar_statement.proofs.OneText.{text_is}
 use Rattle.key_roll.specs.Book.{texts_of}
 use Rattle.party_keys.specs.Seen.{authority_party}
-use Rattle.epoch_log.specs.Council.{Council}
-use Rattle.authority_core.specs.Calls.{confirmation_by}
+use Rattle.ar_council.specs.Council.{Council}
+use Rattle.ar_council.specs.Values.{confirmation_by}
 use Rattle.authority_core.specs.Honest.{HasAsked, HasKept, HonestAuthority, ToldBy}
 use Rattle.authority_core.specs.Record.{AuthorityRecord}
 

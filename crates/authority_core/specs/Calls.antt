@@ -1,22 +1,23 @@
 -- What each thing that an authority does makes of its record, and when it may do so.
-use Rattle.std.specs.Prelude.{ℕ, ◌<◌, ◌≤◌, ◌==◌, Bool, ◌&&◌, if◌then◌else◌, List, [], ◌∷◌, ◌++◌, map, All, Option, Some, None, IfSome, IsTrue}
+use Rattle.std.specs.Prelude.{ℕ, ◌<◌, ◌≤◌, ◌==◌, Bool, true, false, ◌&&◌, if◌then◌else◌, List, [], ◌∷◌, ◌++◌, map, All, Option, Some, None, IfSome, IsTrue}
 use Rattle.std.specs.List.{list_any}
 use Rattle.std.specs.Str.{bytes_eq}
 use Rattle.ar_base.specs.Bytes.{IsDigest}
 use Rattle.ar_names.specs.Names.{IsName}
 use Rattle.ar_statement.specs.declared.party.Party.{Party}
 use Rattle.ar_statement.specs.declared.text.SeenText.{SeenText}
-use Rattle.ar_statement.specs.Claims.{Claim, confirm, confirm_absent, endorse, roll, text_of}
+use Rattle.ar_statement.specs.Claims.{Claim, endorse, roll, text_of}
 use Rattle.ar_statement.specs.Fields.{is_epoch}
 use Rattle.ar_statement.specs.Ranges.{IsKeyText, is_readable}
 use Rattle.key_roll.specs.Entry.{after_entry, with_roll}
 use Rattle.party_keys.specs.Seen.{authority_party, log_party}
+use Rattle.tree_proof.specs.declared.path.Bottom.{Bottom}
+use Rattle.tree_proof.specs.declared.path.Bottom.TheVariants.{Empty, Other}
 use Rattle.vote_quorum.specs.Numbers.{distinct_count}
 use Rattle.vote_quorum.specs.declared.value.Value.{Value}
-use Rattle.epoch_log.specs.Calls.{is_same_digest, seen_after, seen_of}
-use Rattle.epoch_log.specs.Council.{Council}
-use Rattle.epoch_log.specs.Right.{IsValue}
-use Rattle.epoch_log.specs.Told.{vote_claim}
+use Rattle.ar_council.specs.Council.{Council}
+use Rattle.ar_council.specs.Seen.{seen_after, seen_of}
+use Rattle.ar_council.specs.Values.{IsValue, confirmation_by, is_same_digest, vote_claim}
 use Rattle.authority_core.specs.Record.{AuthorityRecord}
 use Rattle.authority_core.specs.declared.entries.Asked.{Asked}
 use Rattle.authority_core.specs.declared.entries.Kept.{Kept}
@@ -45,11 +46,6 @@ after_endorse me r a = record {
 
 -- ---- a confirmation
 
--- the statement by which a party confirms what a name has, or that it has none
-abbrev pub confirmation_by : Party → ℕ → List ℕ → Option (List ℕ) → List ℕ → Claim
-confirmation_by party epoch name None root = confirm_absent party epoch name root
-confirmation_by party epoch name (Some certificate) root = confirm party epoch name certificate root
-
 -- a party confirms what is kept
 abbrev pub kept_claim : Party → Kept → Claim
 kept_claim party k = confirmation_by party k.epoch k.name k.certificate k.root
@@ -58,22 +54,50 @@ kept_claim party k = confirmation_by party k.epoch k.name k.certificate k.root
 abbrev pub kept_value : Kept → Value
 kept_value k = record { base = k.base; root = k.root }
 
--- both say the same, by votes over the same base; how the path leads to the root is not compared
+-- both feet of paths, or none, are the same
+abbrev pub is_same_bottom : Option Bottom → Option Bottom → Bool
+is_same_bottom None None = true
+is_same_bottom None (Some b) = false
+is_same_bottom (Some a) None = false
+is_same_bottom (Some Empty) (Some Empty) = true
+is_same_bottom (Some Empty) (Some (Other key value)) = false
+is_same_bottom (Some (Other key value)) (Some Empty) = false
+is_same_bottom (Some (Other key value)) (Some (Other other_key other_value)) = bytes_eq key other_key && bytes_eq value other_value
+
+-- both lists of digests are the same
+abbrev pub are_same : List (List ℕ) → List (List ℕ) → Bool
+are_same [] [] = true
+are_same [] (y ∷ ys) = false
+are_same (x ∷ xs) [] = false
+are_same (x ∷ xs) (y ∷ ys) = bytes_eq x y && are_same xs ys
+
+-- both paths are the same
+abbrev pub is_same_path : Kept → Kept → Bool
+is_same_path k l = is_same_bottom k.bottom l.bottom && are_same k.steps l.steps
+
+-- both are the same in all that they say
 abbrev pub is_same_kept : Kept → Kept → Bool
-is_same_kept k l = (k.epoch == l.epoch) && (bytes_eq k.name l.name && (is_same_digest k.certificate l.certificate && (bytes_eq k.base l.base && bytes_eq k.root l.root)))
+is_same_kept k l =
+    (k.epoch == l.epoch)
+    && (bytes_eq k.name l.name
+    && (is_same_digest k.certificate l.certificate && (bytes_eq k.base l.base && (bytes_eq k.root l.root && is_same_path k l))))
 
 -- what is kept, with one more, unless it is among them
 abbrev pub with_kept : List Kept → Kept → List Kept
 with_kept kept k = if list_any (λ l. is_same_kept l k) kept then kept else kept ++ k ∷ []
 
+-- the votes for it, as they are seen
+abbrev pub seen_of_votes : List ℕ → Kept → List SeenText
+seen_of_votes voters k = map (λ voter. seen_of (log_party voter) (vote_claim voter k.epoch (kept_value k))) voters
+
 -- of a log's confirmation that statement and the votes are seen
 abbrev pub seen_of_log : ℕ → List ℕ → Kept → List SeenText
-seen_of_log log voters k =
-    seen_of (log_party log) (kept_claim (log_party log) k) ∷ map (λ voter. seen_of (log_party voter) (vote_claim voter k.epoch (kept_value k))) voters
+seen_of_log log voters k = seen_of (log_party log) (kept_claim (log_party log) k) ∷ seen_of_votes voters k
 
 -- and of one that a first authority confirmed, that authority's statement too
 abbrev pub seen_of_half : ℕ → List ℕ → ℕ → Kept → List SeenText
-seen_of_half log voters first k = seen_of_log log voters k ++ seen_of (authority_party first) (kept_claim (authority_party first) k) ∷ []
+seen_of_half log voters first k =
+    seen_of (log_party log) (kept_claim (log_party log) k) ∷ (seen_of (authority_party first) (kept_claim (authority_party first) k) ∷ seen_of_votes voters k)
 
 -- The authority may confirm what a log says: the log and those that voted are of the council, they are a quorum, and the
 -- values are in their ranges. (That the path leads to the root it checks too; no clause of its record speaks of that.)

@@ -6,9 +6,9 @@ use Rattle.ar_statement.specs.Claims.{Claim, endorse, handover, propose, vote, c
 use Rattle.ar_statement.specs.Ranges.{IsTextOf}
 use Rattle.key_roll.specs.Book.{IsRollBook, texts_of}
 use Rattle.party_keys.specs.Seen.{authority_party}
-use Rattle.epoch_log.specs.Council.{Council}
-use Rattle.epoch_log.specs.Honest.{SeesMembers}
-use Rattle.epoch_log.specs.Right.{SawVotes}
+use Rattle.ar_council.specs.Seen.{SeesMembers}
+use Rattle.ar_council.specs.Council.{Council}
+use Rattle.ar_council.specs.Votes.{SawVotes}
 use Rattle.authority_core.specs.Record.{AuthorityRecord}
 use Rattle.authority_core.specs.declared.entries.Asked.{Asked}
 use Rattle.authority_core.specs.declared.entries.Kept.{Kept}

@@ -1,3 +1,10 @@
 pub mod Calls
+pub mod ConfirmRows
+pub mod Confirming
+pub mod EndorseRow
 pub mod Honest
 pub mod Record
+pub mod Refusals
+pub mod RollRows
+pub mod Row
+pub mod State

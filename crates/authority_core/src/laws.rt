@@ -1,16 +1,33 @@
 //! Laws on the definitions of `specs/`: each is the contract of a function with an empty body.
-ghost use Rattle.std.specs.Prelude.{ℕ, ◌<◌, ◌^◌, [], ◌∷◌, List, Option, Contains};
+ghost use Rattle.std.specs.Prelude.{◌≡◌, ℕ, ◌<◌, ◌≤◌, ◌^◌, Bool, true, false, [], ◌∷◌, List, Option, Contains, Ok, Err};
 ghost use Rattle.ar_base.specs.Bytes.{IsDigest};
 ghost use Rattle.ar_statement.specs.declared.party.Party.{Party};
 ghost use Rattle.ar_statement.specs.Claims.{endorse, text_of};
-ghost use Rattle.ar_statement.specs.Ranges.{IsValid};
+ghost use Rattle.ar_statement.specs.Ranges.{IsKeyText, IsValid};
+ghost use Rattle.ar_cert.specs.Certificate.{Certificate, digest_of};
+ghost use Rattle.ar_message.specs.Messages.{IsMessage};
+ghost use Rattle.ar_message.specs.declared.message.Confirming.{Confirming};
+ghost use Rattle.ar_message.specs.declared.message.Message.{Message};
+ghost use Rattle.ar_message.specs.declared.unsigned.Unsigned.{Unsigned};
+ghost use Rattle.lms_tree.specs.PublicKey.{HasWidths, key_text};
+ghost use Rattle.lms_tree.specs.declared.public_key.LmsPublic.{LmsPublic};
+ghost use Rattle.owner_check.specs.declared.answer.Outcome.{Outcome};
+ghost use Rattle.owner_check.specs.declared.answer.Outcome.TheVariants.{Yes};
 ghost use Rattle.key_roll.specs.Book.{texts_of};
 ghost use Rattle.party_keys.specs.Seen.{authority_party};
-ghost use Rattle.epoch_log.specs.Calls.{HasRoom};
-ghost use Rattle.epoch_log.specs.Council.{Council, IsMember};
-ghost use Rattle.authority_core.specs.Calls.{MayConfirm, MayRoll, after_endorse, after_half_confirmed, after_learn, after_log_confirmed, after_roll, confirmation_by, fresh_authority, kept_claim};
+ghost use Rattle.ar_council.specs.Council.{Council, IsMember};
+ghost use Rattle.ar_council.specs.Room.{HasRoom};
+ghost use Rattle.ar_council.specs.Values.{confirmation_by};
+ghost use Rattle.authority_core.specs.Calls.{MayConfirm, MayRoll, after_endorse, after_half_confirmed, after_learn, after_log_confirmed, after_roll, fresh_authority, kept_claim};
+ghost use Rattle.authority_core.specs.ConfirmRows.{half_confirmed_row, log_confirmed_row};
+ghost use Rattle.authority_core.specs.Confirming.{is_shown, vote_count};
+ghost use Rattle.authority_core.specs.EndorseRow.{endorse_row};
 ghost use Rattle.authority_core.specs.Honest.{HasAsked, HasKept, HonestAuthority};
 ghost use Rattle.authority_core.specs.Record.{AuthorityRecord};
+ghost use Rattle.authority_core.specs.RollRows.{roll_row};
+ghost use Rattle.authority_core.specs.Row.{message_row};
+ghost use Rattle.authority_core.specs.State.{AuthorityState, IsAuthority};
+ghost use Rattle.authority_core.specs.declared.refusal.AuthorityRefusal.TheVariants.{NotForAuthority};
 ghost use Rattle.authority_core.specs.declared.entries.Asked.{Asked};
 ghost use Rattle.authority_core.specs.declared.entries.Kept.{Kept};
 
@@ -59,4 +76,28 @@ pub fn what_is_signed_is_told()
         → HonestAuthority council me r → IsValid (confirmation_by (authority_party me) epoch name certificate root)
         → Contains (texts_of r.signed) (text_of (confirmation_by (authority_party me) epoch name certificate root))
         → HasKept council r.seen r.kept epoch name certificate root }
+{}
+
+/// Each row keeps an authority: of each message, by whatever the check answered, and of the order to roll, where the next
+/// key is one.
+pub fn rows_keep_an_authority()
+    ensures message { (s : AuthorityState) (retired : Bool) (m : Message) (said : Outcome) (later : AuthorityState) (sent : Unsigned) → IsAuthority s → IsMessage m
+        → message_row s retired m said ≡ Ok (later, sent) → IsAuthority later }
+    ensures roll { (s : AuthorityState) (next : LmsPublic) (later : AuthorityState) (sent : Unsigned) → IsAuthority s → IsKeyText (key_text next) → HasWidths next
+        → roll_row s next ≡ Ok (later, sent) → IsAuthority later }
+{}
+
+/// An authority endorses only where its check said yes, and a retired one endorses nothing.
+pub fn no_endorsement_without_a_yes()
+    ensures said { (s : AuthorityState) (owner : ℕ) (cert : Certificate) (said : Outcome) (later : AuthorityState) (sent : Unsigned)
+        → endorse_row s false owner cert said ≡ Ok (later, sent) → (said ≡ Yes) × HasAsked later.past.asked (digest_of cert) }
+    ensures retired { (s : AuthorityState) (owner : ℕ) (cert : Certificate) (said : Outcome) → endorse_row s true owner cert said ≡ Err NotForAuthority }
+{}
+
+/// An authority confirms only what a quorum of logs voted for, over one base and root, and what the path shows.
+pub fn no_confirmation_without_a_quorum()
+    ensures first { (s : AuthorityState) (part : Confirming) (later : AuthorityState) (sent : Unsigned) → log_confirmed_row s part ≡ Ok (later, sent)
+        → (s.keys.quorum ≤ vote_count part) × (is_shown part.name part.root part.body ≡ true) }
+    ensures second { (s : AuthorityState) (part : Confirming) (first_signature : List ℕ) (later : AuthorityState) (sent : Unsigned) → half_confirmed_row s part first_signature ≡ Ok (later, sent)
+        → (s.keys.quorum ≤ vote_count part) × (is_shown part.name part.root part.body ≡ true) }
 {}

@@ -1,11 +1,22 @@
-//! Authorities: what one remembers, what makes that honest, and that each thing it does keeps it so. It is definitions and
-//! laws on them; the code that keeps an authority is not there yet.
+//! Authorities: what one remembers, what makes that honest, and what it makes of each message. `AuthorityState` steps by
+//! the rows; what holds an authority's check, and takes messages from bytes, is not there yet.
 //!
 //! `specs/Record.antt` says what an authority remembers, `specs/Honest.antt` what makes it an honest authority's, and
-//! `specs/Calls.antt` what each thing that it does makes of it.
+//! `specs/Calls.antt` what each thing that it does makes of it. `specs/Row.antt` has the row of each message, with zero
+//! bytes where a signature is due: `EndorseRow`, `ConfirmRows` over `Confirming`, and `RollRows`.
 #![tactic(auto)]
 
+mod confirming;
+mod desk;
 mod entries;
 pub mod laws;
+mod lists;
+mod record;
+mod refusal;
+mod reply;
+mod state;
 
 pub use entries::{Asked, Kept};
+pub use record::AuthorityRecord;
+pub use refusal::AuthorityRefusal;
+pub use state::AuthorityState;

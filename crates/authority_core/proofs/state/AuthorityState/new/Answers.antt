@@ -1,0 +1,12 @@
+use Rattle.std.proofs.Common.{arith, sym, subst}
+use Rattle.ar_council.specs.Council.{council_of}
+use Rattle.authority_core.specs.Honest.{HonestAuthority}
+use Rattle.authority_core.proofs.Growing.{honest-fresh}
+use Rattle.authority_core.proofs.state.AuthorityState.new.Goals as goal
+
+pub invariant_of-result : goal.invariant_of-result
+invariant_of-result c = record {
+  number = omega arith;
+  bytes = omega arith;
+  honest = subst (HonestAuthority (council_of c.args.keys) c.args.me) (sym c.new.ensures) (honest-fresh (council_of c.args.keys) c.args.me c.args.leaves c.requires);
+}

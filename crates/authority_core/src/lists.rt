@@ -1,0 +1,160 @@
+//! The lists of an authority's record, with one more behind them unless it is there.
+
+ghost use Rattle.std.specs.Prelude.{◌≡◌, ◌+◌, ◌<◌, ◌≤◌, ◌&&◌, length, vec_len, vec_capacity};
+ghost use Rattle.std.specs.List.{list_any};
+ghost use Rattle.std.specs.Str.{bytes_eq};
+ghost use Rattle.ar_statement.specs.Claims.{is_party};
+ghost use Rattle.ar_council.specs.Seen.{seen_after, with_seen};
+ghost use Rattle.ar_council.specs.Values.{is_same_digest};
+ghost use Rattle.authority_core.specs.Calls.{are_same, is_same_asked, is_same_bottom, is_same_kept, with_asked, with_kept};
+
+use crate::entries::{Asked, Kept};
+use ar_statement::SeenText;
+use tree_proof::Bottom;
+
+// ---- what was seen
+
+fn is_same_seen(s: &SeenText, more: &SeenText) -> bool
+    ensures { result ≡ (is_party s.now.party more.now.party && bytes_eq s.now.text more.now.text) }
+{
+    s.party.role.number() == more.party.role.number()
+        && s.party.number == more.party.number
+        && s.text.as_bytes() == more.text.as_bytes()
+}
+
+fn has_seen(seen: &[SeenText], more: &SeenText) -> bool
+    ensures { result ≡ list_any (λ s. is_party s.party more.now.party && bytes_eq s.text more.now.text) seen.now }
+{
+    seen.iter().any(|s| is_same_seen(s, more))
+}
+
+/// Puts one more behind what was seen, unless it is there. There is room for it.
+pub(crate) fn see(seen: &mut Vec<SeenText>, more: &SeenText)
+    requires { vec_len seen.old < vec_capacity seen.old }
+    ensures items { seen.new.items ≡ with_seen seen.old.items more.now }
+    ensures len { vec_len seen.new ≤ vec_len seen.old + 1 }
+    ensures capacity { vec_capacity seen.old ≤ vec_capacity seen.new }
+{
+    if has_seen(seen, more) {
+        return;
+    }
+    match seen.push(*more) {
+        Ok(()) => {}
+        Err(_) => unreachable!(),
+    }
+}
+
+/// Puts each of these behind what was seen, unless it is there. There is room for them.
+pub(crate) fn see_all(seen: &mut Vec<SeenText>, more: &[SeenText])
+    requires { vec_len seen.old + length more.now ≤ vec_capacity seen.old }
+    ensures { seen.new.items ≡ seen_after seen.old.items more.now }
+{
+    for s in more {
+        see(seen, s);
+    }
+}
+
+// ---- what the check said yes to
+
+fn is_same_asked(a: &Asked, b: &Asked) -> bool
+    ensures { result ≡ is_same_asked a.now b.now }
+{
+    a.name.text() == b.name.text() && a.key == b.key && a.certificate == b.certificate
+}
+
+fn has_asked(asked: &[Asked], a: &Asked) -> bool
+    ensures { result ≡ list_any (λ b. is_same_asked b a.now) asked.now }
+{
+    asked.iter().any(|b| is_same_asked(b, a))
+}
+
+/// Puts one more behind what the check said yes to, unless it is there. There is room for it.
+pub(crate) fn put_asked(asked: &mut Vec<Asked>, a: Asked)
+    requires { vec_len asked.old < vec_capacity asked.old }
+    ensures { asked.new.items ≡ with_asked asked.old.items a }
+{
+    if has_asked(asked, &a) {
+        return;
+    }
+    match asked.push(a) {
+        Ok(()) => {}
+        Err(_) => unreachable!(),
+    }
+}
+
+// ---- what is kept
+
+fn is_same_digest(one: &Option<[u8; 32]>, other: &Option<[u8; 32]>) -> bool
+    ensures { result ≡ is_same_digest one.now other.now }
+{
+    match (one, other) {
+        (None, None) => true,
+        (Some(one), Some(other)) => one == other,
+        (None, Some(_)) | (Some(_), None) => false,
+    }
+}
+
+fn is_same_bottom(one: &Option<Bottom>, other: &Option<Bottom>) -> bool
+    ensures { result ≡ is_same_bottom one.now other.now }
+{
+    match one {
+        None => other.is_none(),
+        Some(Bottom::Empty) => match other {
+            Some(Bottom::Empty) => true,
+            _ => false,
+        },
+        Some(Bottom::Other { key, value }) => match other {
+            Some(
+                Bottom::Other {
+                    key: other_key,
+                    value: other_value,
+                },
+            ) => key == other_key && value == other_value,
+            _ => false,
+        },
+    }
+}
+
+fn are_same(one: &[[u8; 32]], other: &[[u8; 32]]) -> bool
+    ensures { result ≡ are_same one.now other.now }
+{
+    match one {
+        [] => other.is_empty(),
+        [step, above @ ..] => match other {
+            [] => false,
+            [other_step, other_above @ ..] => step == other_step && are_same(above, other_above),
+        },
+    }
+}
+
+fn is_same_kept(k: &Kept, l: &Kept) -> bool
+    ensures { result ≡ is_same_kept k.now l.now }
+{
+    k.epoch == l.epoch
+        && k.name.text() == l.name.text()
+        && is_same_digest(&k.certificate, &l.certificate)
+        && k.base == l.base
+        && k.root == l.root
+        && is_same_bottom(&k.bottom, &l.bottom)
+        && are_same(k.steps.as_slice(), l.steps.as_slice())
+}
+
+fn has_kept(kept: &[Kept], k: &Kept) -> bool
+    ensures { result ≡ list_any (λ l. is_same_kept l k.now) kept.now }
+{
+    kept.iter().any(|l| is_same_kept(l, k))
+}
+
+/// Puts one more behind what is kept, unless it is there. There is room for it.
+pub(crate) fn put_kept(kept: &mut Vec<Kept>, k: Kept)
+    requires { vec_len kept.old < vec_capacity kept.old }
+    ensures { kept.new.items ≡ with_kept kept.old.items k }
+{
+    if has_kept(kept, &k) {
+        return;
+    }
+    match kept.push(k) {
+        Ok(()) => {}
+        Err(_) => unreachable!(),
+    }
+}
