@@ -1,0 +1,14 @@
+use Rattle.owner_core.proofs.Stepped.{attached, begun, stepped, submitted}
+use Rattle.owner_core.proofs.laws.what_is_submitted_is_endorsed.Goals as goal
+
+pub returns-clause-begin : goal.returns-clause-begin
+returns-clause-begin c = λ me later cert asks reply good e. begun me later cert asks reply good e
+
+pub returns-clause-step : goal.returns-clause-step
+returns-clause-step c = λ me later bytes reply good e. stepped c.what_was_verified_stays_so.ensures.valid me later bytes reply good e
+
+pub returns-clause-attach : goal.returns-clause-attach
+returns-clause-attach c = λ me later digest handover good e. attached me later digest handover good e
+
+pub returns-clause-submit : goal.returns-clause-submit
+returns-clause-submit c = λ me digest reply good e. submitted me digest reply good e

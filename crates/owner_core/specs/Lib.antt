@@ -1,0 +1,8 @@
+pub mod Causes
+pub mod Fitting
+pub mod State
+pub mod Drafts
+pub mod Objecting
+pub mod Signing
+pub mod Rows
+pub mod Vouching

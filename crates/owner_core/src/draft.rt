@@ -1,0 +1,108 @@
+ghost use Rattle.std.specs.Prelude.{◌≡◌, IfOk};
+
+use crate::endorsing::{copies, count_below, has_endorsed, insert};
+use crate::refusal::OwnerRefusal;
+use ar_base::Items;
+use ar_cert::{Cert, Change, Endorsement};
+use std::alloc::{AllocError, Global};
+use std::marker::Model;
+
+/// The most endorsements of a draft.
+const MOST_ENDORSEMENTS: usize = 8;
+
+/// A certificate on its way to the logs, with what vouches for it so far.
+#[derive(Debug, Drop)]
+pub(crate) struct Draft {
+    digest: [u8; 32],
+    cert: Cert,
+    endorsements: Vec<Endorsement>,
+    handover: Option<Items<u8>>,
+}
+
+// Clauses see the change that the draft is. The digest is that of its certificate.
+impl Model for Draft {
+    ghost use Rattle.std.specs.Prelude.{◌≡◌, None, IfSome};
+    ghost use Rattle.ar_cert.specs.Certificate.{digest_of};
+    ghost use Rattle.ar_cert.specs.Changes.{Change, IsSignature};
+    ghost use Rattle.owner_core.specs.Fitting.{AreFew};
+
+    ghost Value = { Change };
+
+    ghost view = { λ d. record { cert = d.cert; endorsements = d.endorsements.items; handover = d.handover; objection = None } };
+
+    ghost invariant = { λ d. (d.digest ≡ digest_of d.cert) × AreFew d.endorsements.items × IfSome d.handover IsSignature };
+}
+
+impl Draft {
+    ghost use Rattle.std.specs.Prelude.{◌≡◌, ◌⊎◌, ◌<◌, ◌^◌, IfOk, IfErr, Ok, Err, length};
+    ghost use Rattle.ar_cert.specs.Certificate.{digest_of};
+    ghost use Rattle.owner_core.specs.Drafts.{endorsed, first_draft, handed_over};
+    ghost use Rattle.owner_core.specs.declared.refusal.OwnerRefusal.TheVariants.{Memory};
+
+    /// The draft that a certificate begins as.
+    pub(crate) fn new(alloc: Global, cert: Cert) -> Draft
+        ensures { result ≡ first_draft cert }
+    {
+        Draft {
+            digest: cert.digest(),
+            cert,
+            endorsements: Vec::new(alloc),
+            handover: None,
+        }
+    }
+
+    /// The digest of the certificate.
+    pub(crate) fn digest(&self) -> &[u8]
+        ensures { result.now ≡ digest_of self.now.cert }
+    {
+        &self.digest
+    }
+
+    /// Takes an endorsement, unless its authority has endorsed the draft.
+    pub(crate) fn endorse(&mut self, endorsement: Endorsement) -> Result<(), OwnerRefusal>
+        ensures ok { IfOk result (λ u. endorsed endorsement self.old ≡ Ok self.new) }
+        ensures err { IfErr result (λ e. (self.new ≡ self.old) × ((e ≡ Memory) ⊎ (endorsed endorsement self.old ≡ Err e))) }
+    {
+        if has_endorsed(endorsement.authority, &self.endorsements) {
+            return Ok(());
+        }
+        if self.endorsements.len() >= MOST_ENDORSEMENTS {
+            return Err(OwnerRefusal::Full);
+        }
+        let place = count_below(endorsement.authority, &self.endorsements);
+        insert(&mut self.endorsements, place, endorsement)
+    }
+
+    /// Takes a handover in place of the one that it has.
+    pub(crate) fn attach(&mut self, handover: Vec<u8>)
+        requires { length handover.items < 2 ^ 16 }
+        ensures { handed_over handover.items self.old ≡ Ok self.new }
+    {
+        self.handover = Some(Items::from_vec(handover));
+    }
+
+    /// The change that the draft is now.
+    pub(crate) fn to_change(&self, alloc: Global) -> Result<Change, AllocError>
+        ensures { IfOk result (λ change. change ≡ self.now) }
+    {
+        let cert = self.cert.copy(alloc)?;
+        let endorsements = copies(alloc, &self.endorsements)?;
+        let handover = handover_of(alloc, &self.handover)?;
+        Ok(Change {
+            cert,
+            endorsements: Items::from_vec(endorsements),
+            handover,
+            objection: None,
+        })
+    }
+}
+
+/// A handover of its own, where there is one.
+fn handover_of(alloc: Global, handover: &Option<Items<u8>>) -> Result<Option<Items<u8>>, AllocError>
+    ensures { IfOk result (λ copy. copy ≡ handover.now) }
+{
+    match handover {
+        None => Ok(None),
+        Some(handover) => Ok(Some(Items::from_vec(Vec::from_slice(alloc, handover.as_slice())?))),
+    }
+}

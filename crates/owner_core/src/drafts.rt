@@ -1,0 +1,62 @@
+ghost use Rattle.std.specs.Prelude.{◌≡◌, ◌⊎◌, ◌<◌, ◌^◌, IfOk, IfErr, OnErr, Ok, Err, Some, None, length, slice_get};
+ghost use Rattle.owner_core.specs.Drafts.{begun_draft, changed_draft, endorsed, handed_over, place_of_draft};
+ghost use Rattle.owner_core.specs.declared.refusal.OwnerRefusal.TheVariants.{Memory};
+
+use crate::draft::Draft;
+use crate::refusal::OwnerRefusal;
+use ar_cert::{Cert, Endorsement};
+use std::alloc::{AllocError, Global};
+
+/// The place of the draft with this digest. It looks at the drafts in order.
+pub(crate) fn place_of(drafts: &[Draft], digest: &[u8]) -> Option<usize>
+    ensures { result ≡ place_of_draft drafts.now digest.now }
+{
+    drafts.iter().position(|draft| digest == draft.digest())
+}
+
+/// Makes the certificate a draft, unless there is one with its digest.
+pub(crate) fn begin(alloc: Global, drafts: &mut Vec<Draft>, cert: Cert) -> Result<(), AllocError>
+    ensures ok { IfOk result (λ u. drafts.new.items ≡ begun_draft drafts.old.items cert) }
+    ensures err { OnErr result (drafts.new.items ≡ drafts.old.items) }
+{
+    if place_of(drafts, &cert.digest()).is_some() {
+        return Ok(());
+    }
+    drafts.push(Draft::new(alloc, cert))?;
+    Ok(())
+}
+
+/// Lets the draft with this digest take an endorsement.
+#[tactic(auto, using(crate::proofs::Spots::spots))]
+pub(crate) fn endorse(
+    drafts: &mut [Draft],
+    digest: &[u8; 32],
+    endorsement: Endorsement,
+) -> Result<(), OwnerRefusal>
+    ensures ok { IfOk result (λ u. changed_draft drafts.old digest.now (endorsed endorsement) ≡ Ok drafts.new) }
+    ensures err { IfErr result (λ e. (drafts.new ≡ drafts.old)
+        × ((e ≡ Memory) ⊎ (changed_draft drafts.old digest.now (endorsed endorsement) ≡ Err e))) }
+{
+    let Some(place) = place_of(drafts, digest) else {
+        return Err(OwnerRefusal::NoDraft);
+    };
+    drafts[place].endorse(endorsement)
+}
+
+/// Lets the draft with this digest take a handover in place of the one that it has.
+#[tactic(auto, using(crate::proofs::Spots::spots))]
+pub(crate) fn attach(
+    drafts: &mut [Draft],
+    digest: &[u8; 32],
+    handover: Vec<u8>,
+) -> Result<(), OwnerRefusal>
+    requires { length handover.items < 2 ^ 16 }
+    ensures ok { IfOk result (λ u. changed_draft drafts.old digest.now (handed_over handover.items) ≡ Ok drafts.new) }
+    ensures err { IfErr result (λ e. (drafts.new ≡ drafts.old) × (changed_draft drafts.old digest.now (handed_over handover.items) ≡ Err e)) }
+{
+    let Some(place) = place_of(drafts, digest) else {
+        return Err(OwnerRefusal::NoDraft);
+    };
+    drafts[place].attach(handover);
+    Ok(())
+}

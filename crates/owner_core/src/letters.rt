@@ -1,0 +1,118 @@
+ghost use Rattle.std.specs.Prelude.{◌≡◌, ◌<◌, [], ◌∷◌, map, vec_len, vec_capacity, IfOk};
+ghost use Rattle.ar_message.specs.Messages.{message_text};
+ghost use Rattle.ar_message.specs.declared.address.Address.TheVariants.{Logs, One};
+ghost use Rattle.ar_message.specs.declared.message.Message.TheVariants.{EndorseAsk, Submit};
+ghost use Rattle.party_keys.specs.Seen.{authority_party};
+ghost use Rattle.owner_core.specs.Rows.{letter, sent, submission};
+
+use ar_base::Items;
+use ar_cert::{Cert, Change};
+use ar_message::{Address, Message, Outgoing, Sent};
+use ar_statement::Role;
+use std::alloc::{AllocError, Global};
+
+/// No message.
+pub(crate) fn nothing(alloc: Global) -> Sent
+    ensures { result ≡ sent [] }
+{
+    Sent {
+        messages: Items::new(alloc),
+        ended: None,
+    }
+}
+
+/// The text of a message.
+fn text_of(alloc: Global, message: Message) -> Result<Vec<u8>, AllocError>
+    ensures { IfOk result (λ text. text.items ≡ message_text message) }
+{
+    let mut text = Vec::new(alloc);
+    message.write(alloc, &mut text)?;
+    Ok(text)
+}
+
+/// The text of an owner's request to endorse a certificate.
+fn ask_text(alloc: Global, owner: u16, cert: &Cert) -> Result<Vec<u8>, AllocError>
+    ensures { IfOk result (λ text. text.items ≡ message_text (EndorseAsk owner cert.now)) }
+{
+    let cert = cert.copy(alloc)?;
+    text_of(alloc, Message::EndorseAsk { owner, cert })
+}
+
+/// A text to an authority.
+fn to_authority(alloc: Global, authority: u16, text: &[u8]) -> Result<Outgoing, AllocError>
+    ensures { IfOk result (λ out. out ≡ record { to = One (authority_party authority); bytes = text.now }) }
+{
+    let to = Address::One(Role::Authority.party(authority));
+    Ok(Outgoing::new(to, Vec::from_slice(alloc, text)?))
+}
+
+/// One text to each of these authorities, in their order.
+fn to_each(alloc: Global, authorities: &[u16], text: &[u8]) -> Result<Vec<Outgoing>, AllocError>
+    ensures { IfOk result (λ list. list.items
+        ≡ map (λ authority. record { to = One (authority_party authority); bytes = text.now }) authorities.now) }
+{
+    let mut list = Vec::with_capacity(alloc, authorities.len())?;
+    for authority in authorities {
+        list.push(to_authority(alloc, *authority, text)?)?;
+    }
+    Ok(list)
+}
+
+/// An owner's request to endorse a certificate, to each of these authorities.
+pub(crate) fn asking(
+    alloc: Global,
+    owner: u16,
+    cert: &Cert,
+    asks: &[u16],
+) -> Result<Sent, AllocError>
+    ensures { IfOk result (λ s. s
+        ≡ sent (map (λ authority. letter (One (authority_party authority)) (EndorseAsk owner cert.now)) asks.now)) }
+{
+    let text = ask_text(alloc, owner, cert)?;
+    Ok(Sent {
+        messages: Items::from_vec(to_each(alloc, asks, &text)?),
+        ended: None,
+    })
+}
+
+/// Room for one message.
+pub(crate) fn room(alloc: Global) -> Result<Vec<Outgoing>, AllocError>
+    ensures empty { IfOk result (λ list. list.items ≡ []) }
+    ensures room { IfOk result (λ list. vec_len list < vec_capacity list) }
+{
+    let list = Vec::with_capacity(alloc, 1)?;
+    Ok(list)
+}
+
+/// The text of a change on its way to the logs.
+pub(crate) fn submit_text(alloc: Global, change: Change) -> Result<Vec<u8>, AllocError>
+    ensures { IfOk result (λ text. text.items ≡ message_text (Submit change)) }
+{
+    text_of(alloc, Message::Submit { change })
+}
+
+/// A text to all logs, in the room for one message.
+pub(crate) fn to_logs(room: Vec<Outgoing>, text: Vec<u8>) -> Sent
+    requires empty { room.items ≡ [] }
+    requires room { vec_len room < vec_capacity room }
+    ensures { result ≡ sent (record { to = Logs; bytes = text.items } ∷ []) }
+{
+    let mut messages = room;
+    match messages.push(Outgoing::new(Address::Logs, text)) {
+        Ok(()) => {}
+        Err(_) => unreachable!(),
+    }
+    Sent {
+        messages: Items::from_vec(messages),
+        ended: None,
+    }
+}
+
+/// A change goes to all logs.
+pub(crate) fn submission(alloc: Global, change: Change) -> Result<Sent, AllocError>
+    ensures { IfOk result (λ s. s ≡ submission change) }
+{
+    let text = submit_text(alloc, change)?;
+    let room = room(alloc)?;
+    Ok(to_logs(room, text))
+}

@@ -1,0 +1,64 @@
+use crate::draft::Draft;
+use lms_tree::{LmsKey, LmsPublic};
+use party_keys::Directory;
+use sign_book::SignBook;
+use std::alloc::{AllocError, Global};
+use std::marker::Model;
+
+/// An owner of domains: its drafts, its key with the book of the key's leaves, and a directory of its own.
+#[derive(Drop)]
+pub struct Owner {
+    pub(crate) number: u16,
+    pub(crate) directory: Directory,
+    pub(crate) key: LmsKey,
+    pub(crate) book: SignBook,
+    pub(crate) drafts: Vec<Draft>,
+}
+
+// Clauses see what the owner keeps. The book is of the key.
+impl Model for Owner {
+    ghost use Rattle.std.specs.Prelude.{◌≡◌, ◌^◌};
+    ghost use Rattle.lms_tree.specs.LmsKind.{height_of};
+    ghost use Rattle.owner_core.specs.State.{Owner as State};
+
+    ghost Value = { State };
+
+    ghost view = { λ o. record { number = o.number; directory = o.directory; key = o.key; book = o.book; drafts = o.drafts.items } };
+
+    ghost invariant = { λ o. o.book.leaves ≡ 2 ^ height_of o.key.lms };
+}
+
+impl Owner {
+    ghost use Rattle.std.specs.Prelude.{◌≡◌, ◌^◌, Ok};
+    ghost use Rattle.lms_tree.specs.Key.{public_of};
+    ghost use Rattle.lms_tree.specs.LmsKind.{height_of};
+    ghost use Rattle.owner_core.specs.Rows.{first_owner};
+
+    /// The owner with this number, which knows these keys of logs and authorities, and has no draft.
+    ///
+    /// The key is in no other book and has signed nothing. As it stands it takes no memory, and is never refused.
+    pub fn new(
+        alloc: Global,
+        number: u16,
+        directory: Directory,
+        key: LmsKey,
+    ) -> Result<Owner, AllocError>
+        ensures { result ≡ Ok (first_owner number directory key (2 ^ height_of key.lms)) }
+    {
+        let book = SignBook::new(alloc, key.leaves());
+        Ok(Owner {
+            number,
+            directory,
+            key,
+            book,
+            drafts: Vec::new(alloc),
+        })
+    }
+
+    /// The public key, which is the subject key of the owner's certificates.
+    pub fn public(&self) -> LmsPublic
+        ensures { result ≡ public_of self.now.key }
+    {
+        self.key.public()
+    }
+}

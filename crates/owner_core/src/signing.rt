@@ -1,0 +1,111 @@
+ghost use Rattle.std.specs.Prelude.{◌≡◌, ◌-◌, ◌≤◌, ◌^◌, ◌++◌, length, take, IfOk};
+ghost use Rattle.lms_tree.specs.Key.{signature_of};
+ghost use Rattle.lms_tree.specs.LmsKind.{height_of};
+ghost use Rattle.lms_tree.specs.Signature.{lms_signature_len_of};
+ghost use Rattle.owner_core.specs.Objecting.{AwaitsSignature};
+
+use crate::letters::{room, submit_text, to_logs};
+use crate::owner::Owner;
+use crate::refusal::OwnerRefusal;
+use ar_base::Items;
+use ar_cert::{Cert, Change};
+use ar_message::Sent;
+use ar_statement::Statement;
+use lms_tree::LmsKey;
+use sign_book::{Due, sign};
+use std::alloc::{AllocError, Global};
+
+/// As many zero bytes as a signature of the key has.
+fn blank(alloc: Global, key: &LmsKey) -> Result<Vec<u8>, AllocError>
+    ensures { IfOk result (λ bytes. length bytes.items ≡ lms_signature_len_of key.now.lms key.now.ots) }
+{
+    let bytes = vec![in alloc; 0u8; key.signature_len()]?;
+    Ok(bytes)
+}
+
+/// Writes the signature that is due over the last bytes of a text.
+fn sign_tail(key: &LmsKey, due: Due, text: &mut [u8])
+    requires leaves { due.leaves ≡ 2 ^ height_of key.now.lms }
+    requires room { lms_signature_len_of key.now.lms key.now.ots ≤ length text.old }
+    ensures text { text.new ≡ take (length text.old - lms_signature_len_of key.now.lms key.now.ots) text.old ++ signature_of key.now due.leaf due.text }
+    ensures len { length (signature_of key.now due.leaf due.text) ≡ lms_signature_len_of key.now.lms key.now.ots }
+{
+    let at = text.len() - key.signature_len();
+    sign(key, due, &mut text[at..]);
+}
+
+/// The text of an objection to a certificate on its way to the logs, with zero bytes in place of the key's signature.
+#[tactic(auto, using(crate::proofs::Texts::unsigned))]
+fn unsigned_objection(alloc: Global, key: &LmsKey, cert: &Cert) -> Result<Vec<u8>, AllocError>
+    ensures { IfOk result (λ text. AwaitsSignature (lms_signature_len_of key.now.lms key.now.ots) cert.now text.items) }
+{
+    let zeros = blank(alloc, key)?;
+    let change = Change {
+        cert: cert.copy(alloc)?,
+        endorsements: Items::new(alloc),
+        handover: None,
+        objection: Some(Items::from_vec(zeros)),
+    };
+    submit_text(alloc, change)
+}
+
+impl Owner {
+    ghost use Rattle.std.specs.Prelude.{◌≡◌, ◌⊎◌, ◌<◌, ◌^◌, IfOk, IfErr, Ok, Err, length};
+    ghost use Rattle.ar_statement.specs.Claims.{claim_of};
+    ghost use Rattle.lms_tree.specs.Key.{signature_of};
+    ghost use Rattle.lms_tree.specs.LmsKind.{height_of};
+    ghost use Rattle.owner_core.specs.Rows.{Answers, handover_row, object_row};
+    ghost use Rattle.owner_core.specs.Signing.{signed};
+    ghost use Rattle.owner_core.specs.declared.refusal.OwnerRefusal.TheVariants.{Memory};
+
+    /// Gives a statement its leaf. What is due then must be signed.
+    fn enter(&mut self, alloc: Global, statement: &Statement) -> Result<Due, OwnerRefusal>
+        ensures due { IfOk result (λ due. due.leaves ≡ 2 ^ height_of self.old.key.lms) }
+        ensures key { self.new.key ≡ self.old.key }
+        ensures ok { IfOk result (λ due. signed self.old (claim_of statement.now)
+            ≡ Ok (signature_of self.old.key due.leaf due.text, self.new)) }
+        ensures err { IfErr result (λ e. (self.new ≡ self.old) × ((e ≡ Memory) ⊎ (signed self.old (claim_of statement.now) ≡ Err e))) }
+    {
+        let due = self.book.enter(alloc, statement)?;
+        Ok(due)
+    }
+
+    /// Signs the handover to the certificate with this digest: the owner agrees by its key that it replaces the one
+    /// whose subject key this is. What is signed is the statement Handover, of the digest alone.
+    ///
+    /// Asked again, it gives the same bytes and takes no further leaf. `Spent` (O7) comes exactly where each leaf of
+    /// the key serves another statement. The signature is bare: it has no generation in front.
+    #[tactic(auto, using(crate::proofs::Texts::signature_fits))]
+    pub fn handover(&mut self, alloc: Global, digest: &[u8; 32]) -> Result<Vec<u8>, OwnerRefusal>
+        ensures answer { Answers (λ signature. signature.items) self.old self.new result (handover_row self.old digest.now) }
+        // It can be attached to a draft.
+        ensures fits { IfOk result (λ signature. length signature.items < 2 ^ 16) }
+    {
+        let mut signature = blank(alloc, &self.key)?;
+        let statement = Statement::Handover {
+            certificate: *digest,
+        };
+        let due = self.enter(alloc, &statement)?;
+        sign(&self.key, due, &mut signature);
+        Ok(signature)
+    }
+
+    /// Objects to a certificate by the owner's key, and tells all logs: a change with this certificate, no
+    /// endorsement, and the signature of the statement Object of its digest. It is for the logs to judge whether the
+    /// certificate is one that waits for a name of this key. The certificate need not be a draft of the owner's.
+    ///
+    /// Asked again, it sends the same bytes and takes no further leaf. `Spent` (O7) comes exactly where each leaf of
+    /// the key serves another statement.
+    pub fn object(&mut self, alloc: Global, cert: &Cert) -> Result<Sent, OwnerRefusal>
+        ensures { Answers (λ s. s) self.old self.new result (object_row self.old cert.now) }
+    {
+        let mut text = unsigned_objection(alloc, &self.key, cert)?;
+        let room = room(alloc)?;
+        let statement = Statement::Object {
+            certificate: cert.digest(),
+        };
+        let due = self.enter(alloc, &statement)?;
+        sign_tail(&self.key, due, &mut text);
+        Ok(to_logs(room, text))
+    }
+}
