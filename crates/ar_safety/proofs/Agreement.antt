@@ -18,16 +18,17 @@ use Rattle.domain_table.proofs.Steps.{Follows, Holds, follows_itself}
 use Rattle.domain_table.proofs.Trees.{Listed, same_tables}
 use Rattle.epoch_log.specs.Honest.{EndsInOrder, HonestLog}
 use Rattle.epoch_log.specs.Record.{after_ending, base_of, current, ending}
+use Rattle.ar_council.proofs.Lists.{find-nothing}
 use Rattle.epoch_log.specs.Right.{IsRightDecision, IsRightVote, SawEndorsements}
 use Rattle.epoch_log.specs.declared.entries.Ended.{Ended}
 use Rattle.epoch_log.specs.declared.entries.How.{How}
 use Rattle.epoch_log.specs.declared.entries.How.TheVariants.{Decided, Skipped}
 use Rattle.epoch_log.specs.declared.entries.Voted.{Voted}
 use Rattle.epoch_log.proofs.Endings.{ending-none, ending-within, epochs-within}
-use Rattle.epoch_log.proofs.Lists.{find-nothing}
-use Rattle.ar_safety.specs.Hashed.{NoCollision, hashed, listed_tables}
-use Rattle.ar_safety.specs.Records.{AreHonest, Few, IsHonestLog, NoForgery, Records}
-use Rattle.ar_safety.specs.Safe.{Agreed, SameEnding}
+use Rattle.ar_safety.specs.Agreed.{Agreed, SameEnding}
+use Rattle.ar_safety.specs.Hashed.{hashed, listed_tables}
+use Rattle.ar_safety.specs.Records.{IsHonestLog, Records}
+use Rattle.ar_safety.specs.Theorem.{AreHonest, Few, NoCollision, NoForgery}
 use Rattle.ar_safety.proofs.Listed.{decided-listed, table-hashed, voted-listed}
 use Rattle.ar_safety.proofs.Votes.{backed-not-skipped, decided-backed, one-root}
 

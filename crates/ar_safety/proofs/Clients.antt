@@ -40,22 +40,23 @@ use Rattle.domain_table.proofs.Newest.{newest_has, newest_there}
 use Rattle.domain_table.proofs.Trees.{chain_listed, entry_at, good_chain, holds_digests}
 use Rattle.client_rule.specs.Meaning.{HasParties, IsShown}
 use Rattle.client_rule.specs.Rule.{claim_on}
-use Rattle.epoch_log.specs.Council.{Council, IsMember}
-use Rattle.authority_core.specs.Calls.{confirmation_by}
-use Rattle.ar_safety.specs.Hashed.{NoCollision, body_strings, hashed, judged_strings, listed_tables}
-use Rattle.ar_safety.specs.Records.{AreHonest, AreSigned, Few, IsHonest, IsJudged, Judged, NoForgery, Records, carried, carried_by, signed_by}
-use Rattle.ar_safety.specs.Safe.{Backed, Confirms, HasNewest, HasNone, IsTimely}
+use Rattle.ar_council.specs.Council.{Council, IsMember}
+use Rattle.ar_council.specs.Values.{confirmation_by}
+use Rattle.ar_safety.specs.Agreed.{Backed, Confirms, HasNewest, HasNone, IsTimely}
+use Rattle.ar_safety.specs.Hashed.{body_strings, hashed, judged_strings, listed_tables}
+use Rattle.ar_safety.specs.Records.{AreSigned, IsHonest, IsJudged, Judged, Records, carried, carried_by, signed_by}
+use Rattle.ar_safety.specs.Theorem.{AreHonest, Few, NoCollision, NoForgery}
 use Rattle.ar_safety.proofs.Agreement.{Fine, agreed-fine}
 use Rattle.ar_safety.proofs.Confirming.{IsAgreed, backed-agreed, confirms-backed, one-of-three}
 
 -- ---- what is accepted is backed
 
 -- the digest of a body's certificate
-digest_in : Body → Option (List ℕ)
+pub digest_in : Body → Option (List ℕ)
 digest_in (present certificate) = Some (digest_of certificate)
 digest_in (absent bottom) = None
 
-claim-is : (c : Confirmation) (p : Party) → claim_on c.about c.body p ≡ confirmation_by p c.about.epoch c.about.name (digest_in c.body) c.about.root
+pub claim-is : (c : Confirmation) (p : Party) → claim_on c.about c.body p ≡ confirmation_by p c.about.epoch c.about.name (digest_in c.body) c.about.root
 unfolding digest_in
 claim-is c p = by c.body
   where
@@ -73,7 +74,7 @@ is-read council j is = ((only_text confirmation_at confirmation_text IsConfirmat
 epoch-test : (e : ℕ) → 1 ≤ e → e ≤ 2 ^ 63 → is_epoch e ≡ true
 epoch-test e least most = both_true (le-leb 1 e least) (le-leb e (2 ^ 63) most)
 
-valid-body : (c : Confirmation) (p : Party) → IsConfirmation c → p.number < 2 ^ 16 → is_witness p.role ≡ true → (b : Body) → IsBody b
+pub valid-body : (c : Confirmation) (p : Party) → IsConfirmation c → p.number < 2 ^ 16 → is_witness p.role ≡ true → (b : Body) → IsBody b
     → IsValid (confirmation_by p c.about.epoch c.about.name (digest_in b) c.about.root)
 unfolding digest_in
 valid-body c p is small witness (present certificate) fits = record {

@@ -19,19 +19,21 @@ use Rattle.domain_table.specs.Tables.{Table}
 use Rattle.domain_table.specs.Tree.{root_of}
 use Rattle.epoch_log.specs.Honest.{HonestLog}
 use Rattle.epoch_log.specs.Record.{base_of}
-use Rattle.epoch_log.specs.Right.{IsRightConfirmation, IsRightVote, IsValue, SawVotes}
-use Rattle.epoch_log.specs.Told.{HasConfirmed, confirm_claim}
+use Rattle.ar_council.proofs.Lists.{both, found}
+use Rattle.ar_council.proofs.Seeing.{one_party}
+use Rattle.ar_council.specs.Values.{IsValue, confirm_claim, confirmation_by}
+use Rattle.ar_council.specs.Votes.{SawVotes}
+use Rattle.epoch_log.specs.Right.{IsRightConfirmation, IsRightVote}
+use Rattle.epoch_log.specs.Told.{HasConfirmed}
 use Rattle.epoch_log.specs.declared.entries.Confirmed.{Confirmed}
 use Rattle.epoch_log.specs.declared.entries.Voted.{Voted}
-use Rattle.epoch_log.proofs.Lists.{both, found}
 use Rattle.epoch_log.proofs.Read.{confirmations-signed}
-use Rattle.epoch_log.proofs.Seeing.{one_party}
-use Rattle.authority_core.specs.Calls.{confirmation_by}
 use Rattle.authority_core.specs.Honest.{HasKept, HonestAuthority}
 use Rattle.authority_core.specs.Record.{AuthorityRecord}
 use Rattle.authority_core.proofs.Read.{confirmed-kept}
-use Rattle.ar_safety.specs.Records.{AreHonest, Few, IsHonest, IsHonestLog, NoForgery, Records}
-use Rattle.ar_safety.specs.Safe.{Agreed, Backed, Backs, Confirms}
+use Rattle.ar_safety.specs.Agreed.{Agreed, Backed, Backs, Confirms}
+use Rattle.ar_safety.specs.Records.{IsHonest, IsHonestLog, Records}
+use Rattle.ar_safety.specs.Theorem.{AreHonest, Few, NoForgery}
 use Rattle.ar_safety.proofs.Votes.{backs-voted, decided-backed, one-root, votes-back, witness}
 
 -- ---- a backed root is that of an agreed table

@@ -23,11 +23,11 @@ none-length : {X : Type 0} (xs : List X) → length xs ≡ 0 → xs ≡ []
 none-length [] e = refl
 none-length (x ∷ xs) e = absurd (omega (arith, e))
 
-no-entries : (V : Type 0) → entries (empty {X = V} {R = key_cmp}) ≡ []
+pub no-entries : (V : Type 0) → entries (empty {X = V} {R = key_cmp}) ≡ []
 no-entries V = none-length (entries (empty {X = V} {R = key_cmp})) (sym (len-entries (empty {X = V} {R = key_cmp})) ∙ len-empty key_cmp V)
 
 -- it stays so where nothing is applied
-ripe-none : ripen no_table 1 ≡ no_table
+pub ripe-none : ripen no_table 1 ≡ no_table
 ripe-none =
     let chains : (ripen no_table 1).chains ≡ empty = same_map total exact (ripen no_table 1).chains empty (λ name.
     get-ripen no_table 1 name ∙ ap (option_map (ripened no_table 1 name)) (get-empty key_cmp name) ∙ sym (get-empty key_cmp name)) in
@@ -53,7 +53,7 @@ one-string zero m none x (inr more) = absurd more
 one-string (suc left) m none x (inl is) = is
 one-string (suc left) m none x (inr more) = absurd (rw none at more)
 
-empty-tree : entries (tree_entries no_table) ≡ []
+pub empty-tree : entries (tree_entries no_table) ≡ []
 unfolding tree_entries
 empty-tree = rw (no-entries (List Change)) (rw (no-entries Pending) (no-entries (List ℕ)))
 
@@ -78,11 +78,11 @@ tables-string (t ∷ tables) all x is = elim (in_both (table_strings t) (flat_ma
 ]
 
 -- equal strings do not collide
-all-true : (p : List ℕ → Bool) (xs : List (List ℕ)) → ((x : List ℕ) → IsIn xs x → p x ≡ true) → list_all p xs ≡ true
+pub all-true : (p : List ℕ → Bool) (xs : List (List ℕ)) → ((x : List ℕ) → IsIn xs x → p x ≡ true) → list_all p xs ≡ true
 all-true p [] h = refl
 all-true p (x ∷ xs) h = rw (h x (inl refl)) (all-true p xs (λ y i. h y (inr i)))
 
-or-second : (a b : Bool) → b ≡ true → (a || b) ≡ true
+pub or-second : (a b : Bool) → b ≡ true → (a || b) ≡ true
 or-second true b e = refl
 or-second false b e = e
 

@@ -14,20 +14,22 @@ use Rattle.vote_quorum.specs.Numbers.{distinct_count}
 use Rattle.vote_quorum.specs.Statuses.{Status}
 use Rattle.domain_table.specs.Tables.{no_table}
 use Rattle.domain_table.specs.Tree.{root_of}
-use Rattle.epoch_log.specs.Calls.{seen_of}
-use Rattle.epoch_log.specs.Council.{IsMember}
+use Rattle.ar_council.proofs.Books.{empty-book}
+use Rattle.ar_council.proofs.Texts.{own-text}
+use Rattle.ar_council.specs.Council.{IsMember}
+use Rattle.ar_council.specs.Seen.{seen_of}
+use Rattle.ar_council.specs.Values.{IsValue, status_claim, vote_claim}
+use Rattle.ar_council.specs.Votes.{SawVotes}
 use Rattle.epoch_log.specs.Honest.{EndsInOrder, HonestLog}
 use Rattle.epoch_log.specs.Record.{base_of, ending}
-use Rattle.epoch_log.specs.Right.{Fits, IsRightDecision, IsRightSkip, IsRightVote, IsValue, LeadsTo, SawVotes}
-use Rattle.epoch_log.specs.Told.{Told, status_claim, vote_claim}
+use Rattle.epoch_log.specs.Right.{Fits, IsRightDecision, IsRightSkip, IsRightVote, LeadsTo}
+use Rattle.epoch_log.specs.Told.{Told}
 use Rattle.epoch_log.specs.declared.entries.Ended.{Ended}
 use Rattle.epoch_log.specs.declared.entries.How.{How}
 use Rattle.epoch_log.specs.declared.entries.How.TheVariants.{Decided, Skipped}
 use Rattle.epoch_log.specs.declared.entries.Stated.{Stated}
 use Rattle.epoch_log.specs.declared.entries.Voted.{Voted}
-use Rattle.epoch_log.proofs.Called.{empty-book}
 use Rattle.epoch_log.proofs.Endings.{ending-within}
-use Rattle.epoch_log.proofs.Growing.{own-text}
 use Rattle.epoch_log.proofs.Texts.{plain-status, plain-vote, valid-status, valid-vote}
 use Rattle.authority_core.proofs.Growing.{map-has}
 use Rattle.ar_safety.specs.Examples.{book_with, deciding_log, five, seen_statuses, seen_votes, skipping_log, unchanged}
@@ -39,17 +41,17 @@ use Rattle.ar_safety.proofs.Empty.{applied-none}
 pub only : {X : Type 0} (P : X → Type 0) (x : X) → P x → All P (x ∷ [])
 only P x p = All-cons P x [] p (All-nil P)
 
-single : {X : Type 0} (R : X → X → Type 0) (x : X) → AllPairs R (x ∷ [])
+pub single : {X : Type 0} (R : X → X → Type 0) (x : X) → AllPairs R (x ∷ [])
 single R x = λ i j d before within. absurd (omega (arith, before, within))
 
-one-book : (claim : Claim) → is_roll (text_of claim) ≡ false → IsRollBook (book_with claim)
+pub one-book : (claim : Claim) → is_roll (text_of claim) ≡ false → IsRollBook (book_with claim)
 one-book claim plain = after_entry_keeps (record { leaves = 32; newest = 0; list = [] }) (text_of claim) (empty-book 32 (omega arith)) (inl plain)
 
-value-fits : IsValue unchanged
+pub value-fits : IsValue unchanged
 value-fits = record { base = root-digest no_table; root = root-digest no_table }
 
 -- the first epoch alone has ended
-first-order : (how : How) → EndsInOrder (record { epoch = 1; how = how } ∷ [])
+pub first-order : (how : How) → EndsInOrder (record { epoch = 1; how = how } ∷ [])
 first-order how = record {
   in_order = λ k x at. by k x at;
   in_range = omega arith;
@@ -62,7 +64,7 @@ pub first-ending : (how : How) → ending (record { epoch = 1; how = how } ∷ [
 unfolding ending
 first-ending how = refl
 
-first-is : (how other : How) (epoch : ℕ) → ending (record { epoch = 1; how = how } ∷ []) epoch ≡ Some other → (epoch ≡ 1) × (other ≡ how)
+pub first-is : (how other : How) (epoch : ℕ) → ending (record { epoch = 1; how = how } ∷ []) epoch ≡ Some other → (epoch ≡ 1) × (other ≡ how)
 first-is how other epoch is =
     let within = ending-within (record { epoch = 1; how = how } ∷ []) (first-order how) epoch other is in
     let now : epoch ≡ 1 = omega (arith, within.0, within.1) in

@@ -12,16 +12,18 @@ use Rattle.vote_quorum.specs.Numbers.{distinct_count}
 use Rattle.vote_quorum.proofs.Counting.{among, distinct_count-cons}
 use Rattle.domain_table.specs.Tables.{Table, no_table}
 use Rattle.domain_table.specs.Tree.{root_of, table_strings}
-use Rattle.epoch_log.specs.Calls.{fresh, seen_of}
+use Rattle.ar_council.specs.Seen.{seen_of}
+use Rattle.ar_council.specs.Values.{status_claim, vote_claim}
+use Rattle.epoch_log.specs.Calls.{fresh}
 use Rattle.epoch_log.specs.Honest.{HonestLog}
 use Rattle.epoch_log.specs.Record.{ending}
-use Rattle.epoch_log.specs.Told.{status_claim, vote_claim}
 use Rattle.epoch_log.specs.declared.entries.How.{How}
 use Rattle.epoch_log.specs.declared.entries.How.TheVariants.{Decided, Skipped}
-use Rattle.ar_safety.specs.Examples.{decided_run, deciding_log, five, seen_statuses, seen_votes, skipping_log, forged_run, split_run, unchanged}
-use Rattle.ar_safety.specs.Hashed.{NoCollision, hashed, judged_strings, log_tables, tables_below}
-use Rattle.ar_safety.specs.Records.{AreHonest, AreQuorums, AreSigned, Few, IsHonest, IsHonestLog, NoForgery, Records, is_dishonest, signed_by}
-use Rattle.ar_safety.specs.Safe.{Agreed, Backed, Backs, Safe}
+use Rattle.ar_safety.specs.Agreed.{Agreed, Backed, Backs}
+use Rattle.ar_safety.specs.Examples.{decided_run, deciding_log, five, forged_run, seen_statuses, seen_votes, skipping_log, split_run, unchanged}
+use Rattle.ar_safety.specs.Hashed.{hashed, judged_strings, log_tables, tables_below}
+use Rattle.ar_safety.specs.Records.{AreQuorums, AreSigned, IsHonest, IsHonestLog, Records, is_dishonest, signed_by}
+use Rattle.ar_safety.specs.Theorem.{AreHonest, Few, NoCollision, NoForgery, Safe}
 use Rattle.ar_safety.proofs.Confirming.{backed-agreed}
 use Rattle.epoch_log.proofs.Called.{kept-fresh}
 use Rattle.authority_core.proofs.Growing.{honest-fresh}
@@ -31,20 +33,20 @@ use Rattle.ar_safety.proofs.ExampleLogs.{base-one, deciding-honest, first-ending
 -- ---- what both runs have
 
 -- how many distinct numbers a list has with one more in front
-one-more : (k : ℕ) (ks : List ℕ) → among k ks ≡ false → distinct_count (k ∷ ks) ≡ distinct_count ks + 1
+pub one-more : (k : ℕ) (ks : List ℕ) → among k ks ≡ false → distinct_count (k ∷ ks) ≡ distinct_count ks + 1
 one-more k ks new = distinct_count-cons k ks ∙ ap (λ b. cond b (distinct_count ks) (distinct_count ks + 1)) new
 
 four-many : 4 ≤ distinct_count (0 ∷ 1 ∷ 2 ∷ 3 ∷ [])
 four-many = omega (arith, one-more 0 (1 ∷ 2 ∷ 3 ∷ []) refl, one-more 1 (2 ∷ 3 ∷ []) refl, one-more 2 (3 ∷ []) refl, one-more 3 [] refl)
 
-five-many : 4 ≤ distinct_count (0 ∷ 1 ∷ 2 ∷ 3 ∷ 4 ∷ [])
+pub five-many : 4 ≤ distinct_count (0 ∷ 1 ∷ 2 ∷ 3 ∷ 4 ∷ [])
 five-many = omega (arith, one-more 0 (1 ∷ 2 ∷ 3 ∷ 4 ∷ []) refl, one-more 1 (2 ∷ 3 ∷ 4 ∷ []) refl, one-more 2 (3 ∷ 4 ∷ []) refl, one-more 3 (4 ∷ []) refl)
 
-five-quorums : AreQuorums five
+pub five-quorums : AreQuorums five
 five-quorums = record { wide = omega arith; few = omega arith; few_authorities = omega arith }
 
 -- where each log's tables are the one without names, no strings collide
-none-below : (r : Records) → ((log : ℕ) → All (λ t. t ≡ no_table) (log_tables (r.logs log))) → (n : ℕ) → All (λ t. t ≡ no_table) (tables_below r n)
+pub none-below : (r : Records) → ((log : ℕ) → All (λ t. t ≡ no_table) (log_tables (r.logs log))) → (n : ℕ) → All (λ t. t ≡ no_table) (tables_below r n)
 unfolding tables_below
 none-below r each zero = All-nil (λ t. t ≡ no_table)
 none-below r each (suc n) =
@@ -63,17 +65,17 @@ clean-of r judged each asked = record {
   asked = λ authority is a there. let none = subst (λ l. Contains l a) (asked authority) there in absurd (omega (arith, none.1));
 }
 
-deciding-tables : (voters : List ℕ) (me : ℕ) → All (λ t. t ≡ no_table) (log_tables (deciding_log voters me))
+pub deciding-tables : (voters : List ℕ) (me : ℕ) → All (λ t. t ≡ no_table) (log_tables (deciding_log voters me))
 deciding-tables voters me = rw (base-one (Decided [] (root_of no_table))) (rw applied-none (All-cons (λ t. t ≡ no_table) no_table (no_table ∷ []) refl (only (λ t. t ≡ no_table) no_table refl)))
 
 -- of each honest party whose statement was seen, the statement is in its book
-signed-of : (r : Records) (seen : List SeenText) → All (λ s. IsHonest r s.party → Contains (signed_by r s.party) s.text) seen → AreSigned r seen
+pub signed-of : (r : Records) (seen : List SeenText) → All (λ s. IsHonest r s.party → Contains (signed_by r s.party) s.text) seen → AreSigned r seen
 signed-of r seen all party text honest there =
     All-contains (λ (s : SeenText). IsHonest r s.party → Contains (signed_by r s.party) s.text) seen (record { party = party; text = text }) all there honest
 
 -- ---- the run in which an epoch is decided
 
-all-below : All (λ k. k < 5) (0 ∷ 1 ∷ 2 ∷ 3 ∷ 4 ∷ [])
+pub all-below : All (λ k. k < 5) (0 ∷ 1 ∷ 2 ∷ 3 ∷ 4 ∷ [])
 all-below = All-cons (λ k. k < 5) 0 (1 ∷ 2 ∷ 3 ∷ 4 ∷ []) (omega arith) (four-below 1 2 3 4 5 (omega arith) (omega arith) (omega arith) (omega arith))
 
 pub decided-honest : (dishonest : List Party) → AreHonest (decided_run dishonest)
@@ -90,6 +92,7 @@ decided-unforged dishonest = record {
       (All-map (λ (s : SeenText). IsHonest r s.party → Contains (signed_by r s.party) s.text) (λ k. seen_of (log_party k) (vote_claim k 1 unchanged)) (0 ∷ 1 ∷ 2 ∷ 3 ∷ 4 ∷ []) (λ k d less honest. (0, omega arith, refl)));
   authorities = λ authority is party text good there. absurd (omega (arith, there.1));
   judged = λ k d less. absurd (omega (arith, less));
+  learned = λ party text good there. absurd (omega (arith, there.1));
 } where
   r : Records
   r = decided_run dishonest
@@ -161,6 +164,7 @@ split-unforged = record {
   logs = λ log is. by log (split-logs log is);
   authorities = λ authority is party text good there. absurd (omega (arith, there.1));
   judged = λ k d less. absurd (omega (arith, less));
+  learned = λ party text good there. absurd (omega (arith, there.1));
 } where
   by : (log : ℕ) → (log ≡ 3) ⊎ (log ≡ 4) → AreSigned split_run (split_run.logs log).seen
   by log (inl is) = rw is (signed-of split_run (seen_votes (0 ∷ 1 ∷ 2 ∷ 3 ∷ [])) (four-signed (λ k. vote_claim k 1 unchanged) 3 (λ honest. (0, omega arith, refl))))
@@ -178,7 +182,7 @@ pub split-unsafe : Safe split_run → ⊥
 split-unsafe safe =
     let skip : How = Skipped (map (λ log. (log, None)) (0 ∷ 1 ∷ 2 ∷ 4 ∷ [])) in
     let decide : How = Decided [] (root_of no_table) in
-    (safe.one_ending 3 4 honest-3 honest-4 1 decide skip (first-ending decide) (first-ending skip)).0
+    (safe.agree.one_ending 3 4 honest-3 honest-4 1 decide skip (first-ending decide) (first-ending skip)).0
 
 -- ---- the run with forged statements
 
@@ -213,4 +217,4 @@ forged-unsafe safe =
     let decide : How = Decided [] (root_of no_table) in
     let one : IsHonestLog forged_run 3 = record { known = omega arith; honest = refl } in
     let other : IsHonestLog forged_run 4 = record { known = omega arith; honest = refl } in
-    (safe.one_ending 3 4 one other 1 decide skip (first-ending decide) (first-ending skip)).0
+    (safe.agree.one_ending 3 4 one other 1 decide skip (first-ending decide) (first-ending skip)).0

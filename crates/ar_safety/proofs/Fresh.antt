@@ -4,11 +4,12 @@ use Rattle.std.specs.Prelude.{flat_map}
 use Rattle.ar_base.specs.Apart.{none_collide}
 use Rattle.domain_table.specs.Tables.{Table}
 use Rattle.domain_table.specs.Tree.{table_strings}
-use Rattle.epoch_log.specs.Council.{Council}
+use Rattle.ar_council.specs.Council.{Council}
 use Rattle.epoch_log.proofs.Called.{kept-fresh}
 use Rattle.authority_core.proofs.Growing.{honest-fresh}
-use Rattle.ar_safety.specs.Hashed.{NoCollision, tables_below}
-use Rattle.ar_safety.specs.Records.{AreHonest, AreQuorums, Few, NoForgery, fresh_records}
+use Rattle.ar_safety.specs.Hashed.{tables_below}
+use Rattle.ar_safety.specs.Records.{AreQuorums, fresh_records}
+use Rattle.ar_safety.specs.Theorem.{AreHonest, Few, NoCollision, NoForgery}
 
 pub fresh-honest : (council : Council) (leaves : ℕ) → AreQuorums council → 0 < leaves → AreHonest (fresh_records council leaves)
 fresh-honest council leaves quorums some = record {
@@ -30,6 +31,7 @@ fresh-premises council leaves = (
     logs = λ log is party text good there. absurd (omega (arith, there.1));
     authorities = λ authority is party text good there. absurd (omega (arith, there.1));
     judged = λ k d less. absurd (omega (arith, less));
+    learned = λ party text good there. absurd (omega (arith, there.1));
   },
   record {
     strings = ap (λ (l : List Table). none_collide (flat_map table_strings l ++ [])) (no-tables council leaves council.logs);

@@ -18,7 +18,7 @@ use Rattle.epoch_log.specs.declared.entries.Ended.{Ended}
 use Rattle.epoch_log.specs.declared.entries.How.{How}
 use Rattle.epoch_log.specs.declared.entries.How.TheVariants.{Decided}
 use Rattle.epoch_log.specs.declared.entries.Voted.{Voted}
-use Rattle.epoch_log.proofs.Lists.{find-some}
+use Rattle.ar_council.proofs.Lists.{find-some}
 use Rattle.ar_safety.specs.Hashed.{ended_table, hashed, judged_strings, listed_tables, log_tables, table_list, tables_below, voted_table}
 use Rattle.ar_safety.specs.Records.{IsHonestLog, Records, is_dishonest}
 

@@ -28,15 +28,18 @@ use Rattle.domain_table.specs.Tables.{Table}
 use Rattle.domain_table.specs.Tree.{root_of}
 use Rattle.epoch_log.specs.Honest.{HonestLog}
 use Rattle.epoch_log.specs.Record.{base_of, ending}
-use Rattle.epoch_log.specs.Right.{IsRightDecision, IsRightSkip, IsValue, SawVotes}
-use Rattle.epoch_log.specs.Told.{HasStated, HasVoted, status_claim, vote_claim}
+use Rattle.ar_council.proofs.Lists.{both}
+use Rattle.ar_council.specs.Values.{IsValue, status_claim, vote_claim}
+use Rattle.ar_council.specs.Votes.{SawVotes}
+use Rattle.epoch_log.specs.Right.{IsRightDecision, IsRightSkip}
+use Rattle.epoch_log.specs.Told.{HasStated, HasVoted}
 use Rattle.epoch_log.specs.declared.entries.How.TheVariants.{Decided, Skipped}
 use Rattle.epoch_log.proofs.Endings.{ending-within}
-use Rattle.epoch_log.proofs.Lists.{both}
 use Rattle.epoch_log.proofs.Read.{one-vote, status-is-vote, statuses-signed, votes-signed}
 use Rattle.epoch_log.proofs.Texts.{valid-status, valid-vote}
-use Rattle.ar_safety.specs.Records.{AreHonest, AreSigned, Few, IsHonestLog, NoForgery, Records, is_dishonest}
-use Rattle.ar_safety.specs.Safe.{Backed, Backs}
+use Rattle.ar_safety.specs.Agreed.{Backed, Backs}
+use Rattle.ar_safety.specs.Records.{AreSigned, IsHonestLog, Records, is_dishonest}
+use Rattle.ar_safety.specs.Theorem.{AreHonest, Few, NoForgery}
 
 -- ---- an honest log in both quorums
 

@@ -22,15 +22,16 @@ use Rattle.vote_quorum.proofs.Counting.{among}
 use Rattle.vote_quorum.proofs.Counts.{Contains-from_among, count_below-either, count_below-wider}
 use Rattle.domain_table.specs.Sound.{IsChainOf, Waits}
 use Rattle.domain_table.specs.Tables.{Pending, Table, certificates_of, chain_of, pair_of}
-use Rattle.epoch_log.specs.Council.{IsMember}
+use Rattle.ar_council.proofs.Lists.{both}
+use Rattle.ar_council.specs.Council.{IsMember}
 use Rattle.epoch_log.specs.Honest.{HonestLog}
 use Rattle.epoch_log.specs.Right.{SawEndorsements}
-use Rattle.epoch_log.proofs.Lists.{both}
 use Rattle.authority_core.specs.Honest.{HasAsked}
 use Rattle.authority_core.proofs.Read.{endorsed-asked}
-use Rattle.ar_safety.specs.Hashed.{NoCollision, StandsIn}
-use Rattle.ar_safety.specs.Records.{AreHonest, Few, IsHonest, NoForgery, Records, is_dishonest}
-use Rattle.ar_safety.specs.Safe.{Agreed, IsVouchedFor}
+use Rattle.ar_safety.specs.Agreed.{Agreed, IsVouchedFor}
+use Rattle.ar_safety.specs.Hashed.{StandsIn}
+use Rattle.ar_safety.specs.Records.{IsHonest, Records, is_dishonest}
+use Rattle.ar_safety.specs.Theorem.{AreHonest, Few, NoCollision, NoForgery}
 use Rattle.ar_safety.proofs.Agreement.{Endorsed, agreed-follows, agreed-listed}
 use Rattle.ar_safety.proofs.Votes.{few-dishonest, not-false, some_below, split}
 

@@ -10,10 +10,11 @@ use Rattle.party_keys.specs.Seen.{log_party}
 use Rattle.vote_quorum.specs.declared.value.Value.{Value}
 use Rattle.domain_table.specs.Tables.{no_table}
 use Rattle.domain_table.specs.Tree.{root_of}
-use Rattle.epoch_log.specs.Calls.{fresh, seen_of}
-use Rattle.epoch_log.specs.Council.{Council}
+use Rattle.ar_council.specs.Council.{Council}
+use Rattle.ar_council.specs.Seen.{seen_of}
+use Rattle.ar_council.specs.Values.{status_claim, vote_claim}
+use Rattle.epoch_log.specs.Calls.{fresh}
 use Rattle.epoch_log.specs.Record.{LogRecord}
-use Rattle.epoch_log.specs.Told.{status_claim, vote_claim}
 use Rattle.epoch_log.specs.declared.entries.How.TheVariants.{Decided, Skipped}
 use Rattle.authority_core.specs.Calls.{fresh_authority}
 use Rattle.ar_safety.specs.Records.{Records}
@@ -68,6 +69,7 @@ decided_run dishonest = record {
   logs = deciding_log (0 ∷ 1 ∷ 2 ∷ 3 ∷ 4 ∷ []);
   authorities = λ authority. fresh_authority 32;
   judged = [];
+  learned = [];
 }
 
 -- The logs 0, 1 and 2 are dishonest: to log 3 they sent votes and to log 4 statuses. Log 3 decided the first epoch, and log 4
@@ -79,6 +81,7 @@ split_run = record {
   logs = λ log. if log == 4 then skipping_log (0 ∷ 1 ∷ 2 ∷ 4 ∷ []) log else deciding_log (0 ∷ 1 ∷ 2 ∷ 3 ∷ []) log;
   authorities = λ authority. fresh_authority 32;
   judged = [];
+  learned = [];
 }
 
 -- No party is dishonest, and the logs 0, 1 and 2 did nothing. Log 3 saw votes of them and log 4 saw statuses, which they never
@@ -93,4 +96,5 @@ forged_run = record {
       else (fresh log five 32).past;
   authorities = λ authority. fresh_authority 32;
   judged = [];
+  learned = [];
 }

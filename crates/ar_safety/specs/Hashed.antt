@@ -1,11 +1,9 @@
 -- The tables that honest logs voted for or decided, and the strings that are hashed for them and by clients.
-use Rattle.std.specs.Prelude.{◌≡◌, ℕ, zero, suc, ◌⊎◌, if◌then◌else◌, List, [], ◌∷◌, ◌++◌, flat_map, Contains, Option, Some, None, IsTrue}
-use Rattle.ar_base.specs.Apart.{none_collide}
-use Rattle.party_keys.specs.Seen.{authority_party, log_party}
+use Rattle.std.specs.Prelude.{◌≡◌, ℕ, zero, suc, ◌⊎◌, if◌then◌else◌, List, [], ◌∷◌, ◌++◌, flat_map, Contains, Option, Some, None}
+use Rattle.party_keys.specs.Seen.{log_party}
 use Rattle.domain_table.specs.Applying.{apply}
 use Rattle.domain_table.specs.Tables.{Table, certificates, pairs}
 use Rattle.ar_names.specs.Names.{name_digest_of}
-use Rattle.lms_tree.specs.PublicKey.{key_text}
 use Rattle.ar_cert.specs.Certificate.{Certificate, digest_of}
 use Rattle.ar_message.specs.Confirmation.{Body, present, absent}
 use Rattle.hash_tree.specs.Strings.{entry_string, value_digest, value_string}
@@ -17,8 +15,7 @@ use Rattle.epoch_log.specs.declared.entries.Ended.{Ended}
 use Rattle.epoch_log.specs.declared.entries.How.{How}
 use Rattle.epoch_log.specs.declared.entries.How.TheVariants.{Decided, Skipped}
 use Rattle.epoch_log.specs.declared.entries.Voted.{Voted}
-use Rattle.authority_core.specs.declared.entries.Asked.{Asked}
-use Rattle.ar_safety.specs.Records.{IsHonest, Judged, Records, is_dishonest}
+use Rattle.ar_safety.specs.Records.{Judged, Records, is_dishonest}
 
 abbrev pub table_list : Option Table → List Table
 table_list None = []
@@ -68,11 +65,3 @@ hashed r = flat_map table_strings (listed_tables r) ++ flat_map judged_strings r
 -- a certificate stands in a table for a name: in the name's chain, or it waits for the name
 abbrev pub StandsIn : Table → List ℕ → Certificate → Type 0
 StandsIn table name certificate = Contains (certificates table name) certificate ⊎ ((since : ℕ) × (pairs table name ≡ Some (certificate, since)))
-
--- 3. No two of these strings collide; and no two certificates do, of which one stands in a listed table and to the other
--- an honest authority's check said yes: where they have one digest, they have one name and one key.
-pub record NoCollision (r : Records) : Type 0 where
-  pub strings : IsTrue (none_collide (hashed r))
-  pub asked : (authority : ℕ) → IsHonest r (authority_party authority) → (a : Asked) → Contains (r.authorities authority).asked a
-      → (table : Table) → Contains (listed_tables r) table → (name : List ℕ) (certificate : Certificate) → StandsIn table name certificate
-      → digest_of certificate ≡ a.certificate → (certificate.name ≡ a.name) × (key_text certificate.subject ≡ a.key)

@@ -1,6 +1,6 @@
--- The records of a run: who is dishonest, what each honest log and authority remembers, and what clients accepted; and the
--- premises on them.
-use Rattle.std.specs.Prelude.{◌≡◌, ℕ, ◌+◌, ◌*◌, ◌<◌, ◌≤◌, Bool, false, List, [], ◌∷◌, length, All, Contains}
+-- The records of a run: who is dishonest, what each honest log and authority remembers, and what clients accepted and
+-- learnt; and the words for who is honest and who signed what.
+use Rattle.std.specs.Prelude.{◌≡◌, ℕ, ◌+◌, ◌*◌, ◌<◌, ◌≤◌, Bool, false, List, [], ◌∷◌, Contains}
 use Rattle.std.specs.List.{list_any}
 use Rattle.ar_base.specs.Bytes.{AreBytes}
 use Rattle.ar_statement.specs.declared.party.Role.{Role}
@@ -13,12 +13,11 @@ use Rattle.party_keys.specs.Seen.{authority_party, log_party}
 use Rattle.ar_message.specs.Confirmation.{Confirmation}
 use Rattle.client_rule.specs.Meaning.{Asked, Passes}
 use Rattle.client_rule.specs.Rule.{claim_on}
-use Rattle.epoch_log.specs.Calls.{fresh, seen_of}
-use Rattle.epoch_log.specs.Council.{Council, IsMember, council_of}
-use Rattle.epoch_log.specs.Honest.{HonestLog}
+use Rattle.ar_council.specs.Council.{Council, IsMember, council_of}
+use Rattle.ar_council.specs.Seen.{seen_of}
+use Rattle.epoch_log.specs.Calls.{fresh}
 use Rattle.epoch_log.specs.Record.{LogRecord}
 use Rattle.authority_core.specs.Calls.{fresh_authority}
-use Rattle.authority_core.specs.Honest.{HonestAuthority}
 use Rattle.authority_core.specs.Record.{AuthorityRecord}
 
 -- what a client asked, the bytes that it accepted, and the confirmation that they are
@@ -27,14 +26,15 @@ pub record Judged : Type 0 where
   pub bytes : List ℕ
   pub confirmation : Confirmation
 
--- The council, the dishonest parties, the record of each log and of each authority by its number, and what clients
--- accepted. What stands at a dishonest number is never read.
+-- The council, the dishonest parties, the record of each log and of each authority by its number, what clients accepted, and
+-- the Rolls that their directory learnt, each with its party. What stands at a dishonest number is never read.
 pub record Records : Type 0 where
   pub council : Council
   pub dishonest : List Party
   pub logs : ℕ → LogRecord
   pub authorities : ℕ → AuthorityRecord
   pub judged : List Judged
+  pub learned : List SeenText
 
 abbrev pub is_dishonest : Records → Party → Bool
 is_dishonest r party = list_any (is_party party) r.dishonest
@@ -47,7 +47,7 @@ pub record IsHonest (r : Records) (party : Party) : Type 0 where
 abbrev pub IsHonestLog : Records → ℕ → Type 0
 IsHonestLog r log = IsHonest r (log_party log)
 
--- ---- what every run meets
+-- ---- sizes, and what is accepted
 
 -- two quorums share more than two logs, and there are few logs and authorities
 pub record AreQuorums (council : Council) : Type 0 where
@@ -61,18 +61,7 @@ pub record IsJudged (council : Council) (j : Judged) : Type 0 where
   pub passes : Passes j.asked j.bytes j.confirmation
   pub same_council : council_of j.asked.keys ≡ council
 
--- each record of an honest party is one, and each acceptance too
-pub record AreHonest (r : Records) : Type 0 where
-  pub quorums : AreQuorums r.council
-  pub logs : (log : ℕ) → IsHonestLog r log → HonestLog r.council log (r.logs log)
-  pub authorities : (authority : ℕ) → IsHonest r (authority_party authority) → HonestAuthority r.council authority (r.authorities authority)
-  pub judged : All (IsJudged r.council) r.judged
-
--- ---- the premises
-
--- 1. At most two parties are dishonest.
-abbrev pub Few : Records → Type 0
-Few r = length r.dishonest ≤ 2
+-- ---- who signed what
 
 -- what a party signed, by its own book
 abbrev pub signed_in : Records → Role → ℕ → List (List ℕ)
@@ -100,16 +89,9 @@ carried c =
     ∷ (carried_by c (authority_party c.second.number)
     ∷ []))
 
--- 2. What an honest log or authority saw of an honest party, or a client accepted, that party signed: no signature was
--- forged.
-pub record NoForgery (r : Records) : Type 0 where
-  pub logs : (log : ℕ) → IsHonestLog r log → AreSigned r (r.logs log).seen
-  pub authorities : (authority : ℕ) → IsHonest r (authority_party authority) → AreSigned r (r.authorities authority).seen
-  pub judged : All (λ j. AreSigned r (carried j.confirmation)) r.judged
-
 -- ---- the beginning
 
--- no party is dishonest, each log and authority has done nothing yet, and no client accepted anything
+-- no party is dishonest, each log and authority has done nothing yet, and no client accepted or learnt anything
 abbrev pub fresh_records : Council → ℕ → Records
 fresh_records council leaves = record {
   council = council;
@@ -117,4 +99,5 @@ fresh_records council leaves = record {
   logs = λ log. (fresh log council leaves).past;
   authorities = λ authority. fresh_authority leaves;
   judged = [];
+  learned = [];
 }

@@ -1,8 +1,9 @@
 //! What honest logs and authorities agree on, and that what clients accepted is agreed, with at most two dishonest parties,
 //! whatever messages came. It is said of the parties' records, over the definitions alone.
 //!
-//! `specs/Records.antt` has the records and the premises, `specs/Hashed.antt` the strings of which no two may collide, and
-//! `specs/Safe.antt` what then holds. `laws` has the theorem.
+//! `specs/Theorem.antt` has the premises and what then holds, over the records of `specs/Records.antt`, the strings of
+//! `specs/Hashed.antt` and the words of `specs/Agreed.antt`. `specs/Accepting.antt` has the other direction: when an honest
+//! confirmation is accepted. `laws` has both.
 #![tactic(auto)]
 
 pub mod laws;

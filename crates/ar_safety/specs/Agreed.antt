@@ -1,30 +1,29 @@
--- What honest parties agree on: the root and the table of an epoch, how it ended, that chains only grow, and what is
--- confirmed; and that what clients accepted stands in the table that is agreed.
-use Rattle.std.specs.Prelude.{◌≡◌, ℕ, ◌+◌, ◌-◌, ◌<◌, ◌≤◌, ◌⊎◌, true, List, Contains, Option, Some, None}
+-- The words of the theorem's clauses: which root is backed and which table agreed, which endings are alike, who confirms
+-- what, what the agreed table has for a name, who vouches for it, and what is accepted in time.
+use Rattle.std.specs.Prelude.{◌≡◌, ℕ, ◌+◌, ◌-◌, ◌≤◌, ◌⊎◌, ◌==◌, Bool, true, not, ◌&&◌, List, Contains, Option, Some, None}
+use Rattle.std.specs.List.{list_any}
+use Rattle.std.specs.Str.{bytes_eq}
 use Rattle.std.specs.FinMap.{get}
 use Rattle.lms_tree.specs.PublicKey.{key_text}
 use Rattle.ar_cert.specs.Certificate.{Certificate, digest_of}
 use Rattle.ar_cert.specs.Changes.{Change}
 use Rattle.ar_cert.specs.Judging.{IsChain}
-use Rattle.ar_message.specs.Confirmation.{present, absent}
 use Rattle.client_rule.specs.Meaning.{IsCurrent, IsLive, IsYoung}
 use Rattle.ar_statement.specs.declared.party.Party.{Party}
 use Rattle.ar_statement.specs.Claims.{endorse, text_of}
 use Rattle.ar_statement.specs.Ranges.{IsValid}
-use Rattle.tree_proof.specs.declared.path.Bottom.{Bottom}
 use Rattle.party_keys.specs.Seen.{authority_party, log_party}
-use Rattle.vote_quorum.specs.Counted.{AtLeast}
+use Rattle.vote_quorum.specs.Counted.{AtLeast, count_below}
 use Rattle.domain_table.specs.Applying.{apply}
-use Rattle.domain_table.specs.Tables.{Begins, SameTable, Table, certificates, newest}
+use Rattle.domain_table.specs.Tables.{Table, newest}
 use Rattle.domain_table.specs.Tree.{root_of}
-use Rattle.epoch_log.specs.Record.{base_of, ending}
+use Rattle.epoch_log.specs.Record.{base_of}
+use Rattle.ar_council.specs.Values.{confirmation_by}
 use Rattle.epoch_log.specs.Told.{HasVoted}
 use Rattle.epoch_log.specs.declared.entries.How.{How}
 use Rattle.epoch_log.specs.declared.entries.How.TheVariants.{Decided, Skipped}
 use Rattle.epoch_log.specs.declared.entries.Voted.{Voted}
-use Rattle.authority_core.specs.Calls.{confirmation_by}
 use Rattle.authority_core.specs.declared.entries.Asked.{Asked}
-use Rattle.ar_safety.specs.Hashed.{StandsIn}
 use Rattle.ar_safety.specs.Records.{IsHonest, IsHonestLog, Judged, Records, is_dishonest, signed_by}
 
 -- a log backs a root in an epoch: it is dishonest, or it voted for the root
@@ -35,6 +34,16 @@ Backs r epoch to log =
 -- a quorum of logs back the root
 abbrev pub Backed : Records → ℕ → List ℕ → Type 0
 Backed r epoch to = AtLeast r.council.quorum r.council.logs (Backs r epoch to)
+
+-- whether a vote of the epoch for the root is among these
+abbrev pub has_vote : List Voted → ℕ → List ℕ → Bool
+has_vote voted epoch to = list_any (λ v. (v.epoch == epoch) && bytes_eq v.root to) voted
+
+-- how many back the root: the honest logs that voted for it, and the dishonest logs
+abbrev pub backing : Records → ℕ → List ℕ → ℕ
+backing r epoch to =
+    count_below r.council.logs (λ log. not (is_dishonest r (log_party log)) && has_vote (r.logs log).voted epoch to)
+    + count_below r.council.logs (λ log. is_dishonest r (log_party log))
 
 -- the table is agreed in the epoch: an honest log voted for it, and its root is backed
 pub record Agreed (r : Records) (epoch : ℕ) (table : Table) : Type 0 where
@@ -97,30 +106,3 @@ pub record IsTimely (j : Judged) : Type 0 where
   pub young : IsYoung (j.asked.epoch - j.confirmation.about.epoch) j.asked.age j.confirmation.body
   pub live : IsLive j.confirmation.body
   pub current : IsCurrent j.asked.epoch j.confirmation.body
-
--- What honest parties agree on, and what clients accepted.
-pub record Safe (r : Records) : Type 0 where
-  -- one root alone is backed in an epoch
-  pub one_root : (epoch : ℕ) (one other : List ℕ) → Backed r epoch one → Backed r epoch other → one ≡ other
-  -- one table alone is agreed in an epoch
-  pub one_table : (epoch : ℕ) (one other : Table) → Agreed r epoch one → Agreed r epoch other → SameTable one other
-  -- where two honest logs ended an epoch, they ended it alike, and the next begins with equal tables
-  pub one_ending : (j k : ℕ) → IsHonestLog r j → IsHonestLog r k → (epoch : ℕ) (one other : How)
-      → ending (r.logs j).ended epoch ≡ Some one → ending (r.logs k).ended epoch ≡ Some other
-      → SameEnding one other × SameTable (base_of (r.logs j).ended (epoch + 1)) (base_of (r.logs k).ended (epoch + 1))
-  -- of two agreed tables the chains of the later begin with those of the earlier
-  pub stays : (epoch later : ℕ) (one other : Table) → Agreed r epoch one → Agreed r later other → epoch < later → (name : List ℕ)
-      → Begins (certificates one name) (certificates other name)
-  -- an honest authority vouches for each certificate of an agreed table, in a chain or waiting
-  pub vouched : (epoch : ℕ) (table : Table) → Agreed r epoch table → (name : List ℕ) (certificate : Certificate) → StandsIn table name certificate
-      → IsVouchedFor r name certificate
-  -- what two honest parties confirm of one epoch is under one root
-  pub one_confirmed : (p q : Party) → IsHonest r p → IsHonest r q → (epoch : ℕ) (one other : List ℕ) → Confirms r p epoch one → Confirms r q epoch other → one ≡ other
-  -- a certificate that a client accepted is the newest of its name's chain in the table that is agreed
-  pub accepted : (j : Judged) (certificate : Certificate) → Contains r.judged j → j.confirmation.body ≡ present certificate
-      → HasNewest r j.asked.name j.confirmation.about.epoch j.confirmation.about.root certificate
-  -- where a client accepted that a name has none, it has none in the table that is agreed
-  pub absence : (j : Judged) (bottom : Bottom) → Contains r.judged j → j.confirmation.body ≡ absent bottom
-      → HasNone r j.asked.name j.confirmation.about.epoch j.confirmation.about.root
-  -- and what a client accepted is timely
-  pub timely : (j : Judged) → Contains r.judged j → IsTimely j
