@@ -1,5 +1,7 @@
 pub mod Books
 pub mod Lists
+pub mod Members
+pub mod Readable
 pub mod Seeing
 pub mod Texts
 pub mod Votes

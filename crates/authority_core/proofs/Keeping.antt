@@ -11,7 +11,9 @@ use Rattle.ar_base.specs.Gives.{with_error}
 use Rattle.ar_base.proofs.Digests.{sha256-IsDigest}
 use Rattle.ar_cert.specs.Certificate.{Certificate, digest_of}
 use Rattle.ar_council.specs.Council.{Council, IsMember, council_of}
-use Rattle.ar_council.proofs.Lists.{All-unmap}
+use Rattle.ar_council.proofs.Lists.{All-unmap, all-left, all-right}
+use Rattle.ar_council.proofs.Members.{all-members, council-adopting, council-learning, member, note-known}
+use Rattle.ar_council.proofs.Readable.{readable}
 use Rattle.ar_message.specs.Confirmation as confirmation
 use Rattle.ar_message.specs.Messages.{IsConfirming, shown_in}
 use Rattle.ar_message.specs.declared.lists.Vote.{Vote}
@@ -43,8 +45,6 @@ use Rattle.authority_core.specs.declared.refusal.AuthorityRefusal.TheVariants.{B
 use Rattle.authority_core.specs.RollRows.{learning, rolling}
 use Rattle.authority_core.specs.declared.entries.Asked.{Asked}
 use Rattle.authority_core.proofs.Growing.{honest-endorse, honest-first, honest-learn, honest-roll, honest-second}
-use Rattle.authority_core.proofs.Members.{all-left, all-members, all-right, council-adopting, council-learning, member, note-known}
-use Rattle.authority_core.proofs.Readable.{readable}
 
 -- ---- answers
 

@@ -3,7 +3,6 @@
 ghost use Rattle.std.specs.Prelude.{◌≡◌, ◌++◌, map, IfOk, OnOk};
 ghost use Rattle.ar_base.specs.FirstFailing.{first_failing};
 ghost use Rattle.tree_proof.specs.Fold.{digests_in};
-ghost use Rattle.tree_proof.specs.Membership.{is_off, is_on};
 ghost use Rattle.ar_message.specs.Messages.{path_in, shown_in};
 ghost use Rattle.ar_message.specs.Confirmation.{bottom_in};
 ghost use Rattle.authority_core.specs.Confirming.{certificate_of, content_tests, is_shown, kept_of, log_claimed, parties_of, seen_in, voted_by, voters_of};
@@ -196,20 +195,6 @@ pub(crate) fn seen_in(alloc: Global, claims: &[Claimed]) -> Result<Vec<SeenText>
 
 // ---- the content
 
-// Whether the steps show that the key has the value under the root.
-fn is_on(key: &[u8; 32], value: &[u8; 32], steps: &[u8], root: &[u8; 32]) -> bool
-    ensures { result ≡ is_on key.now value.now steps.now root.now }
-{
-    check_present(key, value, steps, root)
-}
-
-// Whether the steps show that the key has no value under the root.
-fn is_off(key: &[u8; 32], bottom: &Bottom, steps: &[u8], root: &[u8; 32]) -> bool
-    ensures { result ≡ is_off key.now bottom.now steps.now root.now }
-{
-    check_absent(key, bottom, steps, root)
-}
-
 // Whether the table with the root has this for the name.
 #[tactic(auto, unfolding(crate::specs::Confirming::is_shown))]
 fn is_shown(name: &Name, root: &[u8; 32], body: &Body) -> bool
@@ -219,9 +204,9 @@ fn is_shown(name: &Name, root: &[u8; 32], body: &Body) -> bool
     match body {
         Body::Present { cert, path } => {
             let value = value_digest(cert.serial, &cert.digest());
-            cert.name.text() == name.text() && is_on(&key, &value, path.as_slice(), root)
+            cert.name.text() == name.text() && check_present(&key, &value, path.as_slice(), root)
         }
-        Body::Absent { bottom, path } => is_off(&key, bottom, path.as_slice(), root),
+        Body::Absent { bottom, path } => check_absent(&key, bottom, path.as_slice(), root),
     }
 }
 

@@ -1,5 +1,4 @@
 ghost use Rattle.std.specs.Prelude.{◌≡◌, ◌-◌};
-ghost use Rattle.tree_proof.specs.Membership.{is_off, is_on};
 ghost use Rattle.ar_statement.specs.Claims.{party, text_of};
 ghost use Rattle.ar_statement.specs.declared.party.Role.TheVariants.{LogServer, Authority};
 ghost use Rattle.client_rule.specs.Rule.{claim_on, confirms, has_parties, is_current, is_live, is_shown, is_young, refusal_of};
@@ -11,7 +10,7 @@ use ar_names::{NameView, name_digest};
 use ar_statement::{Party, Role, Statement, Text};
 use hash_tree::value_digest;
 use party_keys::Directory;
-use tree_proof::{Bottom, check_absent, check_present};
+use tree_proof::{check_absent, check_present};
 
 // Whether the directory has all parties, and the authorities are two.
 fn has_parties(directory: &Directory, view: &ConfView) -> bool
@@ -89,20 +88,6 @@ fn second_confirms(directory: &Directory, view: &ConfView, shown: &Shown) -> boo
     confirms(directory, view, shown, second, view.second_signature())
 }
 
-// Whether the steps show that the key has the value under the root.
-fn is_on(key: &[u8; 32], value: &[u8; 32], steps: &[u8], root: &[u8; 32]) -> bool
-    ensures { result ≡ is_on key.now value.now steps.now root.now }
-{
-    check_present(key, value, steps, root)
-}
-
-// Whether the steps show that the key has no value under the root.
-fn is_off(key: &[u8; 32], bottom: &Bottom, steps: &[u8], root: &[u8; 32]) -> bool
-    ensures { result ≡ is_off key.now bottom.now steps.now root.now }
-{
-    check_absent(key, bottom, steps, root)
-}
-
 // Whether the table with the root has this for the name.
 #[tactic(auto, unfolding(crate::specs::Rule::is_shown))]
 fn is_shown(view: &ConfView, shown: &Shown) -> bool
@@ -116,9 +101,10 @@ fn is_shown(view: &ConfView, shown: &Shown) -> bool
             digest,
         } => {
             let value = value_digest(certificate.serial(), digest);
-            certificate.name() == view.name() && is_on(&key, &value, view.steps(), &view.root())
+            certificate.name() == view.name()
+                && check_present(&key, &value, view.steps(), &view.root())
         }
-        Shown::Absent(bottom) => is_off(&key, bottom, view.steps(), &view.root()),
+        Shown::Absent(bottom) => check_absent(&key, bottom, view.steps(), &view.root()),
     }
 }
 

@@ -6,7 +6,6 @@ pub mod Counted
 pub mod Endings
 pub mod Growing
 pub mod Kept
-pub mod Learnt
 pub mod Leaves
 pub mod Lists
 pub mod Loops

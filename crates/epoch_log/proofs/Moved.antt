@@ -29,7 +29,8 @@ use Rattle.epoch_log.specs.declared.parts.Parts.{Parts}
 use Rattle.epoch_log.proofs.Acting.{kept-rolling}
 use Rattle.epoch_log.proofs.Called.{kept-fresh}
 use Rattle.epoch_log.proofs.Kept.{kept-seeing}
-use Rattle.epoch_log.proofs.Learnt.{learned-member, readable}
+use Rattle.ar_council.proofs.Members.{learned-member}
+use Rattle.ar_council.proofs.Readable.{readable}
 
 log-stands : (p q : Parts) (s : LogState) → state_in q ≡ s → q.table ≡ p.table → IsLog p → IsKept s → table_of s ≡ table_of (state_in p) → IsLog q
 log-stands p q s state same log kept table = record {

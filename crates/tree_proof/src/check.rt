@@ -2,7 +2,7 @@ ghost use Rattle.std.specs.Prelude.{◌≡◌, ◌≤◌, ◌↔◌, IsTrue, len
 ghost use Rattle.hash_tree.specs.Entries.{Agree};
 ghost use Rattle.sha2.specs.Sha256.{sha256};
 ghost use Rattle.tree_proof.specs.Fold.{path_value};
-ghost use Rattle.tree_proof.specs.Membership.{OnBytes, OffBytes, SpeaksOf, bottom_string};
+ghost use Rattle.tree_proof.specs.Membership.{OnBytes, OffBytes, SpeaksOf, bottom_string, is_off, is_on};
 
 use crate::Bottom;
 use hash_tree::{empty_digest, entry_digest, key_bit, node_digest};
@@ -12,10 +12,10 @@ use hash_tree::{empty_digest, entry_digest, key_bit, node_digest};
 /// The steps are digests of 32 bytes, the deepest first, one after another. It is false where their
 /// length is no multiple of 32, and where there are more than 256.
 pub fn check_present(key: &[u8; 32], value: &[u8; 32], steps: &[u8], root: &[u8; 32]) -> bool
-    ensures { IsTrue result ↔ OnBytes key.now value.now steps.now root.now }
+    ensures test { result ≡ is_on key.now value.now steps.now root.now }
+    ensures meaning { IsTrue result ↔ OnBytes key.now value.now steps.now root.now }
 {
-    let (digests, rest) = steps.as_chunks::<32>();
-    rest.is_empty() && leads_to(key, entry_digest(key, value), digests, root)
+    has_value(key, value, steps, root)
 }
 
 /// Whether the steps show that the key has no value under the root: they lead there from an empty
@@ -24,6 +24,22 @@ pub fn check_present(key: &[u8; 32], value: &[u8; 32], steps: &[u8], root: &[u8;
 ///
 /// It is false where the steps' length is no multiple of 32, and where there are more than 256.
 pub fn check_absent(key: &[u8; 32], bottom: &Bottom, steps: &[u8], root: &[u8; 32]) -> bool
+    ensures test { result ≡ is_off key.now bottom.now steps.now root.now }
+    ensures meaning { IsTrue result ↔ OffBytes key.now bottom.now steps.now root.now }
+{
+    has_none(key, bottom, steps, root)
+}
+
+// `check_present` by its meaning.
+fn has_value(key: &[u8; 32], value: &[u8; 32], steps: &[u8], root: &[u8; 32]) -> bool
+    ensures { IsTrue result ↔ OnBytes key.now value.now steps.now root.now }
+{
+    let (digests, rest) = steps.as_chunks::<32>();
+    rest.is_empty() && leads_to(key, entry_digest(key, value), digests, root)
+}
+
+// `check_absent` by its meaning.
+fn has_none(key: &[u8; 32], bottom: &Bottom, steps: &[u8], root: &[u8; 32]) -> bool
     ensures { IsTrue result ↔ OffBytes key.now bottom.now steps.now root.now }
 {
     let (digests, rest) = steps.as_chunks::<32>();

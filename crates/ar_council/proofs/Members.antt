@@ -1,9 +1,9 @@
 -- The parties that a directory knows are of its council, and what is learnt leaves the council as it is.
-use Rattle.std.proofs.Common.{◌≡◌, ℕ, ◌+◌, ◌<◌, ◌≤◌, ◌⊎◌, inl, inr, List, [], ◌∷◌, ◌++◌, length, get_or, slice_get, nat_lt, Bool, true, false, cond, Some, None, Result, Ok, Err, refl, ap}
+use Rattle.std.proofs.Common.{◌≡◌, ℕ, ◌+◌, ◌<◌, ◌≤◌, ◌⊎◌, inl, inr, List, [], ◌∷◌, length, get_or, slice_get, nat_lt, Bool, true, false, cond, Some, None, Result, Ok, Err, refl, ap}
 use Rattle.std.specs.Prelude.{All, is_some}
 use Rattle.std.proofs.Math.ListN.{length-set}
 use Rattle.std.proofs.lemmas.List.{get_or_past}
-use Rattle.std.proofs.lemmas.List.Elements.{All-cons, All-head, All-nil, All-tail}
+use Rattle.std.proofs.lemmas.List.Elements.{All-cons, All-nil}
 use Rattle.std.proofs.lemmas.Option.{slice_get_cases}
 use Rattle.ar_council.specs.Council.{Council, IsMember, council_of, count_of}
 use Rattle.ar_statement.specs.declared.party.Party.{Party}
@@ -18,16 +18,6 @@ use Rattle.party_keys.specs.declared.fault.LearnFault.{LearnFault}
 use Rattle.party_keys.specs.declared.fault.SignerFault.TheVariants.{Unknown}
 use Rattle.party_keys.specs.declared.learning.Learned.{Learned}
 use Rattle.party_keys.specs.declared.learning.Learned.TheVariants.{Again, New}
-
--- ---- parts of a list
-
-pub all-left : {X : Type 0} (P : X → Type 0) (xs ys : List X) → All P (xs ++ ys) → All P xs
-all-left P [] ys all = All-nil P
-all-left P (x ∷ xs) ys all = All-cons P x xs (All-head P x (xs ++ ys) all) (all-left P xs ys (All-tail P x (xs ++ ys) all))
-
-pub all-right : {X : Type 0} (P : X → Type 0) (xs ys : List X) → All P (xs ++ ys) → All P ys
-all-right P [] ys all = all
-all-right P (x ∷ xs) ys all = all-right P xs ys (All-tail P x (xs ++ ys) all)
 
 -- ---- known parties
 
@@ -57,7 +47,7 @@ all-members keys (p ∷ ps) is = by (is_known keys p) refl is (λ rest. all-memb
     by true known rest others = All-cons (IsMember (council_of keys)) p ps (member keys p known) (others rest)
     by false known rest others = absurd cc
 
--- ---- Rolls
+-- ---- what is learnt
 
 pub note-known : (keys : Directory) (a : Announced) (l : Learned) → learned keys a ≡ Ok l → is_known keys a.party ≡ true
 unfolding learned verified
@@ -67,6 +57,9 @@ note-known keys a l is = by (keys_of keys a.party) is
         → is_some (slice_get ks 0) ≡ true
     by [] h = absurd cc
     by (k ∷ ks) h = refl
+
+pub learned-member : (keys : Directory) (a : Announced) (l : Learned) → learned keys a ≡ Ok l → IsMember (council_of keys) a.party
+learned-member keys a l is = member keys a.party (note-known keys a l is)
 
 council-next : (role : Role) (keys : Directory) (number generation : ℕ) (key : LmsPublic) → council_of (with_next_of role keys number generation key) ≡ council_of keys
 council-next LogServer keys number generation key =

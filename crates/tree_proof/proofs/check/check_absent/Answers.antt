@@ -1,0 +1,6 @@
+use Rattle.std.proofs.lemmas.Bool.Decides.{same_from_decides}
+use Rattle.tree_proof.proofs.Tested.{is_off-Decides}
+use Rattle.tree_proof.proofs.check.check_absent.Goals as goal
+
+pub returns-clause-test : goal.returns-clause-test
+returns-clause-test c = same_from_decides _ _ c.has_none.ensures (is_off-Decides _ _ _ _)
