@@ -24,7 +24,7 @@ pub enum AuthorityRefusal {
     #[error("a signer is not in the directory")]
     Unknown(Party),
     /// The party's signature is not valid, by the number of `VerifyFault::Bad`; the first such in the listed order.
-    #[error("a signature is bad, by test {1}")]
+    #[error("a signature is bad, by check {1}")]
     BadSignature(Party, u8),
     /// So many logs voted for the base and the root, which are no quorum.
     #[error("{0} logs are no quorum")]

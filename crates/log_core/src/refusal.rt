@@ -20,7 +20,7 @@ pub enum LogRefusal {
     #[error("a party is not in the directory")]
     Unknown(Party),
     /// L4: a signature is bad; the first such one's party, and the number of the test that fails.
-    #[error("a signature is bad, by test {1}")]
+    #[error("a signature is bad, by check {1}")]
     BadSignature(Party, u8),
     /// L5: the message is not of the log's epoch, or no epoch is decided that could be confirmed; the log's epoch.
     #[error("the log's epoch is {0}")]

@@ -21,7 +21,7 @@ pub enum OwnerRefusal {
     #[error("the signer is not in the directory")]
     Unknown(Party),
     /// O4: the party's signature is not valid, by this test of `Directory::verify`.
-    #[error("the signature is bad, by test {1}")]
+    #[error("the signature is bad, by check {1}")]
     BadSignature(Party, u8),
     /// O5: no draft has this digest.
     #[error("no draft has this digest")]

@@ -13,53 +13,60 @@ fn is_printed(alloc: Global, happening: &Happening, line: &str) -> Result<bool, 
 }
 
 #[test]
-fn keys_parties_drafts_and_epochs(rt: HostRuntime) -> Result<(), Fail> {
+fn parties_and_their_keys(rt: HostRuntime) -> Result<(), Fail> {
+    let made = Happening::Made {
+        party: Role::LogServer.party(0),
+        digest: [0xab; 32],
+    };
+    let dishonest = Happening::Dishonest {
+        party: Role::Authority.party(15),
+    };
+    let refused = Happening::SignRefused {
+        party: Role::Authority.party(2),
+    };
     let lines = [
         (
-            Happening::Made {
-                party: Role::LogServer.party(0),
-                digest: [0xab; 32],
-            },
+            made,
             "party L0 abababababababababababababababababababababababababababababababab",
         ),
-        (
-            Happening::Dishonest {
-                party: Role::Authority.party(15),
-            },
-            "dishonest A15",
-        ),
+        (dishonest, "dishonest A15"),
+        (refused, "A2 sign refused"),
         (Happening::Taught { authority: 3 }, "A3 taught"),
         (Happening::Forgot { authority: 0 }, "A0 forgot"),
         (Happening::Retired { authority: 10 }, "A10 retired"),
+    ];
+    for (happening, line) in &lines {
+        assert!(rt; is_printed(rt.alloc(), happening, line)?);
+    }
+    Ok(())
+}
+
+#[test]
+fn drafts_and_epochs(rt: HostRuntime) -> Result<(), Fail> {
+    let draft = Happening::Draft {
+        draft: 4096,
+        digest: [5; 32],
+    };
+    let decided = Happening::Ended {
+        log: 4,
+        epoch: 7,
+        root: Some([5; 32]),
+    };
+    let skipped = Happening::Ended {
+        log: 4,
+        epoch: 8,
+        root: None,
+    };
+    let lines = [
         (
-            Happening::Draft {
-                draft: 4096,
-                digest: [5; 32],
-            },
+            draft,
             "draft 4096 0505050505050505050505050505050505050505050505050505050505050505",
         ),
         (
-            Happening::Ended {
-                log: 4,
-                epoch: 7,
-                root: Some([5; 32]),
-            },
+            decided,
             "L4 ended 7 decided 0505050505050505050505050505050505050505050505050505050505050505",
         ),
-        (
-            Happening::Ended {
-                log: 4,
-                epoch: 8,
-                root: None,
-            },
-            "L4 ended 8 skipped",
-        ),
-        (
-            Happening::SignRefused {
-                party: Role::Authority.party(2),
-            },
-            "A2 sign refused",
-        ),
+        (skipped, "L4 ended 8 skipped"),
     ];
     for (happening, line) in &lines {
         assert!(rt; is_printed(rt.alloc(), happening, line)?);
@@ -94,59 +101,83 @@ fn steps_that_succeed(rt: HostRuntime) -> Result<(), Fail> {
     Ok(())
 }
 
+/// Whether this is the line of a step that is refused.
+fn is_refused_so(
+    alloc: Global,
+    party: Party,
+    what: What,
+    refused: Option<Code>,
+    line: &str,
+) -> Result<bool, AllocError> {
+    let step = Happening::Step {
+        party,
+        what,
+        refused,
+    };
+    is_printed(alloc, &step, line)
+}
+
 #[test]
-fn steps_that_are_refused(rt: HostRuntime) -> Result<(), Fail> {
-    let (log, authority, owner) = (Role::LogServer, Role::Authority, Role::Owner);
+fn steps_of_logs_that_are_refused(rt: HostRuntime) -> Result<(), Fail> {
+    let full = Values::Two(Shown::Number(2), Shown::Full);
+    let no_root = Values::Two(Shown::NoRoot, Shown::Number(0));
+    let rows = [
+        (
+            0,
+            What::Propose,
+            8,
+            Values::Nothing,
+            "L0 propose refused L8",
+        ),
+        (1, What::Take(1), 10, full, "L1 take 1 refused L10 2 full"),
+        (
+            1,
+            What::Take(2),
+            15,
+            no_root,
+            "L1 take 2 refused L15 none 0",
+        ),
+    ];
+    for (log, what, number, values, line) in rows {
+        let refused = code(Role::LogServer, number, values);
+        let party = Role::LogServer.party(log);
+        assert!(rt; is_refused_so(rt.alloc(), party, what, refused, line)?);
+    }
+    Ok(())
+}
+
+#[test]
+fn steps_of_others_that_are_refused(rt: HostRuntime) -> Result<(), Fail> {
+    let (authority, owner) = (Role::Authority, Role::Owner);
     let of_one = Values::Two(Shown::Party(authority.party(1)), Shown::Number(4294967295));
     let of_digest = Values::One(Shown::Digest([0xab; 32]));
     let of_zero = Values::Two(Shown::Party(authority.party(0)), Shown::Number(5));
-    let full = Values::Two(Shown::Number(2), Shown::Full);
-    let no_root = Values::Two(Shown::NoRoot, Shown::Number(0));
-    let lines = [
-        (
-            log.party(0),
-            What::Propose,
-            code(log, 8, Values::Nothing),
-            "L0 propose refused L8",
-        ),
+    let rolled = "A1 roll refused A11 A1 4294967295";
+    let submitted =
+        "D7 submit 3 refused O2 abababababababababababababababababababababababababababababababab";
+    let handed = "D511 handover 1 refused O4 A0 5";
+    let rows = [
         (
             authority.party(1),
             What::Roll,
             code(authority, 11, of_one),
-            "A1 roll refused A11 A1 4294967295",
+            rolled,
         ),
         (
             owner.party(7),
             What::Submit(3),
             code(owner, 2, of_digest),
-            "D7 submit 3 refused O2 abababababababababababababababababababababababababababababababab",
+            submitted,
         ),
         (
             owner.party(511),
             What::Handover(1),
             code(owner, 4, of_zero),
-            "D511 handover 1 refused O4 A0 5",
-        ),
-        (
-            log.party(1),
-            What::Take(1),
-            code(log, 10, full),
-            "L1 take 1 refused L10 2 full",
-        ),
-        (
-            log.party(1),
-            What::Take(2),
-            code(log, 15, no_root),
-            "L1 take 2 refused L15 none 0",
+            handed,
         ),
     ];
-    for (party, what, refused, line) in &lines {
-        let step = Happening::Step {
-            party: *party,
-            what: *what,
-            refused: *refused,
-        };
-        assert!(rt; is_printed(rt.alloc(), &step, line)?);
+    for (party, what, refused, line) in rows {
+        assert!(rt; is_refused_so(rt.alloc(), party, what, refused, line)?);
     }
     Ok(())
 }
