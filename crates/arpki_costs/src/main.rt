@@ -8,54 +8,54 @@
 //! | `root COUNT` | `root_of`, over a table of so many entries | the root |
 //! | `fill COUNT` | `Trie::set`, of each entry of such a table | the root |
 //! | `change COUNT` | `Trie::set` once more in the filled tree, of the first entry with a value of zeros | the root |
+//! | `message LENGTH` | `Message::read`, `Message::write` and a copy, of a message | the SHA-256 of what was written |
 //!
 //! The seed of a key is the bytes 0 to 31, and what it signs is the message `abc`, at leaf 0. Entry n
 //! of a table has as its key the value of a domain with the serial n and a certificate digest of zeros,
-//! and as its value that of the serial n and a certificate digest of ones (`value_digest`).
+//! and as its value that of the serial n and a certificate digest of ones (`value_digest`). The message is
+//! a Decision of 64 changes and 16 votes, whose signatures have so many bytes.
 #![tactic(auto)]
 
 use std::alloc::Global;
-use std::env;
-use std::io::{self, ErrorKind};
+use std::{env, io};
 
 mod call;
+mod message;
+mod request;
 mod table;
 
 use call::{key_of, root_kept, root_of_table, signature_of};
+use message::digest_of_message;
+use request::{Request, request_of};
 
-/// What the call that the words name gave, in hex.
-fn answer(alloc: Global, words: &[String]) -> io::Result<String> {
-    match words {
-        [call, lms, ots] if call.as_str() == "key" => {
-            let key = key_of(alloc, number(lms)?, number(ots)?)?;
-            Ok(hex::encode(alloc, &key.public().bytes())?)
-        }
-        [call, lms, ots] if call.as_str() == "sign" => {
-            let key = key_of(alloc, number(lms)?, number(ots)?)?;
-            Ok(hex::encode(alloc, &signature_of(alloc, &key)?)?)
-        }
-        [call, count] if call.as_str() == "root" => {
-            Ok(hex::encode(alloc, &root_of_table(alloc, number(count)?)?)?)
-        }
-        [call, count] if call.as_str() == "fill" => {
-            Ok(hex::encode(alloc, &root_kept(alloc, number(count)?, false)?)?)
-        }
-        [call, count] if call.as_str() == "change" => {
-            Ok(hex::encode(alloc, &root_kept(alloc, number(count)?, true)?)?)
-        }
-        _ => Err(ErrorKind::InvalidInput.into()),
+/// What the call gave, in hex.
+fn answer(alloc: Global, request: Request) -> io::Result<String> {
+    match request {
+        Request::Key { lms, ots } => public_key(alloc, lms, ots),
+        Request::Sign { lms, ots } => signature(alloc, lms, ots),
+        Request::Root { count } => in_hex(alloc, &root_of_table(alloc, count)?),
+        Request::Fill { count } => in_hex(alloc, &root_kept(alloc, count, false)?),
+        Request::Change { count } => in_hex(alloc, &root_kept(alloc, count, true)?),
+        Request::Message { len } => in_hex(alloc, &digest_of_message(alloc, len)?),
     }
 }
 
-fn number(word: &String) -> io::Result<u32> {
-    match word.parse::<u32>() {
-        Ok(number) => Ok(number),
-        Err(_) => Err(ErrorKind::InvalidInput.into()),
-    }
+fn public_key(alloc: Global, lms: u32, ots: u32) -> io::Result<String> {
+    let key = key_of(alloc, lms, ots)?;
+    in_hex(alloc, &key.public().bytes())
+}
+
+fn signature(alloc: Global, lms: u32, ots: u32) -> io::Result<String> {
+    let key = key_of(alloc, lms, ots)?;
+    in_hex(alloc, &signature_of(alloc, &key)?)
+}
+
+fn in_hex(alloc: Global, bytes: &[u8]) -> io::Result<String> {
+    Ok(hex::encode(alloc, bytes)?)
 }
 
 fn main(rt: HostRuntime) -> io::Result<()> {
     let words: Vec<String> = env::args(&rt)?.skip(1).collect(rt.alloc())?;
-    let text = answer(rt.alloc(), &words)?;
+    let text = answer(rt.alloc(), request_of(&words)?)?;
     println!(rt; "{text}")
 }
