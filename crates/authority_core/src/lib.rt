@@ -1,5 +1,5 @@
 //! Authorities: what one remembers, what makes that honest, and what it makes of each message. `AuthorityState` steps by
-//! the rows; what holds an authority's check, and takes messages from bytes, is not there yet.
+//! the rows; `AuthorityCore` is that with the check that it asks, and takes messages from bytes. Neither has keys.
 //!
 //! `specs/Record.antt` says what an authority remembers, `specs/Honest.antt` what makes it an honest authority's, and
 //! `specs/Calls.antt` what each thing that it does makes of it. `specs/Row.antt` has the row of each message, with zero
@@ -9,6 +9,7 @@
 mod confirming;
 mod desk;
 mod entries;
+mod keyless;
 pub mod laws;
 mod lists;
 mod record;
@@ -17,6 +18,7 @@ mod reply;
 mod state;
 
 pub use entries::{Asked, Kept};
+pub use keyless::AuthorityCore;
 pub use record::AuthorityRecord;
 pub use refusal::AuthorityRefusal;
 pub use state::AuthorityState;

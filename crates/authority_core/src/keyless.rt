@@ -1,0 +1,170 @@
+ghost use Rattle.std.specs.Prelude.{◌≡◌, true, IfOk, IfSome, Err, None, Ok, is_none, is_some, OnOk, OnErr};
+ghost use Rattle.std.specs.Option.{option_map};
+ghost use Rattle.ar_base.specs.Faults.{HasRisen};
+ghost use Rattle.ar_base.specs.Gives.{GivesUnless, with_error};
+ghost use Rattle.ar_message.specs.Messages.{IsMessage, message_in};
+ghost use Rattle.authority_core.specs.EndorseRow.{SaysAsTold, answers_after, asked_of, endorse_row, outcome_by};
+ghost use Rattle.authority_core.specs.RollRows.{roll_row};
+ghost use Rattle.authority_core.specs.Row.{answers_behind, asked_in, message_row, row};
+ghost use Rattle.authority_core.specs.State.{StepsBy};
+ghost use Rattle.owner_check.specs.Answers.{forgotten, learnt};
+ghost use Rattle.authority_core.specs.declared.refusal.AuthorityRefusal.TheVariants as refusal;
+
+use crate::refusal::AuthorityRefusal;
+use crate::state::AuthorityState;
+use ar_bytes::are_bytes;
+use ar_cert::Cert;
+use ar_message::laws::only_texts_are_read;
+use ar_message::{Message, Unsigned};
+use lms_tree::LmsPublic;
+use owner_check::OwnerCheck;
+use std::alloc::{AllocError, Global};
+
+/// An authority without its keys: what stands under a lock.
+///
+/// Where a signature of its own is due, what it sends has zero bytes; `ar_message::fill` writes the signature there.
+#[derive(Drop)]
+pub struct AuthorityCore<C: OwnerCheck> {
+    pub state: AuthorityState,
+    /// The check that is asked before a certificate is endorsed; `None` once the authority has retired.
+    pub check: Option<C>,
+}
+
+impl<C: OwnerCheck> AuthorityCore<C> {
+    /// Whether the authority has retired: it endorses no more, and confirms and rolls as before.
+    pub fn retired(&self) -> bool
+        ensures { result ≡ is_none self.now.check }
+    {
+        self.check.is_none()
+    }
+
+    /// Drops the check. It takes no memory.
+    pub fn retire(&mut self)
+        ensures check { self.new.check ≡ None }
+        ensures state { self.new.state ≡ self.old.state }
+    {
+        self.check = None;
+    }
+
+    // The row of a request to endorse. A retired authority endorses nothing.
+    fn endorse(
+        &mut self,
+        alloc: Global,
+        owner: u16,
+        cert: Cert,
+    ) -> Result<Unsigned, AuthorityRefusal>
+        ensures row { StepsBy result self.old.state self.new.state (endorse_row self.old.state (is_none self.old.check) owner cert (outcome_by result)) }
+        ensures retired { is_none self.new.check ≡ is_none self.old.check }
+        ensures answers { IfSome self.old.check (λ old. IfSome self.new.check (λ new. C.answers new ≡ answers_after (C.answers old) (asked_of cert) result)) }
+        ensures told { IfSome self.old.check (λ old. IfSome self.new.check (λ new. C.told new ≡ C.told old)) }
+        ensures by { IfSome self.old.check (λ old. SaysAsTold (C.told old) (C.answers old) (asked_of cert) result) }
+        ensures fault { result ≡ Err refusal.CheckFault → IfSome self.old.check (λ old. IfSome self.new.check (λ new. HasRisen (C.faults old) (C.faults new))) }
+    {
+        match &mut self.check {
+            None => Err(AuthorityRefusal::NotForAuthority),
+            Some(check) => self.state.endorse(alloc, owner, cert, check),
+        }
+    }
+
+    // The row of a message.
+    #[tactic(auto, unfolding(crate::specs::Row::message_row), using(crate::proofs::Faults::stepped_no_fault, crate::proofs::Faults::retired_row))]
+    fn take(&mut self, alloc: Global, message: Message) -> Result<Unsigned, AuthorityRefusal>
+        requires { IsMessage message }
+        ensures row { StepsBy result self.old.state self.new.state (message_row self.old.state (is_none self.old.check) message (outcome_by result)) }
+        ensures retired { is_none self.new.check ≡ is_none self.old.check }
+        ensures answers { IfSome self.old.check (λ old. IfSome self.new.check (λ new. C.answers new ≡ answers_behind (C.answers old) (asked_in (Ok message)) result)) }
+        ensures told { IfSome self.old.check (λ old. IfSome self.new.check (λ new. C.told new ≡ C.told old)) }
+        ensures by { IfSome self.old.check (λ old. IfSome (asked_in (Ok message)) (λ a. SaysAsTold (C.told old) (C.answers old) a result)) }
+        ensures fault { result ≡ Err refusal.CheckFault → IfSome self.old.check (λ old. IfSome self.new.check (λ new. HasRisen (C.faults old) (C.faults new))) }
+    {
+        match message {
+            Message::EndorseAsk { owner, cert } => self.endorse(alloc, owner, cert),
+            message => self.state.take(alloc, message),
+        }
+    }
+
+    /// Takes a message: what the authority sends for it, with zero bytes where a signature of its own is due, or why it
+    /// refuses.
+    ///
+    /// The answer is that of `specs/Row.antt`, by what the check answered; `Memory` may stand in its place. The check is
+    /// asked at most once, after all memory was taken, and in no step but that of a request to endorse: its list then has
+    /// one answer more. `CheckFault` comes only where the count of its faults rose, and `NotOwner` exactly where it
+    /// answered no. After a refusal the authority stands as before, and so does the check after each but `CheckFault`,
+    /// `NotOwner` and `Spent` of such a request.
+    pub fn step(&mut self, alloc: Global, bytes: &[u8]) -> Result<Unsigned, AuthorityRefusal>
+        // The answer, and where the authority stands then.
+        ensures row { StepsBy result self.old.state self.new.state (row self.old.state (is_none self.old.check) (message_in bytes.now) (outcome_by result)) }
+        // The check is there where it was.
+        ensures retired { is_none self.new.check ≡ is_none self.old.check }
+        // Its list has this answer behind it where it was asked, and what it tells stays.
+        ensures answers { IfSome self.old.check (λ old. IfSome self.new.check (λ new. C.answers new ≡ answers_behind (C.answers old) (asked_in (message_in bytes.now)) result)) }
+        ensures told { IfSome self.old.check (λ old. IfSome self.new.check (λ new. C.told new ≡ C.told old)) }
+        // The answer is by what the check tells.
+        ensures by { IfSome self.old.check (λ old. IfSome (asked_in (message_in bytes.now)) (λ a. SaysAsTold (C.told old) (C.answers old) a result)) }
+        // When it failed.
+        ensures fault { result ≡ Err refusal.CheckFault → IfSome self.old.check (λ old. IfSome self.new.check (λ new. HasRisen (C.faults old) (C.faults new))) }
+    {
+        let message = read(alloc, bytes)?;
+        self.take(alloc, message)
+    }
+
+    /// Enters the Roll of the next key, and takes the key into the authority's own directory, which is not seen as a
+    /// party's Roll. What it sends goes to the logs.
+    ///
+    /// `next` is the key that the authority's ring makes as its next. It is `LastGeneration` exactly where the newest
+    /// generation is 999. After a refusal the authority stands as before. All memory is taken before the first change.
+    pub fn roll(&mut self, alloc: Global, next: &LmsPublic) -> Result<Unsigned, AuthorityRefusal>
+        ensures row { StepsBy result self.old.state self.new.state (roll_row self.old.state next.now) }
+        ensures check { self.new.check ≡ self.old.check }
+    {
+        self.state.roll(alloc, next)
+    }
+
+    /// The check learns that the name has the key. The only error is want of memory, and then it is as before.
+    ///
+    /// The authority has not retired.
+    pub fn teach(&mut self, alloc: Global, name: &[u8], key: &[u8; 56]) -> Result<(), AllocError>
+        requires { is_some self.old.check ≡ true }
+        ensures state { self.new.state ≡ self.old.state }
+        ensures retired { is_none self.new.check ≡ is_none self.old.check }
+        ensures ok { OnOk result (IfSome self.old.check (λ old. IfSome self.new.check (λ new. C.told new ≡ option_map (learnt name.now key.now) (C.told old)))) }
+        ensures err { OnErr result (IfSome self.old.check (λ old. IfSome self.new.check (λ new. C.told new ≡ C.told old))) }
+        ensures answers { IfSome self.old.check (λ old. IfSome self.new.check (λ new. C.answers new ≡ C.answers old)) }
+    {
+        match &mut self.check {
+            Some(check) => check.learn(alloc, name, key),
+            None => unreachable!(),
+        }
+    }
+
+    /// The check forgets that the name has the key. It takes no memory.
+    ///
+    /// The authority has not retired.
+    pub fn forget(&mut self, name: &[u8], key: &[u8; 56])
+        requires { is_some self.old.check ≡ true }
+        ensures state { self.new.state ≡ self.old.state }
+        ensures retired { is_none self.new.check ≡ is_none self.old.check }
+        ensures told { IfSome self.old.check (λ old. IfSome self.new.check (λ new. C.told new ≡ option_map (forgotten name.now key.now) (C.told old))) }
+        ensures answers { IfSome self.old.check (λ old. IfSome self.new.check (λ new. C.answers new ≡ C.answers old)) }
+    {
+        match &mut self.check {
+            Some(check) => check.forget(name, key),
+            None => unreachable!(),
+        }
+    }
+}
+
+// The message with this text, each of whose fields is in its range. It asks no check, so none fails.
+#[tactic(auto, using(crate::proofs::Faults::read_no_fault))]
+fn read(alloc: Global, bytes: &[u8]) -> Result<Message, AuthorityRefusal>
+    ensures answer { GivesUnless refusal.Memory (λ message. message) result (with_error refusal.Form (message_in bytes.now)) }
+    ensures range { IfOk result IsMessage }
+    ensures fault { result ≡ Err refusal.CheckFault → ⊥ }
+{
+    only_texts_are_read();
+    are_bytes(bytes);
+    match Message::read(alloc, bytes) {
+        Ok(message) => Ok(message),
+        Err(fault) => Err(AuthorityRefusal::from(fault)),
+    }
+}
