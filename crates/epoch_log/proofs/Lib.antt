@@ -1,10 +1,12 @@
 pub mod Acting
 pub mod Affirmed
+pub mod Applying
 pub mod Called
 pub mod Closings
 pub mod Counted
 pub mod Endings
 pub mod Growing
+pub mod Heard
 pub mod Kept
 pub mod Leaves
 pub mod Lists

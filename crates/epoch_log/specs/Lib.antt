@@ -6,4 +6,5 @@ pub mod Log
 pub mod Record
 pub mod Right
 pub mod State
+pub mod Telling
 pub mod Told

@@ -5,10 +5,13 @@
 //! `specs/Told.antt` and `specs/Right.antt` say of single entries. `specs/State.antt` says where a log stands and what is
 //! kept of that, `specs/Ending.antt` how an epoch ends, and `specs/Calls.antt` what each call makes of where a log stands,
 //! and when it may be made; `specs/Log.antt` says what a log in the program holds and keeps of that, and `specs/Answers.antt`
-//! what a call needs and answers beside that. `laws` says that each call keeps what is kept.
+//! what a call needs and answers beside that, `specs/Telling.antt` where another log tells how an epoch ended. `laws` says
+//! that each call keeps what is kept.
 #![tactic(auto)]
 
 mod confirming;
+mod deciding;
+mod ending;
 mod entries;
 mod keys;
 pub mod laws;
@@ -17,7 +20,9 @@ mod parts;
 mod past;
 mod seeing;
 mod signing;
+mod skipping;
 mod statements;
+mod tables;
 mod voting;
 
 pub use entries::{Closing, Confirmed, Ended, How, Newest, Stated, Voted};

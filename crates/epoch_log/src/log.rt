@@ -12,9 +12,10 @@ ghost use Rattle.party_keys.specs.Seen.{log_party};
 ghost use Rattle.party_keys.specs.declared.fault.LearnFault.TheVariants as learn_fault;
 ghost use Rattle.domain_table.specs.Sound.{IsSound};
 ghost use Rattle.epoch_log.specs.Answers.{IsOpenTo, confirmed, voted};
-ghost use Rattle.epoch_log.specs.Calls.{AreEndorsers, IsProposed, after_confirm, after_endorsed, after_learn, after_roll, after_vote, fresh};
+ghost use Rattle.epoch_log.specs.Calls.{AreEndorsers, IsProposed, after_confirm, after_decide, after_endorsed, after_learn, after_roll, after_skip, after_vote, fresh};
 ghost use Rattle.epoch_log.specs.Log.{moved, record_of};
 ghost use Rattle.epoch_log.specs.State.{IsKept, epoch_of, table_of};
+ghost use Rattle.epoch_log.specs.Telling.{CanDecide, CanSkip, statuses_in, to_root, votes_in};
 
 use crate::parts::Parts;
 use crate::{Newest, Record};
@@ -148,6 +149,36 @@ impl EpochLog {
     {
         self.parts
             .vote(alloc, proposer, Value { base, root }, changes)
+    }
+
+    /// Ends the epoch as decided, as another log tells with the votes of a quorum. The last epoch that a statement can name
+    /// does not end. The only error is want of memory.
+    pub fn decide(
+        &mut self,
+        alloc: Global,
+        changes: Vec<Change>,
+        root: [u8; 32],
+        votes: Vec<(u16, Vec<u8>)>,
+    ) -> Result<(), AllocError>
+        requires { CanDecide self.old.state changes.items root (votes_in votes.items) }
+        ensures ok { OnOk result (self.new ≡ moved self.old (after_decide self.old.state (to_root self.old.state root) changes.items (votes_in votes.items))) }
+        ensures err { OnErr result (self.new ≡ self.old) }
+    {
+        self.parts.decide(alloc, changes, root, votes)
+    }
+
+    /// Ends the epoch as skipped, as another log tells with statuses that exclude each root. The last epoch that a statement
+    /// can name does not end. The only error is want of memory.
+    pub fn skip(
+        &mut self,
+        alloc: Global,
+        statuses: Vec<(u16, Option<Value>, Vec<u8>)>,
+    ) -> Result<(), AllocError>
+        requires { CanSkip self.old.state (statuses_in statuses.items) }
+        ensures ok { OnOk result (self.new ≡ moved self.old (after_skip self.old.state (statuses_in statuses.items))) }
+        ensures err { OnErr result (self.new ≡ self.old) }
+    {
+        self.parts.skip(alloc, statuses)
     }
 
     /// Confirms, by the newest decision, the newest certificate of a name, or that it has none.

@@ -1,7 +1,8 @@
 //! What logs state of a vote.
-ghost use Rattle.std.specs.Prelude.{◌≡◌, All};
+ghost use Rattle.std.specs.Prelude.{◌≡◌, All, IfSome};
+ghost use Rattle.std.specs.Option.{option_map};
 ghost use Rattle.ar_cert.specs.Changes.{IsChange};
-ghost use Rattle.ar_council.specs.Values.{IsValue, vote_claim};
+ghost use Rattle.ar_council.specs.Values.{IsValue, roots_of, status_claim, vote_claim};
 ghost use Rattle.ar_statement.specs.Claims.{claim_of, propose};
 
 use ar_bytes::are_bytes;
@@ -47,5 +48,35 @@ pub(crate) fn vote_statement(log: u16, epoch: u64, value: &Value) -> Statement<'
         epoch,
         base: value.base,
         root: value.root,
+    }
+}
+
+/// The same of a ballot, where there is one.
+pub(crate) fn ballot_told(value: &Option<Value>)
+    ensures { IfSome value.now IsValue }
+{
+    if let Some(value) = value {
+        value_told(value);
+    }
+}
+
+/// A base and a root, as a statement has them.
+fn roots_of(value: &Option<Value>) -> Option<([u8; 32], [u8; 32])>
+    ensures { result ≡ option_map roots_of value.now }
+{
+    match value {
+        Some(value) => Some((value.base, value.root)),
+        None => None,
+    }
+}
+
+/// A log's status.
+pub(crate) fn status_statement(log: u16, epoch: u64, value: &Option<Value>) -> Statement<'static>
+    ensures { claim_of result ≡ status_claim log epoch value.now }
+{
+    Statement::Status {
+        log,
+        epoch,
+        value: roots_of(value),
     }
 }
