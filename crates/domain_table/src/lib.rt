@@ -27,6 +27,4 @@ mod row_copy;
 mod rows;
 mod table;
 mod take;
-#[cfg(test)]
-mod tests;
 mod tree;
