@@ -4,3 +4,4 @@ pub mod Keeping
 pub mod Read
 pub mod Rows
 pub mod Sending
+pub mod Signing

@@ -3,6 +3,7 @@ pub mod ConfirmRows
 pub mod Confirming
 pub mod EndorseRow
 pub mod Honest
+pub mod Keyed
 pub mod Record
 pub mod Refusals
 pub mod RollRows

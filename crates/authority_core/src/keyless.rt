@@ -67,7 +67,7 @@ impl<C: OwnerCheck> AuthorityCore<C> {
     }
 
     // The row of a message.
-    #[tactic(auto, unfolding(crate::specs::Row::message_row), using(crate::proofs::Faults::stepped_no_fault, crate::proofs::Faults::retired_row))]
+    #[tactic(auto, unfolding(crate::specs::Row::message_row))]
     fn take(&mut self, alloc: Global, message: Message) -> Result<Unsigned, AuthorityRefusal>
         requires { IsMessage message }
         ensures row { StepsBy result self.old.state self.new.state (message_row self.old.state (is_none self.old.check) message (outcome_by result)) }

@@ -1,11 +1,14 @@
 //! Authorities: what one remembers, what makes that honest, and what it makes of each message. `AuthorityState` steps by
-//! the rows; `AuthorityCore` is that with the check that it asks, and takes messages from bytes. Neither has keys.
+//! the rows; `AuthorityCore` is that with the check that it asks, and takes messages from bytes. Neither has keys:
+//! `Authority` is the core with its keys, and signs what it sends.
 //!
 //! `specs/Record.antt` says what an authority remembers, `specs/Honest.antt` what makes it an honest authority's, and
 //! `specs/Calls.antt` what each thing that it does makes of it. `specs/Row.antt` has the row of each message, with zero
-//! bytes where a signature is due: `EndorseRow`, `ConfirmRows` over `Confirming`, and `RollRows`.
+//! bytes where a signature is due: `EndorseRow`, `ConfirmRows` over `Confirming`, and `RollRows`. `specs/Keyed.antt` has
+//! the answers with the signatures in, and which keys are the authority's.
 #![tactic(auto)]
 
+mod authority;
 mod confirming;
 mod desk;
 mod entries;
@@ -17,6 +20,7 @@ mod refusal;
 mod reply;
 mod state;
 
+pub use authority::Authority;
 pub use entries::{Asked, Kept};
 pub use keyless::AuthorityCore;
 pub use record::AuthorityRecord;

@@ -1,0 +1,339 @@
+-- The keys of an authority sign what its rows leave blank, and a row leaves the keys its own.
+use Rattle.std.proofs.Common.{◌≡◌, ℕ, zero, suc, ◌+◌, ◌-◌, ◌^◌, ◌<◌, ◌≤◌, ◌==◌, ◌⊎◌, inl, inr, List, [], ◌∷◌, ◌++◌, map, length, Bool, true, false, cond, Option, Some, None, Result, Ok, Err, refl, sym, ap, ◌∙◌, subst, arith}
+use Rattle.std.specs.Prelude.{All, option_and_then, slice_get}
+use Rattle.std.specs.Int.{w8, w16, w32}
+use Rattle.std.specs.Option.{ok_or, option_map}
+use Rattle.std.proofs.lemmas.List.{length-append, length-replicate}
+use Rattle.std.proofs.lemmas.List.Elements.{All-append, All-cons, All-get_or, All-nil}
+use Rattle.std.proofs.lemmas.Option.{get_or_from_slice_get, slice_get_within}
+use Rattle.ar_base.specs.Gives.{with_error}
+use Rattle.ar_base.specs.Places.{place_of}
+use Rattle.ar_bytes.specs.RoundTrip.{counted_text, number_text}
+use Rattle.ar_cert.specs.Certificate.{Certificate}
+use Rattle.ar_message.specs.Confirmation.{body_text, confirmation_fields_text, form_text, is_present, path_text, signed_text, subject_text}
+use Rattle.ar_message.specs.Filling.{CanFill, FitsIn, IsBlank, lengths}
+use Rattle.ar_message.specs.Messages.{about_in, confirming_text, fields_text, message_text, path_in, shown_in, signed_in}
+use Rattle.ar_message.specs.declared.address.Address.{Address}
+use Rattle.ar_message.specs.declared.address.Address.TheVariants.{Logs, One}
+use Rattle.ar_message.specs.declared.message.Confirming.{Confirming}
+use Rattle.ar_message.specs.declared.message.Message.{Message}
+use Rattle.ar_message.specs.declared.message.Message.TheVariants.{EndorseAsk, Endorsed, Submit, Propose, Ballot, StatusNote, Decision, SkipNote, ConfirmAsk, LogConfirmed, HalfConfirmed, Confirmation, RollNote}
+use Rattle.ar_message.specs.declared.unsigned.Unsigned.{Unsigned}
+use Rattle.ar_statement.specs.Claims.{Claim, endorse, party, party_text, text_of}
+use Rattle.ar_statement.specs.declared.party.Role.TheVariants.{Client, Owner}
+use Rattle.ar_statement.specs.declared.text.SeenText.{SeenText}
+use Rattle.key_roll.specs.Book.{IsRollBook, RollBook, texts_of}
+use Rattle.key_roll.specs.Due.{DueParts}
+use Rattle.key_roll.specs.Entry.{after_at, after_entry, due_at, entered, has_room, leaf_of, roll_text}
+use Rattle.key_roll.specs.Ring.{IsNext, Owes, ring_signature_len}
+use Rattle.key_roll.specs.declared.fault.BookFault.TheVariants.{Spent}
+use Rattle.key_roll.specs.declared.fault.RollFault.TheVariants.{Last}
+use Rattle.key_roll.specs.declared.signed.Signed.{Signed}
+use Rattle.lms_tree.specs.Key.{public_of}
+use Rattle.lms_tree.specs.KeyParts.{KeyParts}
+use Rattle.lms_tree.specs.LmsKind.{height_of}
+use Rattle.lms_tree.specs.PublicKey.{key_text}
+use Rattle.lms_tree.specs.declared.public_key.LmsPublic.{LmsPublic}
+use Rattle.owner_check.specs.declared.answer.Outcome.{Outcome}
+use Rattle.owner_check.specs.declared.answer.Outcome.TheVariants.{Failed, No, Yes}
+use Rattle.party_keys.specs.Learning.{Announced, learned}
+use Rattle.party_keys.specs.Seen.{authority_party}
+use Rattle.party_keys.specs.declared.fault.LearnFault.{LearnFault}
+use Rattle.party_keys.specs.declared.learning.Learned.{Learned}
+use Rattle.authority_core.specs.Calls.{after_endorse, confirming, kept_claim}
+use Rattle.authority_core.specs.ConfirmRows.{confirmation_with, half_claims, half_confirmed_row, log_claims, log_confirmed_row}
+use Rattle.authority_core.specs.Confirming.{confirming_checks, confirming_too, kept_of, parties_of, seen_in}
+use Rattle.authority_core.specs.EndorseRow.{asked_of, endorse_due, endorse_row, endorsed_message, endorsing}
+use Rattle.authority_core.specs.Keyed.{IsRingOf}
+use Rattle.authority_core.specs.Refusals.{of_book}
+use Rattle.authority_core.specs.RollRows.{learning, roll_by, roll_message, roll_note_by, roll_note_row, roll_row, rolling}
+use Rattle.authority_core.specs.Row.{message_row, row}
+use Rattle.authority_core.specs.State.{Answer, AuthorityState, blank, entering, if_due, in_order, sends, sends_nothing}
+use Rattle.authority_core.specs.declared.entries.Asked.{Asked}
+use Rattle.authority_core.specs.declared.entries.Kept.{Kept}
+use Rattle.authority_core.specs.declared.refusal.AuthorityRefusal.{AuthorityRefusal}
+
+-- ---- the signature's bytes are the last ones of a message
+
+behind : (n : ℕ) (front back : List ℕ) → n ≤ length back → n ≤ length (front ++ back)
+behind n front back less = omega (arith, less, length-append front back)
+
+last : (len : ℕ) → len ≤ length (counted_text (blank len))
+last len = behind len (number_text w16 (length (blank len))) (blank len) (omega (arith, length-replicate {A = ℕ} len 0))
+
+pub endorsed-fits : (s : AuthorityState) (owner : ℕ) (certificate : List ℕ) → s.signature_len ≤ length (message_text (endorsed_message s owner certificate))
+unfolding message_text fields_text
+endorsed-fits s owner certificate =
+    behind s.signature_len (number_text w8 2) _
+    (behind s.signature_len (number_text w16 owner) _
+    (behind s.signature_len (number_text w16 s.me) _ (behind s.signature_len certificate _ (last s.signature_len))))
+
+pub half-fits : (part : Confirming) (len : ℕ) → len ≤ length (message_text (HalfConfirmed part (blank len)))
+unfolding message_text fields_text
+half-fits part len = behind len (number_text w8 11) _ (behind len (confirming_text part) _ (last len))
+
+pub confirmation-fits : (part : Confirming) (first_signature : List ℕ) (len : ℕ) → len ≤ length (message_text (confirmation_with part first_signature (blank len)))
+unfolding message_text fields_text confirmation_fields_text
+confirmation-fits part first_signature len =
+    behind len (number_text w8 12) _
+    (behind len (form_text (is_present (shown_in part.body))) _
+    (behind len (subject_text (about_in part)) _
+    (behind len (body_text (shown_in part.body)) _
+    (behind len (path_text (path_in part.body)) _
+    (behind len (signed_text (signed_in part.log part.signature)) _
+    (behind len (signed_text (signed_in part.first first_signature)) _
+    (behind len (number_text w16 part.second) _ (last len))))))))
+
+pub note-fits : (s : AuthorityState) (next : LmsPublic) → s.signature_len ≤ length (message_text (roll_message s next))
+unfolding message_text fields_text
+note-fits s next =
+    behind s.signature_len (number_text w8 13) _
+    (behind s.signature_len (party_text (authority_party s.me)) _
+    (behind s.signature_len (number_text w32 s.past.signed.newest) _ (behind s.signature_len (key_text next) _ (last s.signature_len))))
+
+-- one message, whose last bytes are the signature that is due
+pub can-fill : (keys : List KeyParts) (len : ℕ) (to : Address) (bytes : List ℕ) (due : DueParts) → Owes keys due len → len ≤ length bytes → CanFill keys (sends len to bytes due)
+can-fill keys len to bytes due owes less =
+    let fits : FitsIn keys (length bytes) (length bytes - len) due = record { len = len; owes = owes; inside = omega (arith, less) } in
+    All-cons (IsBlank keys (lengths (sends len to bytes due).sent.messages)) (record { message = 0; at = length bytes - len; due = due }) []
+    (record { whole = length bytes; named = refl; fits = fits }) (All-nil (IsBlank keys (lengths (sends len to bytes due).sent.messages)))
+
+-- ---- what is due of an authority's book is due of its keys
+
+there-is : {X : Type 0} (xs : List X) (k : ℕ) → k < length xs → (x : X) × (slice_get xs k ≡ Some x)
+there-is [] k less = absurd (omega (arith, less))
+there-is (x ∷ xs) zero less = (x, refl)
+there-is (x ∷ xs) (suc k) less = there-is xs k (omega (arith, less))
+
+-- something is due with these leaves, of a generation up to this one
+pub record IsDueOf (leaves newest : ℕ) (due : DueParts) : Type 0 where
+  pub counts_on : due.leaves ≡ leaves
+  pub upto : due.generation ≤ newest
+
+pub owed : (s : AuthorityState) (keys : List KeyParts) (due : DueParts) → IsRingOf s keys → IsDueOf s.past.signed.leaves s.past.signed.newest due → Owes keys due s.signature_len
+owed s keys due is of-book =
+    let own = there-is keys due.generation (omega (arith, of-book.upto, is.each)) in
+    record { key = own.0; has = own.1; leaves = of-book.counts_on ∙ is.leaves due.generation own.0 own.1; bytes_are = sym (is.bytes due.generation own.0 own.1) }
+
+-- what an entry leaves of a book
+pub record IsSameBook (book later : RollBook) : Type 0 where
+  pub leaves : later.leaves ≡ book.leaves
+  pub newest : later.newest ≡ book.newest
+
+pub entry-same : (book : RollBook) (text : List ℕ) → IsSameBook book (after_entry book text)
+entry-same book text = by (place_of (texts_of book) text) (has_room book) refl
+  where
+    by : (place : Option ℕ) (room : Bool) → has_room book ≡ room → IsSameBook book (after_at book text place)
+    by (Some k) room is = record { leaves = refl; newest = refl }
+    by None true is = rw is (record { leaves = refl; newest = refl })
+    by None false is = rw is (record { leaves = refl; newest = refl })
+
+-- an entry is of a generation up to this one
+abbrev IsUpTo : ℕ → Signed → Type 0
+IsUpTo newest s = s.generation ≤ newest
+
+entry-upto : (book : RollBook) (text : List ℕ) → IsRollBook book → All (IsUpTo book.newest) (after_entry book text).list
+entry-upto book text sound = by (place_of (texts_of book) text) (has_room book) refl
+  where
+    added : All (IsUpTo book.newest) (book.list ++ record { generation = book.newest; text = text } ∷ [])
+    added = All-append (IsUpTo book.newest) book.list (record { generation = book.newest; text = text } ∷ []) sound.upto
+        (All-cons (IsUpTo book.newest) (record { generation = book.newest; text = text }) [] (omega arith) (All-nil (IsUpTo book.newest)))
+
+    by : (place : Option ℕ) (room : Bool) → has_room book ≡ room → All (IsUpTo book.newest) (after_at book text place).list
+    by (Some k) room is = sound.upto
+    by None true is = rw is added
+    by None false is = rw is sound.upto
+
+abbrev due_with : RollBook → ℕ → Signed → DueParts
+due_with book k s = record { generation = s.generation; leaf = leaf_of book k s; text = s.text; leaves = book.leaves }
+
+of-entry : (book : RollBook) (newest : ℕ) (place : Option ℕ) (due : DueParts) → All (IsUpTo newest) book.list → ok_or (option_and_then (due_at book) place) Spent ≡ Ok due
+    → IsDueOf book.leaves newest due
+of-entry book newest None due all e = absurd cc
+of-entry book newest (Some k) due all e = by (slice_get book.list k) refl e
+  where
+    by : (found : Option Signed) → slice_get book.list k ≡ found → ok_or (option_map (due_with book k) found) Spent ≡ Ok due → IsDueOf book.leaves newest due
+    by None at is = absurd cc
+    by (Some s) at is =
+        let same : due_with book k s ≡ due = cc in
+        let upto : IsUpTo newest s = subst (IsUpTo newest) (get_or_from_slice_get book.list k s s at) (All-get_or (IsUpTo newest) book.list k s (slice_get_within book.list k s at) all) in
+        subst (IsDueOf book.leaves newest) same (record { counts_on = refl; upto = upto })
+
+entered-due : (book : RollBook) (text : List ℕ) (due : DueParts) → IsRollBook book → entered book text ≡ Ok due → IsDueOf book.leaves book.newest due
+entered-due book text due sound e =
+    subst (λ n. IsDueOf n book.newest due) (entry-same book text).leaves
+    (of-entry (after_entry book text) book.newest (place_of (texts_of (after_entry book text)) text) due (entry-upto book text sound) e)
+
+no-error : {T E F : Type 0} (f : E → F) (r : Result T E) (x : T) → with_error f r ≡ Ok x → r ≡ Ok x
+no-error f (Ok y) x e = cc
+no-error f (Err y) x e = absurd cc
+
+pub entering-owes : (s : AuthorityState) (keys : List KeyParts) (claim : Claim) (due : DueParts) → IsRingOf s keys → IsRollBook s.past.signed → entering s.past claim ≡ Ok due → Owes keys due s.signature_len
+entering-owes s keys claim due is sound e =
+    owed s keys due is (entered-due s.past.signed (text_of claim) due sound (no-error of_book (entered s.past.signed (text_of claim)) due e))
+
+-- ---- rows
+
+-- what a step keeps of an authority: its keys stay those of its book
+pub record IsSameKeys (s later : AuthorityState) : Type 0 where
+  pub book : IsSameBook s.past.signed later.past.signed
+  pub len : later.signature_len ≡ s.signature_len
+
+pub keys-stay : (s later : AuthorityState) (keys : List KeyParts) → IsRingOf s keys → IsSameKeys s later → IsRingOf later keys
+keys-stay s later keys is same = record {
+  each = is.each ∙ ap (λ n. n + 1) (sym same.book.newest);
+  leaves = λ g key at. same.book.leaves ∙ is.leaves g key at;
+  bytes = λ g key at. is.bytes g key at ∙ sym same.len;
+}
+
+-- the keys sign what an answer leaves blank, and stay the authority's own
+pub record IsSignedBy (s : AuthorityState) (keys : List KeyParts) (later : AuthorityState) (sent : Unsigned) : Type 0 where
+  pub fills : CanFill keys sent
+  pub stays : IsSameKeys s later
+
+abbrev pub Signs : AuthorityState → List KeyParts → Answer → Type 0
+Signs s keys answer = (later : AuthorityState) (sent : Unsigned) → answer ≡ Ok (later, sent) → IsSignedBy s keys later sent
+
+-- what is due of an answer is due of the keys
+abbrev Owed : AuthorityState → List KeyParts → Result DueParts AuthorityRefusal → Type 0
+Owed s keys e = (due : DueParts) → e ≡ Ok due → Owes keys due s.signature_len
+
+due-signs : (s : AuthorityState) (keys : List KeyParts) (e : Result DueParts AuthorityRefusal) (next : AuthorityState) (to : Address) (bytes : List ℕ) → Owed s keys e → s.signature_len ≤ length bytes → IsSameKeys s next
+    → Signs s keys (if_due e (λ due. (next, sends s.signature_len to bytes due)))
+due-signs s keys (Ok due) next to bytes owes less same later sent is =
+    let pair : (next, sends s.signature_len to bytes due) ≡ (later, sent) = cc in
+    subst (λ (p : AuthorityState × Unsigned). IsSignedBy s keys p.0 p.1) pair (record { fills = can-fill keys s.signature_len to bytes due (owes due refl) less; stays = same })
+due-signs s keys (Err refusal) next to bytes owes less same later sent is = absurd cc
+
+-- where checks stand before it
+ordered-signs : (s : AuthorityState) (keys : List KeyParts) (checks : Result (Unit {0}) AuthorityRefusal) (answer : Answer) → Signs s keys answer → Signs s keys (in_order checks answer)
+ordered-signs s keys (Ok u) answer signs = signs
+ordered-signs s keys (Err refusal) answer signs = λ later sent is. absurd cc
+
+entering-same : (s : AuthorityState) (seen : List SeenText) (k : Kept) → IsSameKeys s (record s { past = confirming s.me s.past seen k })
+entering-same s seen k = record { book = entry-same s.past.signed (text_of (kept_claim (authority_party s.me) k)); len = refl }
+
+endorse-signs : (s : AuthorityState) (keys : List KeyParts) (owner : ℕ) (a : Asked) (said : Outcome) → IsRingOf s keys → IsRollBook s.past.signed → Signs s keys (endorsing s owner a said)
+unfolding endorsing
+endorse-signs s keys owner a said is sound =
+    due-signs s keys (endorse_due s.me s.past a said) (record s { past = after_endorse s.me s.past a }) (One (party Owner owner)) (message_text (endorsed_message s owner a.certificate))
+    (by said) (endorsed-fits s owner a.certificate) (record { book = entry-same s.past.signed (text_of (endorse s.me a.certificate)); len = refl })
+  where
+    by : (o : Outcome) → Owed s keys (endorse_due s.me s.past a o)
+    by Failed = λ due e. absurd cc
+    by No = λ due e. absurd cc
+    by Yes = λ due e. entering-owes s keys (endorse s.me a.certificate) due is sound e
+
+asked-signs : (s : AuthorityState) (keys : List KeyParts) (retired : Bool) (owner : ℕ) (cert : Certificate) (said : Outcome) → IsRingOf s keys → IsRollBook s.past.signed
+    → Signs s keys (endorse_row s retired owner cert said)
+asked-signs s keys true owner cert said is sound = λ later sent e. absurd cc
+asked-signs s keys false owner cert said is sound = endorse-signs s keys owner (asked_of cert) said is sound
+
+-- a confirmation is signed and sent
+confirming-signs : (s : AuthorityState) (keys : List KeyParts) (seen : List SeenText) (k : Kept) (to : Address) (message : List ℕ → Message) → IsRingOf s keys → IsRollBook s.past.signed
+    → s.signature_len ≤ length (message_text (message (blank s.signature_len))) → Signs s keys (confirming_too s seen k to message)
+confirming-signs s keys seen k to message is sound less =
+    due-signs s keys (entering s.past (kept_claim (authority_party s.me) k)) (record s { past = confirming s.me s.past seen k }) to (message_text (message (blank s.signature_len)))
+    (λ due e. entering-owes s keys (kept_claim (authority_party s.me) k) due is sound e) less (entering-same s seen k)
+
+log-signs : (s : AuthorityState) (keys : List KeyParts) (part : Confirming) → IsRingOf s keys → IsRollBook s.past.signed → Signs s keys (log_confirmed_row s part)
+unfolding log_confirmed_row
+log-signs s keys part is sound =
+    ordered-signs s keys (confirming_checks s part.first (parties_of part part.second) (log_claims part) part) _
+    (confirming-signs s keys (map seen_in (log_claims part)) (kept_of part) (One (authority_party part.second)) (λ signature. HalfConfirmed part signature) is sound (half-fits part s.signature_len))
+
+half-signs : (s : AuthorityState) (keys : List KeyParts) (part : Confirming) (first_signature : List ℕ) → IsRingOf s keys → IsRollBook s.past.signed → Signs s keys (half_confirmed_row s part first_signature)
+unfolding half_confirmed_row
+half-signs s keys part first_signature is sound =
+    ordered-signs s keys (confirming_checks s part.second (parties_of part part.first) (half_claims part first_signature) part) _
+    (confirming-signs s keys (map seen_in (half_claims part first_signature)) (kept_of part) (One (party Client part.client)) (confirmation_with part first_signature) is sound
+    (confirmation-fits part first_signature s.signature_len))
+
+-- nothing is sent
+nothing-fills : (keys : List KeyParts) → CanFill keys sends_nothing
+nothing-fills keys = All-nil (IsBlank keys [])
+
+note-signs : (s : AuthorityState) (keys : List KeyParts) (a : Announced) → Signs s keys (roll_note_row s a)
+unfolding roll_note_row
+note-signs s keys a = by (learned s.keys a)
+  where
+    by : (r : Result Learned LearnFault) → Signs s keys (roll_note_by s a r)
+    by (Ok l) = λ later sent e.
+        let pair : (learning s a, sends_nothing) ≡ (later, sent) = cc in
+        subst (λ (p : AuthorityState × Unsigned). IsSignedBy s keys p.0 p.1) pair (record { fills = nothing-fills keys; stays = record { book = record { leaves = refl; newest = refl }; len = refl } })
+    by (Err fault) = λ later sent e. absurd cc
+
+message-signs : (s : AuthorityState) (keys : List KeyParts) (retired : Bool) (m : Message) (said : Outcome) → IsRingOf s keys → IsRollBook s.past.signed → Signs s keys (message_row s retired m said)
+unfolding message_row
+message-signs s keys retired (EndorseAsk owner cert) said is sound = asked-signs s keys retired owner cert said is sound
+message-signs s keys retired (LogConfirmed part) said is sound = log-signs s keys part is sound
+message-signs s keys retired (HalfConfirmed part first_signature) said is sound = half-signs s keys part first_signature is sound
+message-signs s keys retired (RollNote party generation key signature) said is sound =
+    note-signs s keys (record { party = party; generation = generation; key = key; signature = signature })
+message-signs s keys retired (Endorsed owner authority certificate signature) said is sound = λ later sent e. absurd cc
+message-signs s keys retired (Submit change) said is sound = λ later sent e. absurd cc
+message-signs s keys retired (Propose log epoch base root changes signature) said is sound = λ later sent e. absurd cc
+message-signs s keys retired (Ballot log epoch base root signature) said is sound = λ later sent e. absurd cc
+message-signs s keys retired (StatusNote log epoch value signature) said is sound = λ later sent e. absurd cc
+message-signs s keys retired (Decision epoch base root changes votes) said is sound = λ later sent e. absurd cc
+message-signs s keys retired (SkipNote epoch statuses) said is sound = λ later sent e. absurd cc
+message-signs s keys retired (ConfirmAsk client name first second) said is sound = λ later sent e. absurd cc
+message-signs s keys retired (Confirmation client epoch name root body log log_signature first first_signature second second_signature) said is sound = λ later sent e. absurd cc
+
+pub row-signs : (s : AuthorityState) (keys : List KeyParts) (retired : Bool) (m : Result Message ℕ) (said : Outcome) → IsRingOf s keys → IsRollBook s.past.signed → Signs s keys (row s retired m said)
+row-signs s keys retired (Ok m) said is sound = message-signs s keys retired m said is sound
+row-signs s keys retired (Err place) said is sound = λ later sent e. absurd cc
+
+-- ---- a roll
+
+-- the keys with the next behind them are those of the authority that rolled
+key-cases : (keys : List KeyParts) (next : KeyParts) (g : ℕ) (key : KeyParts) → slice_get (keys ++ next ∷ []) g ≡ Some key → (slice_get keys g ≡ Some key) ⊎ (key ≡ next)
+key-cases [] next zero key at = inr cc
+key-cases [] next (suc g) key at = absurd cc
+key-cases (k ∷ keys) next zero key at = inl at
+key-cases (k ∷ keys) next (suc g) key at = key-cases keys next g key at
+
+pub rolled-ring : (s : AuthorityState) (keys : List KeyParts) (next : KeyParts) → IsRingOf s keys → IsNext keys next → IsRingOf (rolling s (public_of next)) (keys ++ next ∷ [])
+rolled-ring s keys next is behind-newest = record {
+  each = omega (arith, is.each, length-append keys (next ∷ []));
+  leaves = λ g key at. elim (key-cases keys next g key at) [
+    | inl old ↦ is.leaves g key old
+    | inr new ↦ is.leaves (length keys - 1) behind-newest.newest behind-newest.last ∙ ap (λ (k : KeyParts). 2 ^ height_of k.lms) (sym (new ∙ behind-newest.is))
+  ];
+  bytes = λ g key at. elim (key-cases keys next g key at) [
+    | inl old ↦ is.bytes g key old
+    | inr new ↦ ap ring_signature_len (new ∙ behind-newest.is) ∙ is.bytes (length keys - 1) behind-newest.newest behind-newest.last
+  ];
+}
+
+-- what a roll answers
+pub record IsRolledBy (s : AuthorityState) (keys : List KeyParts) (next : LmsPublic) (later : AuthorityState) (sent : Unsigned) : Type 0 where
+  pub fills : CanFill keys sent
+  pub is : later ≡ rolling s next
+
+pub roll-signs : (s : AuthorityState) (keys : List KeyParts) (next : LmsPublic) (later : AuthorityState) (sent : Unsigned) → IsRingOf (rolling s next) keys → roll_row s next ≡ Ok (later, sent) → IsRolledBy s keys next later sent
+unfolding roll_row
+roll-signs s keys next later sent is e = by (s.past.signed.newest == 999) e
+  where
+    text : List ℕ
+    text = roll_text (authority_party s.me) s.past.signed.newest next
+
+    due : DueParts
+    due = record { generation = s.past.signed.newest; leaf = s.past.signed.leaves - 1; text = text; leaves = s.past.signed.leaves }
+
+    by : (last : Bool) → roll_by s next (cond last (Err Last) (Ok due)) ≡ Ok (later, sent) → IsRolledBy s keys next later sent
+    by true h = absurd cc
+    by false h =
+        let upto : due.generation ≤ (rolling s next).past.signed.newest = omega arith in
+        let owes : Owes keys due s.signature_len = owed (rolling s next) keys due is (record { counts_on = refl; upto = upto }) in
+        let pair : (rolling s next, sends s.signature_len Logs (message_text (roll_message s next)) due) ≡ (later, sent) = cc in
+        subst (λ (p : AuthorityState × Unsigned). IsRolledBy s keys next p.0 p.1) pair
+        (record { fills = can-fill keys s.signature_len Logs (message_text (roll_message s next)) due owes (note-fits s next); is = refl })
+
+-- the keys with the next behind them sign what a roll leaves blank, and are those of the authority that rolled
+pub rolled-signs : (s : AuthorityState) (keys more : List KeyParts) (next : KeyParts) (later : AuthorityState) (sent : Unsigned) → IsRingOf s keys → IsNext keys next → more ≡ keys ++ next ∷ []
+    → roll_row s (public_of next) ≡ Ok (later, sent) → CanFill more sent × IsRingOf later more
+rolled-signs s keys more next later sent is behind-newest more-are e =
+    let ring : IsRingOf (rolling s (public_of next)) (keys ++ next ∷ []) = rolled-ring s keys next is behind-newest in
+    let rolled : IsRolledBy s (keys ++ next ∷ []) (public_of next) later sent = roll-signs s (keys ++ next ∷ []) (public_of next) later sent ring e in
+    (subst (λ (l : List KeyParts). CanFill l sent) (sym more-are) rolled.fills, subst (λ (l : List KeyParts). IsRingOf later l) (sym more-are) (subst (λ (a : AuthorityState). IsRingOf a (keys ++ next ∷ [])) (sym rolled.is) ring))
