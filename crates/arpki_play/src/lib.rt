@@ -13,7 +13,6 @@ mod judgements;
 pub mod laws;
 #[cfg(test)]
 mod make_tests;
-mod note;
 mod program;
 mod question;
 mod request;
