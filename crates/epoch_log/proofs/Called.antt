@@ -22,8 +22,9 @@ use Rattle.ar_council.specs.Room.{HasRoom}
 use Rattle.ar_council.specs.Seen.{seen_after, seen_of}
 use Rattle.ar_council.specs.Values.{IsValue, status_claim, vote_claim}
 use Rattle.ar_council.specs.Votes.{SawVotes}
-use Rattle.epoch_log.specs.Calls.{AreEndorsers, IsProposed, IsTurn, MayDecide, MaySkip, MayState, MayVote, SignedStatus, after_ballot, after_decide, after_endorsed, after_learn, after_propose, after_skip, after_state, after_status_seen, after_vote, casting, counting_own, counting_status, counting_vote, decision_seen, endorsements_of, fresh, is_turn, own_status_text, own_value, own_vote_text, plain_statuses, proposal_of, proposal_texts, propose_claim, proposing, seeing, stating, statuses_seen, vote_of, votes_seen}
+use Rattle.epoch_log.specs.Calls.{AreEndorsers, IsProposed, IsTurn, MayDecide, MaySkip, MayState, MayVote, SignedStatus, after_ballot, after_decide, after_endorsed, after_learn, after_propose, after_skip, after_state, after_status_seen, after_vote, casting, counting_own, decision_seen, endorsements_of, fresh, is_turn, own_status_text, own_value, own_vote_text, plain_statuses, proposal_of, proposal_texts, propose_claim, proposing, seeing, stating, statuses_seen, vote_of, votes_seen}
 use Rattle.epoch_log.specs.Ending.{decided, may_end, skipped}
+use Rattle.epoch_log.specs.Plans.{with_ballot, with_report}
 use Rattle.epoch_log.specs.Record.{current, ending}
 use Rattle.epoch_log.specs.Right.{LeadsTo, SawEndorsements}
 use Rattle.epoch_log.specs.State.{IsKept, LogState, epoch_of, table_of}
@@ -103,22 +104,27 @@ kept-propose s value changes kept turn may saw room =
     kept-closed (counting_own (casting (proposing s value) (vote_of s value changes)) value)
     (kept-own (casting (proposing s value) (vote_of s value changes)) value cast turn.0)
 
-pub kept-ballot : (s : LogState) (log : ℕ) (value : Value) (signature : List ℕ) → IsKept s → log < s.council.logs → IsKept (after_ballot s log value signature).0
-kept-ballot s log value signature kept member =
+pub kept-with_ballot : (s : LogState) (log : ℕ) (value : Value) (signature : Option (List ℕ)) → IsKept s → log < s.council.logs → IsKept (with_ballot s log value signature)
+kept-with_ballot s log value signature kept member =
     let one : SeenText = seen_of (log_party log) (vote_claim log (epoch_of s) value) in
     let more : List SeenText = one ∷ [] in
     let saw = kept-seeing s more kept (All-cons (λ (t : SeenText). IsMember s.council t.party) one [] member (All-nil (λ (t : SeenText). IsMember s.council t.party))) in
-    kept-closed (counting_vote (seeing s more) (log, value, Some signature))
-    (kept-counting_vote (seeing s more) (log, value, Some signature) saw
-    (record { log = member; saw = All-head (Contains (seen_after s.past.seen more)) one [] (seen-has more s.past.seen) }))
+    kept-counting_vote (seeing s more) (log, value, signature) saw
+    (record { log = member; saw = All-head (Contains (seen_after s.past.seen more)) one [] (seen-has more s.past.seen) })
 
-pub kept-status : (s : LogState) (log : ℕ) (value : Option Value) (signature : Option (List ℕ)) → IsKept s → log < s.council.logs → IfSome value IsValue → IsKept (after_status_seen s log value signature).0
-kept-status s log value signature kept member are =
+pub kept-ballot : (s : LogState) (log : ℕ) (value : Value) (signature : List ℕ) → IsKept s → log < s.council.logs → IsKept (after_ballot s log value signature).0
+kept-ballot s log value signature kept member = kept-closed (with_ballot s log value (Some signature)) (kept-with_ballot s log value (Some signature) kept member)
+
+pub kept-with_report : (s : LogState) (log : ℕ) (value : Option Value) (signature : Option (List ℕ)) → IsKept s → log < s.council.logs → IfSome value IsValue
+    → IsKept (with_report s log value signature)
+kept-with_report s log value signature kept member are =
     let one : SeenText = seen_of (log_party log) (status_claim log (epoch_of s) value) in
     let more : List SeenText = one ∷ [] in
     let saw = kept-seeing s more kept (All-cons (λ (t : SeenText). IsMember s.council t.party) one [] member (All-nil (λ (t : SeenText). IsMember s.council t.party))) in
-    kept-closed (counting_status (seeing s more) (log, value, signature))
-    (kept-counting_status (seeing s more) (log, value, signature) saw member are (All-head (Contains (seen_after s.past.seen more)) one [] (seen-has more s.past.seen)))
+    kept-counting_status (seeing s more) (log, value, signature) saw member are (All-head (Contains (seen_after s.past.seen more)) one [] (seen-has more s.past.seen))
+
+pub kept-status : (s : LogState) (log : ℕ) (value : Option Value) (signature : Option (List ℕ)) → IsKept s → log < s.council.logs → IfSome value IsValue → IsKept (after_status_seen s log value signature).0
+kept-status s log value signature kept member are = kept-closed (with_report s log value signature) (kept-with_report s log value signature kept member are)
 
 pub kept-state : (s : LogState) → IsKept s → MayState s → HasRoom s.past.signed (own_status_text s ∷ []) → IsKept (after_state s).0
 kept-state s kept may room = by (is_turn s.council s.me (epoch_of s + 1)) refl

@@ -12,5 +12,7 @@ pub mod Leaves
 pub mod Lists
 pub mod Loops
 pub mod Moved
+pub mod Places
+pub mod Plans
 pub mod Read
 pub mod Texts

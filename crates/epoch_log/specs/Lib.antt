@@ -3,6 +3,7 @@ pub mod Calls
 pub mod Ending
 pub mod Honest
 pub mod Log
+pub mod Plans
 pub mod Record
 pub mod Right
 pub mod State

@@ -5,14 +5,19 @@
 //! `specs/Told.antt` and `specs/Right.antt` say of single entries. `specs/State.antt` says where a log stands and what is
 //! kept of that, `specs/Ending.antt` how an epoch ends, and `specs/Calls.antt` what each call makes of where a log stands,
 //! and when it may be made; `specs/Log.antt` says what a log in the program holds and keeps of that, and `specs/Answers.antt`
-//! what a call needs and answers beside that, `specs/Telling.antt` where another log tells how an epoch ended. `laws` says
-//! that each call keeps what is kept.
+//! what a call needs and answers beside that, `specs/Telling.antt` where another log tells how an epoch ended,
+//! and `specs/Plans.antt` what is planned before an epoch ends with what is counted. `laws` says that each call keeps what
+//! is kept.
 #![tactic(auto)]
 
+mod balloting;
+mod closing;
 mod confirming;
+mod counting;
 mod deciding;
 mod ending;
 mod entries;
+mod finishing;
 mod keys;
 pub mod laws;
 mod log;
@@ -22,6 +27,7 @@ mod seeing;
 mod signing;
 mod skipping;
 mod statements;
+mod stating;
 mod tables;
 mod voting;
 

@@ -1,4 +1,4 @@
-ghost use Rattle.std.specs.Prelude.{◌≡◌, ◌<◌, IfSome, IsSome, OnOk, OnErr};
+ghost use Rattle.std.specs.Prelude.{◌≡◌, ◌<◌, IfOk, IfSome, Some, IsSome, OnOk, OnErr};
 ghost use Rattle.std.specs.Option.{option_map};
 ghost use Rattle.ar_base.specs.Gives.{GivesOrWants, GivesUnless};
 ghost use Rattle.ar_council.specs.Council.{council_of};
@@ -12,13 +12,13 @@ ghost use Rattle.party_keys.specs.Seen.{log_party};
 ghost use Rattle.party_keys.specs.declared.fault.LearnFault.TheVariants as learn_fault;
 ghost use Rattle.domain_table.specs.Sound.{IsSound};
 ghost use Rattle.epoch_log.specs.Answers.{IsOpenTo, confirmed, voted};
-ghost use Rattle.epoch_log.specs.Calls.{AreEndorsers, IsProposed, after_confirm, after_decide, after_endorsed, after_learn, after_roll, after_skip, after_vote, fresh};
+ghost use Rattle.epoch_log.specs.Calls.{AreEndorsers, IsProposed, after_ballot, after_confirm, after_decide, after_endorsed, after_learn, after_roll, after_skip, after_status_seen, after_vote, fresh};
 ghost use Rattle.epoch_log.specs.Log.{moved, record_of};
 ghost use Rattle.epoch_log.specs.State.{IsKept, epoch_of, table_of};
 ghost use Rattle.epoch_log.specs.Telling.{CanDecide, CanSkip, statuses_in, to_root, votes_in};
 
 use crate::parts::Parts;
-use crate::{Newest, Record};
+use crate::{Closing, Newest, Record};
 use ar_cert::Change;
 use ar_names::Name;
 use ar_statement::{Party, Statement};
@@ -149,6 +149,40 @@ impl EpochLog {
     {
         self.parts
             .vote(alloc, proposer, Value { base, root }, changes)
+    }
+
+    /// Sees a log's ballot of the current epoch, and counts it unless its ballot for this value is counted; the epoch may end
+    /// with it. The only error is want of memory.
+    pub fn ballot(
+        &mut self,
+        alloc: Global,
+        log: u16,
+        value: Value,
+        signature: &[u8],
+    ) -> Result<Closing, AllocError>
+        requires { log < self.old.state.council.logs }
+        ensures answer { IfOk result (λ closing. closing ≡ (after_ballot self.old.state log value signature.now).1) }
+        ensures ok { OnOk result (self.new ≡ moved self.old (after_ballot self.old.state log value signature.now).0) }
+        ensures err { OnErr result (self.new ≡ self.old) }
+    {
+        self.parts.ballot(alloc, log, value, signature)
+    }
+
+    /// Sees a log's status of the current epoch, and counts it where it is the log's first; the epoch may end with it. The
+    /// only error is want of memory.
+    pub fn status_seen(
+        &mut self,
+        alloc: Global,
+        log: u16,
+        value: Option<Value>,
+        signature: &[u8],
+    ) -> Result<Closing, AllocError>
+        requires { log < self.old.state.council.logs }
+        ensures answer { IfOk result (λ closing. closing ≡ (after_status_seen self.old.state log value (Some signature.now)).1) }
+        ensures ok { OnOk result (self.new ≡ moved self.old (after_status_seen self.old.state log value (Some signature.now)).0) }
+        ensures err { OnErr result (self.new ≡ self.old) }
+    {
+        self.parts.status_seen(alloc, log, value, signature)
     }
 
     /// Ends the epoch as decided, as another log tells with the votes of a quorum. The last epoch that a statement can name

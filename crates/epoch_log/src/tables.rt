@@ -8,6 +8,17 @@ use ar_cert::Change;
 use domain_table::{ApplyFault, Table};
 use std::alloc::{AllocError, Global};
 
+/// Copies of all, in their order.
+pub(crate) fn copies(alloc: Global, changes: &[Change]) -> Result<Vec<Change>, AllocError>
+    ensures { IfOk result (λ list. list.items ≡ changes.now) }
+{
+    let mut list = Vec::with_capacity(alloc, changes.len())?;
+    for change in changes {
+        list.push(change.copy(alloc)?)?;
+    }
+    Ok(list)
+}
+
 /// Applies a copy of a change that is taken.
 fn apply_one(
     alloc: Global,

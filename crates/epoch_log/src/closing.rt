@@ -1,0 +1,185 @@
+//! Whether an epoch ends with what is counted, and what its end takes, before anything changes.
+ghost use Rattle.std.specs.Prelude.{◌≡◌, nat_le, length, map, filter, Some, IfOk, IfSome, IsSome};
+ghost use Rattle.std.specs.Option.{option_map};
+ghost use Rattle.ar_council.specs.Council.{council_of};
+ghost use Rattle.vote_quorum.specs.Ballots.{is_same, log_count};
+ghost use Rattle.vote_quorum.specs.Statuses.{AreStatuses};
+ghost use Rattle.domain_table.specs.Applying.{apply};
+ghost use Rattle.domain_table.specs.Sound.{IsSound};
+ghost use Rattle.epoch_log.specs.Ending.{excludes_all};
+ghost use Rattle.epoch_log.specs.Plans.{IsDecision, IsOwnDecision, IsPlan, backs, verdict_of};
+
+use crate::Voted;
+use crate::ending::{Decision, LAST_EPOCH};
+use crate::statements::changes_told;
+use crate::tables::{copies, table_after};
+use domain_table::Table;
+use party_keys::Directory;
+use std::alloc::{AllocError, Global};
+use vote_quorum::{Value, distinct_count, excluded};
+
+/// How an epoch ends.
+#[derive(Clone, Copy)]
+pub(crate) enum Verdict {
+    Open,
+    Decided,
+    Skipped,
+}
+
+/// How an epoch is to end, with all memory that this takes. A decision has a list for the votes, with room for all that are
+/// counted.
+#[derive(Drop)]
+pub(crate) enum Plan {
+    Open,
+    Decided(Decision),
+    Skipped(Vec<(u16, Option<Value>)>),
+}
+
+/// The logs that have a ballot for the value.
+fn logs_for(alloc: Global, ballots: &[(u16, Value)], value: &Value) -> Result<Vec<u16>, AllocError>
+    ensures { IfOk result (λ logs. logs.items ≡ map (λ b. b.0) (filter (λ b. is_same b.1 value.now) ballots.now)) }
+{
+    ballots
+        .iter()
+        .filter(|b| b.1 == *value)
+        .map(|b| b.0)
+        .collect(alloc)
+}
+
+/// Whether ballots of at least `quorum` logs are for the value.
+fn has_quorum(
+    alloc: Global,
+    quorum: usize,
+    ballots: &[(u16, Value)],
+    value: &Value,
+) -> Result<bool, AllocError>
+    ensures { IfOk result (λ enough. enough ≡ nat_le quorum (log_count ballots.now value.now)) }
+{
+    let logs = logs_for(alloc, ballots, value)?;
+    Ok(quorum <= distinct_count(&logs))
+}
+
+/// Whether the ballots are a quorum for the own vote.
+fn backs(
+    alloc: Global,
+    quorum: usize,
+    ballots: &[(u16, Value)],
+    own: Option<&Voted>,
+) -> Result<bool, AllocError>
+    ensures { IfOk result (λ enough. enough ≡ backs quorum ballots.now (option_map (λ v. v.now) own.entry)) }
+{
+    match own {
+        Some(vote) => has_quorum(
+            alloc,
+            quorum,
+            ballots,
+            &Value {
+                base: vote.base,
+                root: vote.root,
+            },
+        ),
+        None => Ok(false),
+    }
+}
+
+/// Whether the statuses exclude each root.
+fn excludes(directory: &Directory, reports: &[(u16, Option<Value>)]) -> bool
+    requires { AreStatuses (length directory.now.logs) reports.now }
+    ensures { result ≡ excludes_all (council_of directory.now) reports.now }
+{
+    excluded(directory.logs(), directory.quorum(), reports).is_ok()
+}
+
+/// How the epoch ends, by the own vote, the counted ballots and the counted statuses.
+fn verdict_on(
+    alloc: Global,
+    directory: &Directory,
+    own: Option<&Voted>,
+    ballots: &[(u16, Value)],
+    reports: &[(u16, Option<Value>)],
+) -> Result<Verdict, AllocError>
+    requires { AreStatuses (length directory.now.logs) reports.now }
+    ensures { IfOk result (λ verdict. verdict ≡ verdict_of (council_of directory.now) (option_map (λ v. v.now) own.entry) ballots.now reports.now) }
+{
+    if backs(alloc, directory.quorum(), ballots, own)? {
+        return Ok(Verdict::Decided);
+    }
+    if excludes(directory, reports) {
+        return Ok(Verdict::Skipped);
+    }
+    Ok(Verdict::Open)
+}
+
+/// What the decision of a vote takes, with room for so many votes.
+fn decision_of(
+    alloc: Global,
+    epoch: u64,
+    table: &Table,
+    vote: &Voted,
+    room: usize,
+) -> Result<Decision, AllocError>
+    requires sound { IsSound table.now }
+    requires applies { IsSome (apply table.now epoch vote.now.changes) }
+    ensures { IfOk result (IsDecision epoch table.now vote.now room) }
+{
+    let changes = copies(alloc, vote.changes.as_slice())?;
+    changes_told(&changes);
+    let table = table_after(alloc, epoch, table, &changes)?;
+    let votes = Vec::with_capacity(alloc, room)?;
+    Ok(Decision {
+        changes,
+        value: Value {
+            base: vote.base,
+            root: vote.root,
+        },
+        table,
+        votes,
+    })
+}
+
+/// What the decision of the own vote takes.
+fn own_decision(
+    alloc: Global,
+    epoch: u64,
+    table: &Table,
+    own: Option<&Voted>,
+    room: usize,
+) -> Result<Decision, AllocError>
+    requires sound { IsSound table.now }
+    requires some { IsSome (option_map (λ v. v.now) own) }
+    requires applies { IfSome (option_map (λ v. v.now) own) (λ v. IsSome (apply table.now epoch v.changes)) }
+    ensures { IfOk result (IsOwnDecision epoch table.now (option_map (λ v. v.now) own.entry) room) }
+{
+    match own {
+        Some(vote) => decision_of(alloc, epoch, table, vote, room),
+        None => unreachable!(),
+    }
+}
+
+/// How the epoch is to end, by what will be counted. The changes of the own vote apply to the table.
+pub(crate) fn plan_for(
+    alloc: Global,
+    directory: &Directory,
+    epoch: u64,
+    table: &Table,
+    own: Option<&Voted>,
+    ballots: &[(u16, Value)],
+    reports: Vec<(u16, Option<Value>)>,
+) -> Result<Plan, AllocError>
+    requires statuses { AreStatuses (length directory.now.logs) reports.items }
+    requires sound { IsSound table.now }
+    requires applies { IfSome (option_map (λ v. v.now) own) (λ v. IsSome (apply table.now epoch v.changes)) }
+    ensures { IfOk result (IsPlan (council_of directory.now) epoch table.now (option_map (λ v. v.now) own.entry) ballots.now reports.items) }
+{
+    if epoch >= LAST_EPOCH {
+        return Ok(Plan::Open);
+    }
+    match verdict_on(alloc, directory, own, ballots, &reports)? {
+        Verdict::Open => Ok(Plan::Open),
+        Verdict::Skipped => Ok(Plan::Skipped(reports)),
+        Verdict::Decided => {
+            let decision = own_decision(alloc, epoch, table, own, ballots.len())?;
+            Ok(Plan::Decided(decision))
+        }
+    }
+}
