@@ -8,6 +8,8 @@
 //! | `root COUNT` | `root_of`, over a table of so many entries | the root |
 //! | `fill COUNT` | `Trie::set`, of each entry of such a table | the root |
 //! | `change COUNT` | `Trie::set` once more in the filled tree, of the first entry with a value of zeros | the root |
+//! | `judge COUNT` | `Table::judge`, of an update of the first of so many names | the root, as it was |
+//! | `apply COUNT` | `Table::apply`, of this update | the root then |
 //! | `message LENGTH` | `Message::read`, `Message::write` and a copy, of a message | the SHA-256 of what was written |
 //!
 //! The seed of a key is the bytes 0 to 31, and what it signs is the message `abc`, at leaf 0. Entry n
@@ -21,11 +23,13 @@ use std::{env, io};
 
 mod call;
 mod message;
+mod names;
 mod request;
 mod table;
 
 use call::{key_of, root_kept, root_of_table, signature_of};
 use message::digest_of_message;
+use names::{root_applied, root_judged};
 use request::{Request, request_of};
 
 /// What the call gave, in hex.
@@ -36,6 +40,8 @@ fn answer(alloc: Global, request: Request) -> io::Result<String> {
         Request::Root { count } => in_hex(alloc, &root_of_table(alloc, count)?),
         Request::Fill { count } => in_hex(alloc, &root_kept(alloc, count, false)?),
         Request::Change { count } => in_hex(alloc, &root_kept(alloc, count, true)?),
+        Request::Judge { count } => in_hex(alloc, &root_judged(alloc, count)?),
+        Request::Apply { count } => in_hex(alloc, &root_applied(alloc, count)?),
         Request::Message { len } => in_hex(alloc, &digest_of_message(alloc, len)?),
     }
 }

@@ -8,6 +8,8 @@ pub(crate) enum Request {
     Root { count: u32 },
     Fill { count: u32 },
     Change { count: u32 },
+    Judge { count: u32 },
+    Apply { count: u32 },
     Message { len: u16 },
 }
 
@@ -33,6 +35,8 @@ fn of_count(call: &str, count: u32) -> io::Result<Request> {
         "root" => Ok(Request::Root { count }),
         "fill" => Ok(Request::Fill { count }),
         "change" => Ok(Request::Change { count }),
+        "judge" => Ok(Request::Judge { count }),
+        "apply" => Ok(Request::Apply { count }),
         "message" => of_length(count),
         _ => Err(ErrorKind::InvalidInput.into()),
     }
