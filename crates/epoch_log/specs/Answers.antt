@@ -1,5 +1,5 @@
 -- What a vote needs, and what a vote and a confirmation answer, beside what it makes of where a log stands.
-use Rattle.std.specs.Prelude.{◌≡◌, ◌≢◌, ℕ, ◌+◌, Bool, nat_le, List, All, Some, Result}
+use Rattle.std.specs.Prelude.{◌≡◌, ◌≢◌, ℕ, ◌+◌, Bool, nat_le, List, All, Some, Result, Ok, Err}
 use Rattle.ar_cert.specs.Changes.{Change}
 use Rattle.key_roll.specs.Book.{RollBook}
 use Rattle.key_roll.specs.Due.{DueParts}
@@ -11,8 +11,9 @@ use Rattle.vote_quorum.specs.declared.value.Value.{Value}
 use Rattle.domain_table.specs.Applying.{apply}
 use Rattle.domain_table.specs.Tables.{Table}
 use Rattle.domain_table.specs.Tree.{root_of}
-use Rattle.epoch_log.specs.Calls.{confirmation_text, own_vote_text, with_confirmed}
+use Rattle.epoch_log.specs.Calls.{after_state, confirmation_text, own_status_text, own_vote_text, with_confirmed}
 use Rattle.epoch_log.specs.State.{LogState, epoch_of, table_of}
+use Rattle.epoch_log.specs.declared.entries.Closing.{Closing}
 use Rattle.epoch_log.specs.declared.entries.Confirmed.{Confirmed}
 use Rattle.epoch_log.specs.declared.entries.Newest.{Newest}
 
@@ -53,3 +54,14 @@ abbrev pub confirming : LogState → List ℕ → Confirmed → LogState
 confirming s text c = record s {
   past = record s.past { confirmed = with_confirmed s.past.confirmed c; signed = after_entry s.past.signed text };
 }
+
+-- ---- what calls answer with which the epoch may end
+
+-- what is signed, and beside it how the epoch goes on
+abbrev pub beside : Closing → Result DueParts BookFault → Result (DueParts × Closing) BookFault
+beside closing (Ok due) = Ok (due, closing)
+beside closing (Err fault) = Err fault
+
+-- what `state` answers: the status's leaf and the closing rule's answer, or that there is no leaf
+abbrev pub stated : LogState → Result (DueParts × Closing) BookFault
+stated s = beside (after_state s).1 (entered s.past.signed (own_status_text s))

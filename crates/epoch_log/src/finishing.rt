@@ -6,6 +6,7 @@ ghost use Rattle.epoch_log.specs.Ending.{closed, decided, own_vote, votes_for};
 ghost use Rattle.epoch_log.specs.Log.{IsLog, moved, parts_of, state_in};
 ghost use Rattle.epoch_log.specs.Plans.{IsPlan, IsPlanIn};
 ghost use Rattle.epoch_log.specs.State.{epoch_of};
+ghost use Rattle.epoch_log.specs.Told.{value_of};
 
 use crate::closing::{Plan, plan_for};
 use crate::ending::Decision;
@@ -21,6 +22,19 @@ pub(crate) fn own_vote(voted: &[Voted], epoch: u64) -> Option<&Voted>
     ensures { option_map (λ v. v.now) result ≡ own_vote voted.now epoch }
 {
     voted.iter().find(|v| v.epoch == epoch)
+}
+
+/// What the own vote of an epoch is for.
+pub(crate) fn own_value(voted: &[Voted], epoch: u64) -> Option<Value>
+    ensures { result ≡ option_map value_of (own_vote voted.now epoch) }
+{
+    match own_vote(voted, epoch) {
+        Some(vote) => Some(Value {
+            base: vote.base,
+            root: vote.root,
+        }),
+        None => None,
+    }
 }
 
 /// The counted ballots for a value, as logs with their signatures, in a list that has room for them.

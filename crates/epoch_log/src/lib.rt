@@ -21,6 +21,7 @@ mod finishing;
 mod keys;
 pub mod laws;
 mod log;
+mod own_status;
 mod parts;
 mod past;
 mod seeing;

@@ -11,8 +11,8 @@ ghost use Rattle.party_keys.specs.Learning.{after_adopting, after_learning, lear
 ghost use Rattle.party_keys.specs.Seen.{log_party};
 ghost use Rattle.party_keys.specs.declared.fault.LearnFault.TheVariants as learn_fault;
 ghost use Rattle.domain_table.specs.Sound.{IsSound};
-ghost use Rattle.epoch_log.specs.Answers.{IsOpenTo, confirmed, voted};
-ghost use Rattle.epoch_log.specs.Calls.{AreEndorsers, IsProposed, after_ballot, after_confirm, after_decide, after_endorsed, after_learn, after_roll, after_skip, after_status_seen, after_vote, fresh};
+ghost use Rattle.epoch_log.specs.Answers.{IsOpenTo, confirmed, stated, voted};
+ghost use Rattle.epoch_log.specs.Calls.{AreEndorsers, IsProposed, MayState, after_ballot, after_confirm, after_decide, after_endorsed, after_learn, after_roll, after_skip, after_state, after_status_seen, after_vote, fresh};
 ghost use Rattle.epoch_log.specs.Log.{moved, record_of};
 ghost use Rattle.epoch_log.specs.State.{IsKept, epoch_of, table_of};
 ghost use Rattle.epoch_log.specs.Telling.{CanDecide, CanSkip, statuses_in, to_root, votes_in};
@@ -166,6 +166,19 @@ impl EpochLog {
         ensures err { OnErr result (self.new ≡ self.old) }
     {
         self.parts.ballot(alloc, log, value, signature)
+    }
+
+    /// States what the log did in the epoch: the ballot that it cast, or that it cast none. Where the log counts the statuses
+    /// itself, its own is seen and counted at once, and the epoch may end with it.
+    ///
+    /// It gives the leaf of the status, and is `Spent` exactly where there is none.
+    pub fn state(&mut self, alloc: Global) -> Result<(RollDue, Closing), BookFault>
+        requires { MayState self.old.state }
+        ensures answer { GivesOrWants book_fault.Memory (λ r. r) result (stated self.old.state) }
+        ensures ok { OnOk result (self.new ≡ moved self.old (after_state self.old.state).0) }
+        ensures err { OnErr result (self.new ≡ self.old) }
+    {
+        self.parts.state(alloc)
     }
 
     /// Sees a log's status of the current epoch, and counts it where it is the log's first; the epoch may end with it. The

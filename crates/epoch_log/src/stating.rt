@@ -19,7 +19,7 @@ use vote_quorum::Value;
 
 impl Parts {
     /// How the epoch is to end where this status is counted too.
-    fn plan_with_status(
+    pub(crate) fn plan_with_status(
         &self,
         alloc: Global,
         log: u16,
@@ -55,7 +55,12 @@ impl Parts {
     }
 
     /// The same of a log of the council, which keeps what is kept.
-    fn take_report(&mut self, log: u16, value: Option<Value>, signature: Option<Items<u8>>)
+    pub(crate) fn take_report(
+        &mut self,
+        log: u16,
+        value: Option<Value>,
+        signature: Option<Items<u8>>,
+    )
         requires kept { IsLog self.old }
         requires log { log < (state_in self.old).council.logs }
         requires value { IfSome value IsValue }
