@@ -9,7 +9,9 @@ pub mod KeptEndings
 pub mod KeptRows
 pub mod Known
 pub mod Reported
+pub mod Sealing
 pub mod Sees
 pub mod Stepping
+pub mod Submitted
 pub mod Verified
 pub mod Walked

@@ -1,23 +1,38 @@
 -- Steps that are their rows'.
-use Rattle.std.proofs.Common.{◌≡◌, [], ◌∷◌, refl, sym, ap, ◌∙◌, subst, ◌⊎◌, inl, inr}
+use Rattle.std.proofs.Common.{◌≡◌, ◌-◌, ◌==◌, Bool, true, false, not, cond, None, [], ◌∷◌, refl, sym, ap, ◌∙◌, subst, ◌⊎◌, inl, inr}
 use Rattle.std.specs.Prelude.{Result, Ok, Err, OnOk, OnErr}
 use Rattle.ar_base.specs.Gives.{GivesUnless}
+use Rattle.ar_council.proofs.Readable.{readable}
+use Rattle.ar_message.specs.declared.address.Address.TheVariants.{Logs}
+use Rattle.ar_message.specs.declared.message.Message.TheVariants.{RollNote}
 use Rattle.ar_message.specs.declared.unsigned.Unsigned.{Unsigned}
+use Rattle.ar_statement.specs.Ranges.{IsKeyText}
+use Rattle.key_roll.specs.Due.{DueParts}
+use Rattle.key_roll.specs.Entry.{roll_text, rolled}
+use Rattle.key_roll.specs.declared.fault.RollFault.{RollFault}
+use Rattle.key_roll.specs.declared.fault.RollFault.TheVariants as roll_fault
+use Rattle.lms_tree.specs.PublicKey.{HasWidths}
+use Rattle.lms_tree.specs.declared.public_key.LmsPublic.{LmsPublic}
+use Rattle.party_keys.specs.Learning.{after_adopting}
+use Rattle.party_keys.specs.Seen.{log_party}
 use Rattle.lms_tree.specs.PublicKey.{key_text}
 use Rattle.party_keys.specs.Learning.{Announced, after_learning, learned}
 use Rattle.party_keys.specs.declared.fault.LearnFault.{LearnFault}
 use Rattle.party_keys.specs.declared.fault.LearnFault.TheVariants as learn_fault
 use Rattle.party_keys.specs.declared.learning.Learned.{Learned}
-use Rattle.epoch_log.specs.Calls.{after_learn}
+use Rattle.epoch_log.specs.Calls.{after_learn, after_roll}
 use Rattle.epoch_log.specs.Log.{LogParts}
-use Rattle.log_core.specs.Checks.{checked}
+use Rattle.log_core.specs.Checks.{checked, unless}
+use Rattle.log_core.specs.Rolling.{roll_draft, rolling_reply, rolling_row}
+use Rattle.log_core.specs.Sending.{none_composed, sealed, with_draft, zeros}
 use Rattle.log_core.specs.Kept.{IsKeptCore}
 use Rattle.log_core.specs.Learning.{is_learned, roll_note_reply, roll_note_row}
 use Rattle.log_core.specs.State.{Answer, CoreState, nothing}
-use Rattle.log_core.specs.Steps.{IsStep, learn_refusal, noted}
+use Rattle.log_core.specs.Steps.{IsStep, learn_refusal, noted, roll_refusal}
 use Rattle.log_core.specs.declared.refusal.LogRefusal.{LogRefusal}
 use Rattle.log_core.specs.declared.refusal.LogRefusal.TheVariants as refusals
-use Rattle.log_core.proofs.KeptEndings.{kept-roll_note}
+use Rattle.log_core.proofs.KeptEndings.{kept-roll_note, kept-rolling_row}
+use Rattle.log_core.proofs.Sealing.{sealed-one}
 
 note-row : (s : CoreState) (a : Announced) (answer : Result Learned LearnFault) → learned s.keys a ≡ answer
     → roll_note_row s a ≡ checked (is_learned answer a.party a.generation ∷ []) (roll_note_reply s a)
@@ -41,7 +56,7 @@ note-refused s a learn_fault.Memory (inr is) = inl refl
 -- ---- the step
 
 -- the core around what the log is now
-abbrev core-with : CoreState → LogParts → CoreState
+abbrev pub core-with : CoreState → LogParts → CoreState
 core-with s log = record { log = log.state; keys = log.keys; queue = s.queue; signature_len = s.signature_len }
 
 abbrev log-in : CoreState → LogParts
@@ -70,3 +85,68 @@ pub note-step : (s : CoreState) (a : Announced) (r : Result Learned LearnFault) 
     → IsStep out s (core-with s new) (roll_note_row s a)
 note-step s a r new out is gives ok err =
     subst (λ (o : Result Unsigned LogRefusal). IsStep o s (core-with s new) (roll_note_row s a)) (sym is) (note-step-by s a r new gives ok err)
+
+-- ---- the order to roll
+
+rolled-row : (s : CoreState) (key : LmsPublic) (last : Bool) → (s.log.past.signed.newest == 999) ≡ last
+    → rolling_row s key ≡ checked (unless (not last) refusals.LastGeneration ∷ []) (rolling_reply s key)
+unfolding rolling_row
+rolled-row s key last is = ap (λ b. checked (unless (not b) refusals.LastGeneration ∷ []) (rolling_reply s key)) is
+
+abbrev roll-due : CoreState → LmsPublic → Result DueParts RollFault
+roll-due s key = rolled s.log.past.signed (roll_text (log_party s.log.me) s.log.past.signed.newest key)
+
+-- the entry of a Roll
+abbrev roll-entry : CoreState → LmsPublic → DueParts
+roll-entry s key = record {
+  generation = s.log.past.signed.newest;
+  leaf = s.log.past.signed.leaves - 1;
+  text = roll_text (log_party s.log.me) s.log.past.signed.newest key;
+  leaves = s.log.past.signed.leaves;
+}
+
+roll-made : (s : CoreState) (key : LmsPublic) (due : DueParts) → roll-due s key ≡ Ok due → rolling_row s key ≡ Ok (rolling_reply s key)
+roll-made s key due is = by (s.log.past.signed.newest == 999) refl is
+  where
+    by : (b : Bool) → (s.log.past.signed.newest == 999) ≡ b → cond b (Err roll_fault.Last) (Ok (roll-entry s key)) ≡ Ok due → rolling_row s key ≡ Ok (rolling_reply s key)
+    by true last given = absurd cc
+    by false last given = rolled-row s key false last
+
+pub roll-refused : (s : CoreState) (key : LmsPublic) (fault : RollFault) → (fault ≡ roll_fault.Memory) ⊎ (roll-due s key ≡ Err fault)
+    → (roll_refusal fault ≡ refusals.Memory) ⊎ (rolling_row s key ≡ Err (roll_refusal fault))
+roll-refused s key fault (inl wants) = inl (ap roll_refusal wants)
+roll-refused s key roll_fault.Memory (inr is) = inl refl
+roll-refused s key roll_fault.Last (inr is) = inr (by (s.log.past.signed.newest == 999) refl is)
+  where
+    by : (b : Bool) → (s.log.past.signed.newest == 999) ≡ b → cond b (Err roll_fault.Last) (Ok (roll-entry s key)) ≡ Err roll_fault.Last
+        → rolling_row s key ≡ Err refusals.LastGeneration
+    by true last given = rolled-row s key true last
+    by false last given = absurd cc
+
+-- what the log is behind a Roll
+abbrev log-rolled : CoreState → LmsPublic → LogParts
+log-rolled s key = record { state = after_roll s.log (key_text key); keys = after_adopting s.keys (log_party s.log.me) s.log.past.signed.newest key }
+
+pub roll-keeps : (s : CoreState) (key : LmsPublic) (r : Result DueParts RollFault) (new : LogParts) → IsKeptCore s → IsKeyText (key_text key) → HasWidths key
+    → GivesUnless roll_fault.Memory (λ (due : DueParts). due) r (roll-due s key) → OnOk r (new ≡ log-rolled s key) → OnErr r (new ≡ log-in s) → IsKeptCore (core-with s new)
+roll-keeps s key (Ok due) new kept is-key widths gives ok err =
+    subst (λ (n : LogParts). IsKeptCore (core-with s n)) (sym ok) (kept-rolling_row s key (rolling_reply s key) kept is-key (readable key widths) (roll-made s key due gives))
+roll-keeps s key (Err fault) new kept is-key widths gives ok err = subst (λ (n : LogParts). IsKeptCore (core-with s n)) (sym err) kept
+
+-- the reply, by what was composed before the step, and by the book behind it
+abbrev quiet-with : Unsigned → CoreState → Answer
+quiet-with unsigned after = Ok (record { unsigned = unsigned; after = after })
+
+pub roll-sends : (s : CoreState) (key : LmsPublic) (due : DueParts) (new : LogParts) (unsigned : Unsigned) → roll-due s key ≡ Ok due → new ≡ log-rolled s key
+    → unsigned ≡ sealed new.state.past.signed (with_draft none_composed (roll_draft s key)) None
+    → rolling_row s key ≡ Ok (record { unsigned = unsigned; after = core-with s new })
+roll-sends s key due new unsigned is news sends =
+    roll-made s key due is ∙ sym (ap (λ (u : Unsigned). quiet-with u (core-with s new)) (sends ∙ ap (λ (n : LogParts). sealed n.state.past.signed (with_draft none_composed (roll_draft s key)) None) news ∙ one)
+    ∙ ap (λ (n : LogParts). quiet-with (rolling_reply s key).unsigned (core-with s n)) news)
+  where
+    one : sealed (after_roll s.log (key_text key)).past.signed (with_draft none_composed (roll_draft s key)) None ≡ (rolling_reply s key).unsigned
+    one = sealed-one (after_roll s.log (key_text key)).past.signed Logs (RollNote (log_party s.log.me) s.log.past.signed.newest key (zeros s.signature_len)) _ None
+
+pub roll-step : (s : CoreState) (key : LmsPublic) (fault : RollFault) (new : LogParts) → (fault ≡ roll_fault.Memory) ⊎ (roll-due s key ≡ Err fault) → new ≡ log-in s
+    → IsStep (Err (roll_refusal fault)) s (core-with s new) (rolling_row s key)
+roll-step s key fault new gives err = (ap (λ (n : LogParts). core-with s n) err, roll-refused s key fault gives)

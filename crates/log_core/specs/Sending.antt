@@ -63,6 +63,32 @@ blanks_from book number (draft ∷ drafts) =
 abbrev pub unsigned_of : RollBook → List Draft → Option (ℕ × Option (List ℕ)) → Unsigned
 unsigned_of book drafts ended = record { sent = record { messages = map letter_of drafts; ended = ended }; blanks = blanks_from book 0 drafts }
 
+-- ---- while it is composed
+
+-- the letters so far, and the places where signatures are due, each with the number of its letter
+pub record Composed : Type 0 where
+  pub letters : List Letter
+  pub places : List (ℕ × Place)
+
+-- none yet
+abbrev pub none_composed : Composed
+none_composed = record { letters = []; places = [] }
+
+-- one more draft
+abbrev pub with_draft : Composed → Draft → Composed
+with_draft c draft = record {
+  letters = c.letters ++ letter_of draft ∷ [];
+  places = c.places ++ map (λ place. (length c.letters, place)) draft.own;
+}
+
+-- the blanks of places, with the leaves that the book has for them
+unfoldable pub blanks_in : RollBook → List (ℕ × Place) → List Blank
+blanks_in book places = flat_map (λ p. blanks_by (due_of book p.1.text) p.0 p.1) places
+
+-- what was composed, with its blanks and the epoch that ended
+abbrev pub sealed : RollBook → Composed → Option (ℕ × Option (List ℕ)) → Unsigned
+sealed book c ended = record { sent = record { messages = c.letters; ended = ended }; blanks = blanks_in book c.places }
+
 -- ---- lists with a signature of the log's own among others
 
 -- a vote as it is sent: zero bytes stand for the log's own signature

@@ -1,10 +1,13 @@
 -- What it is that a step of a log is its row's.
-use Rattle.std.specs.Prelude.{◌≡◌, ◌⊎◌, ℕ, Result, Ok, Err}
+use Rattle.std.specs.Prelude.{◌≡◌, ◌⊎◌, ℕ, List, Result, Ok, Err}
 use Rattle.ar_message.specs.declared.unsigned.Unsigned.{Unsigned}
 use Rattle.ar_statement.specs.declared.party.Party.{Party}
+use Rattle.key_roll.specs.declared.fault.RollFault.{RollFault}
+use Rattle.key_roll.specs.declared.fault.RollFault.TheVariants as roll_fault
 use Rattle.party_keys.specs.declared.fault.LearnFault.{LearnFault}
 use Rattle.party_keys.specs.declared.fault.LearnFault.TheVariants as learn_fault
 use Rattle.party_keys.specs.declared.learning.Learned.{Learned}
+use Rattle.log_core.specs.Checks.{Check, first_refusal}
 use Rattle.log_core.specs.State.{Answer, CoreState, nothing}
 use Rattle.log_core.specs.declared.refusal.LogRefusal.{LogRefusal}
 use Rattle.log_core.specs.declared.refusal.LogRefusal.TheVariants as refusals
@@ -14,6 +17,15 @@ use Rattle.log_core.specs.declared.refusal.LogRefusal.TheVariants as refusals
 abbrev pub IsStep : Result Unsigned LogRefusal → CoreState → CoreState → Answer → Type 0
 IsStep (Ok unsigned) before after answer = answer ≡ Ok (record { unsigned = unsigned; after = after })
 IsStep (Err refusal) before after answer = (after ≡ before) × ((refusal ≡ refusals.Memory) ⊎ (answer ≡ Err refusal))
+
+-- the value where a check holds, or its refusal
+abbrev pub given_by : {A : Type 0} → Check → A → Result A LogRefusal
+given_by (Ok _) value = Ok value
+given_by (Err refusal) value = Err refusal
+
+-- the value where no check refuses, or the refusal of the first that does
+abbrev pub given : {A : Type 0} → List Check → A → Result A LogRefusal
+given checks value = given_by (first_refusal checks) value
 
 -- the refusal of a key that is not learnt
 abbrev pub learn_refusal : LearnFault → Party → ℕ → LogRefusal
@@ -26,3 +38,8 @@ learn_refusal learn_fault.Memory party generation = refusals.Memory
 abbrev pub noted : Result Learned LearnFault → Party → ℕ → Result Unsigned LogRefusal
 noted (Ok how) party generation = Ok nothing
 noted (Err fault) party generation = Err (learn_refusal fault party generation)
+
+-- the refusal of a key that the log does not go on to
+abbrev pub roll_refusal : RollFault → LogRefusal
+roll_refusal roll_fault.Last = refusals.LastGeneration
+roll_refusal roll_fault.Memory = refusals.Memory

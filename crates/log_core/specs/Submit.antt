@@ -12,6 +12,8 @@ use Rattle.log_core.specs.Checks.{Check, checked, has_place}
 use Rattle.log_core.specs.Signers.{endorsements_in, signers}
 use Rattle.log_core.specs.State.{Answer, CoreState, Reply, nothing}
 use Rattle.log_core.specs.Closings.{core_after}
+use Rattle.log_core.specs.Steps.{given}
+use Rattle.log_core.specs.declared.refusal.LogRefusal.{LogRefusal}
 use Rattle.log_core.specs.declared.refusal.LogRefusal.TheVariants as refusals
 
 -- the change is taken, by how it is judged; it is the only one, with the index 0
@@ -45,3 +47,7 @@ submit_reply s change = record { unsigned = nothing; after = if is_queued s.queu
 
 unfoldable pub submit_row : CoreState → Change → Answer
 submit_row s change = checked (submit_checks s change) (submit_reply s change)
+
+-- what a step is to do, where no check refuses: whether an equal change is queued, so that nothing is to be done
+unfoldable pub submit_judged : CoreState → Change → Result Bool LogRefusal
+submit_judged s change = given (submit_checks s change) (is_queued s.queue change)

@@ -1,5 +1,5 @@
 //! The rows of a log: what a log makes of each message and of each order. The definitions stand, with laws on them; of the
-//! code there is `LogCore`, which keeps what they keep, with the row of a RollNote alone.
+//! code there is `LogCore`, which keeps what they keep, with the rows of a RollNote, of a Submit and of the order to roll.
 //!
 //! `specs/State.antt` has what a log is between two steps and what it is asked, and `specs/Row.antt` the row of each
 //! input. An input has a file of its own, with its checks in order, of which the first that refuses is the answer, and
@@ -12,6 +12,10 @@
 pub mod laws;
 mod log_core;
 mod refusal;
+mod rolling;
+mod sending;
+mod signers;
+mod submitting;
 
 pub use log_core::LogCore;
 pub use refusal::LogRefusal;

@@ -25,11 +25,11 @@ use std::marker::Model;
 /// After an error the log is as it was.
 #[derive(Drop)]
 pub struct LogCore {
-    log: EpochLog,
+    pub(crate) log: EpochLog,
     // The oldest first.
-    queue: Vec<Change>,
+    pub(crate) queue: Vec<Change>,
     // How many bytes each of its signatures has.
-    signature_len: usize,
+    pub(crate) signature_len: usize,
 }
 
 // Clauses see what the log is between two steps.
@@ -45,7 +45,7 @@ impl Model for LogCore {
 }
 
 /// Nothing is sent, no epoch ended, and no signature is due.
-fn nothing(alloc: Global) -> Unsigned
+pub(crate) fn nothing(alloc: Global) -> Unsigned
     ensures { result ≡ nothing }
 {
     Unsigned {

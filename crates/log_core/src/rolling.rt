@@ -1,0 +1,91 @@
+//! The row of the order to roll: the log goes on to its next key.
+
+ghost use Rattle.std.specs.Prelude.{◌≡◌, Err, IfOk};
+ghost use Rattle.ar_statement.specs.Ranges.{IsKeyText};
+ghost use Rattle.lms_tree.specs.PublicKey.{HasWidths, key_text};
+ghost use Rattle.key_roll.specs.declared.fault.RollFault.TheVariants as roll_fault;
+ghost use Rattle.log_core.specs.Rolling.{roll_draft, rolling_row};
+ghost use Rattle.log_core.specs.Sending.{none_composed, with_draft};
+ghost use Rattle.log_core.specs.Steps.{IsStep, roll_refusal};
+
+use crate::LogRefusal;
+use crate::log_core::LogCore;
+use crate::sending::{Drafts, Ready, zeros};
+use ar_bytes::are_bytes;
+use ar_message::{Address, Message, Signature, Unsigned};
+use ar_statement::{Role, Statement};
+use key_roll::{RollFault, forgo};
+use lms_tree::LmsPublic;
+use std::alloc::{AllocError, Global};
+
+/// Tells a proof that the text of a key has its width, and is bytes.
+fn key_told(key: &LmsPublic)
+    ensures text { IsKeyText (key_text key.now) }
+    ensures widths { HasWidths key.now }
+{
+    are_bytes(&key.bytes());
+    are_bytes(&key.id);
+    are_bytes(&key.root);
+}
+
+/// Why a log does not go on to a key, as a refusal.
+fn roll_refusal(fault: RollFault) -> LogRefusal
+    ensures { result ≡ roll_refusal fault }
+{
+    match fault {
+        RollFault::Last => LogRefusal::LastGeneration,
+        RollFault::Memory => LogRefusal::Memory,
+    }
+}
+
+impl LogCore {
+    /// The note of a Roll to this key, which goes to all logs.
+    fn roll_drafts(&self, alloc: Global, next: &LmsPublic) -> Result<Ready<'static>, AllocError>
+        ensures { IfOk result (λ ready. ready ≡ with_draft none_composed (roll_draft self.now next.now)) }
+    {
+        let party = Role::LogServer.party(self.log.number());
+        let generation = self.log.record().signed.generation();
+        let statement = Statement::Roll {
+            signer: party,
+            generation,
+            key: next.bytes(),
+        };
+        let note = Message::RollNote {
+            party,
+            generation,
+            key: *next,
+            signature: Signature {
+                bytes: zeros(alloc, self.signature_len)?,
+            },
+        };
+        let mut drafts = Drafts::new(alloc);
+        drafts.add(
+            alloc,
+            Address::Logs,
+            &note,
+            self.signature_len,
+            0,
+            statement,
+        )?;
+        drafts.ready(alloc)
+    }
+
+    /// Goes on to this key, which the log announces to all logs. It is `LastGeneration` exactly where the newest
+    /// generation is 999.
+    pub(crate) fn roll(&mut self, alloc: Global, next: &LmsPublic) -> Result<Unsigned, LogRefusal>
+        ensures { IsStep result self.old self.new (rolling_row self.old next.now) }
+    {
+        key_told(next);
+        let ready = self.roll_drafts(alloc, next)?;
+        match self.log.roll(alloc, next) {
+            Ok(due) => {
+                forgo(due);
+                Ok(ready.seal(&self.log, None))
+            }
+            Err(fault) => {
+                ready.discard();
+                Err(roll_refusal(fault))
+            }
+        }
+    }
+}

@@ -1,0 +1,189 @@
+//! What a step sends, while it is composed: first the messages and the places where signatures are due, for which memory is
+//! taken, and behind the step the leaves of these signatures.
+
+ghost use Rattle.std.specs.Prelude.{◌≡◌, ◌+◌, ◌≤◌, ◌++◌, ◌∷◌, [], length, OnOk, OnErr, IfOk, vec_len, vec_capacity};
+ghost use Rattle.ar_message.specs.Messages.{message_text};
+ghost use Rattle.ar_statement.specs.Claims.{claim_of, text_of};
+ghost use Rattle.log_core.specs.Sending.{blanks_by, blanks_in, draft_with, none_composed, sealed, with_draft, zeros};
+
+use ar_base::Items;
+use ar_message::{Address, Blank, Message, Outgoing, Sent, Signature, Unsigned};
+use ar_statement::Statement;
+use epoch_log::EpochLog;
+use key_roll::forgo;
+use std::alloc::{AllocError, Global};
+use std::marker::Model;
+
+/// A place in a message at which the log signs a statement.
+#[derive(Drop)]
+struct Place<'a> {
+    // The number of the message.
+    message: usize,
+    at: usize,
+    statement: Statement<'a>,
+}
+
+// Clauses see the number of the message, the place and the text.
+impl<'a> Model for Place<'a> {
+    ghost use Rattle.std.specs.Prelude.{ℕ};
+    ghost use Rattle.ar_statement.specs.Claims.{claim_of, text_of};
+    ghost use Rattle.log_core.specs.Sending.{Place};
+
+    ghost Value = { ℕ × Place };
+
+    ghost view = { λ p. (p.message, record { at = p.at; text = text_of (claim_of p.statement) }) };
+}
+
+/// The messages of a step, before it is made.
+#[derive(Drop)]
+pub(crate) struct Drafts<'a> {
+    messages: Vec<Outgoing>,
+    places: Vec<Place<'a>>,
+}
+
+// Clauses see the letters, and the places where signatures are due.
+impl<'a> Model for Drafts<'a> {
+    ghost use Rattle.log_core.specs.Sending.{Composed};
+
+    ghost Value = { Composed };
+
+    ghost view = { λ d. record { letters = d.messages.items; places = d.places.items } };
+}
+
+/// The messages of a step, for which all memory was taken. They are sent or discarded.
+pub(crate) struct Ready<'a> {
+    drafts: Drafts<'a>,
+    // Room for a blank at each place.
+    blanks: Vec<Blank>,
+}
+
+// Clauses see the letters, and the places where signatures are due.
+impl<'a> Model for Ready<'a> {
+    ghost use Rattle.std.specs.Prelude.{◌≡◌, ◌≤◌, [], length, vec_capacity};
+    ghost use Rattle.log_core.specs.Sending.{Composed};
+
+    ghost Value = { Composed };
+
+    ghost view = { λ r. r.drafts };
+
+    ghost invariant = { λ r. (r.blanks.items ≡ []) × (length r.drafts.places ≤ vec_capacity r.blanks) };
+}
+
+/// Zero bytes, as many as a signature has.
+pub(crate) fn zeros(alloc: Global, len: usize) -> Result<Vec<u8>, AllocError>
+    ensures { IfOk result (λ bytes. bytes.items ≡ zeros len) }
+{
+    vec![in alloc; 0u8; len]
+}
+
+impl<'a> Drafts<'a> {
+    /// None yet.
+    pub(crate) fn new(alloc: Global) -> Drafts<'a>
+        ensures { result ≡ none_composed }
+    {
+        Drafts {
+            messages: Vec::new(alloc),
+            places: Vec::new(alloc),
+        }
+    }
+
+    /// One more message, with one signature of the log's own, of so many bytes in front of so many.
+    pub(crate) fn add(
+        &mut self,
+        alloc: Global,
+        to: Address,
+        message: &Message,
+        signature_len: usize,
+        behind: usize,
+        statement: Statement<'a>,
+    ) -> Result<(), AllocError>
+        requires { signature_len + behind ≤ 4194304 }
+        ensures { OnOk result (self.new ≡ with_draft self.old (draft_with to message.now signature_len behind (text_of (claim_of statement.entry)))) }
+    {
+        let mut bytes = Vec::new(alloc);
+        message.write(alloc, &mut bytes)?;
+        let place = Place {
+            message: self.messages.len(),
+            at: bytes.len().saturating_sub(signature_len + behind),
+            statement,
+        };
+        self.messages.push(Outgoing::new(to, bytes))?;
+        self.places.push(place)?;
+        Ok(())
+    }
+
+    /// Takes the memory that the blanks need.
+    pub(crate) fn ready(self, alloc: Global) -> Result<Ready<'a>, AllocError>
+        ensures { IfOk result (λ ready. ready ≡ self.entry) }
+    {
+        let blanks = Vec::with_capacity(alloc, self.places.len())?;
+        Ok(Ready {
+            drafts: self,
+            blanks,
+        })
+    }
+}
+
+/// Adds the blanks of these places, by the leaves that the log has for their statements.
+fn add_blanks(log: &EpochLog, places: &[Place], blanks: &mut Vec<Blank>)
+    requires { vec_len blanks.old + length places.now ≤ vec_capacity blanks.old }
+    ensures { blanks.new.items ≡ blanks.old.items ++ blanks_in log.now.state.past.signed places.now }
+{
+    match places {
+        [] => {}
+        [place, rest @ ..] => {
+            add_blank(log, place, blanks);
+            add_blanks(log, rest, blanks);
+        }
+    }
+}
+
+/// Adds the blank of a place, where the log has signed its statement.
+#[tactic(auto, using(crate::proofs::Sealing::blanks_none))]
+fn add_blank(log: &EpochLog, place: &Place, blanks: &mut Vec<Blank>)
+    requires { vec_len blanks.old + 1 ≤ vec_capacity blanks.old }
+    ensures added { blanks.new.items ≡ blanks.old.items ++ blanks_in log.now.state.past.signed (place.now ∷ []) }
+    ensures len { vec_len blanks.new ≤ vec_len blanks.old + 1 }
+    ensures capacity { vec_capacity blanks.old ≤ vec_capacity blanks.new }
+{
+    let Some(due) = log.due(&place.statement) else {
+        return;
+    };
+    let blank = Blank {
+        message: place.message,
+        at: place.at,
+        due,
+    };
+    match blanks.push(blank) {
+        Ok(()) => {}
+        Err(refused) => {
+            let Blank { due, .. } = refused.value;
+            forgo(due);
+            unreachable!()
+        }
+    }
+}
+
+impl<'a> Ready<'a> {
+    /// The messages, with the leaves that the log has behind the step, and the epoch that ended. It takes no memory.
+    pub(crate) fn seal(self, log: &EpochLog, ended: Option<(u64, Option<[u8; 32]>)>) -> Unsigned
+        ensures { result ≡ sealed log.now.state.past.signed self.entry ended }
+    {
+        let Ready { drafts, mut blanks } = self;
+        let Drafts { messages, places } = drafts;
+        add_blanks(log, &places, &mut blanks);
+        Unsigned {
+            sent: Sent {
+                messages: Items::from_vec(messages),
+                ended,
+            },
+            blanks: Items::from_vec(blanks),
+        }
+    }
+
+    /// Gives up the messages of a step that is not made.
+    pub(crate) fn discard(self) {
+        let Ready { drafts: _, blanks } = self;
+        blanks.destroy_empty();
+    }
+}

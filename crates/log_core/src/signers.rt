@@ -1,0 +1,124 @@
+//! Whose signatures stand in a message, in the order in which they are verified.
+
+ghost use Rattle.std.specs.Prelude.{◌≡◌, ◌++◌, ◌∷◌, [], Err, map, flat_map, OnOk};
+ghost use Rattle.ar_council.specs.Values.{value_of_roots};
+ghost use Rattle.ar_statement.specs.Claims.{claim_of, endorse, signer_of};
+ghost use Rattle.party_keys.specs.Seen.{authority_party};
+ghost use Rattle.log_core.specs.Signers.{by_signers, endorsements_in, signed_by, signers, statuses_in, votes_in};
+
+use crate::LogRefusal;
+use ar_cert::{Change, Endorsement};
+use ar_message::{LogStatus, Vote};
+use ar_statement::{Party, Statement, Text};
+use party_keys::{Claimed, Directory, SignerFault};
+use std::alloc::{AllocError, Global};
+use std::marker::Model;
+
+/// The signed statements of a message. It borrows their signatures.
+#[derive(Drop)]
+pub(crate) struct Signers<'a> {
+    claims: Vec<Claimed<'a>>,
+    // Who made each of them.
+    parties: Vec<Party>,
+}
+
+// Clauses see the statements, each with its party and signature.
+impl<'a> Model for Signers<'a> {
+    ghost use Rattle.std.specs.Prelude.{◌≡◌, List, map};
+    ghost use Rattle.party_keys.specs.Signers.{Claimed};
+
+    ghost Value = { List Claimed };
+
+    ghost view = { λ s. s.claims.items };
+
+    ghost invariant = { λ s. s.parties.items ≡ map (λ c. c.party) s.claims.items };
+}
+
+/// The refusal of a signer that is not accepted.
+fn refusal(fault: SignerFault) -> LogRefusal
+    ensures { by_signers (Err fault) ≡ Err result }
+{
+    match fault {
+        SignerFault::Unknown(party) => LogRefusal::Unknown(party),
+        SignerFault::Bad(party, number) => LogRefusal::BadSignature(party, number),
+    }
+}
+
+impl<'a> Signers<'a> {
+    /// None.
+    pub(crate) fn new(alloc: Global) -> Signers<'a>
+        ensures { result ≡ [] }
+    {
+        Signers {
+            claims: Vec::new(alloc),
+            parties: Vec::new(alloc),
+        }
+    }
+
+    /// One more behind the others.
+    pub(crate) fn add(
+        &mut self,
+        statement: &Statement,
+        signature: &'a [u8],
+    ) -> Result<(), AllocError>
+        ensures { OnOk result (self.new ≡ self.old ++ signed_by (signer_of (claim_of statement.now)) (claim_of statement.now) signature.now ∷ []) }
+    {
+        let party = statement.signer();
+        self.parties.reserve(1)?;
+        self.claims
+            .push(Claimed::new(party, Text::of(statement), signature))?;
+        match self.parties.push(party) {
+            Ok(()) => Ok(()),
+            Err(_) => unreachable!(),
+        }
+    }
+
+    /// Whether each signer is known, and then each signature is valid; else the first refusal of these.
+    pub(crate) fn check(&self, directory: &Directory) -> Result<(), LogRefusal>
+        ensures { result ≡ signers directory.now self.now }
+    {
+        match directory.check_signers(&self.parties, &self.claims) {
+            Ok(()) => Ok(()),
+            Err(fault) => Err(refusal(fault)),
+        }
+    }
+
+    /// The endorsements of a change, in their order.
+    pub(crate) fn add_endorsements(&mut self, change: &'a Change) -> Result<(), AllocError>
+        ensures { OnOk result (self.new ≡ self.old ++ endorsements_in change.now) }
+    {
+        let certificate = change.cert.digest();
+        self.add_each(certificate, change.endorsements.as_slice())
+    }
+
+    // The endorsements of the certificate with this digest.
+    fn add_each(
+        &mut self,
+        certificate: [u8; 32],
+        endorsements: &'a [Endorsement],
+    ) -> Result<(), AllocError>
+        ensures { OnOk result (self.new ≡ self.old ++ map (λ e. signed_by (authority_party e.authority) (endorse e.authority certificate) e.signature) endorsements.now) }
+    {
+        if let [endorsement, rest @ ..] = endorsements {
+            let authority = endorsement.authority;
+            let statement = Statement::Endorse {
+                authority,
+                certificate,
+            };
+            self.add(&statement, endorsement.signature.as_slice())?;
+            self.add_each(certificate, rest)?;
+        }
+        Ok(())
+    }
+
+    /// The endorsements of each change, change by change.
+    pub(crate) fn add_changes(&mut self, changes: &'a [Change]) -> Result<(), AllocError>
+        ensures { OnOk result (self.new ≡ self.old ++ flat_map endorsements_in changes.now) }
+    {
+        if let [change, rest @ ..] = changes {
+            self.add_endorsements(change)?;
+            self.add_changes(rest)?;
+        }
+        Ok(())
+    }
+}

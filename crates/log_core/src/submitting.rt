@@ -1,0 +1,139 @@
+//! The row of Submit: a change is queued.
+
+ghost use Rattle.std.specs.Prelude.{◌≡◌, Ok, Result, OnOk, OnErr, IfOk, false};
+ghost use Rattle.std.specs.List.{list_any};
+ghost use Rattle.std.specs.Str.{bytes_eq};
+ghost use Rattle.ar_base.specs.Gives.{GivesUnless};
+ghost use Rattle.ar_cert.specs.Changes.{change_text};
+ghost use Rattle.cert_policy.specs.declared.manner.Manner.{Manner};
+ghost use Rattle.domain_table.specs.Applying.{answer_of};
+ghost use Rattle.domain_table.specs.declared.refusal.ChangeRefusal.{ChangeRefusal};
+ghost use Rattle.log_core.specs.Checks.{has_place};
+ghost use Rattle.log_core.specs.Signers.{endorsements_in, signers};
+ghost use Rattle.log_core.specs.Steps.{IsStep};
+ghost use Rattle.log_core.specs.Submit.{is_queued, queueing, submit_judged, submit_row, taken_alone};
+ghost use Rattle.log_core.specs.declared.refusal.LogRefusal.TheVariants as refusals;
+
+use crate::LogRefusal;
+use crate::log_core::{LogCore, nothing};
+use crate::signers::Signers;
+use ar_cert::Change;
+use ar_message::Unsigned;
+use domain_table::ChangeRefusal;
+use party_keys::Directory;
+use std::alloc::{AllocError, Global};
+
+/// The most changes that are queued.
+const MOST_QUEUED: usize = 256;
+
+/// Whether the endorsers of a change have signed.
+fn check_endorsements(
+    alloc: Global,
+    directory: &Directory,
+    change: &Change,
+) -> Result<(), LogRefusal>
+    ensures { GivesUnless refusals.Memory (λ u. u) result (signers directory.now (endorsements_in change.now)) }
+{
+    let mut signers = Signers::new(alloc);
+    signers.add_endorsements(change)?;
+    signers.check(directory)
+}
+
+/// Whether a change is taken, by how it is judged; it is the only one, with the index 0.
+fn taken_alone(judged: Result<(), ChangeRefusal>) -> Result<(), LogRefusal>
+    ensures { (manner : Result Manner ChangeRefusal) → judged ≡ answer_of manner → result ≡ taken_alone manner }
+{
+    match judged {
+        Ok(()) => Ok(()),
+        Err(refusal) => Err(LogRefusal::BadChange(0, refusal)),
+    }
+}
+
+/// Whether two changes have one text.
+fn is_same(alloc: Global, text: &[u8], other: &Change) -> Result<bool, AllocError>
+    ensures { IfOk result (λ same. same ≡ bytes_eq (change_text other.now) text.now) }
+{
+    let mut other_text = Vec::new(alloc);
+    other.write(alloc, &mut other_text)?;
+    Ok(other_text.as_slice() == text)
+}
+
+/// Whether a change with this text is queued.
+fn has_text(alloc: Global, queue: &[Change], text: &[u8]) -> Result<bool, AllocError>
+    ensures { IfOk result (λ has. has ≡ list_any (λ other. bytes_eq (change_text other) text.now) queue.now) }
+{
+    match queue {
+        [] => Ok(false),
+        [first, rest @ ..] => {
+            if is_same(alloc, text, first)? {
+                return Ok(true);
+            }
+            has_text(alloc, rest, text)
+        }
+    }
+}
+
+/// Whether an equal change is queued, with the same signatures.
+fn is_queued(alloc: Global, queue: &[Change], change: &Change) -> Result<bool, AllocError>
+    ensures { IfOk result (λ queued. queued ≡ is_queued queue.now change.now) }
+{
+    let mut text = Vec::new(alloc);
+    change.write(alloc, &mut text)?;
+    has_text(alloc, queue, &text)
+}
+
+/// Whether the queue has a place left.
+fn has_place(queue: &[Change]) -> Result<(), LogRefusal>
+    ensures { result ≡ has_place queue.now }
+{
+    if queue.len() < MOST_QUEUED {
+        Ok(())
+    } else {
+        Err(LogRefusal::QueueFull)
+    }
+}
+
+impl LogCore {
+    /// The checks of a Submit, in their order; and then whether an equal change is queued.
+    #[tactic(auto, unfolding(crate::specs::Submit::submit_judged))]
+    fn judge_submit(&self, alloc: Global, change: &Change) -> Result<bool, LogRefusal>
+        ensures { GivesUnless refusals.Memory (λ queued. queued) result (submit_judged self.now change.now) }
+    {
+        check_endorsements(alloc, self.log.directory(), change)?;
+        taken_alone(self.log.table().judge(self.log.epoch(), change))?;
+        let queued = is_queued(alloc, &self.queue, change)?;
+        if !queued {
+            has_place(&self.queue)?;
+        }
+        Ok(queued)
+    }
+
+    /// Queues a change that is accepted and has a place. The only error is want of memory.
+    fn enqueue(&mut self, alloc: Global, change: Change) -> Result<(), AllocError>
+        requires { submit_judged self.old change ≡ Ok false }
+        ensures ok { OnOk result (self.new ≡ queueing self.old change) }
+        ensures err { OnErr result (self.new ≡ self.old) }
+    {
+        change.told();
+        self.queue.reserve(1)?;
+        self.log.endorsed(alloc, &change)?;
+        match self.queue.push(change) {
+            Ok(()) => Ok(()),
+            Err(_) => unreachable!(),
+        }
+    }
+
+    /// Takes a change that is submitted: it is the last of the queue, unless an equal one is queued.
+    pub(crate) fn submit(&mut self, alloc: Global, change: Change) -> Result<Unsigned, LogRefusal>
+        ensures { IsStep result self.old self.new (submit_row self.old change) }
+    {
+        let queued = match self.judge_submit(alloc, &change) {
+            Ok(queued) => queued,
+            Err(refusal) => return Err(refusal),
+        };
+        if !queued {
+            self.enqueue(alloc, change)?;
+        }
+        Ok(nothing(alloc))
+    }
+}
