@@ -8,7 +8,7 @@
 //! | `root COUNT` | `root_of`, over a table of so many entries | the root |
 //! | `fill COUNT` | `Trie::set`, of each entry of such a table | the root |
 //! | `change COUNT` | `Trie::set` once more in the filled tree, of the first entry with a value of zeros | the root |
-//! | `judge COUNT` | `Table::judge`, of an update of the first of so many names | the root, as it was |
+//! | `judge COUNT` | `Table::judge`, of an update of name 9 of so many | the root, as it was |
 //! | `apply COUNT` | `Table::apply`, of this update | the root then |
 //! | `message LENGTH` | `Message::read`, `Message::write` and a copy, of a message | the SHA-256 of what was written |
 //!

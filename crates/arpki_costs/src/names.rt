@@ -12,30 +12,33 @@ const FIRST: u64 = 1;
 
 const SECOND: u64 = 2;
 
-/// The root of a table of so many names after the first is updated.
+/// The name that is updated: among 16 it is the last in the order of their bytes, among 4,095 one of the last 111.
+const UPDATED: u32 = 9;
+
+/// The root of a table of so many names after name 9 is updated.
 pub(crate) fn root_applied(alloc: Global, count: u32) -> io::Result<[u8; 32]> {
     let mut table = registered(alloc, count)?;
-    update_first(alloc, &mut table)?;
+    apply_update(alloc, &mut table)?;
     Ok(table.root())
 }
 
-/// The root of a table of so many names in which an update of the first would be taken.
+/// The root of a table of so many names in which an update of name 9 would be taken.
 pub(crate) fn root_judged(alloc: Global, count: u32) -> io::Result<[u8; 32]> {
     let table = registered(alloc, count)?;
-    judge_first(alloc, &table)?;
+    judge_update(alloc, &table)?;
     Ok(table.root())
 }
 
-fn update_first(alloc: Global, table: &mut Table) -> io::Result<()> {
-    let change = updating(alloc, 0)?;
+fn apply_update(alloc: Global, table: &mut Table) -> io::Result<()> {
+    let change = updating(alloc, UPDATED)?;
     match apply(alloc, table, change) {
         Ok(()) => Ok(()),
         Err(_) => Err(ErrorKind::InvalidInput.into()),
     }
 }
 
-fn judge_first(alloc: Global, table: &Table) -> io::Result<()> {
-    let change = updating(alloc, 0)?;
+fn judge_update(alloc: Global, table: &Table) -> io::Result<()> {
+    let change = updating(alloc, UPDATED)?;
     match judge(table, &change) {
         Ok(()) => Ok(()),
         Err(_) => Err(ErrorKind::InvalidInput.into()),
