@@ -1,4 +1,5 @@
-//! Laws on the rows of an owner, over the definitions alone: each is the contract of a function without a body.
+//! Laws on the rows of an owner, over the definitions alone: each is the contract of a function
+//! without a body.
 
 ghost use Rattle.std.specs.Prelude.{◌≡◌, ◌++◌, ℕ, List, [], ◌∷◌, None, Some, Ok, true};
 ghost use Rattle.ar_cert.specs.Certificate.{Certificate, digest_of};
@@ -16,8 +17,8 @@ ghost use Rattle.owner_core.specs.Vouching.{AreEndorsed, IsEndorsed};
 use party_keys::laws::what_was_verified_stays_so;
 use sign_book::laws::a_statement_keeps_its_leaf;
 
-/// A handover that was signed is the same bytes when it is asked for again, whatever was signed since, and the owner
-/// stays as it is.
+/// A handover that was signed is the same bytes when it is asked for again, whatever was signed
+/// since, and the owner stays as it is.
 pub fn a_handover_is_signed_once()
     ensures { (me later after : Owner) (more : List (List ℕ)) (digest bytes : List ℕ) → IsSound after.book → after.key ≡ me.key
         → handover_row me digest ≡ Ok (bytes, later) → after.book.texts ≡ later.book.texts ++ more
@@ -26,8 +27,8 @@ pub fn a_handover_is_signed_once()
     a_statement_keeps_its_leaf()
 }
 
-/// An endorsement that a draft takes is there then, and what stands there ascends by the numbers of the authorities, and
-/// is 8 at most.
+/// An endorsement that a draft takes is there then, and what stands there ascends by the numbers of
+/// the authorities, and is 8 at most.
 pub fn endorsements_ascend()
     ensures few { (new : Endorsement) (draft later : Change) → IsEndorsement new → AreFew draft.endorsements
         → endorsed new draft ≡ Ok later → AreFew later.endorsements }
@@ -35,15 +36,16 @@ pub fn endorsements_ascend()
         → endorsed new draft ≡ Ok later → has_endorsed new.authority later.endorsements ≡ true }
 {}
 
-/// An objection carries no endorsement and no handover: what is sent is one change, to the logs, of the certificate with
-/// a signature.
+/// An objection carries no endorsement and no handover: what is sent is one change, to the logs, of
+/// the certificate with a signature.
 pub fn an_objection_stands_alone()
     ensures { (me later : Owner) (cert : Certificate) (reply : Sent) → object_row me cert ≡ Ok (reply, later)
         → (signature : List ℕ) × (reply ≡ sent (letter Logs (Submit (record { cert = cert; endorsements = []; handover = None; objection = Some signature })) ∷ [])) }
 {}
 
-/// Each endorsement of a draft is its authority's of the draft's certificate, under the keys that the owner knows: it is
-/// so before anything came, and whatever comes keeps it; so it is so of what goes to the logs.
+/// Each endorsement of a draft is its authority's of the draft's certificate, under the keys that
+/// the owner knows: it is so before anything came, and whatever comes keeps it; so it is so of what
+/// goes to the logs.
 pub fn what_is_submitted_is_endorsed()
     ensures begin { (me later : Owner) (cert : Certificate) (asks : List ℕ) (reply : Sent) → AreEndorsed me
         → begin_row me cert asks ≡ Ok (reply, later) → AreEndorsed later }

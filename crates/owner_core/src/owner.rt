@@ -5,7 +5,8 @@ use sign_book::SignBook;
 use std::alloc::{AllocError, Global};
 use std::marker::Model;
 
-/// An owner of domains: its drafts, its key with the book of the key's leaves, and a directory of its own.
+/// An owner of domains: its drafts, its key with the book of the key's leaves, and a directory of
+/// its own.
 #[derive(Drop)]
 pub struct Owner {
     pub(crate) number: u16,
@@ -34,9 +35,11 @@ impl Owner {
     ghost use Rattle.lms_tree.specs.LmsKind.{height_of};
     ghost use Rattle.owner_core.specs.Rows.{first_owner};
 
-    /// The owner with this number, which knows these keys of logs and authorities, and has no draft.
+    /// The owner with this number, which knows these keys of logs and authorities, and has no
+    /// draft.
     ///
-    /// The key is in no other book and has signed nothing. As it stands it takes no memory, and is never refused.
+    /// The key is in no other book and has signed nothing. As it stands it takes no memory, and is
+    /// never refused.
     pub fn new(
         alloc: Global,
         number: u16,

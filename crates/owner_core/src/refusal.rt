@@ -8,7 +8,8 @@ use sign_book::BookFault;
 use std::alloc::{AllocError, AllocFailed};
 use thiserror::Error;
 
-/// Why an owner did not do what a message or an order says. Behind each stands its code in printed lines.
+/// Why an owner did not do what a message or an order says. Behind each stands its code in printed
+/// lines.
 #[derive(Clone, Copy, Debug, Error, PartialEq, Eq)]
 pub enum OwnerRefusal {
     /// O1: the bytes are no message. The first field that fails begins at this place.
@@ -17,7 +18,8 @@ pub enum OwnerRefusal {
     /// O2: the message is of a kind that owners do not take, or for another owner.
     #[error("the message is not for this owner")]
     NotForOwner,
-    /// O3: the party is no authority of the directory, or, in an announcement of a key, no log either.
+    /// O3: the party is no authority of the directory, or, in an announcement of a key, no log
+    /// either.
     #[error("the signer is not in the directory")]
     Unknown(Party),
     /// O4: the party's signature is not valid, by this test of `Directory::verify`.

@@ -34,7 +34,8 @@ fn sign_tail(key: &LmsKey, due: Due, text: &mut [u8])
     sign(key, due, &mut text[at..]);
 }
 
-/// The text of an objection to a certificate on its way to the logs, with zero bytes in place of the key's signature.
+/// The text of an objection to a certificate on its way to the logs, with zero bytes in place of
+/// the key's signature.
 #[tactic(auto, using(crate::proofs::Texts::unsigned))]
 fn unsigned_objection(alloc: Global, key: &LmsKey, cert: &Cert) -> Result<Vec<u8>, AllocError>
     ensures { IfOk result (λ text. AwaitsSignature (lms_signature_len_of key.now.lms key.now.ots) cert.now text.items) }
@@ -70,11 +71,13 @@ impl Owner {
         Ok(due)
     }
 
-    /// Signs the handover to the certificate with this digest: the owner agrees by its key that it replaces the one
-    /// whose subject key this is. What is signed is the statement Handover, of the digest alone.
+    /// Signs the handover to the certificate with this digest: the owner agrees by its key that it
+    /// replaces the one whose subject key this is. What is signed is the statement Handover, of the
+    /// digest alone.
     ///
-    /// Asked again, it gives the same bytes and takes no further leaf. `Spent` (O7) comes exactly where each leaf of
-    /// the key serves another statement. The signature is bare: it has no generation in front.
+    /// Asked again, it gives the same bytes and takes no further leaf. `Spent` (O7) comes exactly
+    /// where each leaf of the key serves another statement. The signature is bare: it has no
+    /// generation in front.
     #[tactic(auto, using(crate::proofs::Texts::signature_fits))]
     pub fn handover(&mut self, alloc: Global, digest: &[u8; 32]) -> Result<Vec<u8>, OwnerRefusal>
         ensures answer { Answers (λ signature. signature.items) self.old self.new result (handover_row self.old digest.now) }
@@ -90,12 +93,13 @@ impl Owner {
         Ok(signature)
     }
 
-    /// Objects to a certificate by the owner's key, and tells all logs: a change with this certificate, no
-    /// endorsement, and the signature of the statement Object of its digest. It is for the logs to judge whether the
-    /// certificate is one that waits for a name of this key. The certificate need not be a draft of the owner's.
+    /// Objects to a certificate by the owner's key, and tells all logs: a change with this
+    /// certificate, no endorsement, and the signature of the statement Object of its digest. It is
+    /// for the logs to judge whether the certificate is one that waits for a name of this key. The
+    /// certificate need not be a draft of the owner's.
     ///
-    /// Asked again, it sends the same bytes and takes no further leaf. `Spent` (O7) comes exactly where each leaf of
-    /// the key serves another statement.
+    /// Asked again, it sends the same bytes and takes no further leaf. `Spent` (O7) comes exactly
+    /// where each leaf of the key serves another statement.
     pub fn object(&mut self, alloc: Global, cert: &Cert) -> Result<Sent, OwnerRefusal>
         ensures { Answers (λ s. s) self.old self.new result (object_row self.old cert.now) }
     {

@@ -143,16 +143,21 @@ impl Owner {
         }
     }
 
-    /// Takes a message that came. An owner takes endorsements and announcements of keys, and answers nothing.
+    /// Takes a message that came. An owner takes endorsements and announcements of keys, and
+    /// answers nothing.
     ///
-    /// The first refusal of these is the answer: `Form` (O1) where the bytes are no message; `NotForOwner` (O2) where
-    /// it is neither an Endorsed for this owner nor a RollNote; `Unknown` (O3) where the directory has no such signer;
-    /// `BadSignature` (O4) where the signer has not signed it, for an Endorsed the authority's endorsement of the
-    /// digest; then for an Endorsed `NoDraft` (O5) where no draft has the digest, and `Full` (O6) where the draft has 8
-    /// endorsements of others; for a RollNote `OtherRoll` (O8) where another key is known as the next.
+    /// The first refusal of these is the answer: `Form` (O1) where the bytes are no message;
+    /// `NotForOwner` (O2) where it is neither an Endorsed for this owner nor a RollNote; `Unknown`
+    /// (O3) where the directory has no such signer; `BadSignature` (O4) where the signer has not
+    /// signed it, for an Endorsed the authority's endorsement of the digest; then for an Endorsed
+    /// `NoDraft` (O5) where no draft has the digest, and `Full` (O6) where the draft has 8
+    /// endorsements of others; for a RollNote `OtherRoll` (O8) where another key is known as the
+    /// next.
     ///
-    /// An endorsement that is verified, of an authority that the draft has already, changes nothing; a key that
-    /// is known already as the next neither. Want of memory may stand in the place of each refusal but O1.
+    /// An endorsement that is verified, of an authority that the draft has already, changes
+    /// nothing; a key that is known already as the next neither. So a message that comes twice does
+    /// no harm; one that was lost has changed nothing, and `begin` asks for an endorsement again.
+    /// Want of memory may stand in the place of each refusal but O1.
     pub fn step(&mut self, alloc: Global, bytes: &[u8]) -> Result<Sent, OwnerRefusal>
         ensures answer { Answers (λ s. s) self.old self.new result (step_row self.old bytes.now) }
         ensures memory { result ≡ Err Memory → IsOk (message_in bytes.now) }
