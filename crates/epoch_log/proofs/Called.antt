@@ -94,15 +94,18 @@ kept-own s value kept member =
     kept-counting_vote (seeing s more) (s.me, value, None) saw
     (record { log = member; saw = All-head (Contains (seen_after s.past.seen more)) own [] (seen-has more s.past.seen) })
 
+pub kept-proposed : (s : LogState) (value : Value) (changes : List Change) → IsKept s → MayVote s value changes → All (SawEndorsements s.past.seen) changes
+    → HasRoom s.past.signed (proposal_texts s value) → IsKept (casting (proposing s value) (vote_of s value changes))
+kept-proposed s value changes kept may saw room =
+    kept-casting (proposing s value) value changes (kept-proposing s value kept may.are_digests) may.not_voted may.not_stated
+    (record { are_digests = may.are_digests; from_base = may.from_base; leads = record { applies = may.applies; endorsed = saw } })
+    (second-room s.past.signed (text_of (propose_claim s value)) (own_vote_text s value) room)
+
 pub kept-propose : (s : LogState) (value : Value) (changes : List Change) → IsKept s → IsTurn s.council s.me (epoch_of s) → MayVote s value changes → All (SawEndorsements s.past.seen) changes
     → HasRoom s.past.signed (proposal_texts s value) → IsKept (after_propose s value changes).0
 kept-propose s value changes kept turn may saw room =
-    let proposed = kept-proposing s value kept may.are_digests in
-    let cast = kept-casting (proposing s value) value changes proposed may.not_voted may.not_stated
-    (record { are_digests = may.are_digests; from_base = may.from_base; leads = record { applies = may.applies; endorsed = saw } })
-    (second-room s.past.signed (text_of (propose_claim s value)) (own_vote_text s value) room) in
     kept-closed (counting_own (casting (proposing s value) (vote_of s value changes)) value)
-    (kept-own (casting (proposing s value) (vote_of s value changes)) value cast turn.0)
+    (kept-own (casting (proposing s value) (vote_of s value changes)) value (kept-proposed s value changes kept may saw room) turn.0)
 
 pub kept-with_ballot : (s : LogState) (log : ℕ) (value : Value) (signature : Option (List ℕ)) → IsKept s → log < s.council.logs → IsKept (with_ballot s log value signature)
 kept-with_ballot s log value signature kept member =

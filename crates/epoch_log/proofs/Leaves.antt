@@ -1,8 +1,8 @@
 -- Leaves for statements: how many are needed, and when one is given.
 use Rattle.std.proofs.Common.{◌≡◌, ℕ, ◌+◌, ◌<◌, ◌≤◌, ◌⊎◌, inl, inr, List, [], ◌∷◌, length, get_or, refl, sym, ap, ◌∙◌, subst, arith, Bool, true, false, cond, not, Option, Some, None}
-use Rattle.std.specs.Prelude.{IsOk, Err, count_by, is_ok, is_some, option_and_then, slice_get}
+use Rattle.std.specs.Prelude.{IsOk, Ok, Err, count_by, is_ok, is_some, option_and_then, slice_get}
 use Rattle.std.specs.Option.{ok_or, option_map}
-use Rattle.std.proofs.lemmas.Bool.{leb-false, leb-true, ltb-true}
+use Rattle.std.proofs.lemmas.Bool.{le-leb, leb-false, leb-true, ltb-true}
 use Rattle.std.proofs.lemmas.List.{length-map}
 use Rattle.std.proofs.lemmas.Option.{slice_get_cases}
 use Rattle.ar_base.specs.Places.{place_of}
@@ -13,7 +13,8 @@ use Rattle.key_roll.specs.Entry.{after_at, due_at, due_of, entered, has_room, wi
 use Rattle.key_roll.specs.Rolls.{is_roll, plain_count}
 use Rattle.key_roll.specs.declared.fault.BookFault.TheVariants as book_fault
 use Rattle.key_roll.proofs.Books.{entered-new, is_entered}
-use Rattle.epoch_log.specs.Answers.{has_leaves}
+use Rattle.key_roll.specs.Due.{DueParts}
+use Rattle.epoch_log.specs.Answers.{first_entered, has_leaves}
 
 count-one : (p : List ℕ → Bool) (text : List ℕ) → count_by p (text ∷ []) ≡ cond (p text) 1 0
 count-one p text = omega arith
@@ -25,7 +26,7 @@ need-none book text is = count-one (λ t. not (is_some (place_of (texts_of book)
 pub need-one : (book : RollBook) (text : List ℕ) → is_some (place_of (texts_of book) text) ≡ false → new_count book (text ∷ []) ≡ 1
 need-one book text is = count-one (λ t. not (is_some (place_of (texts_of book) t))) text ∙ ap (λ b. cond (not b) 1 0) is
 
-need-most : (book : RollBook) (text : List ℕ) → new_count book (text ∷ []) ≤ 1
+pub need-most : (book : RollBook) (text : List ℕ) → new_count book (text ∷ []) ≤ 1
 need-most book text = by (is_some (place_of (texts_of book) text)) refl
   where
     by : (b : Bool) → is_some (place_of (texts_of book) text) ≡ b → new_count book (text ∷ []) ≤ 1
@@ -85,3 +86,34 @@ enters book text sound plain left = at (place_of (texts_of book) text) refl
         subst IsOk (sym (entered-new book text sound is plain)) (is_entered book text (omega (arith, room, one)))
 
 pub ruleset leaves_left = (room-for, enters, spent)
+
+-- ---- two texts
+
+-- two texts need as many leaves as the one and the other
+pub need-both : (book : RollBook) (first second : List ℕ) → new_count book (first ∷ (second ∷ [])) ≡ new_count book (first ∷ []) + new_count book (second ∷ [])
+need-both book first second = omega (arith, count-one (λ t. not (is_some (place_of (texts_of book) t))) first, count-one (λ t. not (is_some (place_of (texts_of book) t))) second)
+
+-- where there are leaves for two texts there is one for the first
+pub first-room : (book : RollBook) (first second : List ℕ) → HasRoom book (first ∷ (second ∷ [])) → HasRoom book (first ∷ [])
+first-room book first second room = omega (arith, room, need-both book first second)
+
+first-left : (book : RollBook) (first second : List ℕ) → has_leaves book (first ∷ (second ∷ [])) ≡ true → has_leaves book (first ∷ []) ≡ true
+first-left book first second left =
+    le-leb (plain_count book.newest book.list + new_count book (first ∷ []) + 1) book.leaves (first-room book first second (room-for book (first ∷ (second ∷ [])) left))
+
+-- where there are leaves for two texts the first is entered
+pub first-enters : (book : RollBook) (first second : List ℕ) → IsRollBook book → is_roll first ≡ false → has_leaves book (first ∷ (second ∷ [])) ≡ true → IsOk (first_entered book first second)
+first-enters book first second sound plain left =
+    subst (λ b. IsOk (cond b (entered book first) (Err book_fault.Spent))) (sym left) (enters book first sound plain (first-left book first second left))
+
+pub first-spent : (book : RollBook) (first second : List ℕ) → has_leaves book (first ∷ (second ∷ [])) ≡ false → first_entered book first second ≡ Err book_fault.Spent
+first-spent book first second few = ap (λ b. cond b (entered book first) (Err book_fault.Spent)) few
+
+-- and its leaf is the answer
+pub first-due : (book : RollBook) (first second : List ℕ) (due : DueParts) → HasRoom book (first ∷ (second ∷ [])) → entered book first ≡ Ok due → first_entered book first second ≡ Ok due
+first-due book first second due room is =
+    ap (λ b. cond b (entered book first) (Err book_fault.Spent)) (le-leb (plain_count book.newest book.list + new_count book (first ∷ (second ∷ [])) + 1) book.leaves room) ∙ is
+
+pub ruleset leaves_for_two = (room-for, first-enters, first-spent)
+
+pub ruleset two_needs = (need-both)

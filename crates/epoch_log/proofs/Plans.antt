@@ -1,10 +1,10 @@
 -- The closing rule by its verdict, and what a log keeps where its epoch ends as planned.
-use Rattle.std.proofs.Common.{◌≡◌, ℕ, ◌<◌, ◌≤◌, ◌^◌, List, [], length, refl, sym, ap, ◌∙◌, subst, arith, Bool, true, false, cond, eqb, ◌==◌, Option, Some, None, vec_capacity}
-use Rattle.std.specs.Prelude.{◌↔◌, Contains, IfSome, IsOk, IsSome, Result, Ok, Err, Vec, is_ok}
+use Rattle.std.proofs.Common.{◌≡◌, ◌≢◌, ℕ, ◌<◌, ◌≤◌, ◌^◌, List, [], ◌∷◌, ◌++◌, length, refl, sym, ap, ◌∙◌, subst, arith, Bool, true, false, cond, eqb, ◌==◌, Option, Some, None, vec_capacity}
+use Rattle.std.specs.Prelude.{◌↔◌, All, Contains, IfSome, IsOk, IsSome, Result, Ok, Err, Vec, is_ok}
 use Rattle.std.specs.declared.alloc.Global.{Global}
-use Rattle.std.proofs.lemmas.Bool.{eqb-true, lt-ltb}
+use Rattle.std.proofs.lemmas.Bool.{eq-eqb, eqb-true, lt-ltb}
 use Rattle.std.proofs.lemmas.List.{length-map}
-use Rattle.std.proofs.lemmas.List.Elements.{All-contains}
+use Rattle.std.proofs.lemmas.List.Elements.{All-contains, All-head, All-tail}
 use Rattle.ar_council.proofs.Lists.{find-some}
 use Rattle.ar_council.specs.Council.{Council, council_of}
 use Rattle.vote_quorum.specs.Statuses.{Status}
@@ -215,3 +215,19 @@ pub log-passed : (p q : Parts) (statuses : List Status) → IsLog p → closed (
 log-passed p q statuses log is there same =
     log-moved p q (skipped (state_in p) statuses) there same log (subst IsKept (ap (λ (x : LogState × Closing). x.0) is) (kept-closed (state_in p) log.kept))
     (table-skipped (state_in p) statuses log.kept.honest.ends_in_order)
+
+-- ---- the own vote is told
+
+eqb-other : (m n : ℕ) → m ≢ n → eqb m n ≡ false
+eqb-other m n other = by (eqb m n) refl
+  where
+    by : (b : Bool) → eqb m n ≡ b → b ≡ false
+    by true is = absurd (other (eqb-true m n is))
+    by false is = refl
+
+-- where there was none the vote that is told is the own one
+pub own-told : (voted : List Voted) (v : Voted) → All (λ (w : Voted). w.epoch ≢ v.epoch) voted → own_vote (voted ++ v ∷ []) v.epoch ≡ Some v
+own-told [] v none = ap (λ b. cond b (Some v) None) (eq-eqb v.epoch v.epoch refl)
+own-told (w ∷ voted) v none =
+    let other : eqb w.epoch v.epoch ≡ false = eqb-other w.epoch v.epoch (All-head (λ (w : Voted). w.epoch ≢ v.epoch) w voted none) in
+    ap (λ b. cond b (Some w) (own_vote (voted ++ v ∷ []) v.epoch)) other ∙ own-told voted v (All-tail (λ (w : Voted). w.epoch ≢ v.epoch) w voted none)

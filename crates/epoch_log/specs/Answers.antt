@@ -1,17 +1,19 @@
 -- What a vote needs, and what a vote and a confirmation answer, beside what it makes of where a log stands.
-use Rattle.std.specs.Prelude.{◌≡◌, ◌≢◌, ℕ, ◌+◌, Bool, nat_le, List, All, Some, Result, Ok, Err}
+use Rattle.std.specs.Prelude.{◌≡◌, ◌≢◌, ℕ, ◌+◌, Bool, nat_le, if◌then◌else◌, List, [], ◌∷◌, All, Some, Result, Ok, Err}
 use Rattle.ar_cert.specs.Changes.{Change}
+use Rattle.ar_statement.specs.Claims.{text_of}
 use Rattle.key_roll.specs.Book.{RollBook}
 use Rattle.key_roll.specs.Due.{DueParts}
 use Rattle.key_roll.specs.Entry.{after_entry, entered}
 use Rattle.key_roll.specs.Rolls.{plain_count}
 use Rattle.key_roll.specs.declared.fault.BookFault.{BookFault}
+use Rattle.key_roll.specs.declared.fault.BookFault.TheVariants.{Spent}
 use Rattle.ar_council.specs.Room.{new_count}
 use Rattle.vote_quorum.specs.declared.value.Value.{Value}
 use Rattle.domain_table.specs.Applying.{apply}
 use Rattle.domain_table.specs.Tables.{Table}
 use Rattle.domain_table.specs.Tree.{root_of}
-use Rattle.epoch_log.specs.Calls.{after_state, confirmation_text, own_status_text, own_vote_text, with_confirmed}
+use Rattle.epoch_log.specs.Calls.{after_propose, after_state, confirmation_text, own_status_text, own_vote_text, propose_claim, with_confirmed}
 use Rattle.epoch_log.specs.State.{LogState, epoch_of, table_of}
 use Rattle.epoch_log.specs.declared.entries.Closing.{Closing}
 use Rattle.epoch_log.specs.declared.entries.Confirmed.{Confirmed}
@@ -57,6 +59,10 @@ confirming s text c = record s {
 
 -- ---- what calls answer with which the epoch may end
 
+-- the leaf of the first of two texts, or that there are not leaves for both
+abbrev pub first_entered : RollBook → List ℕ → List ℕ → Result DueParts BookFault
+first_entered book first second = if has_leaves book (first ∷ (second ∷ [])) then entered book first else Err Spent
+
 -- what is signed, and beside it how the epoch goes on
 abbrev pub beside : Closing → Result DueParts BookFault → Result (DueParts × Closing) BookFault
 beside closing (Ok due) = Ok (due, closing)
@@ -65,3 +71,9 @@ beside closing (Err fault) = Err fault
 -- what `state` answers: the status's leaf and the closing rule's answer, or that there is no leaf
 abbrev pub stated : LogState → Result (DueParts × Closing) BookFault
 stated s = beside (after_state s).1 (entered s.past.signed (own_status_text s))
+
+-- what `propose` answers: the proposal's leaf and the closing rule's answer, or that there are not leaves for the proposal
+-- and the own vote
+abbrev pub proposed : LogState → Value → List Change → Result (DueParts × Closing) BookFault
+proposed s value changes =
+    beside (after_propose s value changes).1 (first_entered s.past.signed (text_of (propose_claim s value)) (own_vote_text s value))

@@ -1,5 +1,5 @@
 //! Ballots of other logs, and of the log itself.
-ghost use Rattle.std.specs.Prelude.{◌≡◌, ◌<◌, ℕ, List, Option, Some, IfOk, OnOk, OnErr, vec_len, vec_capacity};
+ghost use Rattle.std.specs.Prelude.{◌≡◌, ◌<◌, ℕ, List, Option, IfOk, OnOk, OnErr, vec_len, vec_capacity};
 ghost use Rattle.epoch_log.specs.Calls.{after_ballot};
 ghost use Rattle.epoch_log.specs.Log.{IsLog, moved, parts_of, state_in};
 ghost use Rattle.epoch_log.specs.Plans.{IsPlanIn, with_ballot};
@@ -27,13 +27,7 @@ impl Parts {
     }
 
     /// Sees and counts a ballot. There is room for it.
-    pub(crate) fn put_ballot(
-        &mut self,
-        epoch: u64,
-        log: u16,
-        value: Value,
-        signature: Option<Items<u8>>,
-    )
+    fn put_ballot(&mut self, epoch: u64, log: u16, value: Value, signature: Option<Items<u8>>)
         requires epoch { epoch ≡ epoch_of (state_in self.old) }
         requires seen { vec_len self.old.past.seen < vec_capacity self.old.past.seen }
         requires votes { vec_len self.old.votes < vec_capacity self.old.votes }
@@ -46,18 +40,18 @@ impl Parts {
     }
 
     /// The same of a log of the council, which keeps what is kept.
-    fn take_ballot(&mut self, log: u16, value: Value, signature: Items<u8>)
+    pub(crate) fn take_ballot(&mut self, log: u16, value: Value, signature: Option<Items<u8>>)
         requires kept { IsLog self.old }
         requires log { log < (state_in self.old).council.logs }
         requires seen { vec_len self.old.past.seen < vec_capacity self.old.past.seen }
         requires votes { vec_len self.old.votes < vec_capacity self.old.votes }
-        ensures parts { parts_of self.new ≡ moved (parts_of self.old) (with_ballot (state_in self.old) log value (Some signature)) }
+        ensures parts { parts_of self.new ≡ moved (parts_of self.old) (with_ballot (state_in self.old) log value signature) }
         ensures table { self.new.table ≡ self.old.table }
         ensures ended { self.new.past.ended ≡ self.old.past.ended }
         ensures kept { IsLog self.new }
     {
         let epoch = self.epoch();
-        self.put_ballot(epoch, log, value, Some(signature));
+        self.put_ballot(epoch, log, value, signature);
     }
 
     /// `EpochLog::ballot`.
@@ -78,7 +72,7 @@ impl Parts {
         let signature = Items::from_vec(Vec::from_slice(alloc, signature)?);
         let plan = self.plan_with_ballot(alloc, log, &value)?;
         self.reserve(alloc, 1, 0)?;
-        self.take_ballot(log, value, signature);
+        self.take_ballot(log, value, Some(signature));
         Ok(self.finish(alloc, plan))
     }
 }

@@ -24,6 +24,7 @@ mod log;
 mod own_status;
 mod parts;
 mod past;
+mod proposing;
 mod seeing;
 mod signing;
 mod skipping;

@@ -1,4 +1,4 @@
-ghost use Rattle.std.specs.Prelude.{◌≡◌, ◌<◌, IfOk, IfSome, Some, IsSome, OnOk, OnErr};
+ghost use Rattle.std.specs.Prelude.{◌≡◌, ◌<◌, All, IfOk, IfSome, Some, IsSome, OnOk, OnErr};
 ghost use Rattle.std.specs.Option.{option_map};
 ghost use Rattle.ar_base.specs.Gives.{GivesOrWants, GivesUnless};
 ghost use Rattle.ar_council.specs.Council.{council_of};
@@ -11,9 +11,10 @@ ghost use Rattle.party_keys.specs.Learning.{after_adopting, after_learning, lear
 ghost use Rattle.party_keys.specs.Seen.{log_party};
 ghost use Rattle.party_keys.specs.declared.fault.LearnFault.TheVariants as learn_fault;
 ghost use Rattle.domain_table.specs.Sound.{IsSound};
-ghost use Rattle.epoch_log.specs.Answers.{IsOpenTo, confirmed, stated, voted};
-ghost use Rattle.epoch_log.specs.Calls.{AreEndorsers, IsProposed, MayState, after_ballot, after_confirm, after_decide, after_endorsed, after_learn, after_roll, after_skip, after_state, after_status_seen, after_vote, fresh};
+ghost use Rattle.epoch_log.specs.Answers.{IsOpenTo, confirmed, proposed, stated, voted};
+ghost use Rattle.epoch_log.specs.Calls.{AreEndorsers, IsProposed, IsTurn, MayState, after_ballot, after_confirm, after_decide, after_endorsed, after_learn, after_propose, after_roll, after_skip, after_state, after_status_seen, after_vote, fresh};
 ghost use Rattle.epoch_log.specs.Log.{moved, record_of};
+ghost use Rattle.epoch_log.specs.Right.{SawEndorsements};
 ghost use Rattle.epoch_log.specs.State.{IsKept, epoch_of, table_of};
 ghost use Rattle.epoch_log.specs.Telling.{CanDecide, CanSkip, statuses_in, to_root, votes_in};
 
@@ -128,6 +129,27 @@ impl EpochLog {
         ensures err { OnErr result (self.new ≡ self.old) }
     {
         self.parts.endorsed(alloc, change)
+    }
+
+    /// Proposes, in the log's turn, to go by these changes from the table with the root `base` to the one with `root`, and
+    /// votes for that; the own vote is seen and counted at once, and the epoch may end with it.
+    ///
+    /// It gives the leaf of the proposal, and is `Spent` exactly where there are not leaves for the proposal and the vote.
+    pub fn propose(
+        &mut self,
+        alloc: Global,
+        base: [u8; 32],
+        changes: Vec<Change>,
+        root: [u8; 32],
+    ) -> Result<(RollDue, Closing), BookFault>
+        requires turn { IsTurn self.old.state.council self.old.state.me (epoch_of self.old.state) }
+        requires open { IsOpenTo self.old.state (record { base = base; root = root }) changes.items }
+        requires endorsed { All (SawEndorsements self.old.state.past.seen) changes.items }
+        ensures answer { GivesOrWants book_fault.Memory (λ r. r) result (proposed self.old.state (record { base = base; root = root }) changes.items) }
+        ensures ok { OnOk result (self.new ≡ moved self.old (after_propose self.old.state (record { base = base; root = root }) changes.items).0) }
+        ensures err { OnErr result (self.new ≡ self.old) }
+    {
+        self.parts.propose(alloc, Value { base, root }, changes)
     }
 
     /// Votes for another log's proposal, which is seen with the endorsements of its changes.

@@ -5,7 +5,7 @@ ghost use Rattle.ar_statement.specs.Claims.{claim_of, text_of};
 ghost use Rattle.key_roll.specs.Book.{IsRollBook};
 ghost use Rattle.key_roll.specs.Entry.{after_entry, entered};
 ghost use Rattle.key_roll.specs.Rolls.{is_roll};
-ghost use Rattle.epoch_log.specs.Answers.{has_leaves};
+ghost use Rattle.epoch_log.specs.Answers.{first_entered, has_leaves};
 
 use ar_statement::Statement;
 use key_roll::{BookFault, RollBook, RollDue};
@@ -53,5 +53,33 @@ pub(crate) fn sign(alloc: Global, book: &mut RollBook, statement: &Statement) ->
     match book.enter(alloc, statement) {
         Ok(due) => due,
         Err(_) => unreachable!(),
+    }
+}
+
+/// Whether there are leaves for two statements, where they need them.
+#[tactic(auto, using(crate::proofs::Leaves::two_needs))]
+fn has_leaves(book: &RollBook, first: &Statement, second: &Statement) -> bool
+    ensures { result ≡ has_leaves book.now.book (text_of (claim_of first.now) ∷ (text_of (claim_of second.now) ∷ [])) }
+{
+    need(book, first) as u64 + need(book, second) as u64 <= book.free() as u64
+}
+
+/// That there are leaves for two statements, where they need them; it is `Spent` exactly where there are not.
+#[tactic(auto, using(crate::proofs::Leaves::leaves_for_two))]
+pub(crate) fn leaves_for(
+    book: &RollBook,
+    first: &Statement,
+    second: &Statement,
+) -> Result<(), BookFault>
+    requires sound { IsRollBook book.now.book }
+    requires plain { is_roll (text_of (claim_of first.now)) ≡ false }
+    ensures room { OnOk result (HasRoom book.now.book (text_of (claim_of first.now) ∷ (text_of (claim_of second.now) ∷ []))) }
+    ensures some { OnOk result (IsOk (first_entered book.now.book (text_of (claim_of first.now)) (text_of (claim_of second.now)))) }
+    ensures none { IfErr result (λ fault. first_entered book.now.book (text_of (claim_of first.now)) (text_of (claim_of second.now)) ≡ Err fault) }
+{
+    if has_leaves(book, first, second) {
+        Ok(())
+    } else {
+        Err(BookFault::Spent)
     }
 }

@@ -1,0 +1,167 @@
+//! The log's own proposal.
+ghost use Rattle.std.specs.Prelude.{◌≡◌, ◌<◌, [], ◌∷◌, None, Ok, Err, Some, All, IfErr, IfOk, IsOk, IsSome, OnOk, OnErr, vec_len, vec_capacity};
+ghost use Rattle.ar_base.specs.Gives.{GivesOrWants};
+ghost use Rattle.ar_council.specs.Room.{HasRoom};
+ghost use Rattle.ar_statement.specs.Claims.{text_of};
+ghost use Rattle.key_roll.specs.declared.fault.BookFault.TheVariants as book_fault;
+ghost use Rattle.domain_table.specs.Applying.{apply};
+ghost use Rattle.epoch_log.specs.Answers.{IsOpenTo, first_entered, proposed};
+ghost use Rattle.epoch_log.specs.Calls.{IsTurn, MayVote, after_propose, casting, own_vote_text, proposal_texts, propose_claim, proposing, vote_of, with_vote};
+ghost use Rattle.epoch_log.specs.Log.{IsLog, moved, parts_of, state_in};
+ghost use Rattle.epoch_log.specs.Plans.{IsPlan};
+ghost use Rattle.epoch_log.specs.Right.{SawEndorsements};
+ghost use Rattle.epoch_log.specs.State.{ballots_of, epoch_of, reports_of};
+ghost use Rattle.epoch_log.specs.Told.{value_of};
+
+use crate::closing::{Plan, plan_for};
+use crate::counting::{ballots_with, reports};
+use crate::parts::Parts;
+use crate::signing::{leaves_for, sign};
+use crate::statements::{changes_told, propose_statement, value_told, vote_statement};
+use crate::{Closing, Voted};
+use ar_base::Items;
+use ar_cert::Change;
+use key_roll::{BookFault, RollDue, forgo};
+use std::alloc::{AllocError, Global};
+use vote_quorum::Value;
+
+impl Parts {
+    /// That there are leaves for the proposal and the own vote, if they need them; it is `Spent` exactly where there are
+    /// not.
+    fn proposal_leaves(&self, value: &Value) -> Result<(), BookFault>
+        requires { IsLog self.now }
+        ensures room { OnOk result (HasRoom (state_in self.now).past.signed (proposal_texts (state_in self.now) value.now)) }
+        ensures some { OnOk result (IsOk (first_entered (state_in self.now).past.signed (text_of (propose_claim (state_in self.now) value.now)) (own_vote_text (state_in self.now) value.now))) }
+        ensures none { IfErr result (λ fault. first_entered (state_in self.now).past.signed (text_of (propose_claim (state_in self.now) value.now)) (own_vote_text (state_in self.now) value.now) ≡ Err fault) }
+    {
+        let epoch = self.epoch();
+        let proposal = propose_statement(self.number, epoch, value);
+        let vote = vote_statement(self.number, epoch, value);
+        leaves_for(&self.past.signed, &proposal, &vote)
+    }
+
+    /// How the epoch is to end where this vote is the log's own, and is counted.
+    fn plan_with_own(&self, alloc: Global, vote: &Voted) -> Result<Plan, AllocError>
+        requires kept { IsLog self.now }
+        requires applies { IsSome (apply self.now.table (epoch_of (state_in self.now)) vote.now.changes) }
+        ensures { IfOk result (IsPlan (state_in self.now).council (epoch_of (state_in self.now)) self.now.table (Some vote.now)
+            (ballots_of (with_vote (state_in self.now).votes ((state_in self.now).me, value_of vote.now, None))) (reports_of (state_in self.now).statuses)) }
+    {
+        let value = Value {
+            base: vote.base,
+            root: vote.root,
+        };
+        let ballots = ballots_with(alloc, &self.votes, self.number, &value)?;
+        let reports = reports(alloc, &self.statuses)?;
+        plan_for(
+            alloc,
+            &self.directory,
+            self.epoch(),
+            &self.table,
+            Some(vote),
+            &ballots,
+            reports,
+        )
+    }
+
+    /// Signs the proposal and then the own vote, and tells of the vote. There is room for them, and leaves.
+    fn put_proposal(&mut self, alloc: Global, vote: Voted) -> RollDue
+        requires epoch { vote.epoch ≡ epoch_of (state_in self.old) }
+        requires leaves { HasRoom (state_in self.old).past.signed (proposal_texts (state_in self.old) (value_of vote)) }
+        requires room { 1 < self.old.past.signed.room }
+        requires voted { vec_len self.old.past.voted < vec_capacity self.old.past.voted }
+        ensures due { first_entered (state_in self.old).past.signed (text_of (propose_claim (state_in self.old) (value_of vote))) (own_vote_text (state_in self.old) (value_of vote)) ≡ Ok result }
+        ensures parts { parts_of self.new ≡ moved (parts_of self.old) (casting (proposing (state_in self.old) (value_of vote)) vote) }
+        ensures table { self.new.table ≡ self.old.table }
+        ensures seen { self.new.past.seen ≡ self.old.past.seen }
+        ensures ended { self.new.past.ended ≡ self.old.past.ended }
+        ensures votes { self.new.votes ≡ self.old.votes }
+    {
+        let base = vote.base;
+        let root = vote.root;
+        let value = Value { base, root };
+        let proposal = propose_statement(self.number, vote.epoch, &value);
+        let statement = vote_statement(self.number, vote.epoch, &value);
+        let due = sign(alloc, &mut self.past.signed, &proposal);
+        forgo(sign(alloc, &mut self.past.signed, &statement));
+        self.past.voted.push_reserved(vote);
+        due
+    }
+
+    /// The same, which keeps what is kept.
+    fn take_proposal(&mut self, alloc: Global, vote: Voted) -> RollDue
+        requires kept { IsLog self.old }
+        requires epoch { vote.epoch ≡ epoch_of (state_in self.old) }
+        requires may { MayVote (state_in self.old) (value_of vote) vote.changes }
+        requires endorsed { All (SawEndorsements (state_in self.old).past.seen) vote.changes }
+        requires leaves { HasRoom (state_in self.old).past.signed (proposal_texts (state_in self.old) (value_of vote)) }
+        requires room { 1 < self.old.past.signed.room }
+        requires voted { vec_len self.old.past.voted < vec_capacity self.old.past.voted }
+        ensures due { first_entered (state_in self.old).past.signed (text_of (propose_claim (state_in self.old) (value_of vote))) (own_vote_text (state_in self.old) (value_of vote)) ≡ Ok result }
+        ensures parts { parts_of self.new ≡ moved (parts_of self.old) (casting (proposing (state_in self.old) (value_of vote)) (vote_of (state_in self.old) (value_of vote) vote.changes)) }
+        ensures table { self.new.table ≡ self.old.table }
+        ensures seen { self.new.past.seen ≡ self.old.past.seen }
+        ensures ended { self.new.past.ended ≡ self.old.past.ended }
+        ensures votes { self.new.votes ≡ self.old.votes }
+        ensures kept { IsLog self.new }
+    {
+        self.put_proposal(alloc, vote)
+    }
+
+    /// Signs, sees and counts as `propose` does, once the statements have their leaves.
+    fn propose_with(
+        &mut self,
+        alloc: Global,
+        value: Value,
+        changes: Vec<Change>,
+    ) -> Result<(RollDue, Closing), AllocError>
+        requires kept { IsLog self.old }
+        requires turn { IsTurn (state_in self.old).council (state_in self.old).me (epoch_of (state_in self.old)) }
+        requires may { MayVote (state_in self.old) value changes.items }
+        requires endorsed { All (SawEndorsements (state_in self.old).past.seen) changes.items }
+        requires leaves { HasRoom (state_in self.old).past.signed (proposal_texts (state_in self.old) value) }
+        ensures answer { IfOk result (λ r. proposed (state_in self.old) value changes.items ≡ Ok r) }
+        ensures ok { OnOk result (parts_of self.new ≡ moved (parts_of self.old) (after_propose (state_in self.old) value changes.items).0) }
+        ensures err { OnErr result (parts_of self.new ≡ parts_of self.old) }
+        ensures kept { IsLog self.new }
+    {
+        let number = self.number;
+        let Value { base, root } = value;
+        let vote = Voted {
+            epoch: self.epoch(),
+            base,
+            changes: Items::from_vec(changes),
+            root,
+        };
+        let plan = self.plan_with_own(alloc, &vote)?;
+        self.reserve(alloc, 1, 2)?;
+        let due = self.take_proposal(alloc, vote);
+        self.take_ballot(number, value, None);
+        Ok((due, self.finish(alloc, plan)))
+    }
+
+    /// `EpochLog::propose`.
+    pub(crate) fn propose(
+        &mut self,
+        alloc: Global,
+        value: Value,
+        changes: Vec<Change>,
+    ) -> Result<(RollDue, Closing), BookFault>
+        requires kept { IsLog self.old }
+        requires turn { IsTurn (state_in self.old).council (state_in self.old).me (epoch_of (state_in self.old)) }
+        requires open { IsOpenTo (state_in self.old) value changes.items }
+        requires endorsed { All (SawEndorsements (state_in self.old).past.seen) changes.items }
+        ensures answer { GivesOrWants book_fault.Memory (λ r. r) result (proposed (state_in self.old) value changes.items) }
+        ensures ok { OnOk result (parts_of self.new ≡ moved (parts_of self.old) (after_propose (state_in self.old) value changes.items).0) }
+        ensures err { OnErr result (parts_of self.new ≡ parts_of self.old) }
+        ensures kept { IsLog self.new }
+    {
+        value_told(&value);
+        changes_told(&changes);
+        self.proposal_leaves(&value)?;
+        match self.propose_with(alloc, value, changes) {
+            Ok(answer) => Ok(answer),
+            Err(_) => Err(BookFault::Memory),
+        }
+    }
+}
