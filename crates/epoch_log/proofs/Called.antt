@@ -70,6 +70,11 @@ members council changes are = all-members council changes (recursion_from_All (A
 pub kept-endorsed : (s : LogState) (change : Change) → IsKept s → AreEndorsers s.council change → IsKept (after_endorsed s change)
 kept-endorsed s change kept are = kept-seeing s (endorsements_of change) kept (endorsers-members s.council change are)
 
+pub saw-endorsed : (s : LogState) (change : Change) → SawEndorsements (after_endorsed s change).past.seen change
+saw-endorsed s change =
+    All-unmap (Contains (seen_after s.past.seen (endorsements_of change))) (λ a. seen_of (authority_party a) (endorse a (digest_of change.cert))) (endorsers_of change)
+    (seen-has (endorsements_of change) s.past.seen)
+
 pub kept-vote : (s : LogState) (proposer : ℕ) (value : Value) (changes : List Change) → IsKept s → MayVote s value changes → IsProposed s proposer changes
     → HasRoom s.past.signed (own_vote_text s value ∷ []) → IsKept (after_vote s proposer value changes)
 kept-vote s proposer value changes kept may proposed room =

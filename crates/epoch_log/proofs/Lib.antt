@@ -15,4 +15,5 @@ pub mod Moved
 pub mod Places
 pub mod Plans
 pub mod Read
+pub mod Saw
 pub mod Texts

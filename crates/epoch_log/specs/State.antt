@@ -1,6 +1,6 @@
 -- Where a log stands: its record, what it has counted in the current epoch, and the newest decision; and what is kept
 -- of it beside the record's own clauses.
-use Rattle.std.specs.Prelude.{◌≡◌, ◌≢◌, ℕ, ◌^◌, ◌<◌, ◌≤◌, List, map, All, Option, Some, None}
+use Rattle.std.specs.Prelude.{◌≡◌, ◌≢◌, ℕ, ◌^◌, ◌<◌, ◌≤◌, List, map, All, Contains, Option, Some, None}
 use Rattle.ar_cert.specs.Changes.{Change}
 use Rattle.ar_statement.specs.declared.text.SeenText.{SeenText}
 use Rattle.party_keys.specs.Seen.{Saw, log_party}
@@ -56,6 +56,10 @@ reports_of statuses = map (λ s. (s.0, s.1)) statuses
 -- what was decided last
 abbrev pub newest_value : Newest → Value
 newest_value w = record { base = w.base; root = w.root }
+
+-- what the one saw the other saw too
+abbrev pub SeesMore : LogState → LogState → Type 0
+SeesMore s later = (t : SeenText) → Contains s.past.seen t → Contains later.past.seen t
 
 -- a ballot of the epoch is of a log of the council, and was seen
 pub record IsSeenVote (council : Council) (seen : List SeenText) (epoch : ℕ) (v : CountedVote) : Type 0 where

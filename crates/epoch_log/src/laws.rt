@@ -21,7 +21,7 @@ ghost use Rattle.epoch_log.specs.Ending.{closed, decided, excludes_all, may_end,
 ghost use Rattle.epoch_log.specs.Honest.{EndsInOrder, HonestLog};
 ghost use Rattle.epoch_log.specs.Record.{LogRecord};
 ghost use Rattle.epoch_log.specs.Right.{SawEndorsements};
-ghost use Rattle.epoch_log.specs.State.{CountedStatus, CountedVote, IsKept, LogState, ballots_of, epoch_of, reports_of, table_of};
+ghost use Rattle.epoch_log.specs.State.{CountedStatus, CountedVote, IsKept, LogState, SeesMore, ballots_of, epoch_of, reports_of, table_of};
 ghost use Rattle.epoch_log.specs.Told.{HasConfirmed, HasStated, HasVoted, value_of};
 ghost use Rattle.epoch_log.specs.declared.entries.Closing.TheVariants as closings;
 ghost use Rattle.epoch_log.specs.declared.entries.Newest.{Newest};
@@ -32,9 +32,23 @@ pub fn a_fresh_log_is_kept()
     ensures { (me : ℕ) (council : Council) (leaves : ℕ) → me < 2 ^ 16 → 0 < leaves → IsKept (fresh me council leaves) }
 {}
 
-/// A log is kept where it queues a change of which authorities of the council endorse.
+/// A log is kept where it queues a change of which authorities of the council endorse, and has then seen its endorsements.
 pub fn a_queued_change_keeps_a_log()
-    ensures { (s : LogState) (change : Change) → IsKept s → AreEndorsers s.council change → IsKept (after_endorsed s change) }
+    ensures kept { (s : LogState) (change : Change) → IsKept s → AreEndorsers s.council change → IsKept (after_endorsed s change) }
+    ensures endorsed { (s : LogState) (change : Change) → SawEndorsements (after_endorsed s change).past.seen change }
+{}
+
+/// What a log saw stays so, whatever it does; a confirmation and its own next key leave it as it is.
+pub fn what_was_seen_stays_so()
+    ensures change { (s : LogState) (change : Change) → SeesMore s (after_endorsed s change) }
+    ensures vote { (s : LogState) (proposer : ℕ) (value : Value) (changes : List Change) → SeesMore s (after_vote s proposer value changes) }
+    ensures proposal { (s : LogState) (value : Value) (changes : List Change) → SeesMore s (after_propose s value changes).0 }
+    ensures ballot { (s : LogState) (log : ℕ) (value : Value) (signature : List ℕ) → SeesMore s (after_ballot s log value signature).0 }
+    ensures own { (s : LogState) → SeesMore s (after_state s).0 }
+    ensures status { (s : LogState) (log : ℕ) (value : Option Value) (signature : Option (List ℕ)) → SeesMore s (after_status_seen s log value signature).0 }
+    ensures decision { (s : LogState) (value : Value) (changes : List Change) (votes : List (ℕ × List ℕ)) → SeesMore s (after_decide s value changes votes) }
+    ensures skip { (s : LogState) (statuses : List SignedStatus) → SeesMore s (after_skip s statuses) }
+    ensures learn { (s : LogState) (party : Party) (generation : ℕ) (key : List ℕ) → SeesMore s (after_learn s party generation key) }
 {}
 
 /// A log is kept where it votes for a proposal as it may, and has a leaf for its vote.
