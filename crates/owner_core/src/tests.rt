@@ -12,7 +12,7 @@ use std::test::Fail;
 
 // ---- parties
 
-// The key of a party under the master secret of zeros, as in the worked example.
+// The key of a party under the master secret of zeros, as in the worked examples.
 fn key(alloc: Global, role: Role, number: u16) -> Result<LmsKey, Fail> {
     Ok(LmsKey::make(alloc, &party_seed(&[0; 32], role, number), 5, 3)?)
 }
@@ -40,8 +40,33 @@ fn owner(alloc: Global, number: u16, key: LmsKey, keys: [LmsPublic; 3]) -> Resul
 
 // ---- certificates
 
-// The policy of the worked example: it needs a handover and two endorsements, trusts the
-// authorities 0 and 1, and ends with epoch 1000.
+// The policies of the worked examples. Each asks for two endorsements, and ends with epoch 1000.
+
+// It needs a handover, and trusts three authorities.
+fn policy_of_three(alloc: Global) -> Result<Policy, Fail> {
+    Ok(Policy {
+        threshold: 2,
+        keyed: true,
+        max_age: 10,
+        until: 1000,
+        trusted: Items::from_vec(vec![in alloc; 0, 1, 2]?),
+        wait: None,
+    })
+}
+
+// It needs no handover, and trusts two; a recovery waits three epochs.
+fn policy_with_recovery(alloc: Global) -> Result<Policy, Fail> {
+    Ok(Policy {
+        threshold: 2,
+        keyed: false,
+        max_age: 100,
+        until: 1000,
+        trusted: Items::from_vec(vec![in alloc; 0, 1]?),
+        wait: Some(3),
+    })
+}
+
+// It needs a handover, and trusts two.
 fn policy_of_two(alloc: Global, max_age: u32) -> Result<Policy, Fail> {
     Ok(Policy {
         threshold: 2,
@@ -69,6 +94,26 @@ fn certificate(
         policy,
         revoked: false,
     })
+}
+
+// The first certificate of the name, by the policy with three authorities.
+fn first_certificate(alloc: Global, subject: LmsPublic) -> Result<Cert, Fail> {
+    let policy = policy_of_three(alloc)?;
+    certificate(alloc, subject, 0, [0; 32], policy)
+}
+
+// The digest of the certificate that a recovery replaces.
+fn recovered(alloc: Global, subject: LmsPublic) -> Result<[u8; 32], Fail> {
+    let policy = policy_with_recovery(alloc)?;
+    let cert = certificate(alloc, subject, 0, [0; 32], policy)?;
+    Ok(cert.digest())
+}
+
+// A recovery.
+fn recovery(alloc: Global, subject: LmsPublic) -> Result<Cert, Fail> {
+    let previous = recovered(alloc, subject)?;
+    let policy = policy_with_recovery(alloc)?;
+    certificate(alloc, subject, 1, previous, policy)
 }
 
 // ---- messages to an owner
@@ -148,6 +193,10 @@ fn submit(alloc: Global, owner: &Owner, digest: &[u8; 32]) -> Result<Sent, Owner
     owner.submit(alloc, digest)
 }
 
+fn object(alloc: Global, owner: &mut Owner, cert: &Cert) -> Result<Sent, OwnerRefusal> {
+    owner.object(alloc, cert)
+}
+
 // The owner signs the handover to its own draft, which takes it.
 fn hand_over(alloc: Global, owner: &mut Owner, digest: &[u8; 32]) -> Result<(), OwnerRefusal> {
     let signature = owner.handover(alloc, digest)?;
@@ -180,7 +229,21 @@ fn is_for_logs(alloc: Global, sent: &Sent, expected: (usize, &str)) -> Result<bo
     Ok(is_alone && is_sent(alloc, sent, 0, Address::Logs, expected)?)
 }
 
-// ---- a worked example, as another program plays it
+// Whether the message at this place is this request to the authority of that number.
+fn is_asked(alloc: Global, sent: &Sent, place: u16, expected: (usize, &str)) -> Result<bool, Fail> {
+    let to = Address::One(Role::Authority.party(place));
+    is_sent(alloc, sent, place as usize, to, expected)
+}
+
+// Whether the same message is sent to the authorities 0, 1 and 2, in this order, and none beside.
+fn is_for_three(alloc: Global, sent: &Sent, expected: (usize, &str)) -> Result<bool, Fail> {
+    let zero = is_asked(alloc, sent, 0, expected)?;
+    let one = is_asked(alloc, sent, 1, expected)?;
+    let two = is_asked(alloc, sent, 2, expected)?;
+    Ok(sent.messages.len() == 3 && zero && one && two)
+}
+
+// ---- worked examples, as another program plays them
 
 // Whether an authority's endorsement by this leaf has this SHA-256, and the owner takes it.
 fn endorses(
@@ -234,5 +297,421 @@ fn an_update_is_handed_over(rt: HostRuntime) -> Result<(), Fail> {
         hand_over(alloc, &mut owner, &digest)?;
         assert!(rt; is_for_logs(alloc, &submit(alloc, &owner, &digest)?, (9551, with))?);
     }
+    Ok(())
+}
+
+// The public key of an authority.
+fn authority_public(alloc: Global, number: u16) -> Result<LmsPublic, Fail> {
+    let key = authority_key(alloc, number)?;
+    Ok(key.public())
+}
+
+// The owner with this number, who knows the keys of the authorities 0, 1 and 2.
+fn acquainted(alloc: Global, number: u16) -> Result<Owner, Fail> {
+    let zero = authority_public(alloc, 0)?;
+    let one = authority_public(alloc, 1)?;
+    let two = authority_public(alloc, 2)?;
+    let key = key(alloc, Role::Owner, number)?;
+    owner(alloc, number, key, [zero, one, two])
+}
+
+// Whether the endorsement of an authority, whose key is made for it, is that one.
+fn vouches(
+    alloc: Global,
+    owner: &mut Owner,
+    authority: u16,
+    leaf: u32,
+    digest: [u8; 32],
+    expected: &str,
+) -> Result<bool, Fail> {
+    let key = authority_key(alloc, authority)?;
+    endorses(alloc, owner, authority, &key, leaf, digest, expected)
+}
+
+// Whether the owner asks three authorities to endorse the certificate.
+fn asks(alloc: Global, owner: &mut Owner, cert: Cert) -> Result<bool, Fail> {
+    let expected = "519a86c00d3e1d36e6343fb079d40a66f488601aa9ab5b9f31715f7cafb5f2e1";
+    let asked = begin(alloc, owner, cert, &[0, 1, 2])?;
+    is_for_three(alloc, &asked, (135, expected))
+}
+
+// Whether the three endorse it.
+fn is_endorsed(alloc: Global, owner: &mut Owner, digest: [u8; 32]) -> Result<bool, Fail> {
+    let expected = "fcd6a31f62390dca184776aee2e16d3209bc935ed59731850429e05cffebc5f5";
+    let first = vouches(alloc, owner, 0, 0, digest, expected)?;
+    let expected = "744e11fedf7b8fcb7080efb86ae6b4796d26ef965d6b088a4c14bf237a45b20c";
+    let second = vouches(alloc, owner, 1, 0, digest, expected)?;
+    let expected = "116c3458a166c97ae7925a15e9cbda3390f0bd2c62bf0aaf84349a8edc2ac94a";
+    let third = vouches(alloc, owner, 2, 0, digest, expected)?;
+    Ok(first && second && third)
+}
+
+// Whether it goes to the logs.
+fn is_submitted(alloc: Global, owner: &Owner, digest: &[u8; 32]) -> Result<bool, Fail> {
+    let expected = "9877a91a8441a159700dc5f3eee38b70e5b4e3689a0704a1418c0adad47629df";
+    let sent = submit(alloc, owner, digest)?;
+    is_for_logs(alloc, &sent, (7203, expected))
+}
+
+// Whether the first certificate is asked for, endorsed and submitted.
+fn registers(alloc: Global, owner: &mut Owner) -> Result<bool, Fail> {
+    let cert = first_certificate(alloc, owner.public())?;
+    let digest = cert.digest();
+    let asked = asks(alloc, owner, cert)?;
+    let endorsed = is_endorsed(alloc, owner, digest)?;
+    let submitted = is_submitted(alloc, owner, &digest)?;
+    Ok(asked && endorsed && submitted)
+}
+
+// Three authorities endorse the first certificate of a name, and it goes to the logs.
+#[test]
+fn a_certificate_is_endorsed_and_submitted(rt: HostRuntime) -> Result<(), Fail> {
+    let alloc = rt.alloc();
+    let mut owner = acquainted(alloc, 0)?;
+    assert!(rt; registers(alloc, &mut owner)?);
+    Ok(())
+}
+
+// Whether the owner objects to the certificate.
+fn objects(alloc: Global, owner: &mut Owner, cert: &Cert, expected: &str) -> Result<bool, Fail> {
+    let sent = object(alloc, owner, cert)?;
+    is_for_logs(alloc, &sent, (2485, expected))
+}
+
+// Whether it does so twice, with the same bytes.
+fn objects_twice(alloc: Global, owner: &mut Owner, cert: &Cert) -> Result<bool, Fail> {
+    let expected = "302167f824040bfb7c2a4c0e5b1f053d04f0b287e4c7187175cb5d8471de7b1b";
+    let once = objects(alloc, owner, cert, expected)?;
+    let again = objects(alloc, owner, cert, expected)?;
+    Ok(once && again)
+}
+
+// Whether another owner objects to it.
+fn other_objects(alloc: Global, cert: &Cert) -> Result<bool, Fail> {
+    let expected = "e81d6d8bee55fd238658a7e2392f3f31d925a21c952ffb2cf82e9dbda0d5171b";
+    let mut other = acquainted(alloc, 1)?;
+    objects(alloc, &mut other, cert, expected)
+}
+
+// The recovery becomes a draft.
+fn begin_recovery(alloc: Global, owner: &mut Owner) -> Result<(), Fail> {
+    let cert = recovery(alloc, owner.public())?;
+    begin(alloc, owner, cert, &[])?;
+    Ok(())
+}
+
+// Whether an authority endorses it, and then two owners object to it.
+fn are_objected(alloc: Global, owner: &mut Owner, cert: &Cert) -> Result<bool, Fail> {
+    let expected = "aa96f7a0f3fb8799e23fef72fafae0527f0b3d9800e9afe44af96515502b0c43";
+    let endorsed = vouches(alloc, owner, 2, 1, cert.digest(), expected)?;
+    let own = objects_twice(alloc, owner, cert)?;
+    let other = other_objects(alloc, cert)?;
+    Ok(endorsed && own && other)
+}
+
+// The same, of the recovery.
+fn is_objected(alloc: Global, owner: &mut Owner) -> Result<bool, Fail> {
+    begin_recovery(alloc, owner)?;
+    let cert = recovery(alloc, owner.public())?;
+    are_objected(alloc, owner, &cert)
+}
+
+// Two owners object to a recovery, the first of them twice. It is a draft of the first, and an
+// authority has endorsed it.
+#[test]
+fn a_recovery_is_objected_to(rt: HostRuntime) -> Result<(), Fail> {
+    let alloc = rt.alloc();
+    let mut owner = acquainted(alloc, 0)?;
+    assert!(rt; is_objected(alloc, &mut owner)?);
+    Ok(())
+}
+
+// ---- refusals, and what changes nothing
+
+// A key that is made quickly.
+fn quick_key(alloc: Global, seed: u8) -> Result<LmsKey, Fail> {
+    Ok(LmsKey::make(alloc, &[seed; 32], 5, 1)?)
+}
+
+// An owner who knows this key as that of all logs and authorities.
+fn quick_owner(alloc: Global, known: LmsPublic) -> Result<Owner, Fail> {
+    let key = quick_key(alloc, 2)?;
+    owner(alloc, 0, key, [known; 3])
+}
+
+// The first certificate becomes a draft of the owner's. Its digest is told.
+fn begin_first(alloc: Global, owner: &mut Owner) -> Result<[u8; 32], Fail> {
+    let cert = first_certificate(alloc, owner.public())?;
+    let digest = cert.digest();
+    begin(alloc, owner, cert, &[])?;
+    Ok(digest)
+}
+
+// Why a message is refused, where it is.
+fn refusal(alloc: Global, owner: &mut Owner, bytes: &[u8]) -> Option<OwnerRefusal> {
+    step(alloc, owner, bytes).err()
+}
+
+// Why an endorsement is refused, where it is.
+fn of_endorsement(
+    alloc: Global,
+    owner: &mut Owner,
+    number: u16,
+    authority: u16,
+    key: &LmsKey,
+    digest: [u8; 32],
+) -> Result<Option<OwnerRefusal>, Fail> {
+    let message = endorsed(alloc, number, authority, key, 0, digest)?;
+    Ok(refusal(alloc, owner, &message))
+}
+
+// Alters the last byte.
+fn alter(bytes: &mut [u8]) {
+    if let Some(byte) = bytes.last_mut() {
+        *byte = !*byte;
+    }
+}
+
+// Why an endorsement whose last byte was altered is refused, where it is.
+fn of_altered(
+    alloc: Global,
+    owner: &mut Owner,
+    authority: u16,
+    key: &LmsKey,
+    digest: [u8; 32],
+) -> Result<Option<OwnerRefusal>, Fail> {
+    let mut message = endorsed(alloc, 0, authority, key, 0, digest)?;
+    alter(&mut message);
+    Ok(refusal(alloc, owner, &message))
+}
+
+// Why each is refused of: an endorsement to another owner by an authority that is not known, an
+// altered one by that authority, an altered one of what is no draft, and one of what is no draft.
+fn of_endorsements(
+    alloc: Global,
+    owner: &mut Owner,
+    key: &LmsKey,
+    digest: [u8; 32],
+) -> Result<[Option<OwnerRefusal>; 4], Fail> {
+    let other = of_endorsement(alloc, owner, 1, 9, key, digest)?;
+    let unknown = of_altered(alloc, owner, 9, key, digest)?;
+    let bad = of_altered(alloc, owner, 1, key, [0; 32])?;
+    let absent = of_endorsement(alloc, owner, 0, 1, key, [0; 32])?;
+    Ok([other, unknown, bad, absent])
+}
+
+// The same, where the owner has a draft.
+fn endorsements_to_draft(alloc: Global) -> Result<[Option<OwnerRefusal>; 4], Fail> {
+    let key = quick_key(alloc, 1)?;
+    let mut owner = quick_owner(alloc, key.public())?;
+    let digest = begin_first(alloc, &mut owner)?;
+    of_endorsements(alloc, &mut owner, &key, digest)
+}
+
+// Where more than one reason holds, the first is told.
+#[test]
+fn endorsements_are_refused(rt: HostRuntime) -> Result<(), Fail> {
+    let alloc = rt.alloc();
+    let [other, unknown, bad, absent] = endorsements_to_draft(alloc)?;
+    let nine = Role::Authority.party(9);
+    let one = Role::Authority.party(1);
+    assert_eq!(rt; other, Some(OwnerRefusal::NotForOwner));
+    assert_eq!(rt; unknown, Some(OwnerRefusal::Unknown(nine)));
+    assert_eq!(rt; bad, Some(OwnerRefusal::BadSignature(one, 5)));
+    assert_eq!(rt; absent, Some(OwnerRefusal::NoDraft));
+    Ok(())
+}
+
+// A client's question.
+fn confirm_ask(alloc: Global) -> Result<Vec<u8>, Fail> {
+    let mut bytes = vec![in alloc; 9, 0, 0, 9]?;
+    bytes.extend_from_slice(b"a.example")?;
+    bytes.extend_from_slice(&[0, 0, 0, 1])?;
+    Ok(bytes)
+}
+
+// Why a client's question is refused, where it is.
+fn of_ask(alloc: Global, owner: &mut Owner) -> Result<Option<OwnerRefusal>, Fail> {
+    let ask = confirm_ask(alloc)?;
+    Ok(refusal(alloc, owner, &ask))
+}
+
+// Why each is refused of: a text that is no message, a client's question, and a submission and a
+// handover of a digest that no draft has.
+fn of_others(alloc: Global, owner: &mut Owner) -> Result<[Option<OwnerRefusal>; 4], Fail> {
+    let ask = of_ask(alloc, owner)?;
+    let form = refusal(alloc, owner, &[13]);
+    let submitted = submit(alloc, owner, &[0; 32]).err();
+    let attached = hand_over(alloc, owner, &[0; 32]).err();
+    Ok([form, ask, submitted, attached])
+}
+
+#[test]
+fn what_is_not_for_the_owner_is_refused(rt: HostRuntime) -> Result<(), Fail> {
+    let alloc = rt.alloc();
+    let key = quick_key(alloc, 1)?.public();
+    let mut owner = quick_owner(alloc, key)?;
+    let [form, ask, submitted, attached] = of_others(alloc, &mut owner)?;
+    assert_eq!(rt; form, Some(OwnerRefusal::Form(1)));
+    assert_eq!(rt; ask, Some(OwnerRefusal::NotForOwner));
+    assert_eq!(rt; submitted, Some(OwnerRefusal::NoDraft));
+    assert_eq!(rt; attached, Some(OwnerRefusal::NoDraft));
+    Ok(())
+}
+
+// Whether the endorsements of eight authorities are taken.
+fn takes_eight(
+    alloc: Global,
+    owner: &mut Owner,
+    key: &LmsKey,
+    digest: [u8; 32],
+) -> Result<bool, Fail> {
+    let mut are = true;
+    for authority in 0..8 {
+        let refused = of_endorsement(alloc, owner, 0, authority, key, digest)?;
+        are = are && refused.is_none();
+    }
+    Ok(are)
+}
+
+// Why a ninth is refused, and then why the eighth is that comes again.
+fn of_ninth(
+    alloc: Global,
+    owner: &mut Owner,
+    key: &LmsKey,
+    digest: [u8; 32],
+) -> Result<[Option<OwnerRefusal>; 2], Fail> {
+    let ninth = of_endorsement(alloc, owner, 0, 8, key, digest)?;
+    let eighth = of_endorsement(alloc, owner, 0, 7, key, digest)?;
+    Ok([ninth, eighth])
+}
+
+// The same, of an owner of eight endorsements.
+fn beyond_eight(
+    alloc: Global,
+    owner: &mut Owner,
+    key: &LmsKey,
+) -> Result<[Option<OwnerRefusal>; 2], Fail> {
+    let digest = begin_first(alloc, owner)?;
+    if takes_eight(alloc, owner, key, digest)? {
+        of_ninth(alloc, owner, key, digest)
+    } else {
+        Ok([None, None])
+    }
+}
+
+// The same, with a key.
+fn beyond_eight_of_key(alloc: Global) -> Result<[Option<OwnerRefusal>; 2], Fail> {
+    let key = quick_key(alloc, 1)?;
+    let mut owner = quick_owner(alloc, key.public())?;
+    beyond_eight(alloc, &mut owner, &key)
+}
+
+// A draft takes eight endorsements. One that comes again is no ninth.
+#[test]
+fn a_ninth_endorsement_is_refused(rt: HostRuntime) -> Result<(), Fail> {
+    let alloc = rt.alloc();
+    let [ninth, eighth] = beyond_eight_of_key(alloc)?;
+    assert_eq!(rt; ninth, Some(OwnerRefusal::Full));
+    assert_eq!(rt; eighth, None);
+    Ok(())
+}
+
+// The announcement that behind authority 1's first key comes this one.
+fn announced(alloc: Global, key: &LmsKey, next: LmsPublic) -> Result<Vec<u8>, Fail> {
+    let party = Role::Authority.party(1);
+    let statement = Statement::Roll {
+        signer: party,
+        generation: 0,
+        key: next.bytes(),
+    };
+    let message = Message::RollNote {
+        party,
+        generation: 0,
+        key: next,
+        signature: signature(alloc, 0, key, 31, &statement)?,
+    };
+    text_of(alloc, message)
+}
+
+// Why it is refused, where it is.
+fn of_announced(
+    alloc: Global,
+    owner: &mut Owner,
+    key: &LmsKey,
+    next: LmsPublic,
+) -> Result<Option<OwnerRefusal>, Fail> {
+    let note = announced(alloc, key, next)?;
+    Ok(refusal(alloc, owner, &note))
+}
+
+// Why authority 1's endorsement by its second key is refused, where it is.
+fn of_second(
+    alloc: Global,
+    owner: &mut Owner,
+    next: &LmsKey,
+    digest: [u8; 32],
+) -> Result<Option<OwnerRefusal>, Fail> {
+    let message = endorsed_under(alloc, 0, 1, 1, next, 0, digest)?;
+    Ok(refusal(alloc, owner, &message))
+}
+
+// Why each is refused of: an announcement, the same again, and one of another key.
+fn of_announcements(
+    alloc: Global,
+    owner: &mut Owner,
+    key: &LmsKey,
+    next: LmsPublic,
+) -> Result<[Option<OwnerRefusal>; 3], Fail> {
+    let once = of_announced(alloc, owner, key, next)?;
+    let again = of_announced(alloc, owner, key, next)?;
+    let other = of_announced(alloc, owner, key, key.public())?;
+    Ok([once, again, other])
+}
+
+// Why each is refused of: an endorsement by a key that is to come, the announcements of it, and the
+// endorsement again.
+fn of_next(
+    alloc: Global,
+    owner: &mut Owner,
+    key: &LmsKey,
+    next: &LmsKey,
+    digest: [u8; 32],
+) -> Result<[Option<OwnerRefusal>; 5], Fail> {
+    let early = of_second(alloc, owner, next, digest)?;
+    let [once, again, other] = of_announcements(alloc, owner, key, next.public())?;
+    let late = of_second(alloc, owner, next, digest)?;
+    Ok([early, once, again, other, late])
+}
+
+// The same, of an owner that has a draft.
+fn of_next_to_draft(
+    alloc: Global,
+    owner: &mut Owner,
+    key: &LmsKey,
+) -> Result<[Option<OwnerRefusal>; 5], Fail> {
+    let digest = begin_first(alloc, owner)?;
+    let next = quick_key(alloc, 3)?;
+    of_next(alloc, owner, key, &next, digest)
+}
+
+// The same, with a key.
+fn of_next_of_key(alloc: Global) -> Result<[Option<OwnerRefusal>; 5], Fail> {
+    let key = quick_key(alloc, 1)?;
+    let mut owner = quick_owner(alloc, key.public())?;
+    of_next_to_draft(alloc, &mut owner, &key)
+}
+
+// A key that is announced is known from then on, and another one is refused.
+#[test]
+fn an_announced_key_is_learnt(rt: HostRuntime) -> Result<(), Fail> {
+    let alloc = rt.alloc();
+    let [early, once, again, other, late] = of_next_of_key(alloc)?;
+    let one = Role::Authority.party(1);
+    assert_eq!(rt; early, Some(OwnerRefusal::BadSignature(one, 6)));
+    assert_eq!(rt; once, None);
+    assert_eq!(rt; again, None);
+    assert_eq!(rt; other, Some(OwnerRefusal::OtherRoll(one, 0)));
+    assert_eq!(rt; late, None);
     Ok(())
 }
