@@ -1,6 +1,7 @@
 -- What comes keeps an owner's drafts endorsed.
 use Rattle.std.proofs.Common.{◌≡◌, ℕ, ◌==◌, Bool, true, false, if◌then◌else◌, List, [], ◌∷◌, Option, Some, None, Result, Ok, Err, refl, ap, subst}
 use Rattle.std.specs.List.{slice_get}
+use Rattle.std.proofs.lemmas.List.Elements.{All-nil}
 use Rattle.std.specs.Option.{option_and_then}
 use Rattle.ar_base.specs.Chaining.{◌>>=◌}
 use Rattle.ar_base.specs.Gives.{with_error}
@@ -10,8 +11,12 @@ use Rattle.ar_message.specs.Messages.{message_in}
 use Rattle.ar_message.specs.declared.message.Message.{Message}
 use Rattle.ar_message.specs.declared.message.Message.TheVariants.{Endorsed, RollNote}
 use Rattle.ar_message.specs.declared.sent.Sent.{Sent}
-use Rattle.ar_statement.specs.Claims.{endorse, text_of}
+use Rattle.ar_statement.specs.Claims.{Claim, endorse, object, text_of}
 use Rattle.ar_statement.specs.declared.party.Party.{Party}
+use Rattle.lms_tree.specs.Key.{signature_of}
+use Rattle.lms_tree.specs.KeyParts.{KeyParts}
+use Rattle.sign_book.specs.Entry.{leaf_of}
+use Rattle.sign_book.specs.declared.fault.BookFault.{BookFault}
 use Rattle.party_keys.specs.Directory.{Directory}
 use Rattle.party_keys.specs.Learning.{Announced, after_all, after_learning, learned}
 use Rattle.party_keys.specs.Seen.{authority_party}
@@ -24,7 +29,9 @@ use Rattle.owner_core.specs.declared.refusal.OwnerRefusal.{OwnerRefusal}
 use Rattle.owner_core.specs.declared.refusal.OwnerRefusal.TheVariants.{Form, NotForOwner}
 use Rattle.owner_core.specs.State.{Owner}
 use Rattle.owner_core.specs.Drafts.{begun_draft, changed_draft, endorsed, handed_over, place_of_draft}
-use Rattle.owner_core.specs.Rows.{Row, attach_row, begin_row, endorsed_row, found, message_row, roll_refusal, roll_row, sent, step_row, submission, submit_row, verified_as, with_drafts}
+use Rattle.owner_core.specs.Rows.{Row, attach_row, begin_row, endorsed_row, first_owner, found, message_row, object_row, roll_refusal, roll_row, sent, step_row, submission, submit_row, verified_as, with_drafts}
+use Rattle.owner_core.specs.Objecting.{objection}
+use Rattle.owner_core.specs.Signing.{after_signing, signed, signed_at}
 use Rattle.owner_core.specs.Vouching.{AreEndorsed, Endorses, IsEndorsed}
 use Rattle.owner_core.proofs.Vouched.{begun-keeps, changed-keeps, endorsed-keeps, good-at, handed-keeps, of-digest}
 
@@ -117,6 +124,31 @@ attached me later digest handover good e = at (changed_draft me.drafts digest (h
   at (Ok ds) is e =
       let same : record me { drafts = ds } ≡ later = behind (tt, record me { drafts = ds }) (tt, later) e in
       subst AreEndorsed same (changed-keeps me.directory digest (handed_over handover) me.drafts ds (handed-keeps me.directory digest handover) good is)
+  at (Err refusal) is e = cc
+
+-- an owner that has begun has no draft
+pub first : (number : ℕ) (keys : Directory) (key : KeyParts) (leaves : ℕ) → AreEndorsed (first_owner number keys key leaves)
+first number keys key leaves = All-nil _
+
+-- signing changes the book alone
+pub signing : (me later : Owner) (claim : Claim) (bytes : List ℕ) → AreEndorsed me → signed me claim ≡ Ok (bytes, later) → AreEndorsed later
+signing me later claim bytes good e = at (leaf_of me.book (text_of claim)) e where
+  at : (answer : Result ℕ BookFault) → signed_at me (text_of claim) answer ≡ Ok (bytes, later) → AreEndorsed later
+  at (Ok leaf) e =
+      let same : after_signing me (text_of claim) ≡ later = behind (signature_of me.key leaf (text_of claim), after_signing me (text_of claim)) (bytes, later) e in
+      subst AreEndorsed same good
+  at (Err fault) e = cc
+
+-- what an objection gives
+abbrev objecting : Certificate → List ℕ × Owner → Row Sent
+objecting cert s = Ok (submission (objection cert s.0), s.1)
+
+pub objected : (me later : Owner) (cert : Certificate) (reply : Sent) → AreEndorsed me → object_row me cert ≡ Ok (reply, later) → AreEndorsed later
+objected me later cert reply good e = at (signed me (object (digest_of cert))) refl e where
+  at : (answer : Result (List ℕ × Owner) OwnerRefusal) → signed me (object (digest_of cert)) ≡ answer → (answer >>= objecting cert) ≡ Ok (reply, later) → AreEndorsed later
+  at (Ok s) is e =
+      let same : s.1 ≡ later = behind (submission (objection cert s.0), s.1) (reply, later) e in
+      subst AreEndorsed same (signing me s.1 (object (digest_of cert)) s.0 good is)
   at (Err refusal) is e = cc
 
 pub submitted : (me : Owner) (digest : List ℕ) (reply : Sent) → AreEndorsed me → submit_row me digest ≡ Ok reply

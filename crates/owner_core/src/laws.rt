@@ -7,10 +7,12 @@ ghost use Rattle.ar_cert.specs.Changes.{Change, Endorsement, IsEndorsement};
 ghost use Rattle.ar_message.specs.declared.address.Address.TheVariants.{Logs};
 ghost use Rattle.ar_message.specs.declared.message.Message.TheVariants.{Submit};
 ghost use Rattle.ar_message.specs.declared.sent.Sent.{Sent};
+ghost use Rattle.lms_tree.specs.KeyParts.{KeyParts};
+ghost use Rattle.party_keys.specs.Directory.{Directory};
 ghost use Rattle.sign_book.specs.Book.{IsSound};
 ghost use Rattle.owner_core.specs.Drafts.{endorsed, has_endorsed};
 ghost use Rattle.owner_core.specs.Fitting.{AreFew};
-ghost use Rattle.owner_core.specs.Rows.{attach_row, begin_row, handover_row, letter, object_row, sent, step_row, submit_row, submission};
+ghost use Rattle.owner_core.specs.Rows.{attach_row, begin_row, first_owner, handover_row, letter, object_row, sent, step_row, submit_row, submission};
 ghost use Rattle.owner_core.specs.State.{Owner};
 ghost use Rattle.owner_core.specs.Vouching.{AreEndorsed, IsEndorsed};
 
@@ -47,12 +49,17 @@ pub fn an_objection_stands_alone()
 /// the owner knows: it is so before anything came, and whatever comes keeps it; so it is so of what
 /// goes to the logs.
 pub fn what_is_submitted_is_endorsed()
+    ensures new { (number : ℕ) (keys : Directory) (key : KeyParts) (leaves : ℕ) → AreEndorsed (first_owner number keys key leaves) }
     ensures begin { (me later : Owner) (cert : Certificate) (asks : List ℕ) (reply : Sent) → AreEndorsed me
         → begin_row me cert asks ≡ Ok (reply, later) → AreEndorsed later }
     ensures step { (me later : Owner) (bytes : List ℕ) (reply : Sent) → AreEndorsed me
         → step_row me bytes ≡ Ok (reply, later) → AreEndorsed later }
     ensures attach { (me later : Owner) (digest handover : List ℕ) → AreEndorsed me
         → attach_row me digest handover ≡ Ok (tt, later) → AreEndorsed later }
+    ensures handover { (me later : Owner) (digest bytes : List ℕ) → AreEndorsed me
+        → handover_row me digest ≡ Ok (bytes, later) → AreEndorsed later }
+    ensures object { (me later : Owner) (cert : Certificate) (reply : Sent) → AreEndorsed me
+        → object_row me cert ≡ Ok (reply, later) → AreEndorsed later }
     ensures submit { (me : Owner) (digest : List ℕ) (reply : Sent) → AreEndorsed me → submit_row me digest ≡ Ok reply
         → (draft : Change) × ((digest_of draft.cert ≡ digest) × IsEndorsed me.directory draft × (reply ≡ submission draft)) }
 {

@@ -197,6 +197,10 @@ fn object(alloc: Global, owner: &mut Owner, cert: &Cert) -> Result<Sent, OwnerRe
     owner.object(alloc, cert)
 }
 
+fn handover(alloc: Global, owner: &mut Owner, digest: &[u8; 32]) -> Result<Vec<u8>, OwnerRefusal> {
+    owner.handover(alloc, digest)
+}
+
 // The owner signs the handover to its own draft, which takes it.
 fn hand_over(alloc: Global, owner: &mut Owner, digest: &[u8; 32]) -> Result<(), OwnerRefusal> {
     let signature = owner.handover(alloc, digest)?;
@@ -546,12 +550,17 @@ fn of_others(alloc: Global, owner: &mut Owner) -> Result<[Option<OwnerRefusal>; 
     Ok([form, ask, submitted, attached])
 }
 
+// The same, of an owner without a draft.
+fn of_others_by_new(alloc: Global) -> Result<[Option<OwnerRefusal>; 4], Fail> {
+    let key = quick_key(alloc, 1)?;
+    let mut owner = quick_owner(alloc, key.public())?;
+    of_others(alloc, &mut owner)
+}
+
 #[test]
 fn what_is_not_for_the_owner_is_refused(rt: HostRuntime) -> Result<(), Fail> {
     let alloc = rt.alloc();
-    let key = quick_key(alloc, 1)?.public();
-    let mut owner = quick_owner(alloc, key)?;
-    let [form, ask, submitted, attached] = of_others(alloc, &mut owner)?;
+    let [form, ask, submitted, attached] = of_others_by_new(alloc)?;
     assert_eq!(rt; form, Some(OwnerRefusal::Form(1)));
     assert_eq!(rt; ask, Some(OwnerRefusal::NotForOwner));
     assert_eq!(rt; submitted, Some(OwnerRefusal::NoDraft));
@@ -713,5 +722,46 @@ fn an_announced_key_is_learnt(rt: HostRuntime) -> Result<(), Fail> {
     assert_eq!(rt; again, None);
     assert_eq!(rt; other, Some(OwnerRefusal::OtherRoll(one, 0)));
     assert_eq!(rt; late, None);
+    Ok(())
+}
+
+// The owner hands over to 32 certificates, by all leaves of its key.
+fn spend(alloc: Global, owner: &mut Owner) -> Result<(), Fail> {
+    for number in 0..32 {
+        handover(alloc, owner, &[number; 32])?;
+    }
+    Ok(())
+}
+
+// Why an objection is refused, where it is.
+fn of_objection(alloc: Global, owner: &mut Owner) -> Result<Option<OwnerRefusal>, Fail> {
+    let cert = first_certificate(alloc, owner.public())?;
+    Ok(object(alloc, owner, &cert).err())
+}
+
+// Why each is refused, once no leaf is left, of: an objection, a handover, and one that was signed.
+fn of_spent(alloc: Global, owner: &mut Owner) -> Result<[Option<OwnerRefusal>; 3], Fail> {
+    spend(alloc, owner)?;
+    let objection = of_objection(alloc, owner)?;
+    let fresh = handover(alloc, owner, &[32; 32]).err();
+    let signed = handover(alloc, owner, &[0; 32]).err();
+    Ok([objection, fresh, signed])
+}
+
+// The same, with a key.
+fn of_spent_key(alloc: Global) -> Result<[Option<OwnerRefusal>; 3], Fail> {
+    let key = quick_key(alloc, 1)?;
+    let mut owner = quick_owner(alloc, key.public())?;
+    of_spent(alloc, &mut owner)
+}
+
+// Nothing new is signed once no leaf is left, and what was signed is given again.
+#[test]
+fn a_spent_key_signs_nothing_new(rt: HostRuntime) -> Result<(), Fail> {
+    let alloc = rt.alloc();
+    let [objection, fresh, signed] = of_spent_key(alloc)?;
+    assert_eq!(rt; objection, Some(OwnerRefusal::Spent));
+    assert_eq!(rt; fresh, Some(OwnerRefusal::Spent));
+    assert_eq!(rt; signed, None);
     Ok(())
 }
