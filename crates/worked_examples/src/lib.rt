@@ -3,4 +3,6 @@
 #![tactic(auto)]
 
 #[cfg(test)]
+mod authorities;
+#[cfg(test)]
 mod tables;
