@@ -47,3 +47,22 @@ fn an_authority_endorses_what_its_check_says_yes_to(rt: HostRuntime) -> Result<(
     assert!(rt; answered(alloc, 2)? == expected(by_two()));
     Ok(())
 }
+
+/// The answers of an authority whose first ask fails, to the same request twice.
+fn answered_late(alloc: Global) -> Result<[Answer; 2], Fail> {
+    let mut authority = alone(alloc, 0, 1)?;
+    teach(alloc, &mut authority, b"a.example")?;
+    let first = take(alloc, &mut authority, request());
+    let second = take(alloc, &mut authority, request());
+    Ok([first, second])
+}
+
+#[test]
+fn a_request_is_taken_again_behind_a_check_that_failed(rt: HostRuntime) -> Result<(), Fail> {
+    let late = [
+        Answer::Refuses(AuthorityRefusal::CheckFault),
+        endorses(by_zero()),
+    ];
+    assert!(rt; answered_late(rt.alloc())? == late);
+    Ok(())
+}
