@@ -1,8 +1,16 @@
 use crate::{Name, NameFault, first_fault, name_digest};
+use std::process::Abort;
 use std::test::Fail;
 
+/// Each text goes wrong at this place, or is a name.
+fn expect(rt: &impl Abort, table: &[(&[u8], Option<usize>)]) {
+    for (text, fault) in table {
+        assert_eq!(rt; first_fault(text), *fault, "in {text:?}");
+    }
+}
+
 #[test]
-fn a_text_goes_wrong_at_its_first_fault(rt: HostRuntime) {
+fn names_and_empty_labels(rt: HostRuntime) {
     let table = [
         (b"a.example".as_slice(), None),
         (b"".as_slice(), Some(0)),
@@ -12,6 +20,13 @@ fn a_text_goes_wrong_at_its_first_fault(rt: HostRuntime) {
         (b"a.".as_slice(), Some(2)),
         (b"a--b".as_slice(), None),
         (b"xn--0.0".as_slice(), None),
+    ];
+    expect(&rt, &table);
+}
+
+#[test]
+fn a_byte_that_no_label_has_is_a_fault_at_its_place(rt: HostRuntime) {
+    let table = [
         (b"_b.c-d.e0".as_slice(), Some(0)),
         (b"a_.c-d.e0".as_slice(), Some(1)),
         (b"ab_c-d.e0".as_slice(), Some(2)),
@@ -30,6 +45,19 @@ fn a_text_goes_wrong_at_its_first_fault(rt: HostRuntime) {
         (b"ab.c-dAe0".as_slice(), Some(6)),
         (b"ab.c-d.A0".as_slice(), Some(7)),
         (b"ab.c-d.eA".as_slice(), Some(8)),
+        (b"a/".as_slice(), Some(1)),
+        (b"a:".as_slice(), Some(1)),
+        (b"a`".as_slice(), Some(1)),
+        (b"a{".as_slice(), Some(1)),
+        (b"a\x00".as_slice(), Some(1)),
+        (b"a\xff".as_slice(), Some(1)),
+    ];
+    expect(&rt, &table);
+}
+
+#[test]
+fn a_dot_or_a_hyphen_is_a_fault_at_the_edge_of_a_label(rt: HostRuntime) {
+    let table = [
         (b".b.c-d.e0".as_slice(), Some(0)),
         (b"a..c-d.e0".as_slice(), Some(2)),
         (b"ab.c-d.e0".as_slice(), None),
@@ -46,16 +74,8 @@ fn a_text_goes_wrong_at_its_first_fault(rt: HostRuntime) {
         (b"ab.c-d-e0".as_slice(), None),
         (b"ab.c-d.-0".as_slice(), Some(7)),
         (b"ab.c-d.e-".as_slice(), Some(9)),
-        (b"a/".as_slice(), Some(1)),
-        (b"a:".as_slice(), Some(1)),
-        (b"a`".as_slice(), Some(1)),
-        (b"a{".as_slice(), Some(1)),
-        (b"a\x00".as_slice(), Some(1)),
-        (b"a\xff".as_slice(), Some(1)),
     ];
-    for (text, fault) in table {
-        assert_eq!(rt; first_fault(text), fault, "in {text:?}");
-    }
+    expect(&rt, &table);
 }
 
 fn dot_each_second(text: &mut [u8]) {
