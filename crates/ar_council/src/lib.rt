@@ -1,8 +1,12 @@
 //! Words that logs and authorities share: the sizes of a directory, what was seen of parties, the values that logs vote
-//! for and the statements on them, and whether a book has leaves for statements. There are definitions and laws alone.
+//! for and the statements on them, and whether a book has leaves for statements. There are definitions and laws, and of the
+//! code what a key in hand keeps by its type (`key_told`).
 //!
 //! `specs/Council.antt` has the sizes of a directory, without its keys, `specs/Seen.antt` the lists of what was seen,
 //! `specs/Values.antt` values and the statements on them, and `specs/Room.antt` the room in a book.
 #![tactic(auto)]
 
+mod keys;
 pub mod laws;
+
+pub use keys::key_told;

@@ -6,8 +6,6 @@ ghost use Rattle.authority_core.specs.Row.{message_row};
 ghost use Rattle.ar_base.specs.Faults.{HasRisen};
 ghost use Rattle.ar_council.specs.Council.{council_of};
 ghost use Rattle.ar_message.specs.Messages.{IsConfirming, IsMessage};
-ghost use Rattle.ar_statement.specs.Ranges.{IsKeyText};
-ghost use Rattle.lms_tree.specs.PublicKey.{HasWidths, key_text};
 ghost use Rattle.authority_core.specs.Calls.{fresh_authority};
 ghost use Rattle.authority_core.specs.ConfirmRows.{half_confirmed_row, log_confirmed_row};
 ghost use Rattle.authority_core.specs.EndorseRow.{SaysAsTold, answers_after, asked_of, endorsing, outcome_by};
@@ -19,8 +17,8 @@ ghost use Rattle.authority_core.specs.declared.refusal.AuthorityRefusal.TheVaria
 use crate::desk::Desk;
 use crate::record::AuthorityRecord;
 use crate::refusal::AuthorityRefusal;
-use ar_bytes::are_bytes;
 use ar_cert::Cert;
+use ar_council::key_told;
 use ar_message::{Confirming, Message, Signature, Unsigned};
 use ar_statement::Party;
 use lms_tree::LmsPublic;
@@ -45,16 +43,6 @@ impl Model for AuthorityState {
     ghost view = { λ s. s.desk };
 
     ghost invariant = { λ s. IsAuthority s.desk };
-}
-
-// Tells a proof that the text of a key has its width, and is bytes.
-fn key_told(key: &LmsPublic)
-    ensures text { IsKeyText (key_text key.now) }
-    ensures widths { HasWidths key.now }
-{
-    are_bytes(&key.bytes());
-    are_bytes(&key.id);
-    are_bytes(&key.root);
 }
 
 impl AuthorityState {

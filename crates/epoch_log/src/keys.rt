@@ -3,8 +3,7 @@ ghost use Rattle.std.specs.Prelude.{◌≡◌, OnOk, OnErr};
 ghost use Rattle.ar_base.specs.Gives.{GivesUnless};
 ghost use Rattle.key_roll.specs.Entry.{roll_text, rolled};
 ghost use Rattle.key_roll.specs.declared.fault.RollFault.TheVariants as roll_fault;
-ghost use Rattle.ar_statement.specs.Ranges.{IsKeyText};
-ghost use Rattle.lms_tree.specs.PublicKey.{HasWidths, key_text};
+ghost use Rattle.lms_tree.specs.PublicKey.{key_text};
 ghost use Rattle.party_keys.specs.Learning.{after_adopting, after_learning, learned};
 ghost use Rattle.party_keys.specs.Seen.{log_party};
 ghost use Rattle.party_keys.specs.declared.fault.LearnFault.TheVariants as learn_fault;
@@ -13,23 +12,13 @@ ghost use Rattle.epoch_log.specs.Log.{IsLog, moved, parts_of, state_in};
 
 use crate::parts::Parts;
 use crate::seeing::{endorsements, see, see_each, seen_text};
-use ar_bytes::are_bytes;
 use ar_cert::Change;
+use ar_council::key_told;
 use ar_statement::{Party, Role, Statement};
 use key_roll::{RollDue, RollFault};
 use lms_tree::LmsPublic;
 use party_keys::{LearnFault, Learned};
 use std::alloc::{AllocError, Global};
-
-/// Tells a proof that the text of a key has its width, and is bytes.
-fn key_told(key: &LmsPublic)
-    ensures text { IsKeyText (key_text key.now) }
-    ensures widths { HasWidths key.now }
-{
-    are_bytes(&key.bytes());
-    are_bytes(&key.id);
-    are_bytes(&key.root);
-}
 
 impl Parts {
     /// Sees the endorsements of a change.

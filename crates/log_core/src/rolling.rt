@@ -1,8 +1,6 @@
 //! The row of the order to roll: the log goes on to its next key.
 
 ghost use Rattle.std.specs.Prelude.{◌≡◌, Err, IfOk};
-ghost use Rattle.ar_statement.specs.Ranges.{IsKeyText};
-ghost use Rattle.lms_tree.specs.PublicKey.{HasWidths, key_text};
 ghost use Rattle.key_roll.specs.declared.fault.RollFault.TheVariants as roll_fault;
 ghost use Rattle.log_core.specs.Rolling.{roll_draft, rolling_row};
 ghost use Rattle.log_core.specs.Sending.{none_composed, with_draft};
@@ -11,22 +9,12 @@ ghost use Rattle.log_core.specs.Steps.{IsStep, roll_refusal};
 use crate::LogRefusal;
 use crate::log_core::LogCore;
 use crate::sending::{Drafts, Ready, zeros};
-use ar_bytes::are_bytes;
+use ar_council::key_told;
 use ar_message::{Address, Message, Signature, Unsigned};
 use ar_statement::{Role, Statement};
 use key_roll::{RollFault, forgo};
 use lms_tree::LmsPublic;
 use std::alloc::{AllocError, Global};
-
-/// Tells a proof that the text of a key has its width, and is bytes.
-fn key_told(key: &LmsPublic)
-    ensures text { IsKeyText (key_text key.now) }
-    ensures widths { HasWidths key.now }
-{
-    are_bytes(&key.bytes());
-    are_bytes(&key.id);
-    are_bytes(&key.root);
-}
 
 /// Why a log does not go on to a key, as a refusal.
 fn roll_refusal(fault: RollFault) -> LogRefusal
