@@ -1,6 +1,6 @@
 //! Words that logs and authorities share: the sizes of a directory, what was seen of parties, the values that logs vote
 //! for and the statements on them, and whether a book has leaves for statements. There are definitions and laws, and of the
-//! code what a key in hand keeps by its type (`key_told`).
+//! code the statements of logs on a value, whether a book has leaves for statements, and what a key or a value in hand keeps by its type (`key_told`, `value_told`).
 //!
 //! `specs/Council.antt` has the sizes of a directory, without its keys, `specs/Seen.antt` the lists of what was seen,
 //! `specs/Values.antt` values and the statements on them, and `specs/Room.antt` the room in a book.
@@ -8,5 +8,11 @@
 
 mod keys;
 pub mod laws;
+mod room;
+mod statements;
 
 pub use keys::key_told;
+pub use room::{has_leaf, has_leaves};
+pub use statements::{
+    ballot_told, propose_statement, status_statement, value_told, vote_statement,
+};

@@ -7,31 +7,15 @@ use Rattle.std.proofs.lemmas.List.{length-map}
 use Rattle.std.proofs.lemmas.Option.{slice_get_cases}
 use Rattle.ar_base.specs.Places.{place_of}
 use Rattle.ar_base.proofs.Places.{stands}
-use Rattle.ar_council.specs.Room.{HasRoom, new_count}
+use Rattle.ar_council.specs.Room.{HasRoom, has_leaves, new_count}
+use Rattle.ar_council.proofs.Needs.{need-both, need-most, need-none, need-one}
 use Rattle.key_roll.specs.Book.{IsRollBook, RollBook, texts_of}
 use Rattle.key_roll.specs.Entry.{after_at, due_at, due_of, entered, has_room, with_text}
 use Rattle.key_roll.specs.Rolls.{is_roll, plain_count}
 use Rattle.key_roll.specs.declared.fault.BookFault.TheVariants as book_fault
 use Rattle.key_roll.proofs.Books.{entered-new, is_entered}
 use Rattle.key_roll.specs.Due.{DueParts}
-use Rattle.epoch_log.specs.Answers.{first_entered, has_leaves}
-
-count-one : (p : List ℕ → Bool) (text : List ℕ) → count_by p (text ∷ []) ≡ cond (p text) 1 0
-count-one p text = omega arith
-
--- a text that the book holds needs no leaf, and another needs one
-pub need-none : (book : RollBook) (text : List ℕ) → is_some (place_of (texts_of book) text) ≡ true → new_count book (text ∷ []) ≡ 0
-need-none book text is = count-one (λ t. not (is_some (place_of (texts_of book) t))) text ∙ ap (λ b. cond (not b) 1 0) is
-
-pub need-one : (book : RollBook) (text : List ℕ) → is_some (place_of (texts_of book) text) ≡ false → new_count book (text ∷ []) ≡ 1
-need-one book text is = count-one (λ t. not (is_some (place_of (texts_of book) t))) text ∙ ap (λ b. cond (not b) 1 0) is
-
-pub need-most : (book : RollBook) (text : List ℕ) → new_count book (text ∷ []) ≤ 1
-need-most book text = by (is_some (place_of (texts_of book) text)) refl
-  where
-    by : (b : Bool) → is_some (place_of (texts_of book) text) ≡ b → new_count book (text ∷ []) ≤ 1
-    by true is = omega (arith, need-none book text is)
-    by false is = omega (arith, need-one book text is)
+use Rattle.epoch_log.specs.Answers.{first_entered}
 
 pub room-for : (book : RollBook) (texts : List (List ℕ)) → has_leaves book texts ≡ true → HasRoom book texts
 room-for book texts is = leb-true (plain_count book.newest book.list + new_count book texts + 1) book.leaves is
@@ -89,10 +73,6 @@ pub ruleset leaves_left = (room-for, enters, spent)
 
 -- ---- two texts
 
--- two texts need as many leaves as the one and the other
-pub need-both : (book : RollBook) (first second : List ℕ) → new_count book (first ∷ (second ∷ [])) ≡ new_count book (first ∷ []) + new_count book (second ∷ [])
-need-both book first second = omega (arith, count-one (λ t. not (is_some (place_of (texts_of book) t))) first, count-one (λ t. not (is_some (place_of (texts_of book) t))) second)
-
 -- where there are leaves for two texts there is one for the first
 pub first-room : (book : RollBook) (first second : List ℕ) → HasRoom book (first ∷ (second ∷ [])) → HasRoom book (first ∷ [])
 first-room book first second room = omega (arith, room, need-both book first second)
@@ -115,5 +95,3 @@ first-due book first second due room is =
     ap (λ b. cond b (entered book first) (Err book_fault.Spent)) (le-leb (plain_count book.newest book.list + new_count book (first ∷ (second ∷ [])) + 1) book.leaves room) ∙ is
 
 pub ruleset leaves_for_two = (room-for, first-enters, first-spent)
-
-pub ruleset two_needs = (need-both)

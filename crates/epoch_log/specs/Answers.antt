@@ -1,14 +1,13 @@
 -- What a vote needs, and what a vote and a confirmation answer, beside what it makes of where a log stands.
-use Rattle.std.specs.Prelude.{◌≡◌, ◌≢◌, ℕ, ◌+◌, Bool, nat_le, if◌then◌else◌, List, [], ◌∷◌, All, Some, Result, Ok, Err}
+use Rattle.std.specs.Prelude.{◌≡◌, ◌≢◌, ℕ, if◌then◌else◌, List, [], ◌∷◌, All, Some, Result, Ok, Err}
 use Rattle.ar_cert.specs.Changes.{Change}
 use Rattle.ar_statement.specs.Claims.{text_of}
 use Rattle.key_roll.specs.Book.{RollBook}
 use Rattle.key_roll.specs.Due.{DueParts}
 use Rattle.key_roll.specs.Entry.{after_entry, entered}
-use Rattle.key_roll.specs.Rolls.{plain_count}
 use Rattle.key_roll.specs.declared.fault.BookFault.{BookFault}
 use Rattle.key_roll.specs.declared.fault.BookFault.TheVariants.{Spent}
-use Rattle.ar_council.specs.Room.{new_count}
+use Rattle.ar_council.specs.Room.{has_leaves}
 use Rattle.vote_quorum.specs.declared.value.Value.{Value}
 use Rattle.domain_table.specs.Applying.{apply}
 use Rattle.domain_table.specs.Tables.{Table}
@@ -36,10 +35,6 @@ pub record IsOpenTo (s : LogState) (value : Value) (changes : List Change) : Typ
   pub reaches : Reaches (epoch_of s) (table_of s) changes value.root
 
 -- ---- what calls answer
-
--- whether the newest generation has a leaf, beside its last, for each of these texts that the book does not hold
-abbrev pub has_leaves : RollBook → List (List ℕ) → Bool
-has_leaves book texts = nat_le (plain_count book.newest book.list + new_count book texts + 1) book.leaves
 
 -- what `vote` answers: the vote's leaf, or that there is none
 abbrev pub voted : LogState → Value → Result DueParts BookFault

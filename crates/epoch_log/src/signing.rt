@@ -1,29 +1,16 @@
 //! Statements get their leaves.
 ghost use Rattle.std.specs.Prelude.{◌≡◌, ◌≤◌, ◌<◌, ◌+◌, [], ◌∷◌, Ok, Err, IfErr, IsOk, OnOk, false};
-ghost use Rattle.ar_council.specs.Room.{HasRoom, new_count};
+ghost use Rattle.ar_council.specs.Room.{HasRoom};
 ghost use Rattle.ar_statement.specs.Claims.{claim_of, text_of};
 ghost use Rattle.key_roll.specs.Book.{IsRollBook};
 ghost use Rattle.key_roll.specs.Entry.{after_entry, entered};
 ghost use Rattle.key_roll.specs.Rolls.{is_roll};
-ghost use Rattle.epoch_log.specs.Answers.{first_entered, has_leaves};
+ghost use Rattle.epoch_log.specs.Answers.{first_entered};
 
+use ar_council::{has_leaf, has_leaves};
 use ar_statement::Statement;
 use key_roll::{BookFault, RollBook, RollDue};
 use std::alloc::Global;
-
-/// How many leaves a statement needs: none where the book holds it.
-fn need(book: &RollBook, statement: &Statement) -> u32
-    ensures { result ≡ new_count book.now.book (text_of (claim_of statement.now) ∷ []) }
-{
-    if book.holds(statement) { 0 } else { 1 }
-}
-
-/// Whether there is a leaf for the statement, if it needs one.
-fn has_leaf(book: &RollBook, statement: &Statement) -> bool
-    ensures { result ≡ has_leaves book.now.book (text_of (claim_of statement.now) ∷ []) }
-{
-    need(book, statement) <= book.free()
-}
 
 /// That there is a leaf for the statement, if it needs one; it is `Spent` exactly where there is none.
 #[tactic(auto, using(crate::proofs::Leaves::leaves_left))]
@@ -54,14 +41,6 @@ pub(crate) fn sign(alloc: Global, book: &mut RollBook, statement: &Statement) ->
         Ok(due) => due,
         Err(_) => unreachable!(),
     }
-}
-
-/// Whether there are leaves for two statements, where they need them.
-#[tactic(auto, using(crate::proofs::Leaves::two_needs))]
-fn has_leaves(book: &RollBook, first: &Statement, second: &Statement) -> bool
-    ensures { result ≡ has_leaves book.now.book (text_of (claim_of first.now) ∷ (text_of (claim_of second.now) ∷ [])) }
-{
-    need(book, first) as u64 + need(book, second) as u64 <= book.free() as u64
 }
 
 /// That there are leaves for two statements, where they need them; it is `Spent` exactly where there are not.

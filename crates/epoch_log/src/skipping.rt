@@ -9,7 +9,7 @@ ghost use Rattle.epoch_log.specs.Telling.{CanSkip, statuses_in};
 
 use crate::parts::Parts;
 use crate::seeing::{see_each, seen_text};
-use crate::statements::{ballot_told, status_statement};
+use ar_council::{ballot_told, status_statement};
 use ar_statement::{Role, SeenText};
 use std::alloc::{AllocError, Global};
 use vote_quorum::Value;

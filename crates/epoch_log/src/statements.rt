@@ -1,22 +1,8 @@
-//! What logs state of a vote.
-ghost use Rattle.std.specs.Prelude.{◌≡◌, All, IfSome};
-ghost use Rattle.std.specs.Option.{option_map};
+//! What changes in hand keep by their type.
+ghost use Rattle.std.specs.Prelude.{All};
 ghost use Rattle.ar_cert.specs.Changes.{IsChange};
-ghost use Rattle.ar_council.specs.Values.{IsValue, roots_of, status_claim, vote_claim};
-ghost use Rattle.ar_statement.specs.Claims.{claim_of, propose};
 
-use ar_bytes::are_bytes;
 use ar_cert::Change;
-use ar_statement::Statement;
-use vote_quorum::Value;
-
-/// Tells a proof that the base and the root are digests.
-pub(crate) fn value_told(value: &Value)
-    ensures { IsValue value.now }
-{
-    are_bytes(&value.base);
-    are_bytes(&value.root);
-}
 
 /// Tells a proof that each change has a text.
 pub(crate) fn changes_told(changes: &[Change])
@@ -24,59 +10,5 @@ pub(crate) fn changes_told(changes: &[Change])
 {
     for change in changes {
         change.told();
-    }
-}
-
-/// A log's proposal.
-pub(crate) fn propose_statement(log: u16, epoch: u64, value: &Value) -> Statement<'static>
-    ensures { claim_of result ≡ propose log epoch value.now.base value.now.root }
-{
-    Statement::Propose {
-        log,
-        epoch,
-        base: value.base,
-        root: value.root,
-    }
-}
-
-/// A log's vote.
-pub(crate) fn vote_statement(log: u16, epoch: u64, value: &Value) -> Statement<'static>
-    ensures { claim_of result ≡ vote_claim log epoch value.now }
-{
-    Statement::Vote {
-        log,
-        epoch,
-        base: value.base,
-        root: value.root,
-    }
-}
-
-/// The same of a ballot, where there is one.
-pub(crate) fn ballot_told(value: &Option<Value>)
-    ensures { IfSome value.now IsValue }
-{
-    if let Some(value) = value {
-        value_told(value);
-    }
-}
-
-/// A base and a root, as a statement has them.
-fn roots_of(value: &Option<Value>) -> Option<([u8; 32], [u8; 32])>
-    ensures { result ≡ option_map roots_of value.now }
-{
-    match value {
-        Some(value) => Some((value.base, value.root)),
-        None => None,
-    }
-}
-
-/// A log's status.
-pub(crate) fn status_statement(log: u16, epoch: u64, value: &Option<Value>) -> Statement<'static>
-    ensures { claim_of result ≡ status_claim log epoch value.now }
-{
-    Statement::Status {
-        log,
-        epoch,
-        value: roots_of(value),
     }
 }

@@ -12,8 +12,8 @@ use crate::counting::{ballots, count_status, reports_with};
 use crate::parts::Parts;
 use crate::seeing::see;
 use crate::skipping::status_text;
-use crate::statements::ballot_told;
 use ar_base::Items;
+use ar_council::ballot_told;
 use std::alloc::{AllocError, Global};
 use vote_quorum::Value;
 

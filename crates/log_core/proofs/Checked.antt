@@ -18,7 +18,7 @@ use Rattle.epoch_log.specs.Ending.{excludes_all, own_vote}
 use Rattle.epoch_log.specs.State.{LogState, epoch_of, table_of}
 use Rattle.epoch_log.specs.declared.entries.Stated.{Stated}
 use Rattle.epoch_log.specs.declared.entries.Voted.{Voted}
-use Rattle.log_core.specs.Checks.{Check, by_check, checked, enough, first_refusal, has_leaves, has_next, has_place, in_epoch, in_turn, no_vote, none_can_win, not_stated, not_voted, same_base, turn_of, unless}
+use Rattle.log_core.specs.Checks.{Check, by_check, checked, enough, first_refusal, leaves_left, has_next, has_place, in_epoch, in_turn, no_vote, none_can_win, not_stated, not_voted, same_base, turn_of, unless}
 use Rattle.log_core.specs.Reported.{most_reported}
 use Rattle.log_core.specs.State.{Answer, Reply}
 use Rattle.log_core.specs.declared.refusal.LogRefusal.{LogRefusal}
@@ -120,7 +120,7 @@ none-wins council statuses is =
     excludes-each council statuses
     (holds (excludes_all council statuses) (refusals.CouldBeDecided (most_reported statuses).0 (most_reported statuses).1) is)
 
-pub room : (book : RollBook) (texts : List (List ℕ)) → has_leaves book texts ≡ Ok tt → HasRoom book texts
+pub room : (book : RollBook) (texts : List (List ℕ)) → leaves_left book texts ≡ Ok tt → HasRoom book texts
 room book texts is =
     leb-true (plain_count book.newest book.list + new_count book texts + 1) book.leaves
     (holds (nat_le (plain_count book.newest book.list + new_count book texts + 1) book.leaves) refusals.Spent is)

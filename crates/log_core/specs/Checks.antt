@@ -4,11 +4,10 @@ use Rattle.std.specs.List.{list_any}
 use Rattle.std.specs.Str.{bytes_eq}
 use Rattle.ar_cert.specs.Changes.{Change}
 use Rattle.key_roll.specs.Book.{RollBook}
-use Rattle.key_roll.specs.Rolls.{plain_count}
 use Rattle.vote_quorum.specs.Statuses.{Status}
 use Rattle.domain_table.specs.Tree.{root_of}
 use Rattle.ar_council.specs.Council.{Council}
-use Rattle.ar_council.specs.Room.{new_count}
+use Rattle.ar_council.specs.Room.{has_leaves}
 use Rattle.epoch_log.specs.Ending.{excludes_all, own_vote}
 use Rattle.epoch_log.specs.State.{LogState, epoch_of, table_of}
 use Rattle.epoch_log.specs.declared.entries.Newest.{Newest}
@@ -113,8 +112,8 @@ none_can_win council statuses =
 -- ---- L14, L17: leaves and keys
 
 -- the newest key has a leaf, beside its last, for each of these texts that none serves yet
-abbrev pub has_leaves : RollBook → List (List ℕ) → Check
-has_leaves book texts = unless (nat_le (plain_count book.newest book.list + new_count book texts + 1) book.leaves) refusals.Spent
+abbrev pub leaves_left : RollBook → List (List ℕ) → Check
+leaves_left book texts = unless (has_leaves book texts) refusals.Spent
 
 -- there is a next generation
 abbrev pub has_next : RollBook → Check

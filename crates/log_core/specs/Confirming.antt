@@ -21,7 +21,7 @@ use Rattle.epoch_log.specs.Calls.{after_confirm, confirmation_text}
 use Rattle.epoch_log.specs.State.{LogState, newest_value, table_of}
 use Rattle.ar_statement.specs.Claims.{text_of}
 use Rattle.epoch_log.specs.declared.entries.Newest.{Newest}
-use Rattle.log_core.specs.Checks.{Check, checked, has_decision, has_leaves}
+use Rattle.log_core.specs.Checks.{Check, checked, has_decision, leaves_left}
 use Rattle.log_core.specs.Closings.{open_reply}
 use Rattle.log_core.specs.Sending.{Draft, own_votes, place_for, sent_votes, zeros}
 use Rattle.log_core.specs.Signers.{known}
@@ -94,7 +94,7 @@ confirmed_draft s w asked = record {
 -- there is a leaf for the confirmation of the newest decision
 abbrev pub leaf_to_confirm : CoreState → Option Newest → List ℕ → Check
 leaf_to_confirm s None name = Ok tt
-leaf_to_confirm s (Some w) name = has_leaves s.log.past.signed (confirmation_text s.log w name ∷ [])
+leaf_to_confirm s (Some w) name = leaves_left s.log.past.signed (confirmation_text s.log w name ∷ [])
 
 -- the first and then the second authority is known, an epoch is decided, and there is a leaf
 abbrev pub confirm_checks : CoreState → Asked → List Check

@@ -7,14 +7,14 @@ use Rattle.party_keys.specs.Seen.{log_party}
 use Rattle.ar_council.specs.Values.{roots_of}
 use Rattle.epoch_log.specs.Calls.{after_state, is_turn, own_status_text, own_value}
 use Rattle.epoch_log.specs.State.{epoch_of}
-use Rattle.log_core.specs.Checks.{Check, checked, has_leaves, not_stated, turn_of}
+use Rattle.log_core.specs.Checks.{Check, checked, leaves_left, not_stated, turn_of}
 use Rattle.log_core.specs.Closings.{closing_reply}
 use Rattle.log_core.specs.Sending.{Draft, draft_with, zeros}
 use Rattle.log_core.specs.State.{Answer, CoreState, Reply}
 
 -- it has not stated in the epoch, and there is a leaf for its status
 abbrev pub passing_checks : CoreState → List Check
-passing_checks s = not_stated s.log ∷ has_leaves s.log.past.signed (own_status_text s.log ∷ []) ∷ []
+passing_checks s = not_stated s.log ∷ leaves_left s.log.past.signed (own_status_text s.log ∷ []) ∷ []
 
 -- the status, which goes to the log whose turn is the next epoch
 abbrev pub status_draft : CoreState → Draft

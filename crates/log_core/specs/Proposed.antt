@@ -9,7 +9,7 @@ use Rattle.party_keys.specs.Signers.{Claimed}
 use Rattle.vote_quorum.specs.declared.value.Value.{Value}
 use Rattle.epoch_log.specs.Calls.{after_vote, own_vote_text}
 use Rattle.epoch_log.specs.State.{epoch_of, table_of}
-use Rattle.log_core.specs.Checks.{Check, all_taken, checked, has_leaves, in_epoch, in_turn, not_stated, not_voted, same_base, same_root, turn_of}
+use Rattle.log_core.specs.Checks.{Check, all_taken, checked, leaves_left, in_epoch, in_turn, not_stated, not_voted, same_base, same_root, turn_of}
 use Rattle.log_core.specs.Closings.{open_reply}
 use Rattle.log_core.specs.Judged.{judged}
 use Rattle.log_core.specs.Sending.{Draft, draft_with, zeros}
@@ -42,7 +42,7 @@ proposed_checks s p =
     ∷ same_base s.log p.value.base
     ∷ all_taken (judged (table_of s.log) (epoch_of s.log) p.changes)
     ∷ same_root (judged (table_of s.log) (epoch_of s.log) p.changes) p.value.root
-    ∷ has_leaves s.log.past.signed (own_vote_text s.log p.value ∷ [])
+    ∷ leaves_left s.log.past.signed (own_vote_text s.log p.value ∷ [])
     ∷ []
 
 -- the ballot goes to the log whose turn it is

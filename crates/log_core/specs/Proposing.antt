@@ -7,7 +7,7 @@ use Rattle.ar_statement.specs.Claims.{text_of}
 use Rattle.vote_quorum.specs.declared.value.Value.{Value}
 use Rattle.epoch_log.specs.Calls.{after_propose, proposal_texts, propose_claim}
 use Rattle.epoch_log.specs.State.{epoch_of}
-use Rattle.log_core.specs.Checks.{Check, checked, has_leaves, in_turn, not_stated, not_voted}
+use Rattle.log_core.specs.Checks.{Check, checked, leaves_left, in_turn, not_stated, not_voted}
 use Rattle.log_core.specs.Closings.{closing_reply}
 use Rattle.log_core.specs.Sending.{Draft, draft_with, zeros}
 use Rattle.log_core.specs.State.{Answer, CoreState, Reply}
@@ -19,7 +19,7 @@ proposing_checks s =
     in_turn s.log.council (epoch_of s.log) s.log.me
     ∷ not_voted s.log
     ∷ not_stated s.log
-    ∷ has_leaves s.log.past.signed (proposal_texts s.log (proposed_value s))
+    ∷ leaves_left s.log.past.signed (proposal_texts s.log (proposed_value s))
     ∷ []
 
 -- the proposal, which goes to all logs

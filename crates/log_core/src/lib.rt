@@ -9,6 +9,7 @@
 //! what follows where an epoch ends (`specs/Closings.antt`).
 #![tactic(auto)]
 
+mod checks;
 pub mod laws;
 mod log_core;
 mod refusal;
