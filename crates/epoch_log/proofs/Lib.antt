@@ -5,6 +5,7 @@ pub mod Called
 pub mod Closings
 pub mod Counted
 pub mod Endings
+pub mod Foretold
 pub mod Growing
 pub mod Heard
 pub mod Kept

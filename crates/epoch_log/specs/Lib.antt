@@ -1,6 +1,7 @@
 pub mod Answers
 pub mod Calls
 pub mod Ending
+pub mod Foreseeing
 pub mod Honest
 pub mod Log
 pub mod Plans

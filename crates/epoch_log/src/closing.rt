@@ -91,7 +91,7 @@ fn excludes(directory: &Directory, reports: &[(u16, Option<Value>)]) -> bool
 }
 
 /// How the epoch ends, by the own vote, the counted ballots and the counted statuses.
-fn verdict_on(
+pub(crate) fn verdict_on(
     alloc: Global,
     directory: &Directory,
     own: Option<&Voted>,

@@ -38,7 +38,7 @@ pub(crate) fn own_value(voted: &[Voted], epoch: u64) -> Option<Value>
 }
 
 /// The counted ballots for a value, as logs with their signatures, in a list that has room for them.
-fn votes_for(
+pub(crate) fn votes_for(
     counted: Vec<CountedVote>,
     value: &Value,
     mut votes: Vec<(u16, Option<Items<u8>>)>,

@@ -6,18 +6,20 @@
 //! kept of that, `specs/Ending.antt` how an epoch ends, and `specs/Calls.antt` what each call makes of where a log stands,
 //! and when it may be made; `specs/Log.antt` says what a log in the program holds and keeps of that, and `specs/Answers.antt`
 //! what a call needs and answers beside that, `specs/Telling.antt` where another log tells how an epoch ended,
-//! and `specs/Plans.antt` what is planned before an epoch ends with what is counted. `laws` says that each call keeps what
-//! is kept.
+//! `specs/Plans.antt` what is planned before an epoch ends with what is counted, and `specs/Foreseeing.antt` what is told of
+//! that before a step. `laws` says that each call keeps what is kept.
 #![tactic(auto)]
 
 mod balloting;
 mod closing;
 mod confirming;
+mod copying;
 mod counting;
 mod deciding;
 mod ending;
 mod entries;
 mod finishing;
+mod foreseeing;
 mod keys;
 pub mod laws;
 mod log;
@@ -34,5 +36,6 @@ mod tables;
 mod voting;
 
 pub use entries::{Closing, Confirmed, Ended, How, Newest, Stated, Voted};
+pub use foreseeing::Foreseen;
 pub use log::EpochLog;
 pub use past::Record;

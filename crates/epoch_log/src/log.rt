@@ -1,4 +1,4 @@
-ghost use Rattle.std.specs.Prelude.{◌≡◌, ◌<◌, All, IfOk, IfSome, Some, IsSome, OnOk, OnErr};
+ghost use Rattle.std.specs.Prelude.{◌≡◌, ◌≢◌, ◌<◌, All, IfOk, IfSome, Some, IsSome, OnOk, OnErr};
 ghost use Rattle.std.specs.Option.{option_map};
 ghost use Rattle.ar_base.specs.Gives.{GivesOrWants, GivesUnless};
 ghost use Rattle.ar_council.specs.Council.{council_of};
@@ -13,13 +13,14 @@ ghost use Rattle.party_keys.specs.declared.fault.LearnFault.TheVariants as learn
 ghost use Rattle.domain_table.specs.Sound.{IsSound};
 ghost use Rattle.epoch_log.specs.Answers.{IsOpenTo, confirmed, proposed, stated, voted};
 ghost use Rattle.epoch_log.specs.Calls.{AreEndorsers, IsProposed, IsTurn, MayState, after_ballot, after_confirm, after_decide, after_endorsed, after_learn, after_propose, after_roll, after_skip, after_state, after_status_seen, after_vote, fresh};
+ghost use Rattle.epoch_log.specs.Foreseeing.{IsForeseen};
 ghost use Rattle.epoch_log.specs.Log.{moved, record_of};
 ghost use Rattle.epoch_log.specs.Right.{SawEndorsements};
 ghost use Rattle.epoch_log.specs.State.{IsKept, epoch_of, table_of};
 ghost use Rattle.epoch_log.specs.Telling.{CanDecide, CanSkip, statuses_in, to_root, votes_in};
 
 use crate::parts::Parts;
-use crate::{Closing, Newest, Record};
+use crate::{Closing, Foreseen, Newest, Record};
 use ar_cert::Change;
 use ar_names::Name;
 use ar_statement::{Party, Statement};
@@ -135,6 +136,7 @@ impl EpochLog {
     /// votes for that; the own vote is seen and counted at once, and the epoch may end with it.
     ///
     /// It gives the leaf of the proposal, and is `Spent` exactly where there are not leaves for the proposal and the vote.
+    /// `foresee_propose` tells beforehand whether the epoch would end.
     pub fn propose(
         &mut self,
         alloc: Global,
@@ -174,7 +176,7 @@ impl EpochLog {
     }
 
     /// Sees a log's ballot of the current epoch, and counts it unless its ballot for this value is counted; the epoch may end
-    /// with it. The only error is want of memory.
+    /// with it, which `foresee_ballot` tells beforehand. The only error is want of memory.
     pub fn ballot(
         &mut self,
         alloc: Global,
@@ -191,7 +193,7 @@ impl EpochLog {
     }
 
     /// States what the log did in the epoch: the ballot that it cast, or that it cast none. Where the log counts the statuses
-    /// itself, its own is seen and counted at once, and the epoch may end with it.
+    /// itself, its own is seen and counted at once, and the epoch may end with it, which `foresee_state` tells beforehand.
     ///
     /// It gives the leaf of the status, and is `Spent` exactly where there is none.
     pub fn state(&mut self, alloc: Global) -> Result<(RollDue, Closing), BookFault>
@@ -203,8 +205,8 @@ impl EpochLog {
         self.parts.state(alloc)
     }
 
-    /// Sees a log's status of the current epoch, and counts it where it is the log's first; the epoch may end with it. The
-    /// only error is want of memory.
+    /// Sees a log's status of the current epoch, and counts it where it is the log's first; the epoch may end with it, which
+    /// `foresee_status` tells beforehand. The only error is want of memory.
     pub fn status_seen(
         &mut self,
         alloc: Global,
@@ -295,5 +297,52 @@ impl EpochLog {
         ensures err { OnErr result (self.new ≡ self.old) }
     {
         self.parts.roll(alloc, next)
+    }
+
+    /// What `propose` would make of the epoch. The only error is want of memory.
+    pub fn foresee_propose(
+        &self,
+        alloc: Global,
+        value: &Value,
+        changes: &[Change],
+    ) -> Result<Foreseen, AllocError>
+        requires { All (λ v. v.epoch ≢ epoch_of self.now.state) self.now.state.past.voted }
+        ensures { IfOk result (IsForeseen (after_propose self.now.state value.now changes.now)) }
+    {
+        self.parts.foresee_propose(alloc, value, changes)
+    }
+
+    /// What `ballot` would make of the epoch. The only error is want of memory.
+    pub fn foresee_ballot(
+        &self,
+        alloc: Global,
+        log: u16,
+        value: &Value,
+        signature: &[u8],
+    ) -> Result<Foreseen, AllocError>
+        ensures { IfOk result (IsForeseen (after_ballot self.now.state log value.now signature.now)) }
+    {
+        self.parts.foresee_ballot(alloc, log, value, signature)
+    }
+
+    /// What `state` would make of the epoch. The only error is want of memory.
+    pub fn foresee_state(&self, alloc: Global) -> Result<Foreseen, AllocError>
+        ensures { IfOk result (IsForeseen (after_state self.now.state)) }
+    {
+        self.parts.foresee_state(alloc)
+    }
+
+    /// What `status_seen` would make of the epoch. The only error is want of memory.
+    pub fn foresee_status(
+        &self,
+        alloc: Global,
+        log: u16,
+        value: &Option<Value>,
+        signature: &[u8],
+    ) -> Result<Foreseen, AllocError>
+        requires { log < self.now.state.council.logs }
+        ensures { IfOk result (IsForeseen (after_status_seen self.now.state log value.now (Some signature.now))) }
+    {
+        self.parts.foresee_status(alloc, log, value, signature)
     }
 }

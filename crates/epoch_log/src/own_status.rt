@@ -28,7 +28,7 @@ impl Parts {
     }
 
     /// What the log voted for in the current epoch, if it did.
-    fn own_value(&self) -> Option<Value>
+    pub(crate) fn own_value(&self) -> Option<Value>
         requires { IsLog self.now }
         ensures { result ≡ own_value (state_in self.now) }
     {

@@ -1,0 +1,13 @@
+use Rattle.std.proofs.Common.{ap, ◌∙◌, List}
+use Rattle.std.specs.Option.{option_map}
+use Rattle.epoch_log.specs.Ending.{own_vote}
+use Rattle.epoch_log.specs.Log.{state_in}
+use Rattle.epoch_log.specs.declared.entries.Voted.{Voted}
+use Rattle.epoch_log.proofs.Foretold.{foreseen-ballot}
+use Rattle.epoch_log.proofs.parts.Parts.foresee_ballot.Goals as goal
+
+pub returns : goal.returns
+returns c =
+    foreseen-ballot (state_in c.args.self.now) c.args.log c.args.value.now c.args.signature.now (option_map (λ v. v.now) c.own_vote-own.result) c.foresee_with_ballot.result
+    (c.own_vote-own.ensures ∙ ap (λ (l : List Voted). own_vote l c.epoch.result) c.deref.ensures.value ∙ ap (own_vote c.args.self.now.past.voted.items) c.epoch.ensures)
+    c.foresee_with_ballot.ensures

@@ -1,0 +1,92 @@
+//! What is counted, with the signatures, in memory of its own.
+ghost use Rattle.std.specs.Prelude.{◌≡◌, ◌<◌, IfOk, vec_len, vec_capacity};
+ghost use Rattle.std.specs.Option.{option_map};
+ghost use Rattle.epoch_log.specs.Calls.{with_status, with_vote};
+
+use crate::counting::{count_status, count_vote};
+use crate::parts::{CountedStatus, CountedVote};
+use ar_base::Items;
+use std::alloc::{AllocError, Global};
+use vote_quorum::Value;
+
+/// A copy of a signature, where there is one.
+fn signature_copy(alloc: Global, signature: Option<&[u8]>) -> Result<Option<Items<u8>>, AllocError>
+    ensures { IfOk result (λ copy. copy ≡ option_map (λ s. s.now) signature.entry) }
+{
+    match signature {
+        Some(signature) => Ok(Some(Items::from_vec(Vec::from_slice(alloc, signature)?))),
+        None => Ok(None),
+    }
+}
+
+/// A copy of a signature that is kept, where it is.
+fn kept_copy(alloc: Global, signature: &Option<Items<u8>>) -> Result<Option<Items<u8>>, AllocError>
+    ensures { IfOk result (λ copy. copy ≡ signature.now) }
+{
+    match signature {
+        Some(signature) => signature_copy(alloc, Some(signature.as_slice())),
+        None => Ok(None),
+    }
+}
+
+/// Copies of the counted ballots.
+pub(crate) fn vote_copies(
+    alloc: Global,
+    votes: &[CountedVote],
+) -> Result<Vec<CountedVote>, AllocError>
+    ensures { IfOk result (λ list. list.items ≡ votes.now) }
+{
+    let mut list = Vec::new(alloc);
+    for vote in votes {
+        list.push((vote.0, vote.1, kept_copy(alloc, &vote.2)?))?;
+    }
+    Ok(list)
+}
+
+/// Copies of the counted statuses.
+pub(crate) fn status_copies(
+    alloc: Global,
+    statuses: &[CountedStatus],
+) -> Result<Vec<CountedStatus>, AllocError>
+    ensures { IfOk result (λ list. list.items ≡ statuses.now) }
+{
+    let mut list = Vec::new(alloc);
+    for status in statuses {
+        list.push((status.0, status.1, kept_copy(alloc, &status.2)?))?;
+    }
+    Ok(list)
+}
+
+/// Copies of the counted ballots, where this one is counted too.
+pub(crate) fn votes_with(
+    alloc: Global,
+    votes: &[CountedVote],
+    log: u16,
+    value: &Value,
+    signature: Option<&[u8]>,
+) -> Result<Vec<CountedVote>, AllocError>
+    ensures { IfOk result (λ list. list.items ≡ with_vote votes.now (log, value.now, option_map (λ s. s.now) signature.entry)) }
+{
+    let signature = signature_copy(alloc, signature)?;
+    let mut list = vote_copies(alloc, votes)?;
+    list.reserve(1)?;
+    count_vote(&mut list, (log, *value, signature));
+    Ok(list)
+}
+
+/// Copies of the counted statuses, where this one is counted too.
+pub(crate) fn statuses_with(
+    alloc: Global,
+    statuses: &[CountedStatus],
+    log: u16,
+    value: &Option<Value>,
+    signature: Option<&[u8]>,
+) -> Result<Vec<CountedStatus>, AllocError>
+    ensures { IfOk result (λ list. list.items ≡ with_status statuses.now (log, value.now, option_map (λ s. s.now) signature.entry)) }
+{
+    let signature = signature_copy(alloc, signature)?;
+    let mut list = status_copies(alloc, statuses)?;
+    list.reserve(1)?;
+    count_status(&mut list, (log, *value, signature));
+    Ok(list)
+}
