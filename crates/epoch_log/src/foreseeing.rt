@@ -16,11 +16,11 @@ use crate::counting::{ballots, ballots_with, reports, reports_with};
 use crate::ending::LAST_EPOCH;
 use crate::finishing::{own_vote, votes_for};
 use crate::parts::{CountedStatus, CountedVote, Parts};
-use crate::statements::ballot_told;
 use crate::tables::copies;
 use crate::{Newest, Voted};
 use ar_base::Items;
 use ar_cert::Change;
+use ar_council::ballot_told;
 use std::alloc::{AllocError, Global};
 use vote_quorum::Value;
 
