@@ -1,5 +1,5 @@
 -- Each message that a row sends has zero bytes where a signature of the log's own is due.
-use Rattle.std.proofs.Common.{◌≡◌, ℕ, ◌+◌, ◌-◌, List, [], ◌∷◌, ◌++◌, length, refl, sym, ap, ◌∙◌, subst, arith, append_assoc, true, Option, Some, None}
+use Rattle.std.proofs.Common.{◌≡◌, ℕ, ◌+◌, ◌-◌, ◌≤◌, List, [], ◌∷◌, ◌++◌, length, refl, sym, ap, ◌∙◌, subst, arith, append_assoc, true, Option, Some, None}
 use Rattle.std.specs.Prelude.{flat_map, is_none, unwrap_or}
 use Rattle.std.specs.List.{AllByRecursion}
 use Rattle.std.specs.Option.{option_map}
@@ -161,6 +161,22 @@ skip-ends epoch statuses =
 pub skip-is_draft : (len : ℕ) (text : List ℕ) (epoch : ℕ) (statuses : List CountedStatus) → IsDraft len (skip_draft len text epoch statuses)
 skip-is_draft len text epoch statuses =
     statuses-stand len text (message_text (skip_of len epoch statuses)) statuses (skip-ends epoch (sent_statuses len statuses))
+
+within : (tail whole : List ℕ) → EndsIn tail whole → length tail ≤ length whole
+within tail whole ends =
+    let all : length whole ≡ length ends.front + length tail = ap length ends.is ∙ length-append ends.front tail in
+    omega (arith, all)
+
+-- the votes and the statuses are within the messages that they end
+pub votes_within : (len : ℕ) (w : Newest) (changes : List Change)
+    → length (flat_map vote_text (sent_votes len w.votes)) ≤ length (message_text (decision_of len w changes))
+votes_within len w changes =
+    within (flat_map vote_text (sent_votes len w.votes)) (message_text (decision_of len w changes)) (decision-ends w.epoch w.base w.root changes (sent_votes len w.votes))
+
+pub statuses_within : (len epoch : ℕ) (statuses : List CountedStatus)
+    → length (flat_map status_text (sent_statuses len statuses)) ≤ length (message_text (skip_of len epoch statuses))
+statuses_within len epoch statuses =
+    within (flat_map status_text (sent_statuses len statuses)) (message_text (skip_of len epoch statuses)) (skip-ends epoch (sent_statuses len statuses))
 
 -- ---- a confirmation
 

@@ -23,7 +23,9 @@ use Rattle.epoch_log.specs.declared.entries.Voted.{Voted}
 use Rattle.log_core.specs.Closings.{closing_reply, core_after, open_reply, queue_after, still_wanted}
 use Rattle.log_core.specs.Sending.{Draft}
 use Rattle.log_core.specs.Kept.{IsKeptCore, WasQueued}
+use Rattle.log_core.specs.Sendable.{CanBeSent}
 use Rattle.log_core.specs.State.{CoreState}
+use Rattle.log_core.proofs.Sendable.{closes}
 
 -- ---- endorsements that were seen
 
@@ -87,11 +89,12 @@ queue-few (closings.Skipped statuses) after queue = omega arith
 
 -- ---- a core
 
-pub core-kept : (s : CoreState) (after : LogState) (queue : List Change) → IsKeptCore s → IsKept after → after.council ≡ s.log.council
+pub core-kept : (s : CoreState) (after : LogState) (queue : List Change) → IsKeptCore s → IsKept after → CanBeSent after → after.council ≡ s.log.council
     → All (SawEndorsements after.past.seen) queue → All (WasQueued s.keys) queue → length queue ≤ 256
     → IsKeptCore (core_after s after queue)
-core-kept s after queue kept log same endorsed queued few = record {
+core-kept s after queue kept log can same endorsed queued few = record {
   log = log;
+  sendable = can;
   council = same ∙ kept.council;
   logs = subst (λ (c : Council). 0 < c.logs) (sym same) kept.logs;
   endorsed = endorsed;
@@ -101,22 +104,22 @@ core-kept s after queue kept log same endorsed queued few = record {
 }
 
 -- a step that goes on in the epoch
-pub open-kept : (s : CoreState) (after : LogState) (drafts : List Draft) → IsKeptCore s → IsKept after → after.council ≡ s.log.council
+pub open-kept : (s : CoreState) (after : LogState) (drafts : List Draft) → IsKeptCore s → IsKept after → CanBeSent after → after.council ≡ s.log.council
     → Within s.log.past.seen after.past.seen → IsKeptCore (open_reply s after drafts).after
-open-kept s after drafts kept log same within = core-kept s after s.queue kept log same (saw-more s.log.past.seen after.past.seen within s.queue kept.endorsed) kept.queued kept.few
+open-kept s after drafts kept log can same within = core-kept s after s.queue kept log can same (saw-more s.log.past.seen after.past.seen within s.queue kept.endorsed) kept.queued kept.few
 
 -- a step that ends with the closing rule
-pub closing-kept : (s : CoreState) (before : LogState) (drafts : List Draft) (x : LogState × Closing) → IsKeptCore s → IsKept x.0 → x.0.council ≡ s.log.council
+pub closing-kept : (s : CoreState) (before : LogState) (drafts : List Draft) (x : LogState × Closing) → IsKeptCore s → IsKept x.0 → CanBeSent x.0 → x.0.council ≡ s.log.council
     → Within s.log.past.seen x.0.past.seen → IsKeptCore (closing_reply s before drafts x).after
-closing-kept s before drafts x kept log same within =
-    core-kept s x.0 (queue_after x.1 x.0 s.queue) kept log same
+closing-kept s before drafts x kept log can same within =
+    core-kept s x.0 (queue_after x.1 x.0 s.queue) kept log can same
     (queue-all (SawEndorsements x.0.past.seen) x.1 x.0 s.queue (saw-more s.log.past.seen x.0.past.seen within s.queue kept.endorsed))
     (queue-all (WasQueued s.keys) x.1 x.0 s.queue kept.queued)
     (omega (arith, queue-few x.1 x.0 s.queue, kept.few))
 
 -- the same, where what the log did was counted before the rule
-pub closed-kept : (s : CoreState) (before : LogState) (drafts : List Draft) (counted : LogState) → IsKeptCore s → IsKept (closed counted).0 → counted.council ≡ s.log.council
+pub closed-kept : (s : CoreState) (before : LogState) (drafts : List Draft) (counted : LogState) → IsKeptCore s → IsKept (closed counted).0 → CanBeSent counted → counted.council ≡ s.log.council
     → Within s.log.past.seen counted.past.seen → IsKeptCore (closing_reply s before drafts (closed counted)).after
-closed-kept s before drafts counted kept log same within =
+closed-kept s before drafts counted kept log can same within =
     let rule = closed-same counted in
-    closing-kept s before drafts (closed counted) kept log (rule.0 ∙ same) (subst (Within s.log.past.seen) (sym rule.1) within)
+    closing-kept s before drafts (closed counted) kept log (closes counted can).0 (rule.0 ∙ same) (subst (Within s.log.past.seen) (sym rule.1) within)

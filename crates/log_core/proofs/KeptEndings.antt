@@ -72,6 +72,7 @@ use Rattle.log_core.proofs.Checked.{a-quorum, its-base, none-wins, not-last, pas
 use Rattle.log_core.proofs.Judged.{applied}
 use Rattle.log_core.proofs.KeptCore.{core-kept, open-kept, saw-more, wanted-all, wanted-few}
 use Rattle.log_core.proofs.KeptRows.{kept-ballot_row, kept-passing, kept-proposed, kept-proposing, kept-status_row, kept-submit, of-council, root-digest}
+use Rattle.log_core.proofs.Sendable.{confirm-can, decide-can, roll-can, seeing-can, skip-can}
 use Rattle.log_core.proofs.Verified.{queued-adopted, queued-learnt, verified-has}
 use Rattle.log_core.proofs.Known.{all-endorsers, each-known, has-keys, split, staters, voters}
 
@@ -178,7 +179,8 @@ kept-decision s d reply kept digests are votes answer = subst KeepsReply h.1 her
 
     here : IsKeptCore (decision_reply s d).after
     here =
-        core-kept s (decision_state s d) queue kept (kept-decide s.log d.value d.changes (plain_votes d.votes) kept.log may) grows.0
+        core-kept s (decision_state s d) queue kept (kept-decide s.log d.value d.changes (plain_votes d.votes) kept.log may)
+        (decide-can s.log d.value d.changes d.votes kept.sendable votes) grows.0
         (either-all (SawEndorsements seen) (may_end s.log.past) (decision_state s d) s.queue (saw-more s.log.past.seen seen grows.1 s.queue kept.endorsed))
         (either-all (WasQueued s.keys) (may_end s.log.past) (decision_state s d) s.queue kept.queued)
         (omega (arith, either-few (may_end s.log.past) (decision_state s d) s.queue, kept.few))
@@ -233,7 +235,7 @@ kept-skip_row s epoch statuses reply kept are answer = subst KeepsReply h.1 here
 
     here : IsKeptCore (skip_reply s statuses).after
     here =
-        core-kept s (after_skip s.log signed) s.queue kept (kept-skip s.log signed kept.log may) grows.0
+        core-kept s (after_skip s.log signed) s.queue kept (kept-skip s.log signed kept.log may) (skip-can s.log signed kept.sendable) grows.0
         (saw-more s.log.past.seen (after_skip s.log signed).past.seen grows.1 s.queue kept.endorsed) kept.queued kept.few
 
 pub skip-leaves : (s : CoreState) (epoch : ℕ) (statuses : List LogStatus) (reply : Reply) → IsKeptCore s → skip_row s epoch statuses ≡ Ok reply
@@ -271,7 +273,7 @@ confirm-by s asked (Some w) is kept named leaf =
     (kept-confirming s.log w asked.name kept.log
     (record { is_newest = is; is_name = named; certificate = digest-of-newest (newest (chain_of (table_of s.log) asked.name)); root = decided-root s.log w kept.log is })
     (room s.log.past.signed (confirmation_text s.log w asked.name ∷ []) leaf))
-    refl (λ x there. there)
+    (confirm-can s.log w asked.name kept.sendable) refl (λ x there. there)
 
 pub kept-confirm : (s : CoreState) (asked : Asked) (reply : Reply) → IsKeptCore s → IsName asked.name → confirm_row s asked ≡ Ok reply → IsKeptCore reply.after
 unfolding confirm_row
@@ -325,6 +327,7 @@ pub kept-roll_note : (s : CoreState) (a : Announced) (reply : Reply) → IsKeptC
 unfolding roll_note_row
 kept-roll_note s a reply kept answer = subst KeepsReply h.1 (record {
   log = kept-learn s.log a.party a.generation (key_text a.key) kept.log (of-council (λ c. IsMember c a.party) s kept (note-member s.keys a h.0.0));
+  sendable = seeing-can s.log more kept.sendable;
   council = kept.council ∙ sym (learning-council (learned s.keys a) s.keys a);
   logs = kept.logs;
   endorsed = saw-more s.log.past.seen (seen_after s.log.past.seen more) (seen-keeps more s.log.past.seen) s.queue kept.endorsed;
@@ -357,6 +360,7 @@ kept-rolling_row s key reply kept is-key readable answer = subst KeepsReply h.1 
     is_key = is-key;
     readable = readable;
   });
+  sendable = roll-can s.log (key_text key) kept.sendable;
   council = kept.council ∙ sym (adopting-council s.keys (log_party s.log.me) s.log.past.signed.newest key);
   logs = kept.logs;
   endorsed = kept.endorsed;
@@ -377,11 +381,11 @@ kept-message s (messages.Endorsed owner authority certificate signature) reply k
 kept-message s (messages.Submit change) reply kept is answer = kept-submit s change reply kept is answer
 kept-message s (messages.Propose log epoch base root changes signature) reply kept is answer =
     kept-proposed s (record { log = log; epoch = epoch; value = value_of_roots (base, root); changes = changes; signature = signature }) reply kept
-    (record { base = is.1.1.0.0; root = is.1.1.0.1 }) (All-from_recursion IsChange changes is.1.1.1.0.1) answer
+    (record { base = is.1.1.0.0; root = is.1.1.0.1 }) is.1.1.1.0 answer
 kept-message s (messages.Ballot log epoch base root signature) reply kept is answer =
-    kept-ballot_row s log epoch (value_of_roots (base, root)) signature reply kept answer
+    kept-ballot_row s log epoch (value_of_roots (base, root)) signature reply kept is.1.1.1 answer
 kept-message s (messages.StatusNote log epoch value signature) reply kept is answer =
-    kept-status_row s log epoch (option_map value_of_roots value) signature reply kept (value-digests value is.1.1.0) answer
+    kept-status_row s log epoch (option_map value_of_roots value) signature reply kept (value-digests value is.1.1.0) is.1.1.1 answer
 kept-message s (messages.Decision epoch base root changes votes) reply kept is answer =
     kept-decision s (record { epoch = epoch; value = value_of_roots (base, root); changes = changes; votes = votes }) reply kept
     (record { base = is.1.0.0; root = is.1.0.1 }) (All-from_recursion IsChange changes is.1.1.0.1) is.1.1.1 answer

@@ -8,8 +8,9 @@ use Rattle.std.proofs.lemmas.List.Elements.{All-from_recursion, All-push, recurs
 use Rattle.ar_base.specs.Bytes.{IsDigest}
 use Rattle.ar_base.proofs.Digests.{sha256-IsDigest}
 use Rattle.ar_cert.specs.Certificate.{digest_of}
-use Rattle.ar_cert.specs.Changes.{Change, IsChange}
+use Rattle.ar_cert.specs.Changes.{Change, IsChange, IsSignature}
 use Rattle.ar_cert.specs.Judging.{endorsers_of}
+use Rattle.ar_message.specs.Lists.{AreChanges}
 use Rattle.ar_statement.specs.declared.text.SeenText.{SeenText}
 use Rattle.ar_statement.specs.Claims.{endorse}
 use Rattle.party_keys.specs.Seen.{authority_party, log_party}
@@ -44,7 +45,8 @@ use Rattle.log_core.proofs.Checked.{a-place, its-base, its-turn, none-stated, no
 use Rattle.log_core.proofs.Judged.{applied}
 use Rattle.log_core.proofs.KeptCore.{closed-kept, closed-same, closing-kept, core-kept, open-kept, saw-more}
 use Rattle.log_core.proofs.Known.{a-log, all-endorsers, each-known, first-log, its-endorsers}
-use Rattle.log_core.proofs.Walked.{walk-all, walk-applies}
+use Rattle.log_core.proofs.Sendable.{casting-can, own-can, proposing-can, seeing-can, state-can, status-can, vote-can}
+use Rattle.log_core.proofs.Walked.{proposal-fits, walk-all, walk-applies}
 
 -- a fact of the directory's council is one of the log's
 pub of-council : (P : Council → Type 0) (s : CoreState) → IsKeptCore s → P (council_of s.keys) → P s.log.council
@@ -78,37 +80,39 @@ kept-submit s change reply kept is-change answer = subst KeepsReply h.1 (by (is_
     by : (b : Bool) → cond b (Ok tt) (has_place s.queue) ≡ Ok tt → IsKeptCore (cond b s (queueing s change))
     by true fits = kept
     by false fits =
-        core-kept s (after_endorsed s.log change) (s.queue ++ change ∷ []) kept (kept-endorsed s.log change kept.log are) refl
+        core-kept s (after_endorsed s.log change) (s.queue ++ change ∷ []) kept (kept-endorsed s.log change kept.log are) (seeing-can s.log more kept.sendable) refl
         (All-push (SawEndorsements later) s.queue change (saw-more s.log.past.seen later (seen-keeps more s.log.past.seen) s.queue kept.endorsed) saw)
         (All-push (WasQueued s.keys) s.queue change kept.queued (record { is_change = is-change; verified = h.0.0 }))
         (omega (arith, length-append s.queue (change ∷ []), a-place s.queue fits))
 
 -- ---- Ballot
 
-pub kept-ballot_row : (s : CoreState) (log epoch : ℕ) (value : Value) (signature : List ℕ) (reply : Reply) → IsKeptCore s
+pub kept-ballot_row : (s : CoreState) (log epoch : ℕ) (value : Value) (signature : List ℕ) (reply : Reply) → IsKeptCore s → IsSignature signature
     → ballot_row s log epoch value signature ≡ Ok reply → IsKeptCore reply.after
 unfolding ballot_row
-kept-ballot_row s log epoch value signature reply kept answer =
+kept-ballot_row s log epoch value signature reply kept fits answer =
     let h = passed (ballot_checks s log epoch value signature) (ballot_reply s log value signature) reply answer in
     let more : List SeenText = seen_of (log_party log) (vote_claim log (epoch_of s.log) value) ∷ [] in
     let member : log < s.log.council.logs =
     of-council (λ c. log < c.logs) s kept (first-log s.keys log (signed_by (log_party log) (vote_claim log epoch value) signature) [] refl h.0.0) in
     subst KeepsReply h.1
-    (closed-kept s s.log [] (counting_vote (seeing s.log more) (log, value, Some signature)) kept (kept-ballot s.log log value signature kept.log member) refl
+    (closed-kept s s.log [] (counting_vote (seeing s.log more) (log, value, Some signature)) kept (kept-ballot s.log log value signature kept.log member)
+    (vote-can (seeing s.log more) (log, value, Some signature) (seeing-can s.log more kept.sendable) member fits) refl
     (seen-keeps more s.log.past.seen))
 
 -- ---- StatusNote
 
-pub kept-status_row : (s : CoreState) (log epoch : ℕ) (value : Option Value) (signature : List ℕ) (reply : Reply) → IsKeptCore s → IfSome value IsValue
+pub kept-status_row : (s : CoreState) (log epoch : ℕ) (value : Option Value) (signature : List ℕ) (reply : Reply) → IsKeptCore s → IfSome value IsValue → IsSignature signature
     → status_row s log epoch value signature ≡ Ok reply → IsKeptCore reply.after
 unfolding status_row
-kept-status_row s log epoch value signature reply kept are answer =
+kept-status_row s log epoch value signature reply kept are fits answer =
     let h = passed (status_checks s log epoch value signature) (status_reply s log value signature) reply answer in
     let more : List SeenText = seen_of (log_party log) (status_claim log (epoch_of s.log) value) ∷ [] in
     let member : log < s.log.council.logs =
     of-council (λ c. log < c.logs) s kept (first-log s.keys log (signed_by (log_party log) (status_claim log epoch value) signature) [] refl h.0.0) in
     subst KeepsReply h.1
-    (closed-kept s s.log [] (counting_status (seeing s.log more) (log, value, Some signature)) kept (kept-status s.log log value (Some signature) kept.log member are) refl
+    (closed-kept s s.log [] (counting_status (seeing s.log more) (log, value, Some signature)) kept (kept-status s.log log value (Some signature) kept.log member are)
+    (status-can (seeing s.log more) (log, value, Some signature) (seeing-can s.log more kept.sendable) (member, are, fits)) refl
     (seen-keeps more s.log.past.seen))
 
 -- ---- the order to pass
@@ -139,7 +143,7 @@ kept-passing s reply kept answer =
     let grows = state-grows s.log in
     subst KeepsReply h.1
     (closing-kept s s.log (status_drafts s) (after_state s.log) kept
-    (kept-state s.log kept.log (none-stated s.log h.0.0) (room s.log.past.signed (own_status_text s.log ∷ []) h.0.1.0)) grows.0 grows.1)
+    (kept-state s.log kept.log (none-stated s.log h.0.0) (room s.log.past.signed (own_status_text s.log ∷ []) h.0.1.0)) (state-can s.log kept.sendable kept.log).0 grows.0 grows.1)
 
 -- ---- the order to propose
 
@@ -151,7 +155,9 @@ unfolding proposing_row
 kept-proposing s reply kept answer =
     subst KeepsReply h.1
     (closed-kept s s.log (proposal_draft s value changes ∷ []) (counting_own (casting (proposing s.log value) (vote_of s.log value changes)) value) kept
-    (kept-propose s.log value changes kept.log turn may saw (room s.log.past.signed (proposal_texts s.log value) h.0.1.1.1.0)) refl
+    (kept-propose s.log value changes kept.log turn may saw (room s.log.past.signed (proposal_texts s.log value) h.0.1.1.1.0))
+    (own-can (casting (proposing s.log value) (vote_of s.log value changes)) value
+    (casting-can (proposing s.log value) (vote_of s.log value changes) (proposing-can s.log value kept.sendable) few) turn.0) refl
     (seen-keeps more s.log.past.seen))
   where
     h : AllByRecursion (λ c. c ≡ Ok tt) (proposing_checks s) × (proposing_reply s ≡ reply)
@@ -186,9 +192,14 @@ kept-proposing s reply kept answer =
     changes-queued : All IsChange s.queue
     changes-queued = All-weaker (WasQueued s.keys) IsChange (λ (change : Change) was. was.is_change) s.queue kept.queued
 
+    each : AllByRecursion IsChange changes
+    each = walk-all IsChange s.queue (epoch_of s.log) most_changes most_bytes (ripen table (epoch_of s.log)) (recursion_from_All IsChange s.queue changes-queued)
+
     are : All IsChange changes
-    are = All-from_recursion IsChange changes
-        (walk-all IsChange s.queue (epoch_of s.log) most_changes most_bytes (ripen table (epoch_of s.log)) (recursion_from_All IsChange s.queue changes-queued))
+    are = All-from_recursion IsChange changes each
+
+    few : AreChanges changes
+    few = ((proposal-fits s).0, each)
 
     may : MayVote s.log value changes
     may = record {
@@ -201,13 +212,15 @@ kept-proposing s reply kept answer =
 
 -- ---- Propose
 
-pub kept-proposed : (s : CoreState) (p : Proposal) (reply : Reply) → IsKeptCore s → IsValue p.value → All IsChange p.changes → proposed_row s p ≡ Ok reply
+pub kept-proposed : (s : CoreState) (p : Proposal) (reply : Reply) → IsKeptCore s → IsValue p.value → AreChanges p.changes → proposed_row s p ≡ Ok reply
     → IsKeptCore reply.after
 unfolding proposed_row
 kept-proposed s p reply kept digests are answer =
     subst KeepsReply h.1
     (open-kept s (after_vote s.log p.log p.value p.changes) (ballot_draft s p.value ∷ []) kept
-    (kept-vote s.log p.log p.value p.changes kept.log may proposed (room s.log.past.signed (own_vote_text s.log p.value ∷ []) h.0.1.1.1.1.1.1.1.1.0)) refl
+    (kept-vote s.log p.log p.value p.changes kept.log may proposed (room s.log.past.signed (own_vote_text s.log p.value ∷ []) h.0.1.1.1.1.1.1.1.1.0))
+    (casting-can (seeing s.log (proposal_of s.log p.log p.value p.changes)) (vote_of s.log p.value p.changes)
+    (seeing-can s.log (proposal_of s.log p.log p.value p.changes) kept.sendable) are) refl
     (seen-keeps (proposal_of s.log p.log p.value p.changes) s.log.past.seen))
   where
     h : AllByRecursion (λ c. c ≡ Ok tt) (proposed_checks s p) × (proposed_reply s p ≡ reply)
@@ -230,6 +243,6 @@ kept-proposed s p reply kept digests are answer =
       not_voted = none-voted s.log h.0.1.1.1.0;
       not_stated = none-stated s.log h.0.1.1.1.1.0;
       from_base = its-base s.log p.value.base h.0.1.1.1.1.1.0;
-      applies = record { table = leads.0; applied = leads.1.0; is_root = leads.1.1; are_changes = are };
+      applies = record { table = leads.0; applied = leads.1.0; is_root = leads.1.1; are_changes = All-from_recursion IsChange p.changes are.1 };
       are_digests = digests;
     }

@@ -8,9 +8,11 @@ pub mod KeptCore
 pub mod KeptEndings
 pub mod KeptRows
 pub mod Known
+pub mod OwnPlaces
 pub mod Reported
 pub mod Sealing
 pub mod Sees
+pub mod Sendable
 pub mod Stepping
 pub mod Submitted
 pub mod Verified

@@ -5,7 +5,7 @@ use Rattle.vote_quorum.specs.declared.value.Value.{Value}
 use Rattle.ar_council.specs.Values.{vote_claim}
 use Rattle.epoch_log.specs.Calls.{after_ballot}
 use Rattle.epoch_log.specs.State.{epoch_of}
-use Rattle.log_core.specs.Checks.{Check, checked, in_epoch, in_turn}
+use Rattle.log_core.specs.Checks.{Check, checked, first_refusal, in_epoch, in_turn}
 use Rattle.log_core.specs.Closings.{closing_reply}
 use Rattle.log_core.specs.Signers.{signed_by, signers}
 use Rattle.log_core.specs.State.{Answer, CoreState, Reply}
@@ -24,3 +24,7 @@ ballot_reply s log value signature = closing_reply s s.log [] (after_ballot s.lo
 
 unfoldable pub ballot_row : CoreState → ℕ → ℕ → Value → List ℕ → Answer
 ballot_row s log epoch value signature = checked (ballot_checks s log epoch value signature) (ballot_reply s log value signature)
+
+-- the refusal of a ballot, if there is one
+unfoldable pub ballot_judged : CoreState → ℕ → ℕ → Value → List ℕ → Check
+ballot_judged s log epoch value signature = first_refusal (ballot_checks s log epoch value signature)

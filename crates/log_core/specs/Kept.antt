@@ -5,6 +5,7 @@ use Rattle.party_keys.specs.Directory.{Directory}
 use Rattle.ar_council.specs.Council.{council_of}
 use Rattle.epoch_log.specs.Right.{SawEndorsements}
 use Rattle.epoch_log.specs.State.{IsKept}
+use Rattle.log_core.specs.Sendable.{CanBeSent}
 use Rattle.log_core.specs.Signers.{endorsements_in, signers}
 use Rattle.log_core.specs.State.{CoreState, most_queued}
 
@@ -13,10 +14,11 @@ pub record WasQueued (keys : Directory) (change : Change) : Type 0 where
   pub is_change : IsChange change
   pub verified : signers keys (endorsements_in change) ≡ Ok tt
 
--- The sizes of the log's council are those of its directory, and the endorsements of each queued change were seen and are
--- valid.
+-- The sizes of the log's council are those of its directory, what it may have to send fits into messages, and the
+-- endorsements of each queued change were seen and are valid.
 pub record IsKeptCore (s : CoreState) : Type 0 where
   pub log : IsKept s.log
+  pub sendable : CanBeSent s.log
   pub council : s.log.council ≡ council_of s.keys
   pub logs : 0 < s.log.council.logs
   pub endorsed : All (SawEndorsements s.log.past.seen) s.queue

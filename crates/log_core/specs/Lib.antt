@@ -14,6 +14,7 @@ pub mod Reported
 pub mod Rolling
 pub mod Row
 pub mod Sees
+pub mod Sendable
 pub mod Sending
 pub mod Signers
 pub mod Skipped

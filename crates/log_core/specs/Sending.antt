@@ -81,6 +81,11 @@ with_draft c draft = record {
   places = c.places ++ map (λ place. (length c.letters, place)) draft.own;
 }
 
+-- more drafts, one behind the other
+abbrev pub with_drafts : Composed → List Draft → Composed
+with_drafts c [] = c
+with_drafts c (draft ∷ drafts) = with_drafts (with_draft c draft) drafts
+
 -- the blanks of places, with the leaves that the book has for them
 unfoldable pub blanks_in : RollBook → List (ℕ × Place) → List Blank
 blanks_in book places = flat_map (λ p. blanks_by (due_of book p.1.text) p.0 p.1) places

@@ -5,7 +5,7 @@ use Rattle.vote_quorum.specs.declared.value.Value.{Value}
 use Rattle.ar_council.specs.Values.{status_claim}
 use Rattle.epoch_log.specs.Calls.{after_status_seen}
 use Rattle.epoch_log.specs.State.{epoch_of}
-use Rattle.log_core.specs.Checks.{Check, checked, in_epoch, in_turn}
+use Rattle.log_core.specs.Checks.{Check, checked, first_refusal, in_epoch, in_turn}
 use Rattle.log_core.specs.Closings.{closing_reply}
 use Rattle.log_core.specs.Signers.{signed_by, signers}
 use Rattle.log_core.specs.State.{Answer, CoreState, Reply}
@@ -24,3 +24,7 @@ status_reply s log value signature = closing_reply s s.log [] (after_status_seen
 
 unfoldable pub status_row : CoreState → ℕ → ℕ → Option Value → List ℕ → Answer
 status_row s log epoch value signature = checked (status_checks s log epoch value signature) (status_reply s log value signature)
+
+-- the refusal of a status, if there is one
+unfoldable pub status_judged : CoreState → ℕ → ℕ → Option Value → List ℕ → Check
+status_judged s log epoch value signature = first_refusal (status_checks s log epoch value signature)

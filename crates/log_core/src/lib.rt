@@ -12,10 +12,12 @@
 mod checks;
 pub mod laws;
 mod log_core;
+mod own_places;
 mod refusal;
 mod rolling;
 mod sending;
 mod signers;
+mod statements;
 mod submitting;
 
 pub use log_core::LogCore;

@@ -1,44 +1,76 @@
 //! What a step sends, while it is composed: first the messages and the places where signatures are due, for which memory is
 //! taken, and behind the step the leaves of these signatures.
 
-ghost use Rattle.std.specs.Prelude.{◌≡◌, ◌+◌, ◌≤◌, ◌++◌, ◌∷◌, [], length, OnOk, OnErr, IfOk, vec_len, vec_capacity};
+ghost use Rattle.std.specs.Prelude.{◌≡◌, ◌+◌, ◌≤◌, ◌++◌, ◌∷◌, [], length, map, OnOk, OnErr, IfOk, vec_len, vec_capacity};
 ghost use Rattle.ar_message.specs.Messages.{message_text};
+ghost use Rattle.ar_message.specs.declared.message.Message.{Message};
 ghost use Rattle.ar_statement.specs.Claims.{claim_of, text_of};
+ghost use Rattle.key_roll.specs.Entry.{due_of};
 ghost use Rattle.log_core.specs.Sending.{blanks_by, blanks_in, draft_with, none_composed, sealed, with_draft, zeros};
 
 use ar_base::Items;
 use ar_message::{Address, Blank, Message, Outgoing, Sent, Signature, Unsigned};
 use ar_statement::Statement;
 use epoch_log::EpochLog;
-use key_roll::forgo;
+use key_roll::{RollDue, forgo};
 use std::alloc::{AllocError, Global};
 use std::marker::Model;
 
-/// A place in a message at which the log signs a statement.
+/// A place in a message, from its first byte on, at which the log signs a statement.
 #[derive(Drop)]
-struct Place<'a> {
-    // The number of the message.
-    message: usize,
-    at: usize,
-    statement: Statement<'a>,
+pub(crate) struct OwnPlace<'a> {
+    pub(crate) at: usize,
+    pub(crate) statement: Statement<'a>,
 }
 
-// Clauses see the number of the message, the place and the text.
-impl<'a> Model for Place<'a> {
-    ghost use Rattle.std.specs.Prelude.{ℕ};
+// Clauses see the place and the text.
+impl<'a> Model for OwnPlace<'a> {
     ghost use Rattle.ar_statement.specs.Claims.{claim_of, text_of};
+    ghost use Rattle.log_core.specs.Sending.{Place};
+
+    ghost Value = { Place };
+
+    ghost view = { λ p. record { at = p.at; text = text_of (claim_of p.statement) } };
+}
+
+impl<'a> OwnPlace<'a> {
+    /// Where the signature is due.
+    fn at(&self) -> usize
+        ensures { result ≡ self.now.at }
+    {
+        self.at
+    }
+
+    /// The leaf of the log's signature, where the log has signed the statement.
+    fn due(&self, log: &EpochLog) -> Option<RollDue>
+        ensures { result ≡ due_of log.now.state.past.signed self.now.text }
+    {
+        log.due(&self.statement)
+    }
+}
+
+/// A place in the message with this number.
+#[derive(Drop)]
+struct Numbered<'a> {
+    message: usize,
+    own: OwnPlace<'a>,
+}
+
+// Clauses see the number and the place.
+impl<'a> Model for Numbered<'a> {
+    ghost use Rattle.std.specs.Prelude.{ℕ};
     ghost use Rattle.log_core.specs.Sending.{Place};
 
     ghost Value = { ℕ × Place };
 
-    ghost view = { λ p. (p.message, record { at = p.at; text = text_of (claim_of p.statement) }) };
+    ghost view = { λ p. (p.message, p.own) };
 }
 
 /// The messages of a step, before it is made.
 #[derive(Drop)]
 pub(crate) struct Drafts<'a> {
     messages: Vec<Outgoing>,
-    places: Vec<Place<'a>>,
+    places: Vec<Numbered<'a>>,
 }
 
 // Clauses see the letters, and the places where signatures are due.
@@ -76,6 +108,15 @@ pub(crate) fn zeros(alloc: Global, len: usize) -> Result<Vec<u8>, AllocError>
     vec![in alloc; 0u8; len]
 }
 
+/// The bytes of a message, with zero bytes in place of the log's own signatures.
+pub(crate) fn written(alloc: Global, message: &Message) -> Result<Vec<u8>, AllocError>
+    ensures { IfOk result (λ bytes. bytes.items ≡ message_text message.now) }
+{
+    let mut bytes = Vec::new(alloc);
+    message.write(alloc, &mut bytes)?;
+    Ok(bytes)
+}
+
 impl<'a> Drafts<'a> {
     /// None yet.
     pub(crate) fn new(alloc: Global) -> Drafts<'a>
@@ -100,16 +141,24 @@ impl<'a> Drafts<'a> {
         requires { signature_len + behind ≤ 4194304 }
         ensures { OnOk result (self.new ≡ with_draft self.old (draft_with to message.now signature_len behind (text_of (claim_of statement.entry)))) }
     {
-        let mut bytes = Vec::new(alloc);
-        message.write(alloc, &mut bytes)?;
-        let place = Place {
-            message: self.messages.len(),
-            at: bytes.len().saturating_sub(signature_len + behind),
-            statement,
-        };
+        let bytes = written(alloc, message)?;
+        let at = bytes.len().saturating_sub(signature_len + behind);
+        let own = vec![in alloc; OwnPlace { at, statement }]?;
+        self.add_written(to, bytes, own)
+    }
+
+    /// One more message, by its bytes, with the places where signatures of the log's own are due.
+    pub(crate) fn add_written(
+        &mut self,
+        to: Address,
+        bytes: Vec<u8>,
+        own: Vec<OwnPlace<'a>>,
+    ) -> Result<(), AllocError>
+        ensures { (message : Message) → bytes.items ≡ message_text message → OnOk result (self.new ≡ with_draft self.old (record { to = to; message = message; own = own.entry.items })) }
+    {
+        let message = self.messages.len();
         self.messages.push(Outgoing::new(to, bytes))?;
-        self.places.push(place)?;
-        Ok(())
+        add_places(&mut self.places, message, own)
     }
 
     /// Takes the memory that the blanks need.
@@ -124,8 +173,22 @@ impl<'a> Drafts<'a> {
     }
 }
 
+/// Adds the places of the message with this number.
+fn add_places<'a>(
+    places: &mut Vec<Numbered<'a>>,
+    message: usize,
+    own: Vec<OwnPlace<'a>>,
+) -> Result<(), AllocError>
+    ensures { OnOk result (places.new.items ≡ places.old.items ++ map (λ place. (message, place)) own.entry.items) }
+{
+    for own in own {
+        places.push(Numbered { message, own })?;
+    }
+    Ok(())
+}
+
 /// Adds the blanks of these places, by the leaves that the log has for their statements.
-fn add_blanks(log: &EpochLog, places: &[Place], blanks: &mut Vec<Blank>)
+fn add_blanks(log: &EpochLog, places: &[Numbered], blanks: &mut Vec<Blank>)
     requires { vec_len blanks.old + length places.now ≤ vec_capacity blanks.old }
     ensures { blanks.new.items ≡ blanks.old.items ++ blanks_in log.now.state.past.signed places.now }
 {
@@ -140,18 +203,18 @@ fn add_blanks(log: &EpochLog, places: &[Place], blanks: &mut Vec<Blank>)
 
 /// Adds the blank of a place, where the log has signed its statement.
 #[tactic(auto, using(crate::proofs::Sealing::blanks_none))]
-fn add_blank(log: &EpochLog, place: &Place, blanks: &mut Vec<Blank>)
+fn add_blank(log: &EpochLog, place: &Numbered, blanks: &mut Vec<Blank>)
     requires { vec_len blanks.old + 1 ≤ vec_capacity blanks.old }
     ensures added { blanks.new.items ≡ blanks.old.items ++ blanks_in log.now.state.past.signed (place.now ∷ []) }
     ensures len { vec_len blanks.new ≤ vec_len blanks.old + 1 }
     ensures capacity { vec_capacity blanks.old ≤ vec_capacity blanks.new }
 {
-    let Some(due) = log.due(&place.statement) else {
+    let Some(due) = place.own.due(log) else {
         return;
     };
     let blank = Blank {
         message: place.message,
-        at: place.at,
+        at: place.own.at(),
         due,
     };
     match blanks.push(blank) {
