@@ -17,3 +17,4 @@ pub mod Stepping
 pub mod Submitted
 pub mod Verified
 pub mod Walked
+pub mod Walks

@@ -6,10 +6,13 @@ use Rattle.ar_cert.specs.Changes.{Change, change_text}
 use Rattle.vote_quorum.specs.declared.value.Value.{Value}
 use Rattle.domain_table.specs.declared.refusal.ChangeRefusal.{ChangeRefusal}
 use Rattle.domain_table.specs.Applying.{apply, judge_ripe, ripen, taken}
+use Rattle.domain_table.specs.Sound.{IsSound}
 use Rattle.domain_table.specs.Tables.{Table}
 use Rattle.domain_table.specs.Tree.{root_of}
 use Rattle.epoch_log.specs.State.{epoch_of, table_of}
 use Rattle.log_core.specs.State.{CoreState}
+use Rattle.log_core.specs.declared.walking.Walked.{Walked}
+use Rattle.log_core.specs.declared.walking.Walker.{Walker}
 
 -- the most changes of a proposal, and the most bytes of their texts
 abbrev pub most_changes : ℕ
@@ -53,3 +56,22 @@ proposed_value s = record {
   base = root_of (table_of s.log);
   root = root_of (unwrap_or (apply (table_of s.log) (epoch_of s.log) (proposal s)) (table_of s.log));
 }
+
+-- ---- a walk on its way
+
+-- what a walk that stands so takes of what is left of the queue
+abbrev pub left_of : Walker → List Change → List Change
+left_of w queue = walk w.epoch (ripen w.table w.epoch) w.many w.left queue
+
+-- A walk goes over a change: what it took, and takes of what is behind the change, is what it took before and took from
+-- the change on; and that leads to one table.
+pub record IsStepOver (change : Change) (before after : Walker) : Type 0 where
+  pub epoch : after.epoch ≡ before.epoch
+  pub sound : IsSound after.table
+  pub takes : (queue : List Change) → after.taken.items ++ left_of after queue ≡ before.taken.items ++ left_of before (change ∷ queue)
+  pub leads : (queue : List Change) → apply after.table after.epoch (left_of after queue) ≡ apply before.table before.epoch (left_of before (change ∷ queue))
+
+-- these changes are taken of a queue, and the root is that of the table behind them
+pub record IsWalked (epoch : ℕ) (table : Table) (queue : List Change) (w : Walked) : Type 0 where
+  pub changes : w.changes.items ≡ walk epoch (ripen table epoch) most_changes most_bytes queue
+  pub root : w.root ≡ root_of (unwrap_or (apply table epoch w.changes.items) table)

@@ -19,6 +19,7 @@ mod sending;
 mod signers;
 mod statements;
 mod submitting;
+mod walking;
 
 pub use log_core::LogCore;
 pub use refusal::LogRefusal;
