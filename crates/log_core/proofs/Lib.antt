@@ -13,6 +13,8 @@ pub mod Reported
 pub mod Sealing
 pub mod Sees
 pub mod Sendable
+pub mod Skips
+pub mod Statuses
 pub mod Stepping
 pub mod Submitted
 pub mod Verified

@@ -59,7 +59,7 @@ note-refused s a learn_fault.Memory (inr is) = inl refl
 abbrev pub core-with : CoreState → LogParts → CoreState
 core-with s log = record { log = log.state; keys = log.keys; queue = s.queue; signature_len = s.signature_len }
 
-abbrev log-in : CoreState → LogParts
+abbrev pub log-in : CoreState → LogParts
 log-in s = record { state = s.log; keys = s.keys }
 
 -- what the log is behind a note of a Roll that was learnt

@@ -1,5 +1,5 @@
 -- The row of ConfirmAsk: the log confirms what a name has behind the newest decided epoch.
-use Rattle.std.specs.Prelude.{ℕ, ◌+◌, ◌-◌, List, [], ◌∷◌, ◌++◌, flat_map, length, Option, Some, None, Ok}
+use Rattle.std.specs.Prelude.{ℕ, ◌+◌, ◌-◌, List, [], ◌∷◌, ◌++◌, flat_map, length, Option, Some, None, Result, Ok}
 use Rattle.hash_tree.specs.Path.{steps_of}
 use Rattle.tree_proof.specs.Path.{found_of}
 use Rattle.tree_proof.specs.declared.path.Bottom.TheVariants.{Empty}
@@ -23,9 +23,11 @@ use Rattle.ar_statement.specs.Claims.{text_of}
 use Rattle.epoch_log.specs.declared.entries.Newest.{Newest}
 use Rattle.log_core.specs.Checks.{Check, checked, has_decision, leaves_left}
 use Rattle.log_core.specs.Closings.{open_reply}
-use Rattle.log_core.specs.Sending.{Draft, own_votes, place_for, sent_votes, zeros}
+use Rattle.log_core.specs.Sending.{Composed, Draft, Place, none_composed, own_votes, place_for, sent_votes, with_draft, zeros}
 use Rattle.log_core.specs.Signers.{known}
 use Rattle.log_core.specs.State.{Answer, CoreState, Reply, nothing}
+use Rattle.log_core.specs.Steps.{given}
+use Rattle.log_core.specs.declared.refusal.LogRefusal.{LogRefusal}
 
 -- what a client asks: to confirm a name, by two authorities of the client's choice
 pub record Asked : Type 0 where
@@ -78,15 +80,19 @@ newest_vote_text s w = text_of (vote_claim s.me w.epoch (newest_value w))
 abbrev pub confirmed_len : CoreState → Newest → Asked → ℕ
 confirmed_len s w asked = length (message_text (LogConfirmed (confirming_of s w asked)))
 
--- The message to the first authority. Behind the votes stand the log's number, its signature behind two bytes, and the
--- numbers of the authorities; where its own ballot was counted at once, that signature is due too.
+-- Where its signatures are due, in a message of so many bytes. Behind the votes stand the log's number, its signature
+-- behind two bytes, and the numbers of the authorities; where its own ballot was counted at once, that signature is due too.
+abbrev pub confirmed_places : CoreState → Newest → List ℕ → ℕ → List Place
+confirmed_places s w name len =
+    own_votes s.signature_len (newest_vote_text s.log w) (len - (s.signature_len + 8)) w.votes
+    ++ place_for (len - (s.signature_len + 4)) (confirmation_text s.log w name) ∷ []
+
+-- the message to the first authority
 abbrev pub confirmed_draft : CoreState → Newest → Asked → Draft
 confirmed_draft s w asked = record {
   to = One (authority_party asked.first);
   message = LogConfirmed (confirming_of s w asked);
-  own =
-      own_votes s.signature_len (newest_vote_text s.log w) (confirmed_len s w asked - (s.signature_len + 8)) w.votes
-      ++ place_for (confirmed_len s w asked - (s.signature_len + 4)) (confirmation_text s.log w asked.name) ∷ [];
+  own = confirmed_places s w asked.name (confirmed_len s w asked);
 }
 
 -- ---- the row
@@ -111,3 +117,16 @@ confirm_reply s (Some w) asked = open_reply s (after_confirm s.log w asked.name)
 
 unfoldable pub confirm_row : CoreState → Asked → Answer
 confirm_row s asked = checked (confirm_checks s asked) (confirm_reply s s.log.newest asked)
+
+-- ---- while it is composed
+
+-- what is composed before the step, by the newest decision
+abbrev pub confirmation_by : CoreState → Option Newest → Asked → Composed
+confirmation_by s None asked = none_composed
+confirmation_by s (Some w) asked = with_draft none_composed (confirmed_draft s w asked)
+
+-- what is composed where the authorities are known and an epoch is decided
+unfoldable pub confirmation_prepared : CoreState → Asked → Result Composed LogRefusal
+confirmation_prepared s asked =
+    given (known s.keys (authority_party asked.first ∷ authority_party asked.second ∷ []) ∷ has_decision s.log s.log.newest ∷ [])
+    (confirmation_by s s.log.newest asked)

@@ -1,10 +1,10 @@
 -- The row of SkipNote: the log ends the epoch as skipped.
-use Rattle.std.specs.Prelude.{ℕ, List, [], ◌∷◌, map, Some, None, if◌then◌else◌}
+use Rattle.std.specs.Prelude.{ℕ, List, [], ◌∷◌, map, Option, Some, None, if◌then◌else◌}
 use Rattle.ar_message.specs.declared.lists.LogStatus.{LogStatus}
 use Rattle.epoch_log.specs.Calls.{SignedStatus, after_skip, plain_statuses}
 use Rattle.epoch_log.specs.Ending.{may_end}
-use Rattle.epoch_log.specs.State.{epoch_of}
-use Rattle.log_core.specs.Checks.{Check, checked, in_epoch, none_can_win}
+use Rattle.epoch_log.specs.State.{LogState, epoch_of}
+use Rattle.log_core.specs.Checks.{Check, checked, first_refusal, in_epoch, none_can_win}
 use Rattle.log_core.specs.Closings.{core_after}
 use Rattle.log_core.specs.Sending.{unsigned_of}
 use Rattle.log_core.specs.Signers.{signers, status_value, statuses_in}
@@ -22,13 +22,20 @@ skip_checks s epoch statuses =
     ∷ none_can_win s.log.council (plain_statuses (signed_statuses statuses))
     ∷ []
 
--- The epoch ended as skipped, unless it is the last that a statement can name. The table does not ripen, and the queue
--- stays.
+-- the epoch that ends as skipped, unless it is the last that a statement can name
+abbrev pub skipped_epoch : LogState → Option (ℕ × Option (List ℕ))
+skipped_epoch s = if may_end s.past then Some (epoch_of s, None) else None
+
+-- The epoch ended as skipped, unless it is the last. The table does not ripen, and the queue stays.
 abbrev pub skip_reply : CoreState → List LogStatus → Reply
 skip_reply s statuses = record {
-  unsigned = unsigned_of s.log.past.signed [] (if may_end s.log.past then Some (epoch_of s.log, None) else None);
+  unsigned = unsigned_of s.log.past.signed [] (skipped_epoch s.log);
   after = core_after s (after_skip s.log (signed_statuses statuses)) s.queue;
 }
 
 unfoldable pub skip_row : CoreState → ℕ → List LogStatus → Answer
 skip_row s epoch statuses = checked (skip_checks s epoch statuses) (skip_reply s statuses)
+
+-- what the checks of the row say together
+unfoldable pub skip_judged : CoreState → ℕ → List LogStatus → Check
+skip_judged s epoch statuses = first_refusal (skip_checks s epoch statuses)

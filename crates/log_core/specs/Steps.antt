@@ -2,6 +2,8 @@
 use Rattle.std.specs.Prelude.{◌≡◌, ◌⊎◌, ℕ, List, Result, Ok, Err}
 use Rattle.ar_message.specs.declared.unsigned.Unsigned.{Unsigned}
 use Rattle.ar_statement.specs.declared.party.Party.{Party}
+use Rattle.key_roll.specs.declared.fault.BookFault.{BookFault}
+use Rattle.key_roll.specs.declared.fault.BookFault.TheVariants as book_fault
 use Rattle.key_roll.specs.declared.fault.RollFault.{RollFault}
 use Rattle.key_roll.specs.declared.fault.RollFault.TheVariants as roll_fault
 use Rattle.party_keys.specs.declared.fault.LearnFault.{LearnFault}
@@ -43,3 +45,8 @@ noted (Err fault) party generation = Err (learn_refusal fault party generation)
 abbrev pub roll_refusal : RollFault → LogRefusal
 roll_refusal roll_fault.Last = refusals.LastGeneration
 roll_refusal roll_fault.Memory = refusals.Memory
+
+-- the refusal of a statement that is not entered
+abbrev pub book_refusal : BookFault → LogRefusal
+book_refusal book_fault.Spent = refusals.Spent
+book_refusal book_fault.Memory = refusals.Memory

@@ -1,5 +1,6 @@
 //! The rows of a log: what a log makes of each message and of each order. The definitions stand, with laws on them; of the
-//! code there is `LogCore`, which keeps what they keep, with the rows of a RollNote, of a Submit and of the order to roll.
+//! code there is `LogCore`, which keeps what they keep, with the rows of a RollNote, of a SkipNote, of a
+//! Submit and of the order to roll.
 //!
 //! `specs/State.antt` has what a log is between two steps and what it is asked, and `specs/Row.antt` the row of each
 //! input. An input has a file of its own, with its checks in order, of which the first that refuses is the answer, and
@@ -16,7 +17,9 @@ mod own_places;
 mod refusal;
 mod rolling;
 mod sending;
+mod showing;
 mod signers;
+mod skipping;
 mod statements;
 mod submitting;
 mod walking;

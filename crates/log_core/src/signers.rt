@@ -4,7 +4,7 @@ ghost use Rattle.std.specs.Prelude.{◌≡◌, ◌++◌, ◌∷◌, [], Err, map
 ghost use Rattle.ar_council.specs.Values.{value_of_roots};
 ghost use Rattle.ar_statement.specs.Claims.{claim_of, endorse, signer_of};
 ghost use Rattle.party_keys.specs.Seen.{authority_party};
-ghost use Rattle.log_core.specs.Signers.{by_signers, endorsements_in, signed_by, signers, statuses_in, votes_in};
+ghost use Rattle.log_core.specs.Signers.{by_signers, endorsements_in, known, signed_by, signers, statuses_in, votes_in};
 
 use crate::LogRefusal;
 use ar_cert::{Change, Endorsement};
@@ -41,6 +41,16 @@ fn refusal(fault: SignerFault) -> LogRefusal
     match fault {
         SignerFault::Unknown(party) => LogRefusal::Unknown(party),
         SignerFault::Bad(party, number) => LogRefusal::BadSignature(party, number),
+    }
+}
+
+/// Whether each of these parties is known; else the first that is not.
+pub(crate) fn known(directory: &Directory, parties: &[Party]) -> Result<(), LogRefusal>
+    ensures { result ≡ known directory.now parties.now }
+{
+    match directory.all_known(parties) {
+        Ok(()) => Ok(()),
+        Err(fault) => Err(refusal(fault)),
     }
 }
 
