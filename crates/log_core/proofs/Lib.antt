@@ -4,6 +4,7 @@ pub mod Checked
 pub mod Composed
 pub mod Drafts
 pub mod Judged
+pub mod Keyed
 pub mod KeptCore
 pub mod KeptEndings
 pub mod KeptRows

@@ -5,6 +5,7 @@ pub mod Closings
 pub mod Confirming
 pub mod Decided
 pub mod Judged
+pub mod Keyed
 pub mod Kept
 pub mod Learning
 pub mod Passing

@@ -2,6 +2,8 @@
 //! code there is `LogCore`, which keeps what they keep, with the rows of a RollNote, of a SkipNote, of a
 //! Submit and of the order to roll.
 //!
+//! `Log` is a log with its keys (`specs/Keyed.antt`), and rolls.
+//!
 //! `specs/State.antt` has what a log is between two steps and what it is asked, and `specs/Row.antt` the row of each
 //! input. An input has a file of its own, with its checks in order, of which the first that refuses is the answer, and
 //! what it does. What rows share has one definition each: the checks (`specs/Checks.antt`), whose signatures stand in a
@@ -12,6 +14,7 @@
 
 mod checks;
 pub mod laws;
+mod log;
 mod log_core;
 mod own_places;
 mod refusal;
@@ -24,5 +27,6 @@ mod statements;
 mod submitting;
 mod walking;
 
+pub use log::Log;
 pub use log_core::LogCore;
 pub use refusal::LogRefusal;

@@ -1,0 +1,164 @@
+ghost use Rattle.std.specs.Prelude.{◌≡◌, ◌<◌, ◌++◌, ◌∷◌, ◌^◌, [], length, IfOk, OnOk, OnErr};
+ghost use Rattle.ar_council.specs.Council.{council_of};
+ghost use Rattle.epoch_log.specs.Calls.{fresh};
+ghost use Rattle.epoch_log.specs.Log.{record_of};
+ghost use Rattle.epoch_log.specs.State.{epoch_of};
+ghost use Rattle.key_roll.specs.Ring.{IsNext, ring_signature_len};
+ghost use Rattle.lms_tree.specs.Key.{public_of};
+ghost use Rattle.lms_tree.specs.KeyParts.{KeyParts};
+ghost use Rattle.lms_tree.specs.LmsKind.{height_of};
+ghost use Rattle.log_core.specs.Keyed.{IsRingOf, SendsBy};
+ghost use Rattle.log_core.specs.Rolling.{rolling_row};
+ghost use Rattle.log_core.specs.Row.{IsInput};
+ghost use Rattle.log_core.specs.State.{rolls};
+
+use crate::log_core::LogCore;
+use crate::refusal::LogRefusal;
+use ar_council::key_told;
+use ar_message::{Sent, fill};
+use epoch_log::Record;
+use key_roll::KeyRing;
+use lms_tree::{LmsKey, LmsPublic};
+use party_keys::Directory;
+use std::alloc::{AllocError, Global};
+use std::marker::Model;
+
+/// A log with its keys: what it sends is signed.
+///
+/// Its record is an honest log's. After an error it is as it was.
+#[derive(Drop)]
+pub struct Log {
+    core: LogCore,
+    ring: KeyRing,
+}
+
+// Clauses see where it stands and its keys. The keys are those of its book.
+impl Model for Log {
+    ghost use Rattle.log_core.specs.Keyed.{IsRingOf, LogParts};
+
+    ghost Value = { LogParts };
+
+    ghost view = { λ l. record { core = l.core; ring = l.ring } };
+
+    ghost invariant = { λ l. IsRingOf l.core l.ring.keys };
+}
+
+/// How many bytes a signature by the key has, with the generation in front.
+fn signature_len(key: &LmsKey) -> usize
+    ensures is { result ≡ ring_signature_len key.now }
+    ensures few { result < 2 ^ 16 }
+{
+    4 + key.signature_len()
+}
+
+/// Adds the next key, for which there is room.
+fn add(alloc: Global, ring: &mut KeyRing, key: LmsKey)
+    requires next { IsNext ring.old.keys key }
+    requires room { 0 < ring.old.room }
+    ensures { ring.new.keys ≡ ring.old.keys ++ key ∷ [] }
+{
+    match ring.add(alloc, key) {
+        Ok(()) => {}
+        Err(_) => unreachable!(),
+    }
+}
+
+/// Tells a proof that a log can be asked to go on to a key. It does nothing.
+#[tactic(auto, using(crate::proofs::Keyed::next_is_input))]
+fn next_told(key: &LmsPublic)
+    ensures { IsInput (rolls key.now) }
+{
+    key_told(key);
+}
+
+impl Log {
+    /// The log with this number that has done nothing yet, with its key of generation 0. The only error is want of memory.
+    pub fn new(
+        alloc: Global,
+        number: u16,
+        directory: Directory,
+        key: LmsKey,
+    ) -> Result<Log, AllocError>
+        ensures { IfOk result (λ made. made ≡ record {
+          core = record {
+            log = fresh number (council_of directory) (2 ^ height_of key.lms);
+            keys = directory;
+            queue = [];
+            signature_len = ring_signature_len key;
+          };
+          ring = record { keys = key ∷ []; room = 0 };
+        }) }
+    {
+        let leaves = key.leaves();
+        let len = signature_len(&key);
+        match KeyRing::new(alloc, key) {
+            Ok(ring) => {
+                let core = LogCore::new(alloc, number, directory, leaves, len);
+                Ok(Log { core, ring })
+            }
+            Err((_key, error)) => Err(error),
+        }
+    }
+
+    /// The log of these parts. The ring is the core's own.
+    pub fn of(core: LogCore, ring: KeyRing) -> Log
+        requires { IsRingOf core ring.keys }
+        ensures { result ≡ record { core = core; ring = ring } }
+    {
+        Log { core, ring }
+    }
+
+    /// What stands under a lock, and the keys, which sign outside it.
+    pub fn split(self) -> (LogCore, KeyRing)
+        ensures core { result.0 ≡ self.core }
+        ensures ring { result.1 ≡ self.ring }
+        ensures own { IsRingOf result.0 result.1.keys }
+    {
+        let Log { core, ring } = self;
+        (core, ring)
+    }
+
+    /// The current epoch: one more than how many ended.
+    pub fn epoch(&self) -> u64
+        ensures { result ≡ epoch_of self.now.core.log }
+    {
+        self.core.epoch()
+    }
+
+    /// How many changes wait to be proposed.
+    pub fn queued(&self) -> usize
+        ensures { result ≡ length self.now.core.queue }
+    {
+        self.core.queued()
+    }
+
+    /// What the log remembers.
+    pub fn record(&self) -> &Record
+        ensures { record_of result.now ≡ self.now.core.log.past }
+    {
+        self.core.record()
+    }
+
+    /// Makes the log's next key, enters its Roll, and takes the key into the log's own directory, which is not seen as a
+    /// party's Roll. What it sends, to all logs, is signed by the key before it.
+    ///
+    /// It takes as long as a key does. It is `LastGeneration` exactly where the newest generation is 999. After a refusal
+    /// the log stands as before, with the keys that it had.
+    pub fn roll(&mut self, alloc: Global) -> Result<Sent, LogRefusal>
+        // The answer, signed, with the one key that is the next of the ring, and where the log stands then.
+        ensures row { (next : KeyParts) → IsNext self.old.ring.keys next
+            → SendsBy (self.old.ring.keys ++ next ∷ []) result self.old.core self.new.core (rolling_row self.old.core (public_of next)) }
+        // Which keys it has.
+        ensures ok { OnOk result ((next : KeyParts) → IsNext self.old.ring.keys next → self.new.ring.keys ≡ self.old.ring.keys ++ next ∷ []) }
+        ensures err { OnErr result (self.new.ring.keys ≡ self.old.ring.keys) }
+    {
+        self.core.told();
+        let key = self.ring.next(alloc)?;
+        self.ring.reserve(alloc)?;
+        let public = key.public();
+        next_told(&public);
+        let unsigned = self.core.roll(alloc, &public)?;
+        add(alloc, &mut self.ring, key);
+        Ok(fill(&self.ring, unsigned))
+    }
+}
