@@ -241,3 +241,14 @@ confirmed-is_draft s w asked =
     (own_votes len (newest_vote_text s.log w) (length whole - (len + 8)) w.votes) (place_for (length whole - (len + 4)) (confirmation_text s.log w asked.name) ∷ [])
     (votes-stand len (newest_vote_text s.log w) whole (behind-votes part) (length whole - (len + 8)) w.votes ends (omega (arith, all, rest, behind, zero)))
     (stands-end len 4 (authorities part) whole (signature-end part) (four part), tt)
+
+-- the votes, and what stands behind them, are within the message
+pub confirmed_within : (s : CoreState) (w : Newest) (asked : Asked)
+    → length (flat_map vote_text (sent_votes s.signature_len w.votes)) + (s.signature_len + 8) ≤ length (message_text (LogConfirmed (confirming_of s w asked)))
+confirmed_within s w asked =
+    let part : Confirming = confirming_of s w asked in
+    let entries : List ℕ = flat_map vote_text part.votes in
+    let zero : length (zeros s.signature_len) ≡ s.signature_len = length-replicate s.signature_len 0 in
+    let all = within (entries ++ behind-votes part) (message_text (LogConfirmed part)) (votes-end part) in
+    let both = length-append entries (behind-votes part) in
+    omega (arith, all, both, behind-len part, zero)

@@ -2,6 +2,7 @@ pub mod Ascending
 pub mod Blanks
 pub mod Checked
 pub mod Composed
+pub mod Confirmations
 pub mod Drafts
 pub mod Judged
 pub mod Keyed

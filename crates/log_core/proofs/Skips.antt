@@ -1,6 +1,6 @@
 -- What is judged of a skip, and what it makes of the log, is its row.
-use Rattle.std.proofs.Common.{◌≡◌, ◌⊎◌, inl, inr, ℕ, List, [], length, refl, sym, ap, ◌∙◌, subst, arith, ◌+◌, ◌-◌, ◌<◌, Bool, true, false, Option, Some, None}
-use Rattle.std.specs.Prelude.{Ok, Err, Result}
+use Rattle.std.proofs.Common.{◌≡◌, ◌⊎◌, inl, inr, ℕ, List, [], length, refl, sym, ap, ◌∙◌, subst, arith, Bool, true, false, Option}
+use Rattle.std.specs.Prelude.{Ok, Err}
 use Rattle.std.specs.List.{AllByRecursion}
 use Rattle.ar_message.specs.Lists as lists
 use Rattle.ar_message.specs.declared.lists.LogStatus.{LogStatus}
@@ -13,7 +13,6 @@ use Rattle.epoch_log.proofs.Read.{excludes-tested}
 use Rattle.epoch_log.specs.Calls.{SignedStatus, after_skip, plain_statuses}
 use Rattle.epoch_log.specs.Ending.{excludes_all}
 use Rattle.epoch_log.specs.Log.{LogParts, moved}
-use Rattle.epoch_log.specs.State.{LogState}
 use Rattle.epoch_log.specs.Telling.{CanSkip}
 use Rattle.log_core.specs.Checks.{Check, by_check, none_can_win, unless}
 use Rattle.log_core.specs.Kept.{IsKeptCore}

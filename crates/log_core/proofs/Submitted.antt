@@ -1,11 +1,11 @@
 -- What a change that is submitted is judged to be is its row.
-use Rattle.std.proofs.Common.{◌≡◌, Bool, true, false, cond, refl, sym, ap, ◌∙◌, ◌⊎◌, inl, inr, subst, List, [], ◌∷◌, ◌++◌, Ok, Err, Result}
+use Rattle.std.proofs.Common.{◌≡◌, Bool, false, cond, refl, sym, ap, ◌∙◌, ◌⊎◌, inl, inr, subst, List, [], ◌∷◌, ◌++◌, Ok, Err, Result}
 use Rattle.std.specs.List.{AllByRecursion}
 use Rattle.ar_cert.specs.Changes.{Change, IsChange}
 use Rattle.ar_message.specs.declared.unsigned.Unsigned.{Unsigned}
 use Rattle.epoch_log.specs.Calls.{AreEndorsers, after_endorsed}
 use Rattle.epoch_log.specs.Log.{LogParts}
-use Rattle.log_core.specs.Checks.{Check, by_check, checked, first_refusal}
+use Rattle.log_core.specs.Checks.{Check, by_check, first_refusal}
 use Rattle.log_core.specs.Kept.{IsKeptCore}
 use Rattle.log_core.specs.Signers.{endorsements_in}
 use Rattle.log_core.specs.State.{Answer, CoreState, Reply, nothing}
@@ -21,7 +21,7 @@ abbrev value-or : {A : Type 0} → Result A LogRefusal → A → A
 value-or (Ok a) other = a
 value-or (Err e) other = other
 
-given-holds : {A : Type 0} (check : Check) (value x : A) → given_by check value ≡ Ok x → (check ≡ Ok tt) × (value ≡ x)
+pub given-holds : {A : Type 0} (check : Check) (value x : A) → given_by check value ≡ Ok x → (check ≡ Ok tt) × (value ≡ x)
 given-holds (Ok u) value x is = (refl, ap (λ r. value-or r value) is)
 given-holds (Err refusal) value x is = absurd cc
 

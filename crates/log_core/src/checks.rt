@@ -6,12 +6,13 @@ ghost use Rattle.ar_council.specs.Council.{council_of};
 ghost use Rattle.ar_statement.specs.Claims.{claim_of, text_of};
 ghost use Rattle.epoch_log.specs.Ending.{own_vote};
 ghost use Rattle.log_core.specs.Checks.{enough, in_epoch, in_turn, leaves_left, no_vote, not_stated, not_voted, same_base, turn_of};
+ghost use Rattle.log_core.specs.Steps.{book_refusal};
 
 use crate::LogRefusal;
 use ar_council::{has_leaf, has_leaves};
 use ar_statement::Statement;
 use epoch_log::{EpochLog, Stated, Voted};
-use key_roll::RollBook;
+use key_roll::{BookFault, RollBook};
 use party_keys::Directory;
 
 /// That the epoch is the log's own.
@@ -132,5 +133,15 @@ pub(crate) fn leaves_left(
         Ok(())
     } else {
         Err(LogRefusal::Spent)
+    }
+}
+
+/// Why a statement is not entered, as a refusal.
+pub(crate) fn book_refusal(fault: BookFault) -> LogRefusal
+    ensures { result ≡ book_refusal fault }
+{
+    match fault {
+        BookFault::Spent => LogRefusal::Spent,
+        BookFault::Memory => LogRefusal::Memory,
     }
 }

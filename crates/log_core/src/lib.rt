@@ -1,6 +1,6 @@
 //! The rows of a log: what a log makes of each message and of each order. The definitions stand, with laws on them; of the
 //! code there is `LogCore`, which keeps what they keep, with the rows of a RollNote, of a SkipNote, of a
-//! Submit and of the order to roll.
+//! ConfirmAsk, of a Submit and of the order to roll.
 //!
 //! `Log` is a log with its keys (`specs/Keyed.antt`), and rolls.
 //!
@@ -13,6 +13,7 @@
 #![tactic(auto)]
 
 mod checks;
+mod confirming;
 pub mod laws;
 mod log;
 mod log_core;

@@ -1,6 +1,4 @@
-use Rattle.std.proofs.Common.{subst, ◌∙◌, ap}
-use Rattle.ar_message.specs.Lists as lists
-use Rattle.log_core.specs.Skipped.{signed_statuses}
+use Rattle.std.proofs.Common.{◌∙◌}
 use Rattle.log_core.proofs.Statuses.{are-plain}
 use Rattle.log_core.proofs.log_core.LogCore.judge_skip.Goals as goal
 

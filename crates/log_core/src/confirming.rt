@@ -1,0 +1,262 @@
+//! The row of a ConfirmAsk: the log confirms what a name has behind the newest decided epoch.
+
+ghost use Rattle.std.specs.Prelude.{◌≡◌, ◌+◌, ◌≤◌, Err, IfErr, IfOk, Some, flat_map, length};
+ghost use Rattle.ar_base.specs.Gives.{GivesUnless};
+ghost use Rattle.ar_council.specs.Values.{confirm_claim};
+ghost use Rattle.ar_message.specs.Lists.{AreVotes, vote_text};
+ghost use Rattle.ar_message.specs.Messages.{message_text};
+ghost use Rattle.ar_message.specs.declared.message.Message.TheVariants.{LogConfirmed};
+ghost use Rattle.ar_statement.specs.Claims.{claim_of, text_of};
+ghost use Rattle.epoch_log.specs.Calls.{confirmation_text};
+ghost use Rattle.epoch_log.specs.Right.{newest_digest};
+ghost use Rattle.log_core.specs.Checks.{has_decision};
+ghost use Rattle.log_core.specs.Confirming.{confirm_row, confirmation_prepared, confirmed_draft, confirmed_places, confirming_of};
+ghost use Rattle.log_core.specs.Sending.{none_composed, sent_votes, with_draft};
+ghost use Rattle.log_core.specs.Steps.{IsStep};
+ghost use Rattle.log_core.specs.declared.refusal.LogRefusal.TheVariants as refusals;
+
+use crate::LogRefusal;
+use crate::checks::book_refusal;
+use crate::log_core::LogCore;
+use crate::own_places::{own_votes, sent_votes};
+use crate::sending::{Drafts, OwnPlace, Ready, written, zeros};
+use crate::showing::{body_of, newest_certificate};
+use crate::signers::known;
+use ar_message::{Address, Confirming, Message, Signature, Unsigned};
+use ar_names::{Name, NameView};
+use ar_statement::{Role, Statement};
+use domain_table::Table;
+use epoch_log::{EpochLog, Newest};
+use key_roll::forgo;
+use std::alloc::{AllocError, Global};
+use std::marker::Model;
+use vote_quorum::Value;
+
+/// What a client asks: to confirm a name, by two authorities of the client's choice.
+#[derive(Drop)]
+struct Asked<'a> {
+    client: u16,
+    name: &'a Name,
+    first: u16,
+    second: u16,
+}
+
+// Clauses see the name by its text.
+impl<'a> Model for Asked<'a> {
+    ghost use Rattle.log_core.specs.Confirming.{Asked};
+
+    ghost Value = { Asked };
+
+    ghost view = { λ a. record { client = a.client; name = a.name.now; first = a.first; second = a.second } };
+}
+
+/// The newest decision, where there is one.
+fn decision(log: &EpochLog) -> Result<&Newest, LogRefusal>
+    ensures ok { IfOk result (λ w. log.now.state.newest ≡ Some w.now) }
+    ensures err { IfErr result (λ refusal. has_decision log.now.state log.now.state.newest ≡ Err refusal) }
+{
+    match log.newest() {
+        Some(newest) => Ok(newest),
+        None => Err(LogRefusal::WrongEpoch(log.epoch())),
+    }
+}
+
+/// The digest of the newest certificate of a name.
+fn newest_digest(table: &Table, name: &[u8]) -> Option<[u8; 32]>
+    ensures { result ≡ newest_digest table.now name.now }
+{
+    match newest_certificate(table, name) {
+        Some(certificate) => Some(certificate.digest()),
+        None => None,
+    }
+}
+
+/// A log's confirmation that a name has a certificate with this digest, or none.
+fn confirm_statement(
+    log: u16,
+    epoch: u64,
+    name: NameView<'_>,
+    certificate: Option<[u8; 32]>,
+    root: [u8; 32],
+) -> Statement<'_>
+    ensures { claim_of result ≡ confirm_claim log epoch name.entry certificate root }
+{
+    let signer = Role::LogServer.party(log);
+    match certificate {
+        Some(certificate) => Statement::Confirm {
+            signer,
+            epoch,
+            name,
+            certificate,
+            root,
+        },
+        None => Statement::ConfirmAbsent {
+            signer,
+            epoch,
+            name,
+            root,
+        },
+    }
+}
+
+/// What the log confirms of a name by a decision, as it is signed.
+fn confirmation<'a>(log: &EpochLog, newest: &Newest, name: &'a Name) -> Statement<'a>
+    ensures { text_of (claim_of result) ≡ confirmation_text log.now.state newest.now name.now }
+{
+    let certificate = newest_digest(log.table(), name.text());
+    confirm_statement(
+        log.number(),
+        newest.epoch,
+        name.view(),
+        certificate,
+        newest.root,
+    )
+}
+
+impl LogCore {
+    /// The confirmation, with the votes of the decision.
+    fn confirming(
+        &self,
+        alloc: Global,
+        newest: &Newest,
+        asked: &Asked,
+    ) -> Result<Confirming, AllocError>
+        requires { AreVotes (sent_votes self.now.signature_len newest.now.votes) }
+        ensures { IfOk result (λ part. part ≡ confirming_of self.now newest.now asked.now) }
+    {
+        let name = asked.name.view().to_name(alloc)?;
+        let signature = Signature {
+            bytes: zeros(alloc, self.signature_len)?,
+        };
+        let votes = sent_votes(alloc, self.signature_len, newest.votes.as_slice())?;
+        let body = body_of(alloc, self.log.table(), asked.name)?;
+        Ok(Confirming {
+            client: asked.client,
+            epoch: newest.epoch,
+            name,
+            root: newest.root,
+            base: newest.base,
+            body,
+            votes,
+            log: self.log.number(),
+            signature,
+            first: asked.first,
+            second: asked.second,
+        })
+    }
+
+    /// The bytes of the message.
+    fn confirmed_bytes(
+        &self,
+        alloc: Global,
+        newest: &Newest,
+        asked: &Asked,
+    ) -> Result<Vec<u8>, AllocError>
+        requires { AreVotes (sent_votes self.now.signature_len newest.now.votes) }
+        ensures { IfOk result (λ bytes. bytes.items ≡ message_text (LogConfirmed (confirming_of self.now newest.now asked.now))) }
+    {
+        let part = self.confirming(alloc, newest, asked)?;
+        written(alloc, &Message::LogConfirmed { part })
+    }
+
+    /// Where the log's own signatures are due, in a message of so many bytes.
+    fn confirmed_places<'a>(
+        &self,
+        alloc: Global,
+        newest: &Newest,
+        name: &'a Name,
+        len: usize,
+    ) -> Result<Vec<OwnPlace<'a>>, AllocError>
+        requires { length (flat_map vote_text (sent_votes self.now.signature_len newest.now.votes)) + (self.now.signature_len + 8) ≤ len }
+        ensures { IfOk result (λ own. own.items ≡ confirmed_places self.now newest.now name.now len) }
+    {
+        let value = Value {
+            base: newest.base,
+            root: newest.root,
+        };
+        let mut own = own_votes(
+            alloc,
+            self.signature_len,
+            self.log.number(),
+            newest.epoch,
+            &value,
+            len - (self.signature_len + 8),
+            newest.votes.as_slice(),
+        )?;
+        own.push(OwnPlace {
+            at: len - (self.signature_len + 4),
+            statement: confirmation(&self.log, newest, name),
+        })?;
+        Ok(own)
+    }
+
+    /// The message to the first authority.
+    #[tactic(auto, using(crate::proofs::Drafts::confirmed_within))]
+    fn confirmed_draft<'a>(
+        &self,
+        alloc: Global,
+        newest: &Newest,
+        asked: &Asked<'a>,
+    ) -> Result<Ready<'a>, AllocError>
+        requires { AreVotes (sent_votes self.now.signature_len newest.now.votes) }
+        ensures { IfOk result (λ ready. ready ≡ with_draft none_composed (confirmed_draft self.now newest.now asked.now)) }
+    {
+        let bytes = self.confirmed_bytes(alloc, newest, asked)?;
+        let own = self.confirmed_places(alloc, newest, asked.name, bytes.len())?;
+        let mut drafts = Drafts::new(alloc);
+        let to = Address::One(Role::Authority.party(asked.first));
+        drafts.add_written(to, bytes, own)?;
+        drafts.ready(alloc)
+    }
+
+    /// The checks of a ConfirmAsk but that of the leaf, in their order; and then the message.
+    #[tactic(auto, unfolding(crate::specs::Confirming::confirmation_prepared))]
+    fn prepare_confirmation<'a>(
+        &self,
+        alloc: Global,
+        asked: &Asked<'a>,
+    ) -> Result<Ready<'a>, LogRefusal>
+        ensures { GivesUnless refusals.Memory (λ ready. ready) result (confirmation_prepared self.now asked.now) }
+    {
+        let first = Role::Authority.party(asked.first);
+        let second = Role::Authority.party(asked.second);
+        known(self.log.directory(), &[first, second])?;
+        let newest = decision(&self.log)?;
+        let ready = self.confirmed_draft(alloc, newest, asked)?;
+        Ok(ready)
+    }
+
+    /// Confirms what a name has by the newest decision, and sends that to the first authority.
+    pub(crate) fn confirm_ask(
+        &mut self,
+        alloc: Global,
+        client: u16,
+        name: &Name,
+        first: u16,
+        second: u16,
+    ) -> Result<Unsigned, LogRefusal>
+        ensures { IsStep result self.old self.new (confirm_row self.old (record { client = client; name = name.now; first = first; second = second })) }
+    {
+        let _text = name.text();
+        let asked = Asked {
+            client,
+            name,
+            first,
+            second,
+        };
+        let ready = match self.prepare_confirmation(alloc, &asked) {
+            Ok(ready) => ready,
+            Err(refusal) => return Err(refusal),
+        };
+        match self.log.confirm(alloc, name) {
+            Ok(due) => {
+                forgo(due);
+                Ok(ready.seal(&self.log, None))
+            }
+            Err(fault) => {
+                ready.discard();
+                Err(book_refusal(fault))
+            }
+        }
+    }
+}
