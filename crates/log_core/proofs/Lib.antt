@@ -1,6 +1,7 @@
 pub mod Ascending
 pub mod Blanks
 pub mod Checked
+pub mod Closed
 pub mod Composed
 pub mod Confirmations
 pub mod Drafts

@@ -97,3 +97,8 @@ unfolding blanks_in
 sealed-drafts book drafts ended =
     ap (λ (l : List Letter). sent-with ended l (blanks_in book (with_drafts none_composed drafts).places)) (letters-drafts none_composed drafts)
     ∙ ap (λ (l : List Blank). sent-with ended (map letter_of drafts) l) (blanks-drafts book none_composed drafts)
+
+-- drafts behind others
+pub drafts-append : (c : Composed) (drafts more : List Draft) → with_drafts c (drafts ++ more) ≡ with_drafts (with_drafts c drafts) more
+drafts-append c [] more = refl
+drafts-append c (draft ∷ drafts) more = drafts-append (with_draft c draft) drafts more

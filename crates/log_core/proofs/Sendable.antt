@@ -5,7 +5,7 @@ use Rattle.std.specs.List.{AllByRecursion, list_any}
 use Rattle.std.specs.Option.{option_map}
 use Rattle.std.proofs.lemmas.Bool.{and_parts, eq-eqb, leb-false, leb-true, ltb-true}
 use Rattle.std.proofs.lemmas.List.{length-map, length-replicate}
-use Rattle.std.proofs.lemmas.List.Elements.{All-push}
+use Rattle.std.proofs.lemmas.List.Elements.{All-contains, All-push}
 use Rattle.ar_bytes.specs.Ascending.{Ascend}
 use Rattle.ar_cert.specs.Changes.{Change, IsSignature}
 use Rattle.ar_message.specs.Lists.{AreChanges, AreStatuses, AreVotes, IsStatus, IsVote}
@@ -16,19 +16,23 @@ use Rattle.party_keys.specs.Seen.{log_party}
 use Rattle.vote_quorum.specs.Ballots.{has_ballot, is_same}
 use Rattle.vote_quorum.specs.declared.value.Value.{Value}
 use Rattle.vote_quorum.proofs.Adding.{is_same-from, same_value}
+use Rattle.ar_council.proofs.Lists.{find-some}
 use Rattle.ar_council.specs.Seen.{seen_of}
 use Rattle.ar_council.specs.Values.{IsValue, roots_of, status_claim, vote_claim}
 use Rattle.epoch_log.proofs.Acting.{own-value}
 use Rattle.epoch_log.specs.Calls.{SignedStatus, after_ballot, after_confirm, after_decide, after_propose, after_roll, after_skip, after_state, after_status_seen, casting, counting_own, counting_status, counting_vote, decision_seen, is_turn, own_value, placed, plain_statuses, proposing, seeing, stating, statuses_seen, vote_of, with_status, with_vote}
 use Rattle.epoch_log.specs.Ending.{closed, closed_by, closed_by_statuses, decided, excludes_all, has_quorum, may_end, own_vote, skipped, votes_for}
+use Rattle.epoch_log.specs.Foreseeing.{IsForeseen}
 use Rattle.epoch_log.specs.State.{CountedStatus, CountedVote, IsKept, LogState, ballots_of, epoch_of, reports_of}
 use Rattle.epoch_log.specs.Told.{value_of}
 use Rattle.epoch_log.specs.declared.entries.Closing.{Closing}
 use Rattle.epoch_log.specs.declared.entries.Closing.TheVariants as closings
 use Rattle.epoch_log.specs.declared.entries.Newest.{Newest}
 use Rattle.epoch_log.specs.declared.entries.Voted.{Voted}
+use Rattle.epoch_log.specs.declared.foreseeing.Foreseen.{Foreseen}
+use Rattle.epoch_log.specs.declared.foreseeing.Foreseen.TheVariants as foreseen
 use Rattle.log_core.specs.Decided.{plain_votes}
-use Rattle.log_core.specs.Sendable.{AreApart, AreBallots, AreReports, AreVoices, CanBeSent, FitsIn, IsReport, IsVoice}
+use Rattle.log_core.specs.Sendable.{AreApart, AreBallots, AreReports, AreVoices, CanBeSent, CanBeTold, FitsIn, IsReport, IsVoice}
 use Rattle.log_core.specs.Sending.{sent_status, sent_statuses, sent_vote, sent_votes, zeros}
 
 -- ---- one more ballot
@@ -355,3 +359,24 @@ skip-can s statuses can = by (may_end s.past)
     by : (b : Bool) → CanBeSent (cond b (skipped (seeing s more) (plain_statuses statuses)) (seeing s more))
     by true = record { logs = can.logs; votes = tt; statuses = tt; newest = can.newest; voted = can.voted }
     by false = seeing-can s more can
+
+-- ---- what is foreseen
+
+abbrev changes-or : Option (List Change) → List Change → List Change
+changes-or None other = other
+changes-or (Some changes) other = changes
+
+-- what is foreseen of such a step fits into messages
+pub told-can : (len logs : ℕ) (step : LogState × Closing) (f : Foreseen) → len < 2 ^ 16 → logs ≤ 16 → Closes logs step → IsForeseen step f → CanBeTold len f
+told-can len logs step foreseen.Open less few closing is = tt
+told-can len logs step (foreseen.Decided changes w) less few closing is = (
+  by (own_vote step.0.past.voted w.epoch) refl is.2,
+  votes-sent len w.votes less (subst (λ (o : Option Newest). IfSome o (λ (w : Newest). AreVoices w.votes)) is.1 closing.0.newest),
+)
+  where
+    by : (own : Option Voted) → own_vote step.0.past.voted w.epoch ≡ own → option_map (λ (v : Voted). v.changes) own ≡ Some changes → AreChanges changes
+    by None was same = absurd cc
+    by (Some v) was same =
+        let there = find-some (λ (v : Voted). v.epoch == w.epoch) step.0.past.voted v was in
+        subst AreChanges (ap (λ o. changes-or o []) same) (All-contains (λ (v : Voted). AreChanges v.changes) step.0.past.voted v closing.0.voted there.0)
+told-can len logs step (foreseen.Skipped statuses) less few closing is = statuses-sent len logs statuses less few (closing.1 statuses is)

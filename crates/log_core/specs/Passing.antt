@@ -7,7 +7,7 @@ use Rattle.party_keys.specs.Seen.{log_party}
 use Rattle.ar_council.specs.Values.{roots_of}
 use Rattle.epoch_log.specs.Calls.{after_state, is_turn, own_status_text, own_value}
 use Rattle.epoch_log.specs.State.{epoch_of}
-use Rattle.log_core.specs.Checks.{Check, checked, leaves_left, not_stated, turn_of}
+use Rattle.log_core.specs.Checks.{Check, checked, first_refusal, leaves_left, not_stated, turn_of}
 use Rattle.log_core.specs.Closings.{closing_reply}
 use Rattle.log_core.specs.Sending.{Draft, draft_with, zeros}
 use Rattle.log_core.specs.State.{Answer, CoreState, Reply}
@@ -32,3 +32,7 @@ passing_reply s = closing_reply s s.log (status_drafts s) (after_state s.log)
 
 unfoldable pub passing_row : CoreState → Answer
 passing_row s = checked (passing_checks s) (passing_reply s)
+
+-- the refusal of the order to pass, if there is one
+unfoldable pub passing_judged : CoreState → Check
+passing_judged s = first_refusal (passing_checks s)

@@ -4,9 +4,12 @@ use Rattle.std.specs.Prelude.{◌≡◌, ◌≢◌, ℕ, ◌^◌, ◌<◌, ◌�
 use Rattle.std.specs.List.{AllByRecursion}
 use Rattle.ar_bytes.specs.Ascending.{Ascend}
 use Rattle.ar_cert.specs.Changes.{IsSignature}
-use Rattle.ar_message.specs.Lists.{AreChanges}
+use Rattle.ar_message.specs.Lists.{AreChanges, AreStatuses, AreVotes}
 use Rattle.ar_council.specs.Values.{IsValue}
 use Rattle.epoch_log.specs.State.{CountedStatus, CountedVote, LogState}
+use Rattle.epoch_log.specs.declared.foreseeing.Foreseen.{Foreseen}
+use Rattle.epoch_log.specs.declared.foreseeing.Foreseen.TheVariants as foreseen
+use Rattle.log_core.specs.Sending.{sent_statuses, sent_votes}
 
 -- the most logs, and so the most votes or statuses of a message
 abbrev pub most_logs : ℕ
@@ -48,3 +51,9 @@ pub record CanBeSent (s : LogState) : Type 0 where
   pub statuses : AreReports s.council.logs 0 s.statuses
   pub newest : IfSome s.newest (λ w. AreVoices w.votes)
   pub voted : All (λ v. AreChanges v.changes) s.past.voted
+
+-- what is foreseen of a step fits into a message, where signatures of the log's own have so many bytes
+abbrev pub CanBeTold : ℕ → Foreseen → Type 0
+CanBeTold len foreseen.Open = Unit {0}
+CanBeTold len (foreseen.Decided changes w) = AreChanges changes × AreVotes (sent_votes len w.votes)
+CanBeTold len (foreseen.Skipped statuses) = AreStatuses (sent_statuses len statuses)

@@ -46,7 +46,7 @@ pub(crate) fn in_turn(directory: &Directory, epoch: u64, log: u16) -> Result<(),
 }
 
 /// The own vote of an epoch.
-fn own_vote(voted: &[Voted], epoch: u64) -> Option<&Voted>
+pub(crate) fn own_vote(voted: &[Voted], epoch: u64) -> Option<&Voted>
     ensures { option_map (λ v. v.now) result ≡ own_vote voted.now epoch }
 {
     voted.iter().find(|v| v.epoch == epoch)

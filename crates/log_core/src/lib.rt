@@ -1,6 +1,6 @@
 //! The rows of a log: what a log makes of each message and of each order. The definitions stand, with laws on them; of the
-//! code there is `LogCore`, which keeps what they keep, with the rows of a RollNote, of a SkipNote, of a
-//! ConfirmAsk, of a Submit and of the order to roll.
+//! code there is `LogCore`, which keeps what they keep, with the rows of a Ballot, a StatusNote, a SkipNote, a ConfirmAsk, a
+//! RollNote and a Submit, and of the orders to pass and to roll.
 //!
 //! `Log` is a log with its keys (`specs/Keyed.antt`), and rolls.
 //!
@@ -12,12 +12,15 @@
 //! what follows where an epoch ends (`specs/Closings.antt`).
 #![tactic(auto)]
 
+mod balloting;
 mod checks;
+mod closing;
 mod confirming;
 pub mod laws;
 mod log;
 mod log_core;
 mod own_places;
+mod passing;
 mod refusal;
 mod rolling;
 mod sending;
@@ -25,6 +28,7 @@ mod showing;
 mod signers;
 mod skipping;
 mod statements;
+mod stating;
 mod submitting;
 mod walking;
 
