@@ -1,10 +1,10 @@
 -- The rows that end an epoch on another log's word, confirm, learn or roll keep what is kept of a core.
-use Rattle.std.proofs.Common.{◌≡◌, ℕ, ◌+◌, ◌<◌, ◌≤◌, List, [], ◌∷◌, length, refl, sym, ap, ◌∙◌, subst, arith, Bool, true, false, cond, nat_lt, Option, Some, None}
-use Rattle.std.specs.Prelude.{All, Ok, Err, Result, IfSome, IsTrue, flat_map, is_some, map, slice_get}
+use Rattle.std.proofs.Common.{◌≡◌, ℕ, ◌+◌, ◌<◌, ◌≤◌, List, [], ◌∷◌, length, refl, sym, ap, ◌∙◌, subst, arith, Bool, true, false, cond, Option, Some, None}
+use Rattle.std.specs.Prelude.{All, Ok, Err, Result, IfSome, IsTrue, flat_map, map, slice_get}
 use Rattle.std.specs.List.{AllByRecursion}
 use Rattle.std.specs.Option.{option_map}
 use Rattle.std.specs.List.Sorted.{IsStrictlyIncreasing}
-use Rattle.std.proofs.lemmas.List.{length-map, length-set}
+use Rattle.std.proofs.lemmas.List.{length-map}
 use Rattle.std.proofs.lemmas.List.Elements.{All-from_recursion, All-weaker}
 use Rattle.ar_base.specs.Bytes.{AreBytes, IsDigest}
 use Rattle.ar_base.proofs.Digests.{sha256-IsDigest}
@@ -19,24 +19,19 @@ use Rattle.ar_message.specs.declared.message.Message.{Message}
 use Rattle.ar_message.specs.declared.message.Message.TheVariants as messages
 use Rattle.ar_message.specs.declared.lists.LogStatus.{LogStatus}
 use Rattle.ar_message.specs.declared.lists.Vote.{Vote}
-use Rattle.ar_statement.specs.declared.party.Role.{Role}
-use Rattle.ar_statement.specs.declared.party.Role.TheVariants.{LogServer, Authority, Owner, Client}
 use Rattle.ar_statement.specs.declared.party.Party.{Party}
 use Rattle.ar_statement.specs.declared.text.SeenText.{SeenText}
 use Rattle.ar_statement.specs.Claims.{roll}
 use Rattle.ar_statement.specs.Ranges.{AreRoots, IsKeyText, is_readable}
 use Rattle.lms_tree.specs.PublicKey.{key_text}
 use Rattle.lms_tree.specs.declared.public_key.LmsPublic.{LmsPublic}
-use Rattle.party_keys.specs.Directory.{Directory, keys_at, keys_of, role_keys}
-use Rattle.party_keys.specs.Learning.{Announced, after_adopting, after_learning, learned, learned_if, learning, next_behind, roll_text, with_next, with_next_of}
+use Rattle.party_keys.specs.Directory.{Directory, keys_of}
+use Rattle.party_keys.specs.Learning.{Announced, after_adopting, after_learning, learned, learned_if, roll_text}
 use Rattle.party_keys.specs.Seen.{log_party}
 use Rattle.party_keys.specs.Signers.{Claimed, is_known}
 use Rattle.party_keys.specs.Signatures.{verified}
-use Rattle.party_keys.specs.declared.fault.LearnFault.{LearnFault}
 use Rattle.party_keys.specs.declared.fault.VerifyFault.{VerifyFault}
 use Rattle.party_keys.specs.declared.fault.VerifyFault.TheVariants as verify_fault
-use Rattle.party_keys.specs.declared.learning.Learned.{Learned}
-use Rattle.party_keys.specs.declared.learning.Learned.TheVariants.{Again, New}
 use Rattle.vote_quorum.specs.Numbers.{distinct_count}
 use Rattle.vote_quorum.specs.Statuses.{AreStatuses, Status, logs_of}
 use Rattle.vote_quorum.specs.declared.value.Value.{Value}
@@ -45,8 +40,9 @@ use Rattle.domain_table.specs.Applying.{apply}
 use Rattle.domain_table.specs.Tables.{Table, chain_of, newest}
 use Rattle.domain_table.specs.Tree.{root_of}
 use Rattle.ar_council.proofs.Lists.{Within}
+use Rattle.ar_council.proofs.Members.{council-adopting, council-learning, member}
 use Rattle.ar_council.proofs.Seeing.{seen-keeps}
-use Rattle.ar_council.specs.Council.{Council, IsMember, council_of, count_of}
+use Rattle.ar_council.specs.Council.{IsMember, council_of}
 use Rattle.ar_council.specs.Seen.{seen_after, seen_of}
 use Rattle.ar_council.specs.Values.{IsValue, value_of_roots}
 use Rattle.epoch_log.proofs.Acting.{kept-confirming, kept-rolling}
@@ -74,7 +70,7 @@ use Rattle.log_core.proofs.KeptCore.{core-kept, open-kept, saw-more, wanted-all,
 use Rattle.log_core.proofs.KeptRows.{kept-ballot_row, kept-passing, kept-proposed, kept-proposing, kept-status_row, kept-submit, of-council, root-digest}
 use Rattle.log_core.proofs.Sendable.{confirm-can, decide-can, roll-can, seeing-can, skip-can}
 use Rattle.log_core.proofs.Verified.{queued-adopted, queued-learnt, verified-has}
-use Rattle.log_core.proofs.Known.{all-endorsers, each-known, has-keys, split, staters, voters}
+use Rattle.log_core.proofs.Known.{all-endorsers, each-known, split, staters, voters}
 
 abbrev KeepsReply : Reply → Type 0
 KeepsReply reply = IsKeptCore reply.after
@@ -283,32 +279,6 @@ kept-confirm s asked reply kept named answer =
 
 -- ---- RollNote
 
-abbrev sizes : ℕ → ℕ → ℕ → Council
-sizes logs authorities quorum = record { logs = logs; authorities = authorities; quorum = quorum }
-
--- a directory that learnt has the same sizes
-next-council : (role : Role) (keys : Directory) (number generation : ℕ) (key : LmsPublic) → council_of (with_next_of role keys number generation key) ≡ council_of keys
-next-council LogServer keys number generation key =
-    ap (λ n. sizes n (length keys.authorities) keys.quorum)
-    (length-set keys.logs number (next_behind generation key (keys_at keys.logs number)))
-next-council Authority keys number generation key =
-    ap (λ n. sizes (length keys.logs) n keys.quorum)
-    (length-set keys.authorities number (next_behind generation key (keys_at keys.authorities number)))
-next-council Owner keys number generation key = refl
-next-council Client keys number generation key = refl
-
-learning-council : (how : Result Learned LearnFault) (keys : Directory) (a : Announced) → council_of (learning how keys a) ≡ council_of keys
-learning-council (Ok New) keys a = next-council a.party.role keys a.party.number a.generation a.key
-learning-council (Ok Again) keys a = refl
-learning-council (Err fault) keys a = refl
-
--- who has keys is one of the council
-member : (role : Role) (keys : Directory) (number : ℕ) → is_some (slice_get (keys_at (role_keys keys role) number) 0) ≡ true → number < count_of (council_of keys) role
-member LogServer keys number is = has-keys keys.logs number is
-member Authority keys number is = has-keys keys.authorities number is
-member Owner keys number is = has-keys [] number is
-member Client keys number is = has-keys [] number is
-
 pub learnt-verified : (v : Result (Unit {0}) VerifyFault) (known : Option LmsPublic) (key : LmsPublic) (party : Party) (generation : ℕ)
     → is_learned (learned_if v known key) party generation ≡ Ok tt → v ≡ Ok tt
 learnt-verified (Ok u) known key party generation is = refl
@@ -321,14 +291,14 @@ note-member keys a is =
     let text : List ℕ = roll_text a.party a.generation a.key in
     let fine : verified keys a.party text a.signature ≡ Ok tt =
     learnt-verified (verified keys a.party text a.signature) (slice_get (keys_of keys a.party) (a.generation + 1)) a.key a.party a.generation is in
-    member a.party.role keys a.party.number (verified-has (keys_of keys a.party) a.party text a.signature fine)
+    member keys a.party (verified-has (keys_of keys a.party) a.party text a.signature fine)
 
 pub kept-roll_note : (s : CoreState) (a : Announced) (reply : Reply) → IsKeptCore s → roll_note_row s a ≡ Ok reply → IsKeptCore reply.after
 unfolding roll_note_row
 kept-roll_note s a reply kept answer = subst KeepsReply h.1 (record {
   log = kept-learn s.log a.party a.generation (key_text a.key) kept.log (of-council (λ c. IsMember c a.party) s kept (note-member s.keys a h.0.0));
   sendable = seeing-can s.log more kept.sendable;
-  council = kept.council ∙ sym (learning-council (learned s.keys a) s.keys a);
+  council = kept.council ∙ sym (council-learning s.keys a);
   logs = kept.logs;
   endorsed = saw-more s.log.past.seen (seen_after s.log.past.seen more) (seen-keeps more s.log.past.seen) s.queue kept.endorsed;
   queued = All-weaker (WasQueued s.keys) (WasQueued (after_learning s.keys a)) (queued-learnt s.keys a) s.queue kept.queued;
@@ -344,13 +314,6 @@ kept-roll_note s a reply kept answer = subst KeepsReply h.1 (record {
 
 -- ---- the order to roll
 
-adopting-council : (keys : Directory) (party : Party) (generation : ℕ) (key : LmsPublic) → council_of (after_adopting keys party generation key) ≡ council_of keys
-adopting-council keys party generation key = by (nat_lt generation (length (keys_of keys party)))
-  where
-    by : (b : Bool) → council_of (cond b (with_next keys party generation key) keys) ≡ council_of keys
-    by true = next-council party.role keys party.number generation key
-    by false = refl
-
 pub kept-rolling_row : (s : CoreState) (key : LmsPublic) (reply : Reply) → IsKeptCore s → IsKeyText (key_text key) → IsTrue (is_readable (key_text key))
     → rolling_row s key ≡ Ok reply → IsKeptCore reply.after
 unfolding rolling_row
@@ -361,7 +324,7 @@ kept-rolling_row s key reply kept is-key readable answer = subst KeepsReply h.1 
     readable = readable;
   });
   sendable = roll-can s.log (key_text key) kept.sendable;
-  council = kept.council ∙ sym (adopting-council s.keys (log_party s.log.me) s.log.past.signed.newest key);
+  council = kept.council ∙ sym (council-adopting s.keys (log_party s.log.me) s.log.past.signed.newest key);
   logs = kept.logs;
   endorsed = kept.endorsed;
   queued = All-weaker (WasQueued s.keys) (WasQueued (after_adopting s.keys (log_party s.log.me) s.log.past.signed.newest key))

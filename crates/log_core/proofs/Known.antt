@@ -1,31 +1,24 @@
 -- Who signed a message is of the council, where its signers hold.
-use Rattle.std.proofs.Common.{◌≡◌, ℕ, zero, suc, ◌<◌, List, [], ◌∷◌, ◌++◌, length, refl, sym, ap, ◌∙◌, arith, Bool, true, false, cond}
-use Rattle.std.specs.Prelude.{All, Ok, Err, Result, flat_map, is_some, map, slice_get}
+use Rattle.std.proofs.Common.{◌≡◌, ℕ, ◌<◌, List, [], ◌∷◌, ◌++◌, length, refl, sym, ap, ◌∙◌, Bool, true, false, cond}
+use Rattle.std.specs.Prelude.{All, Ok, Err, Result, flat_map, map}
 use Rattle.std.specs.List.{AllByRecursion}
 use Rattle.std.proofs.lemmas.List.Elements.{All-from_recursion}
-use Rattle.lms_tree.specs.declared.public_key.LmsPublic.{LmsPublic}
 use Rattle.ar_cert.specs.Changes.{Change, Endorsement}
 use Rattle.ar_cert.specs.Certificate.{digest_of}
 use Rattle.ar_cert.specs.Judging.{endorsers_of}
 use Rattle.ar_message.specs.declared.lists.LogStatus.{LogStatus}
 use Rattle.ar_message.specs.declared.lists.Vote.{Vote}
 use Rattle.ar_statement.specs.Claims.{endorse}
-use Rattle.party_keys.specs.Directory.{Directory, keys_at}
+use Rattle.party_keys.specs.Directory.{Directory}
 use Rattle.party_keys.specs.Seen.{authority_party, log_party}
 use Rattle.party_keys.specs.Signers.{Claimed, all_known, all_signed, and_then, is_known}
 use Rattle.party_keys.specs.declared.fault.SignerFault.{SignerFault}
 use Rattle.party_keys.specs.declared.fault.SignerFault.TheVariants as signer_fault
 use Rattle.vote_quorum.specs.declared.value.Value.{Value}
+use Rattle.ar_council.proofs.Members.{member}
 use Rattle.ar_council.specs.Council.{council_of}
 use Rattle.epoch_log.specs.Calls.{AreEndorsers}
 use Rattle.log_core.specs.Signers.{by_signers, endorsements_in, signed_by, signers, statuses_in, votes_in}
-
--- who has keys in a list is one of it
-pub has-keys : (lists : List (List LmsPublic)) (number : ℕ) → is_some (slice_get (keys_at lists number) 0) ≡ true → number < length lists
-has-keys [] zero is = absurd cc
-has-keys [] (suc number) is = absurd cc
-has-keys (keys ∷ lists) zero is = omega arith
-has-keys (keys ∷ lists) (suc number) is = let rest = has-keys lists number is in omega (arith, rest)
 
 none-unknown : (keys : Directory) (claims : List Claimed) → all_known keys (map (λ c. c.party) claims) ≡ Ok tt → AllByRecursion (λ c. is_known keys c.party ≡ true) claims
 none-unknown keys [] is = tt
@@ -49,10 +42,10 @@ each-known keys claims is =
 
 -- a log that is known is one of the council
 pub a-log : (keys : Directory) (log : ℕ) → is_known keys (log_party log) ≡ true → log < length keys.logs
-a-log keys log is = has-keys keys.logs log is
+a-log keys log is = member keys (log_party log) is
 
 pub an-authority : (keys : Directory) (authority : ℕ) → is_known keys (authority_party authority) ≡ true → authority < length keys.authorities
-an-authority keys authority is = has-keys keys.authorities authority is
+an-authority keys authority is = member keys (authority_party authority) is
 
 -- the first of a message's signers
 pub first-log : (keys : Directory) (log : ℕ) (signed : Claimed) (rest : List Claimed) → signed.party ≡ log_party log
