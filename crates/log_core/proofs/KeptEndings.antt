@@ -132,6 +132,29 @@ voters-many n votes are below =
     } in
     ap distinct_count (plain-logs votes) ∙ distinct_logs n (silent votes) quiet ∙ silent-many votes
 
+-- where no check refuses a decision, the log may end the epoch by it
+pub decision-may : (s : CoreState) (d : Decision) → IsKeptCore s → IsValue d.value → All IsChange d.changes → AreVotes d.votes
+    → AllByRecursion (λ c. c ≡ Ok tt) (decision_checks s d) → MayDecide s.log d.value d.changes (plain_votes d.votes)
+decision-may s d kept digests are votes hold = record {
+  from_base = its-base s.log d.value.base hold.1.1.0;
+  applies = record { table = leads.0; applied = leads.1.0; is_root = leads.1.1; are_changes = are };
+  are_digests = digests;
+  endorsers = of-council (λ c. All (AreEndorsers c) d.changes) s kept (all-endorsers s.keys d.changes knows.1);
+  logs = of-council (λ c. All (λ (v : ℕ × List ℕ). v.0 < c.logs) (plain_votes d.votes)) s kept
+      (All-from_recursion (λ (v : ℕ × List ℕ). v.0 < length s.keys.logs) (plain_votes d.votes) (plain-below (length s.keys.logs) d.votes below));
+  many = subst (λ n. s.log.council.quorum ≤ n) (sym (voters-many (length s.keys.logs) d.votes votes below)) (a-quorum s.log.council (length d.votes) hold.1.1.1.1.1.0);
+}
+  where
+    knows : AllByRecursion (λ x. is_known s.keys x.party ≡ true) (votes_in d.epoch d.value d.votes) × AllByRecursion (λ x. is_known s.keys x.party ≡ true) (flat_map endorsements_in d.changes)
+    knows = split (λ (x : Claimed). is_known s.keys x.party ≡ true) (votes_in d.epoch d.value d.votes) (flat_map endorsements_in d.changes)
+        (each-known s.keys (decision_signers d) hold.0)
+
+    below : AllByRecursion (λ (v : Vote). v.log < length s.keys.logs) d.votes
+    below = voters s.keys d.epoch d.value d.votes knows.0
+
+    leads : (after : Table) × ((apply (table_of s.log) (epoch_of s.log) d.changes ≡ Some after) × (root_of after ≡ d.value.root))
+    leads = applied (table_of s.log) (epoch_of s.log) d.changes d.value.root hold.1.1.1.0 hold.1.1.1.1.0
+
 pub kept-decision : (s : CoreState) (d : Decision) (reply : Reply) → IsKeptCore s → IsValue d.value → All IsChange d.changes → AreVotes d.votes
     → decision_row s d ≡ Ok reply → IsKeptCore reply.after
 unfolding decision_row
@@ -140,26 +163,8 @@ kept-decision s d reply kept digests are votes answer = subst KeepsReply h.1 her
     h : AllByRecursion (λ c. c ≡ Ok tt) (decision_checks s d) × (decision_reply s d ≡ reply)
     h = passed (decision_checks s d) (decision_reply s d) reply answer
 
-    knows : AllByRecursion (λ x. is_known s.keys x.party ≡ true) (votes_in d.epoch d.value d.votes) × AllByRecursion (λ x. is_known s.keys x.party ≡ true) (flat_map endorsements_in d.changes)
-    knows = split (λ (x : Claimed). is_known s.keys x.party ≡ true) (votes_in d.epoch d.value d.votes) (flat_map endorsements_in d.changes)
-        (each-known s.keys (decision_signers d) h.0.0)
-
-    below : AllByRecursion (λ (v : Vote). v.log < length s.keys.logs) d.votes
-    below = voters s.keys d.epoch d.value d.votes knows.0
-
-    leads : (after : Table) × ((apply (table_of s.log) (epoch_of s.log) d.changes ≡ Some after) × (root_of after ≡ d.value.root))
-    leads = applied (table_of s.log) (epoch_of s.log) d.changes d.value.root h.0.1.1.1.0 h.0.1.1.1.1.0
-
     may : MayDecide s.log d.value d.changes (plain_votes d.votes)
-    may = record {
-      from_base = its-base s.log d.value.base h.0.1.1.0;
-      applies = record { table = leads.0; applied = leads.1.0; is_root = leads.1.1; are_changes = are };
-      are_digests = digests;
-      endorsers = of-council (λ c. All (AreEndorsers c) d.changes) s kept (all-endorsers s.keys d.changes knows.1);
-      logs = of-council (λ c. All (λ (v : ℕ × List ℕ). v.0 < c.logs) (plain_votes d.votes)) s kept
-          (All-from_recursion (λ (v : ℕ × List ℕ). v.0 < length s.keys.logs) (plain_votes d.votes) (plain-below (length s.keys.logs) d.votes below));
-      many = subst (λ n. s.log.council.quorum ≤ n) (sym (voters-many (length s.keys.logs) d.votes votes below)) (a-quorum s.log.council (length d.votes) h.0.1.1.1.1.1.0);
-    }
+    may = decision-may s d kept digests are votes h.0
 
     more : List SeenText
     more = decision_seen s.log d.value d.changes (plain_votes d.votes)

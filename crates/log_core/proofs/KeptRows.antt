@@ -212,37 +212,39 @@ kept-proposing s reply kept answer =
 
 -- ---- Propose
 
+-- where no check refuses a proposal, it is one of a log of the council, with endorsers of it
+pub proposed-is : (s : CoreState) (p : Proposal) → IsKeptCore s → AllByRecursion (λ c. c ≡ Ok tt) (proposed_checks s p) → IsProposed s.log p.log p.changes
+proposed-is s p kept hold = record {
+  is_log = of-council (λ c. p.log < c.logs) s kept (a-log s.keys p.log knows.0);
+  endorsers = of-council (λ c. All (AreEndorsers c) p.changes) s kept (all-endorsers s.keys p.changes knows.1);
+}
+  where
+    knows : AllByRecursion (λ x. is_known s.keys x.party ≡ true) (proposal_signers p)
+    knows = each-known s.keys (proposal_signers p) hold.0
+
+-- and the log may vote for it
+pub proposed-may : (s : CoreState) (p : Proposal) → IsValue p.value → All IsChange p.changes → AllByRecursion (λ c. c ≡ Ok tt) (proposed_checks s p)
+    → MayVote s.log p.value p.changes
+proposed-may s p digests are hold = record {
+  not_voted = none-voted s.log hold.1.1.1.0;
+  not_stated = none-stated s.log hold.1.1.1.1.0;
+  from_base = its-base s.log p.value.base hold.1.1.1.1.1.0;
+  applies = record { table = leads.0; applied = leads.1.0; is_root = leads.1.1; are_changes = are };
+  are_digests = digests;
+}
+  where
+    leads : (after : Table) × ((apply (table_of s.log) (epoch_of s.log) p.changes ≡ Some after) × (root_of after ≡ p.value.root))
+    leads = applied (table_of s.log) (epoch_of s.log) p.changes p.value.root hold.1.1.1.1.1.1.0 hold.1.1.1.1.1.1.1.0
+
 pub kept-proposed : (s : CoreState) (p : Proposal) (reply : Reply) → IsKeptCore s → IsValue p.value → AreChanges p.changes → proposed_row s p ≡ Ok reply
     → IsKeptCore reply.after
 unfolding proposed_row
 kept-proposed s p reply kept digests are answer =
+    let h = passed (proposed_checks s p) (proposed_reply s p) reply answer in
     subst KeepsReply h.1
     (open-kept s (after_vote s.log p.log p.value p.changes) (ballot_draft s p.value ∷ []) kept
-    (kept-vote s.log p.log p.value p.changes kept.log may proposed (room s.log.past.signed (own_vote_text s.log p.value ∷ []) h.0.1.1.1.1.1.1.1.1.0))
+    (kept-vote s.log p.log p.value p.changes kept.log (proposed-may s p digests (All-from_recursion IsChange p.changes are.1) h.0) (proposed-is s p kept h.0)
+    (room s.log.past.signed (own_vote_text s.log p.value ∷ []) h.0.1.1.1.1.1.1.1.1.0))
     (casting-can (seeing s.log (proposal_of s.log p.log p.value p.changes)) (vote_of s.log p.value p.changes)
     (seeing-can s.log (proposal_of s.log p.log p.value p.changes) kept.sendable) are) refl
     (seen-keeps (proposal_of s.log p.log p.value p.changes) s.log.past.seen))
-  where
-    h : AllByRecursion (λ c. c ≡ Ok tt) (proposed_checks s p) × (proposed_reply s p ≡ reply)
-    h = passed (proposed_checks s p) (proposed_reply s p) reply answer
-
-    knows : AllByRecursion (λ x. is_known s.keys x.party ≡ true) (proposal_signers p)
-    knows = each-known s.keys (proposal_signers p) h.0.0
-
-    proposed : IsProposed s.log p.log p.changes
-    proposed = record {
-      is_log = of-council (λ c. p.log < c.logs) s kept (a-log s.keys p.log knows.0);
-      endorsers = of-council (λ c. All (AreEndorsers c) p.changes) s kept (all-endorsers s.keys p.changes knows.1);
-    }
-
-    leads : (after : Table) × ((apply (table_of s.log) (epoch_of s.log) p.changes ≡ Some after) × (root_of after ≡ p.value.root))
-    leads = applied (table_of s.log) (epoch_of s.log) p.changes p.value.root h.0.1.1.1.1.1.1.0 h.0.1.1.1.1.1.1.1.0
-
-    may : MayVote s.log p.value p.changes
-    may = record {
-      not_voted = none-voted s.log h.0.1.1.1.0;
-      not_stated = none-stated s.log h.0.1.1.1.1.0;
-      from_base = its-base s.log p.value.base h.0.1.1.1.1.1.0;
-      applies = record { table = leads.0; applied = leads.1.0; is_root = leads.1.1; are_changes = All-from_recursion IsChange p.changes are.1 };
-      are_digests = digests;
-    }

@@ -4,6 +4,7 @@ pub mod Checked
 pub mod Closed
 pub mod Composed
 pub mod Confirmations
+pub mod Decisions
 pub mod Drafts
 pub mod Judged
 pub mod Keyed
@@ -11,6 +12,7 @@ pub mod KeptCore
 pub mod KeptEndings
 pub mod KeptRows
 pub mod Known
+pub mod Leading
 pub mod OwnPlaces
 pub mod Reported
 pub mod Sealing
@@ -20,6 +22,8 @@ pub mod Skips
 pub mod Statuses
 pub mod Stepping
 pub mod Submitted
+pub mod Unqueued
 pub mod Verified
+pub mod Voting
 pub mod Walked
 pub mod Walks

@@ -41,7 +41,7 @@ abbrev refusal-in : {A : Type 0} → Result A LogRefusal → Reply → Answer
 refusal-in (Ok a) reply = Ok reply
 refusal-in (Err refusal) reply = Err refusal
 
-given-refused : {A : Type 0} (check : Check) (value : A) (reply : Reply) (refusal : LogRefusal) → given_by check value ≡ Err refusal → by_check check reply ≡ Err refusal
+pub given-refused : {A : Type 0} (check : Check) (value : A) (reply : Reply) (refusal : LogRefusal) → given_by check value ≡ Err refusal → by_check check reply ≡ Err refusal
 given-refused (Ok u) value reply refusal is = absurd cc
 given-refused (Err e) value reply refusal is = ap (λ r. refusal-in r reply) is
 

@@ -1,5 +1,5 @@
 -- The row of Decision: the log ends the epoch as decided.
-use Rattle.std.specs.Prelude.{ℕ, List, [], ◌∷◌, ◌++◌, flat_map, length, map, Some, None, if◌then◌else◌}
+use Rattle.std.specs.Prelude.{ℕ, List, [], ◌∷◌, ◌++◌, flat_map, length, map, Option, Some, None, if◌then◌else◌}
 use Rattle.ar_cert.specs.Changes.{Change}
 use Rattle.ar_message.specs.declared.lists.Vote.{Vote}
 use Rattle.party_keys.specs.Signers.{Claimed}
@@ -45,10 +45,14 @@ plain_votes votes = map (λ v. (v.log, v.signature)) votes
 abbrev pub decision_state : CoreState → Decision → LogState
 decision_state s d = after_decide s.log d.value d.changes (plain_votes d.votes)
 
+-- the epoch that ends with a root, unless it is the last that a statement can name
+abbrev pub decided_epoch : LogState → List ℕ → Option (ℕ × Option (List ℕ))
+decided_epoch s root = if may_end s.past then Some (epoch_of s, Some root) else None
+
 -- the epoch ended as decided, unless it is the last that a statement can name
 abbrev pub decision_reply : CoreState → Decision → Reply
 decision_reply s d = record {
-  unsigned = unsigned_of (decision_state s d).past.signed [] (if may_end s.log.past then Some (epoch_of s.log, Some d.value.root) else None);
+  unsigned = unsigned_of (decision_state s d).past.signed [] (decided_epoch s.log d.value.root);
   after = core_after s (decision_state s d) (if may_end s.log.past then still_wanted (decision_state s d) s.queue else s.queue);
 }
 

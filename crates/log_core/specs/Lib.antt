@@ -7,6 +7,7 @@ pub mod Decided
 pub mod Judged
 pub mod Keyed
 pub mod Kept
+pub mod Leading
 pub mod Learning
 pub mod Passing
 pub mod Proposed

@@ -1,5 +1,5 @@
 -- The row of Propose: the log votes for another log's proposal.
-use Rattle.std.specs.Prelude.{ℕ, List, [], ◌∷◌, flat_map}
+use Rattle.std.specs.Prelude.{ℕ, List, [], ◌∷◌, flat_map, Result}
 use Rattle.ar_cert.specs.Changes.{Change}
 use Rattle.ar_message.specs.declared.address.Address.TheVariants.{One}
 use Rattle.ar_message.specs.declared.message.Message.TheVariants.{Ballot}
@@ -8,13 +8,15 @@ use Rattle.party_keys.specs.Seen.{log_party}
 use Rattle.party_keys.specs.Signers.{Claimed}
 use Rattle.vote_quorum.specs.declared.value.Value.{Value}
 use Rattle.epoch_log.specs.Calls.{after_vote, own_vote_text}
-use Rattle.epoch_log.specs.State.{epoch_of, table_of}
+use Rattle.epoch_log.specs.State.{LogState, epoch_of, table_of}
 use Rattle.log_core.specs.Checks.{Check, all_taken, checked, leaves_left, in_epoch, in_turn, not_stated, not_voted, same_base, same_root, turn_of}
 use Rattle.log_core.specs.Closings.{open_reply}
 use Rattle.log_core.specs.Judged.{judged}
-use Rattle.log_core.specs.Sending.{Draft, draft_with, zeros}
+use Rattle.log_core.specs.Sending.{Composed, Draft, draft_with, none_composed, with_draft, zeros}
 use Rattle.log_core.specs.Signers.{endorsements_in, signed_by, signers}
 use Rattle.log_core.specs.State.{Answer, CoreState, Reply}
+use Rattle.log_core.specs.Steps.{given}
+use Rattle.log_core.specs.declared.refusal.LogRefusal.{LogRefusal}
 
 -- a proposal of a log in an epoch
 pub record Proposal : Type 0 where
@@ -45,6 +47,17 @@ proposed_checks s p =
     ∷ leaves_left s.log.past.signed (own_vote_text s.log p.value ∷ [])
     ∷ []
 
+-- those behind the turn: whether the log may vote for the value
+abbrev pub voting_checks : LogState → Value → List Change → List Check
+voting_checks s value changes =
+    not_voted s
+    ∷ not_stated s
+    ∷ same_base s value.base
+    ∷ all_taken (judged (table_of s) (epoch_of s) changes)
+    ∷ same_root (judged (table_of s) (epoch_of s) changes) value.root
+    ∷ leaves_left s.past.signed (own_vote_text s value ∷ [])
+    ∷ []
+
 -- the ballot goes to the log whose turn it is
 abbrev pub ballot_draft : CoreState → Value → Draft
 ballot_draft s value =
@@ -57,3 +70,7 @@ proposed_reply s p = open_reply s (after_vote s.log p.log p.value p.changes) (ba
 
 unfoldable pub proposed_row : CoreState → Proposal → Answer
 proposed_row s p = checked (proposed_checks s p) (proposed_reply s p)
+
+-- what a step is to send, where no check refuses
+unfoldable pub proposed_judged : CoreState → Proposal → Result Composed LogRefusal
+proposed_judged s p = given (proposed_checks s p) (with_draft none_composed (ballot_draft s p.value))

@@ -1,5 +1,5 @@
 -- The row of Submit: a change is queued.
-use Rattle.std.specs.Prelude.{Bool, ◌++◌, List, [], ◌∷◌, Result, Ok, Err, if◌then◌else◌}
+use Rattle.std.specs.Prelude.{Bool, not, ◌++◌, List, filter, [], ◌∷◌, Result, Ok, Err, if◌then◌else◌}
 use Rattle.std.specs.List.{list_any}
 use Rattle.std.specs.Str.{bytes_eq}
 use Rattle.ar_cert.specs.Changes.{Change, change_text}
@@ -24,6 +24,10 @@ taken_alone (Err refusal) = Err (refusals.BadChange 0 refusal)
 -- whether an equal change is queued, with the same signatures
 abbrev pub is_queued : List Change → Change → Bool
 is_queued queue change = list_any (λ other. bytes_eq (change_text other) (change_text change)) queue
+
+-- the changes of which no equal one is queued
+abbrev pub unqueued : List Change → List Change → List Change
+unqueued queue changes = filter (λ change. not (is_queued queue change)) changes
 
 -- there is a place for the change, or it is queued already
 abbrev pub can_queue : List Change → Change → Check

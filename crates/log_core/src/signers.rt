@@ -5,14 +5,18 @@ ghost use Rattle.ar_council.specs.Values.{value_of_roots};
 ghost use Rattle.ar_statement.specs.Claims.{claim_of, endorse, signer_of};
 ghost use Rattle.party_keys.specs.Seen.{authority_party};
 ghost use Rattle.log_core.specs.Signers.{by_signers, endorsements_in, known, signed_by, signers, statuses_in, votes_in};
+ghost use Rattle.log_core.specs.Submit.{unqueued};
 
 use crate::LogRefusal;
+use crate::queued::is_queued;
 use ar_cert::{Change, Endorsement};
-use ar_message::{LogStatus, Vote};
+use ar_council::vote_statement;
+use ar_message::Vote;
 use ar_statement::{Party, Statement, Text};
 use party_keys::{Claimed, Directory, SignerFault};
 use std::alloc::{AllocError, Global};
 use std::marker::Model;
+use vote_quorum::Value;
 
 /// The signed statements of a message. It borrows their signatures.
 #[derive(Drop)]
@@ -121,13 +125,50 @@ impl<'a> Signers<'a> {
         Ok(())
     }
 
-    /// The endorsements of each change, change by change.
-    pub(crate) fn add_changes(&mut self, changes: &'a [Change]) -> Result<(), AllocError>
-        ensures { OnOk result (self.new ≡ self.old ++ flat_map endorsements_in changes.now) }
+    /// The votes of logs for a value in an epoch, in their order.
+    pub(crate) fn add_votes(
+        &mut self,
+        epoch: u64,
+        value: &Value,
+        votes: &'a [Vote],
+    ) -> Result<(), AllocError>
+        ensures { OnOk result (self.new ≡ self.old ++ votes_in epoch value.now votes.now) }
+    {
+        if let [vote, rest @ ..] = votes {
+            let statement = vote_statement(vote.log, epoch, value);
+            self.add(&statement, vote.signature.as_slice())?;
+            self.add_votes(epoch, value, rest)?;
+        }
+        Ok(())
+    }
+
+    // The endorsements of a change, unless an equal one is queued.
+    fn add_unqueued(
+        &mut self,
+        alloc: Global,
+        queue: &[Change],
+        change: &'a Change,
+    ) -> Result<(), AllocError>
+        ensures { OnOk result (self.new ≡ self.old ++ flat_map endorsements_in (unqueued queue.now (change.now ∷ []))) }
+    {
+        if is_queued(alloc, queue, change)? {
+            return Ok(());
+        }
+        self.add_endorsements(change)
+    }
+
+    /// The endorsements of each change of which no equal one is queued, change by change.
+    pub(crate) fn add_changes(
+        &mut self,
+        alloc: Global,
+        queue: &[Change],
+        changes: &'a [Change],
+    ) -> Result<(), AllocError>
+        ensures { OnOk result (self.new ≡ self.old ++ flat_map endorsements_in (unqueued queue.now changes.now)) }
     {
         if let [change, rest @ ..] = changes {
-            self.add_endorsements(change)?;
-            self.add_changes(rest)?;
+            self.add_unqueued(alloc, queue, change)?;
+            self.add_changes(alloc, queue, rest)?;
         }
         Ok(())
     }

@@ -1,21 +1,19 @@
 //! The row of Submit: a change is queued.
 
-ghost use Rattle.std.specs.Prelude.{◌≡◌, Ok, Result, OnOk, OnErr, IfOk, false};
-ghost use Rattle.std.specs.List.{list_any};
-ghost use Rattle.std.specs.Str.{bytes_eq};
+ghost use Rattle.std.specs.Prelude.{◌≡◌, Ok, Result, OnOk, OnErr, false};
 ghost use Rattle.ar_base.specs.Gives.{GivesUnless};
-ghost use Rattle.ar_cert.specs.Changes.{change_text};
 ghost use Rattle.cert_policy.specs.declared.manner.Manner.{Manner};
 ghost use Rattle.domain_table.specs.Applying.{answer_of};
 ghost use Rattle.domain_table.specs.declared.refusal.ChangeRefusal.{ChangeRefusal};
 ghost use Rattle.log_core.specs.Checks.{has_place};
 ghost use Rattle.log_core.specs.Signers.{endorsements_in, signers};
 ghost use Rattle.log_core.specs.Steps.{IsStep};
-ghost use Rattle.log_core.specs.Submit.{is_queued, queueing, submit_judged, submit_row, taken_alone};
+ghost use Rattle.log_core.specs.Submit.{queueing, submit_judged, submit_row, taken_alone};
 ghost use Rattle.log_core.specs.declared.refusal.LogRefusal.TheVariants as refusals;
 
 use crate::LogRefusal;
 use crate::log_core::{LogCore, nothing};
+use crate::queued::is_queued;
 use crate::signers::Signers;
 use ar_cert::Change;
 use ar_message::Unsigned;
@@ -47,39 +45,6 @@ fn taken_alone(judged: Result<(), ChangeRefusal>) -> Result<(), LogRefusal>
         Ok(()) => Ok(()),
         Err(refusal) => Err(LogRefusal::BadChange(0, refusal)),
     }
-}
-
-/// Whether two changes have one text.
-fn is_same(alloc: Global, text: &[u8], other: &Change) -> Result<bool, AllocError>
-    ensures { IfOk result (λ same. same ≡ bytes_eq (change_text other.now) text.now) }
-{
-    let mut other_text = Vec::new(alloc);
-    other.write(alloc, &mut other_text)?;
-    Ok(other_text.as_slice() == text)
-}
-
-/// Whether a change with this text is queued.
-fn has_text(alloc: Global, queue: &[Change], text: &[u8]) -> Result<bool, AllocError>
-    ensures { IfOk result (λ has. has ≡ list_any (λ other. bytes_eq (change_text other) text.now) queue.now) }
-{
-    match queue {
-        [] => Ok(false),
-        [first, rest @ ..] => {
-            if is_same(alloc, text, first)? {
-                return Ok(true);
-            }
-            has_text(alloc, rest, text)
-        }
-    }
-}
-
-/// Whether an equal change is queued, with the same signatures.
-fn is_queued(alloc: Global, queue: &[Change], change: &Change) -> Result<bool, AllocError>
-    ensures { IfOk result (λ queued. queued ≡ is_queued queue.now change.now) }
-{
-    let mut text = Vec::new(alloc);
-    change.write(alloc, &mut text)?;
-    has_text(alloc, queue, &text)
 }
 
 /// Whether the queue has a place left.

@@ -1,0 +1,159 @@
+//! The row of Propose: the log votes for another log's proposal.
+
+ghost use Rattle.std.specs.Prelude.{◌≡◌, All, IfOk};
+ghost use Rattle.ar_base.specs.Gives.{GivesUnless};
+ghost use Rattle.ar_cert.specs.Changes.{IsChange};
+ghost use Rattle.ar_message.specs.Lists.{AreChanges};
+ghost use Rattle.log_core.specs.Checks.{first_refusal};
+ghost use Rattle.log_core.specs.Proposed.{ballot_draft, proposal_signers, proposed_checks, proposed_judged, proposed_row, voting_checks};
+ghost use Rattle.log_core.specs.Sending.{none_composed, with_draft};
+ghost use Rattle.log_core.specs.Signers.{signers};
+ghost use Rattle.log_core.specs.Steps.{IsStep};
+ghost use Rattle.log_core.specs.declared.refusal.LogRefusal.TheVariants as refusals;
+
+use crate::LogRefusal;
+use crate::checks::{book_refusal, in_epoch, in_turn, leaf_left, not_stated, not_voted, turn_of};
+use crate::judging::leads;
+use crate::log_core::LogCore;
+use crate::sending::{Drafts, Ready, zeros};
+use crate::signers::Signers;
+use ar_cert::Change;
+use ar_council::{propose_statement, value_told, vote_statement};
+use ar_message::{Address, Message, Signature, Unsigned};
+use ar_statement::Role;
+use key_roll::forgo;
+use std::alloc::{AllocError, Global};
+use vote_quorum::Value;
+
+impl LogCore {
+    /// That the proposer and the endorsers have signed.
+    fn have_signed_proposal(
+        &self,
+        alloc: Global,
+        log: u16,
+        epoch: u64,
+        value: &Value,
+        changes: &[Change],
+        signature: &[u8],
+    ) -> Result<(), LogRefusal>
+        requires { All IsChange changes.now }
+        ensures { GivesUnless refusals.Memory (λ unit. unit) result
+            (signers self.now.keys (proposal_signers (record { log = log; epoch = epoch; value = value.now; changes = changes.now; signature = signature.now }))) }
+    {
+        let mut front = Signers::new(alloc);
+        front.add(&propose_statement(log, epoch, value), signature)?;
+        self.have_signed(alloc, front, changes)
+    }
+
+    /// That the log has done nothing in the epoch, that it may vote for this value, and that it has a leaf for the vote.
+    fn may_vote(&self, alloc: Global, value: &Value, changes: &[Change]) -> Result<(), LogRefusal>
+        requires { All IsChange changes.now }
+        ensures { GivesUnless refusals.Memory (λ unit. unit) result (first_refusal (voting_checks self.now.log value.now changes.now)) }
+    {
+        not_voted(&self.log)?;
+        not_stated(&self.log)?;
+        leads(alloc, &self.log, value, changes)?;
+        let statement = vote_statement(self.log.number(), self.log.epoch(), value);
+        leaf_left(&self.log.record().signed, &statement)
+    }
+
+    /// The checks of a proposal, in their order.
+    fn check_proposal(
+        &self,
+        alloc: Global,
+        log: u16,
+        epoch: u64,
+        value: &Value,
+        changes: &[Change],
+        signature: &[u8],
+    ) -> Result<(), LogRefusal>
+        requires { All IsChange changes.now }
+        ensures { GivesUnless refusals.Memory (λ unit. unit) result
+            (first_refusal (proposed_checks self.now (record { log = log; epoch = epoch; value = value.now; changes = changes.now; signature = signature.now }))) }
+    {
+        self.told();
+        self.have_signed_proposal(alloc, log, epoch, value, changes, signature)?;
+        in_epoch(&self.log, epoch)?;
+        in_turn(self.log.directory(), self.log.epoch(), log)?;
+        self.may_vote(alloc, value, changes)
+    }
+
+    /// The ballot, which goes to the log whose turn it is.
+    fn ballot_ready(&self, alloc: Global, value: &Value) -> Result<Ready<'static>, AllocError>
+        ensures { IfOk result (λ ready. ready ≡ with_draft none_composed (ballot_draft self.now value.now)) }
+    {
+        self.told();
+        let epoch = self.log.epoch();
+        let number = self.log.number();
+        let turn = turn_of(self.log.directory(), epoch);
+        let ballot = Message::Ballot {
+            log: number,
+            epoch,
+            base: value.base,
+            root: value.root,
+            signature: Signature {
+                bytes: zeros(alloc, self.signature_len)?,
+            },
+        };
+        let mut drafts = Drafts::new(alloc);
+        drafts.add(
+            alloc,
+            Address::One(Role::LogServer.party(turn)),
+            &ballot,
+            self.signature_len,
+            0,
+            vote_statement(number, epoch, value),
+        )?;
+        drafts.ready(alloc)
+    }
+
+    /// What is sent for a proposal, where no check refuses it.
+    #[tactic(auto, unfolding(crate::specs::Proposed::proposed_judged))]
+    fn judge_proposal(
+        &self,
+        alloc: Global,
+        log: u16,
+        epoch: u64,
+        value: &Value,
+        changes: &[Change],
+        signature: &[u8],
+    ) -> Result<Ready<'static>, LogRefusal>
+        requires { All IsChange changes.now }
+        ensures { GivesUnless refusals.Memory (λ ready. ready) result
+            (proposed_judged self.now (record { log = log; epoch = epoch; value = value.now; changes = changes.now; signature = signature.now })) }
+    {
+        self.check_proposal(alloc, log, epoch, value, changes, signature)?;
+        Ok(self.ballot_ready(alloc, value)?)
+    }
+
+    /// Votes for another log's proposal; the ballot goes to the log whose turn it is.
+    pub(crate) fn proposed(
+        &mut self,
+        alloc: Global,
+        log: u16,
+        epoch: u64,
+        value: Value,
+        changes: Vec<Change>,
+        signature: &[u8],
+    ) -> Result<Unsigned, LogRefusal>
+        requires { AreChanges changes.items }
+        ensures { IsStep result self.old self.new
+            (proposed_row self.old (record { log = log; epoch = epoch; value = value; changes = changes.items; signature = signature.now })) }
+    {
+        value_told(&value);
+        let ready = match self.judge_proposal(alloc, log, epoch, &value, &changes, signature) {
+            Ok(ready) => ready,
+            Err(refusal) => return Err(refusal),
+        };
+        match self.log.vote(alloc, log, value.base, changes, value.root) {
+            Ok(due) => {
+                forgo(due);
+                Ok(ready.seal(&self.log, None))
+            }
+            Err(fault) => {
+                ready.discard();
+                Err(book_refusal(fault))
+            }
+        }
+    }
+}
