@@ -1,6 +1,5 @@
 -- A step that ends with the closing rule is its row's.
 use Rattle.std.proofs.Common.{◌≡◌, ℕ, ◌<◌, List, [], ◌∷◌, ◌++◌, refl, sym, ap, ◌∙◌, ◌⊎◌, inl, inr, Result, Ok, Err, Option, Some}
-use Rattle.std.specs.List.{AllByRecursion}
 use Rattle.ar_cert.specs.Changes.{Change}
 use Rattle.ar_message.specs.declared.unsigned.Unsigned.{Unsigned}
 use Rattle.ar_council.specs.Values.{status_claim, vote_claim}

@@ -1,6 +1,6 @@
 -- What a log may have to send fits into messages, also behind each step.
 use Rattle.std.proofs.Common.{◌≡◌, ◌≢◌, ℕ, suc, ◌+◌, ◌^◌, ◌<◌, ◌≤◌, ◌%◌, List, [], ◌∷◌, length, refl, sym, ap, ◌∙◌, subst, arith, Bool, true, false, cond, nat_le, nat_lt, ◌==◌, ◌&&◌, ◌||◌, Option, Some, None}
-use Rattle.std.specs.Prelude.{All, IfSome, filter, map, unwrap_or}
+use Rattle.std.specs.Prelude.{IfSome, filter, map, unwrap_or}
 use Rattle.std.specs.List.{AllByRecursion, list_any}
 use Rattle.std.specs.Option.{option_map}
 use Rattle.std.proofs.lemmas.Bool.{and_parts, eq-eqb, leb-false, leb-true, ltb-true}

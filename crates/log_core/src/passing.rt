@@ -71,8 +71,12 @@ impl LogCore {
         )
     }
 
-    /// The status, unless the log counts the statuses itself.
-    fn add_statuses(&self, alloc: Global, drafts: &mut Drafts<'static>) -> Result<(), AllocError>
+    /// The same, unless the log counts the statuses itself.
+    fn add_status_unless_counted(
+        &self,
+        alloc: Global,
+        drafts: &mut Drafts<'static>,
+    ) -> Result<(), AllocError>
         ensures { OnOk result (drafts.new ≡ with_drafts drafts.old (status_drafts self.now)) }
     {
         if is_turn(&self.log, self.log.epoch() + 1) {
@@ -87,7 +91,7 @@ impl LogCore {
             ++ closing_drafts (after_state self.now.log).1 self.now.signature_len self.now.log (after_state self.now.log).0)) }
     {
         let mut drafts: Drafts<'static> = Drafts::new(alloc);
-        self.add_statuses(alloc, &mut drafts)?;
+        self.add_status_unless_counted(alloc, &mut drafts)?;
         let foreseen = self.log.foresee_state(alloc)?;
         add_closing(alloc, &self.log, self.signature_len, foreseen, &mut drafts)?;
         drafts.ready(alloc)

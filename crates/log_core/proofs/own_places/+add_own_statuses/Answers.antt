@@ -1,4 +1,4 @@
-use Rattle.std.proofs.Common.{ℕ, List, is_none, length, ap}
+use Rattle.std.proofs.Common.{is_none, length, ap}
 use Rattle.ar_message.specs.Lists.{status_text}
 use Rattle.ar_statement.specs.Claims.{text_of}
 use Rattle.ar_council.specs.Values.{status_claim}

@@ -1,4 +1,3 @@
-use Rattle.std.proofs.Common.{ap, ◌∙◌, sym, Some, None}
 use Rattle.log_core.proofs.OwnPlaces.{no_ballot-len, some_ballot-len}
 use Rattle.log_core.proofs.own_places.ballot_len.Goals as goal
 

@@ -1,8 +1,7 @@
 -- The step is the row's: what was composed before it is sent, and the log is as the row leaves it.
-use Rattle.std.proofs.Common.{◌≡◌, ◌⊎◌, ◌<◌, List, ℕ, Ok, Err, subst, sym}
-use Rattle.ar_cert.specs.Changes.{Change, IsSignature}
+use Rattle.std.proofs.Common.{◌≡◌, ◌⊎◌, List, ℕ, Ok, Err, subst, sym}
+use Rattle.ar_cert.specs.Changes.{IsSignature}
 use Rattle.epoch_log.specs.Calls.{after_ballot}
-use Rattle.epoch_log.specs.Log.{LogParts}
 use Rattle.log_core.specs.Balloted.{ballot_judged, ballot_row}
 use Rattle.log_core.specs.Closings.{closing_drafts}
 use Rattle.log_core.specs.Kept.{IsKeptCore}

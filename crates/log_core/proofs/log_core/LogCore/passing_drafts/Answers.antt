@@ -18,7 +18,7 @@ returns c =
     let was : CoreState = record { log = c.self.inside.log.state; keys = c.self.inside.log.keys; queue = c.self.inside.queue.items; signature_len = c.self.inside.signature_len } in
     let after = after_state was.log in
     let closing = closing_drafts after.1 was.signature_len was.log after.0 in
-    let status = subst (λ (s : CoreState). c.add_statuses.new.drafts ≡ with_drafts c.new-drafts.result (status_drafts s)) (sym c.self.view_is) c.in_ok-add_statuses.ensures in
+    let status = subst (λ (s : CoreState). c.add_status_unless_counted.new.drafts ≡ with_drafts c.new-drafts.result (status_drafts s)) (sym c.self.view_is) c.in_ok-add_status_unless_counted.ensures in
     let all : c.add_closing.new.drafts ≡ with_drafts none_composed (status_drafts was ++ closing) =
     c.in_ok-add_closing.ensures after c.in_ok-foreseen.ensures
     ∙ ap (λ (d : Composed). with_drafts d closing) (status ∙ ap (λ (d : Composed). with_drafts d (status_drafts was)) c.new-drafts.ensures)
