@@ -173,7 +173,7 @@ fn is_wanted(table: &Table, epoch: u64, change: &Change) -> bool
 }
 
 /// Keeps of a queue what is accepted on the table of the epoch that begins, each change judged alone.
-fn keep_wanted(table: &Table, epoch: u64, queue: &mut Vec<Change>)
+pub(crate) fn keep_wanted(table: &Table, epoch: u64, queue: &mut Vec<Change>)
     ensures { queue.new.items ≡ filter (λ change. is_ok (judge table.now epoch change)) queue.old.items }
 {
     queue.retain(|change| is_wanted(table, epoch, change));

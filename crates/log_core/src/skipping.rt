@@ -25,7 +25,7 @@ use std::alloc::{AllocError, Global};
 use vote_quorum::{Value, excluded};
 
 /// The last epoch that a statement can name. It does not end.
-const LAST_EPOCH: u64 = 1 << 63;
+pub(crate) const LAST_EPOCH: u64 = 1 << 63;
 
 /// What a status says that its log voted for.
 fn value_of(status: &LogStatus) -> Option<Value>
@@ -125,7 +125,7 @@ fn skipped_epoch(log: &EpochLog) -> Option<(u64, Option<[u8; 32]>)>
 }
 
 /// Nothing is sent, and this ended.
-fn ended(alloc: Global, ended: Option<(u64, Option<[u8; 32]>)>) -> Unsigned
+pub(crate) fn ended(alloc: Global, ended: Option<(u64, Option<[u8; 32]>)>) -> Unsigned
     ensures { result ≡ record { sent = record { messages = []; ended = ended }; blanks = [] } }
 {
     Unsigned {

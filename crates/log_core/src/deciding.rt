@@ -1,0 +1,127 @@
+//! The row of Decision: the log ends its epoch as decided.
+
+ghost use Rattle.std.specs.Prelude.{◌≡◌, All, IfOk, if◌then◌else◌};
+ghost use Rattle.ar_base.specs.Gives.{GivesUnless};
+ghost use Rattle.ar_cert.specs.Changes.{IsChange};
+ghost use Rattle.ar_message.specs.Lists.{AreChanges, AreVotes};
+ghost use Rattle.epoch_log.specs.Telling.{votes_in};
+ghost use Rattle.log_core.specs.Checks.{first_refusal};
+ghost use Rattle.log_core.specs.Closings.{still_wanted};
+ghost use Rattle.log_core.specs.Decided.{decided_epoch, decision_checks, decision_row, decision_signers, plain_votes};
+ghost use Rattle.log_core.specs.Signers.{signers};
+ghost use Rattle.log_core.specs.Steps.{IsStep};
+ghost use Rattle.log_core.specs.declared.refusal.LogRefusal.TheVariants as refusals;
+
+use crate::LogRefusal;
+use crate::checks::{enough, in_epoch};
+use crate::closing::keep_wanted;
+use crate::judging::leads;
+use crate::log_core::LogCore;
+use crate::signers::Signers;
+use crate::skipping::{LAST_EPOCH, ended};
+use ar_base::Items;
+use ar_cert::Change;
+use ar_council::value_told;
+use ar_message::{Unsigned, Vote};
+use epoch_log::EpochLog;
+use std::alloc::{AllocError, Global};
+use vote_quorum::Value;
+
+/// The votes, as the log takes them.
+fn plain_votes(alloc: Global, votes: Items<Vote>) -> Result<Vec<(u16, Vec<u8>)>, AllocError>
+    ensures { IfOk result (λ list. votes_in list.items ≡ plain_votes votes) }
+{
+    let mut list = Vec::new(alloc);
+    for vote in votes.into_vec() {
+        list.push((vote.log, vote.signature.bytes))?;
+    }
+    Ok(list)
+}
+
+/// The epoch that ends with a root, unless it is the last.
+fn decided_epoch(log: &EpochLog, root: [u8; 32]) -> Option<(u64, Option<[u8; 32]>)>
+    ensures { result ≡ decided_epoch log.now.state root }
+{
+    let epoch = log.epoch();
+    if epoch < LAST_EPOCH {
+        Some((epoch, Some(root)))
+    } else {
+        None
+    }
+}
+
+/// Keeps of the queue what is still wanted, where the epoch ended.
+fn keep_if(ended: bool, log: &EpochLog, queue: &mut Vec<Change>)
+    ensures { queue.new.items ≡ (if ended then still_wanted log.now.state queue.old.items else queue.old.items) }
+{
+    if ended {
+        keep_wanted(log.table(), log.epoch(), queue);
+    }
+}
+
+impl LogCore {
+    /// That the logs that vote and the endorsers have signed.
+    fn have_signed_decision(
+        &self,
+        alloc: Global,
+        epoch: u64,
+        value: &Value,
+        changes: &[Change],
+        votes: &[Vote],
+    ) -> Result<(), LogRefusal>
+        requires { All IsChange changes.now }
+        ensures { GivesUnless refusals.Memory (λ unit. unit) result
+            (signers self.now.keys (decision_signers (record { epoch = epoch; value = value.now; changes = changes.now; votes = votes.now }))) }
+    {
+        let mut front = Signers::new(alloc);
+        front.add_votes(epoch, value, votes)?;
+        self.have_signed(alloc, front, changes)
+    }
+
+    /// The checks of a decision, in their order.
+    fn check_decision(
+        &self,
+        alloc: Global,
+        epoch: u64,
+        value: &Value,
+        changes: &[Change],
+        votes: &[Vote],
+    ) -> Result<(), LogRefusal>
+        requires { All IsChange changes.now }
+        ensures { GivesUnless refusals.Memory (λ unit. unit) result
+            (first_refusal (decision_checks self.now (record { epoch = epoch; value = value.now; changes = changes.now; votes = votes.now }))) }
+    {
+        self.told();
+        self.have_signed_decision(alloc, epoch, value, changes, votes)?;
+        in_epoch(&self.log, epoch)?;
+        leads(alloc, &self.log, value, changes)?;
+        enough(self.log.directory(), votes.len())
+    }
+
+    /// Ends the epoch as decided, as another log tells with the votes of a quorum; of the queue is kept what is still
+    /// wanted. The last epoch that a statement can name does not end.
+    pub(crate) fn decision(
+        &mut self,
+        alloc: Global,
+        epoch: u64,
+        value: Value,
+        changes: Vec<Change>,
+        votes: Items<Vote>,
+    ) -> Result<Unsigned, LogRefusal>
+        requires changes { AreChanges changes.items }
+        requires votes { AreVotes votes }
+        ensures { IsStep result self.old self.new
+            (decision_row self.old (record { epoch = epoch; value = value; changes = changes.items; votes = votes })) }
+    {
+        value_told(&value);
+        match self.check_decision(alloc, epoch, &value, &changes, votes.as_slice()) {
+            Ok(()) => (),
+            Err(refusal) => return Err(refusal),
+        }
+        let votes = plain_votes(alloc, votes)?;
+        let decided = decided_epoch(&self.log, value.root);
+        self.log.decide(alloc, changes, value.root, votes)?;
+        keep_if(decided.is_some(), &self.log, &mut self.queue);
+        Ok(ended(alloc, decided))
+    }
+}
