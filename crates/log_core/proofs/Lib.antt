@@ -14,6 +14,7 @@ pub mod KeptRows
 pub mod Known
 pub mod Leading
 pub mod OwnPlaces
+pub mod Proposals
 pub mod Reported
 pub mod Sealing
 pub mod Sees

@@ -1,5 +1,5 @@
 -- The row of the order to propose.
-use Rattle.std.specs.Prelude.{List, [], ◌∷◌}
+use Rattle.std.specs.Prelude.{List, [], ◌∷◌, ◌++◌, Result}
 use Rattle.ar_cert.specs.Changes.{Change}
 use Rattle.ar_message.specs.declared.address.Address.TheVariants.{Logs}
 use Rattle.ar_message.specs.declared.message.Message.TheVariants.{Propose}
@@ -7,20 +7,21 @@ use Rattle.ar_statement.specs.Claims.{text_of}
 use Rattle.vote_quorum.specs.declared.value.Value.{Value}
 use Rattle.epoch_log.specs.Calls.{after_propose, proposal_texts, propose_claim}
 use Rattle.epoch_log.specs.State.{epoch_of}
-use Rattle.log_core.specs.Checks.{Check, checked, leaves_left, in_turn, not_stated, not_voted}
+use Rattle.log_core.specs.Checks.{Check, checked, first_refusal, in_turn, leaves_left, not_stated, not_voted}
 use Rattle.log_core.specs.Closings.{closing_reply}
 use Rattle.log_core.specs.Sending.{Draft, draft_with, zeros}
 use Rattle.log_core.specs.State.{Answer, CoreState, Reply}
+use Rattle.log_core.specs.Steps.{given}
 use Rattle.log_core.specs.Walk.{proposal, proposed_value}
+use Rattle.log_core.specs.declared.refusal.LogRefusal.{LogRefusal}
 
--- it is the log's turn, it has not voted and not stated, and there are leaves for the proposal and its own vote
+-- it is the log's turn, and it has not voted and stated nothing in the epoch
+abbrev pub turn_checks : CoreState → List Check
+turn_checks s = in_turn s.log.council (epoch_of s.log) s.log.me ∷ not_voted s.log ∷ not_stated s.log ∷ []
+
+-- the same, and there are leaves for the proposal and its own vote
 abbrev pub proposing_checks : CoreState → List Check
-proposing_checks s =
-    in_turn s.log.council (epoch_of s.log) s.log.me
-    ∷ not_voted s.log
-    ∷ not_stated s.log
-    ∷ leaves_left s.log.past.signed (proposal_texts s.log (proposed_value s))
-    ∷ []
+proposing_checks s = turn_checks s ++ leaves_left s.log.past.signed (proposal_texts s.log (proposed_value s)) ∷ []
 
 -- the proposal, which goes to all logs
 abbrev pub proposal_draft : CoreState → Value → List Change → Draft
@@ -35,3 +36,11 @@ proposing_reply s =
 
 unfoldable pub proposing_row : CoreState → Answer
 proposing_row s = checked (proposing_checks s) (proposing_reply s)
+
+-- whether it is the log's turn, as far as its vote and its status are known
+unfoldable pub turn_judged : CoreState → Check
+turn_judged s = first_refusal (turn_checks s)
+
+-- what the log proposes where it may, or the refusal of the order
+unfoldable pub proposing_judged : CoreState → Result (Value × List Change) LogRefusal
+proposing_judged s = given (proposing_checks s) (proposed_value s, proposal s)

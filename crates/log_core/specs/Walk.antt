@@ -71,7 +71,8 @@ pub record IsStepOver (change : Change) (before after : Walker) : Type 0 where
   pub takes : (queue : List Change) → after.taken.items ++ left_of after queue ≡ before.taken.items ++ left_of before (change ∷ queue)
   pub leads : (queue : List Change) → apply after.table after.epoch (left_of after queue) ≡ apply before.table before.epoch (left_of before (change ∷ queue))
 
--- these changes are taken of a queue, and the root is that of the table behind them
+-- these changes are taken of a queue, and the value goes from the root of the table to that of the table behind them
 pub record IsWalked (epoch : ℕ) (table : Table) (queue : List Change) (w : Walked) : Type 0 where
   pub changes : w.changes.items ≡ walk epoch (ripen table epoch) most_changes most_bytes queue
-  pub root : w.root ≡ root_of (unwrap_or (apply table epoch w.changes.items) table)
+  pub base : w.value.base ≡ root_of table
+  pub root : w.value.root ≡ root_of (unwrap_or (apply table epoch w.changes.items) table)

@@ -1,6 +1,6 @@
 //! The rows of a log: what a log makes of each message and of each order. The definitions stand, with laws on them; of the
 //! code there is `LogCore`, which keeps what they keep, with the rows of a Ballot, a StatusNote, a SkipNote, a ConfirmAsk, a
-//! RollNote, a Submit, a Propose and a Decision, and of the orders to pass and to roll.
+//! RollNote, a Submit, a Propose and a Decision, and of the orders to propose, to pass and to roll.
 //!
 //! `Log` is a log with its keys (`specs/Keyed.antt`), and rolls.
 //!
@@ -24,6 +24,7 @@ mod log_core;
 mod own_places;
 mod passing;
 mod proposed;
+mod proposing;
 mod queued;
 mod refusal;
 mod rolling;

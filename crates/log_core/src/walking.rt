@@ -10,6 +10,7 @@ use crate::log_core::LogCore;
 use ar_cert::Change;
 use domain_table::{ApplyFault, Table};
 use std::alloc::{AllocError, Global};
+use vote_quorum::Value;
 
 /// The most changes of a proposal.
 const MOST_CHANGES: usize = 64;
@@ -29,11 +30,11 @@ pub(crate) struct Walker {
     left: usize,
 }
 
-/// What a walk took, and the root to which it leads.
+/// What a walk took, and from which root to which it leads.
 #[derive(Drop)]
 pub(crate) struct Walked {
     pub(crate) changes: Vec<Change>,
-    pub(crate) root: [u8; 32],
+    pub(crate) value: Value,
 }
 
 /// How many bytes the text of a change has.
@@ -143,17 +144,21 @@ fn walk(alloc: Global, epoch: u64, table: &Table, queue: &[Change]) -> Result<Wa
     };
     walker.over(alloc, queue)?;
     walker.table.ripen(alloc, epoch)?;
-    Ok(Walked {
+    let value = Value {
+        base: table.root(),
         root: walker.table.root(),
+    };
+    Ok(Walked {
         changes: walker.taken,
+        value,
     })
 }
 
 impl LogCore {
-    /// The changes that the log proposes, and the root to which they lead.
+    /// The changes that the log proposes, and to which root they lead.
     pub(crate) fn walk(&self, alloc: Global) -> Result<Walked, AllocError>
         ensures changes { IfOk result (λ w. w.changes.items ≡ proposal self.now) }
-        ensures root { IfOk result (λ w. w.root ≡ (proposed_value self.now).root) }
+        ensures value { IfOk result (λ w. w.value ≡ proposed_value self.now) }
     {
         self.log.told();
         walk(alloc, self.log.epoch(), self.log.table(), &self.queue)
