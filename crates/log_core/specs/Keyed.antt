@@ -1,11 +1,13 @@
 -- A log with its keys, and its answers with its signatures in them.
-use Rattle.std.specs.Prelude.{◌≡◌, ◌⊎◌, List, Result, Ok, Err}
+use Rattle.std.specs.Prelude.{◌≡◌, ◌⊎◌, List, [], ◌∷◌, ◌++◌, Result, Ok, Err}
 use Rattle.ar_message.specs.Filling.{filled}
 use Rattle.ar_message.specs.declared.sent.Sent.{Sent}
-use Rattle.key_roll.specs.Ring.{RingParts}
+use Rattle.key_roll.specs.Ring.{IsNext, RingParts}
+use Rattle.lms_tree.specs.Key.{public_of}
 use Rattle.lms_tree.specs.KeyParts.{KeyParts}
+use Rattle.lms_tree.specs.declared.public_key.LmsPublic.{LmsPublic}
 use Rattle.log_core.specs.Blanks.{AreKeysOf}
-use Rattle.log_core.specs.State.{Answer, CoreState}
+use Rattle.log_core.specs.State.{Answer, CoreState, Input, passes, proposes, rolls, takes}
 use Rattle.log_core.specs.declared.refusal.LogRefusal.{LogRefusal}
 use Rattle.log_core.specs.declared.refusal.LogRefusal.TheVariants.{Memory}
 
@@ -17,6 +19,33 @@ pub record LogParts : Type 0 where
 -- the keys are those of the log's book
 abbrev pub IsRingOf : CoreState → List KeyParts → Type 0
 IsRingOf s keys = AreKeysOf s.log.past.signed s.signature_len keys
+
+-- a key is that of the next one of the keys
+pub record IsOfNext (keys : List KeyParts) (key : LmsPublic) : Type 0 where
+  pub next : KeyParts
+  pub is_next : IsNext keys next
+  pub is : key ≡ public_of next
+
+-- where a log is asked to go on to a key, it is that of its next one
+abbrev pub IsOwn : List KeyParts → Input → Type 0
+IsOwn keys (takes bytes) = Unit {0}
+IsOwn keys proposes = Unit {0}
+IsOwn keys passes = Unit {0}
+IsOwn keys (rolls key) = IsOfNext keys key
+
+-- a log is not asked to go on to another key
+abbrev pub IsPlain : Input → Type 0
+IsPlain (takes bytes) = Unit {0}
+IsPlain proposes = Unit {0}
+IsPlain passes = Unit {0}
+IsPlain (rolls key) = ⊥
+
+-- the keys that a log has behind a step: with the next one, where it goes on to that
+abbrev pub AreBehind : Input → List KeyParts → List KeyParts → Type 0
+AreBehind (takes bytes) keys later = later ≡ keys
+AreBehind proposes keys later = later ≡ keys
+AreBehind passes keys later = later ≡ keys
+AreBehind (rolls key) keys later = (next : KeyParts) → IsNext keys next → later ≡ keys ++ next ∷ []
 
 -- the answer with the log's signatures in what it sends
 abbrev pub signed_answer : List KeyParts → Answer → Result (CoreState × Sent) LogRefusal

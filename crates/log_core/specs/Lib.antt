@@ -4,6 +4,7 @@ pub mod Checks
 pub mod Closings
 pub mod Confirming
 pub mod Decided
+pub mod Inputs
 pub mod Judged
 pub mod Keyed
 pub mod Kept

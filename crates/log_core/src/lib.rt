@@ -1,8 +1,5 @@
-//! The rows of a log: what a log makes of each message and of each order. The definitions stand, with laws on them; of the
-//! code there is `LogCore`, which keeps what they keep, with the rows of a Ballot, a StatusNote, a SkipNote, a ConfirmAsk, a
-//! RollNote, a Submit, a Propose and a Decision, and of the orders to propose, to pass and to roll.
-//!
-//! `Log` is a log with its keys (`specs/Keyed.antt`), and rolls.
+//! The rows of a log: what a log makes of each message and of each order. `LogCore` keeps a log by them, without its keys, and
+//! `Log` is a log with its keys (`specs/Keyed.antt`), whose answers are signed.
 //!
 //! `specs/State.antt` has what a log is between two steps and what it is asked, and `specs/Row.antt` the row of each
 //! input. An input has a file of its own, with its checks in order, of which the first that refuses is the answer, and
@@ -34,9 +31,11 @@ mod signers;
 mod skipping;
 mod statements;
 mod stating;
+mod step;
 mod submitting;
 mod walking;
 
 pub use log::Log;
 pub use log_core::LogCore;
 pub use refusal::LogRefusal;
+pub use step::LogInput;

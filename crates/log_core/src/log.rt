@@ -7,13 +7,16 @@ ghost use Rattle.key_roll.specs.Ring.{IsNext, ring_signature_len};
 ghost use Rattle.lms_tree.specs.Key.{public_of};
 ghost use Rattle.lms_tree.specs.KeyParts.{KeyParts};
 ghost use Rattle.lms_tree.specs.LmsKind.{height_of};
-ghost use Rattle.log_core.specs.Keyed.{IsRingOf, SendsBy};
+ghost use Rattle.log_core.specs.Inputs.{input_of};
+ghost use Rattle.log_core.specs.Keyed.{AreBehind, IsOwn, IsPlain, IsRingOf, SendsBy};
 ghost use Rattle.log_core.specs.Rolling.{rolling_row};
-ghost use Rattle.log_core.specs.Row.{IsInput};
+ghost use Rattle.log_core.specs.Row.{IsInput, row};
 ghost use Rattle.log_core.specs.State.{rolls};
 
 use crate::log_core::LogCore;
 use crate::refusal::LogRefusal;
+use crate::step::LogInput;
+use ar_bytes::are_bytes;
 use ar_council::key_told;
 use ar_message::{Sent, fill};
 use epoch_log::Record;
@@ -69,6 +72,17 @@ fn next_told(key: &LmsPublic)
     ensures { IsInput (rolls key.now) }
 {
     key_told(key);
+}
+
+/// Tells a proof what is true of what a program asks. It does nothing.
+fn input_told(input: &LogInput)
+    ensures { IsInput (input_of input.now) }
+{
+    match input {
+        LogInput::Take(bytes) => are_bytes(bytes),
+        LogInput::Propose | LogInput::Pass => {}
+        LogInput::Roll(key) => next_told(key),
+    }
 }
 
 impl Log {
@@ -139,6 +153,18 @@ impl Log {
         self.core.record()
     }
 
+    /// What the log does with no other key.
+    fn answer(&mut self, alloc: Global, input: &LogInput) -> Result<Sent, LogRefusal>
+        requires { IsPlain (input_of input.now) }
+        ensures row { SendsBy self.old.ring.keys result self.old.core self.new.core (row self.old.core (input_of input.now)) }
+        ensures ring { self.new.ring ≡ self.old.ring }
+    {
+        self.core.told();
+        input_told(input);
+        let unsigned = self.core.step(alloc, input)?;
+        Ok(fill(&self.ring, unsigned))
+    }
+
     /// Makes the log's next key, enters its Roll, and takes the key into the log's own directory, which is not seen as a
     /// party's Roll. What it sends, to all logs, is signed by the key before it.
     ///
@@ -160,5 +186,23 @@ impl Log {
         let unsigned = self.core.roll(alloc, &public)?;
         add(alloc, &mut self.ring, key);
         Ok(fill(&self.ring, unsigned))
+    }
+
+    /// What the log sends for what it is asked, signed, or why it refuses.
+    ///
+    /// It is the step of the core, with the signatures in the places that it leaves blank; `Memory` may stand in its place.
+    /// To go on to a key is what `roll` does: the key is that of the ring's next one.
+    pub fn step(&mut self, alloc: Global, input: &LogInput) -> Result<Sent, LogRefusal>
+        requires { IsOwn self.old.ring.keys (input_of input.now) }
+        // The answer, signed, and where the log stands then.
+        ensures row { SendsBy self.new.ring.keys result self.old.core self.new.core (row self.old.core (input_of input.now)) }
+        // Which keys it has.
+        ensures ok { OnOk result (AreBehind (input_of input.now) self.old.ring.keys self.new.ring.keys) }
+        ensures err { OnErr result (self.new.ring.keys ≡ self.old.ring.keys) }
+    {
+        match input {
+            LogInput::Roll(_) => self.roll(alloc),
+            _ => self.answer(alloc, input),
+        }
     }
 }

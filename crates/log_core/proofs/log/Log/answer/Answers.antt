@@ -1,0 +1,13 @@
+use Rattle.log_core.specs.Inputs.{input_of}
+use Rattle.log_core.proofs.Keyed.{plain-signs}
+use Rattle.log_core.proofs.log.Log.answer.Goals as goal
+
+pub fill-requires : goal.fill-requires
+fill-requires c =
+    (plain-signs c.self.inside.core (input_of c.args.input.now) c.self.inside.ring.keys c.step.new.self c.in_ok-unsigned.unsigned c.told.ensures c.input_told.ensures
+    c.requires c.self.invariant c.in_ok-unsigned.ensures).fills
+
+pub invariant_of-self-2 : goal.invariant_of-self-2
+invariant_of-self-2 c =
+    (plain-signs c.self.inside.core (input_of c.args.input.now) c.self.inside.ring.keys c.step.new.self c.in_ok-unsigned.unsigned c.told.ensures c.input_told.ensures
+    c.requires c.self.invariant c.in_ok-unsigned.ensures).stays
