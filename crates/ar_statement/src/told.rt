@@ -1,10 +1,12 @@
 ghost use Rattle.std.specs.Prelude.{◌≡◌, ◌<◌, ◌^◌, IfSome};
 ghost use Rattle.ar_base.specs.Bytes.{IsDigest};
+ghost use Rattle.ar_names.specs.Names.{IsName};
 ghost use Rattle.ar_statement.specs.Claims.{claim_of};
 ghost use Rattle.ar_statement.specs.Ranges.{AreRoots, HasFields, IsHeld, IsKeyText};
 
 use crate::statement::Statement;
 use ar_bytes::are_bytes;
+use ar_names::NameView;
 
 fn digest_told(digest: &[u8; 32])
     ensures { IsDigest digest.now }
@@ -12,31 +14,57 @@ fn digest_told(digest: &[u8; 32])
     are_bytes(digest);
 }
 
-fn key_told(key: &[u8; 56])
-    ensures { IsKeyText key.now }
+fn roots_told(base: &[u8; 32], root: &[u8; 32])
+    ensures { AreRoots (base.now, root.now) }
 {
-    are_bytes(key);
+    digest_told(base);
+    digest_told(root);
 }
 
-fn value_told(value: &Option<([u8; 32], [u8; 32])>)
-    ensures { IfSome value.now AreRoots }
+fn ballot_told(epoch: u64, base: &[u8; 32], root: &[u8; 32])
+    ensures { (epoch < 2 ^ 64) × (IsDigest base.now × IsDigest root.now) }
 {
+    let _epoch = epoch;
+    roots_told(base, root);
+}
+
+fn confirm_told(epoch: u64, name: &NameView, certificate: &[u8; 32], root: &[u8; 32])
+    ensures { (epoch < 2 ^ 64) × (IsName name.now × (IsDigest certificate.now × IsDigest root.now)) }
+{
+    absence_told(epoch, name, root);
+    digest_told(certificate);
+}
+
+fn absence_told(epoch: u64, name: &NameView, root: &[u8; 32])
+    ensures { (epoch < 2 ^ 64) × (IsName name.now × IsDigest root.now) }
+{
+    let _epoch = epoch;
+    let _text = name.text();
+    digest_told(root);
+}
+
+fn answer_told(name: &NameView, certificate: &[u8; 32], challenge: &[u8; 32])
+    ensures { IsName name.now × (IsDigest certificate.now × IsDigest challenge.now) }
+{
+    let _text = name.text();
+    digest_told(certificate);
+    digest_told(challenge);
+}
+
+fn status_told(epoch: u64, value: &Option<([u8; 32], [u8; 32])>)
+    ensures { (epoch < 2 ^ 64) × IfSome value.now AreRoots }
+{
+    let _epoch = epoch;
     if let Some(roots) = value {
-        digest_told(&roots.0);
-        digest_told(&roots.1);
+        roots_told(&roots.0, &roots.1);
     }
 }
 
-fn epoch_told(epoch: u64)
-    ensures { epoch < 2 ^ 64 }
-{
-    let _epoch = epoch;
-}
-
-fn generation_told(generation: u32)
-    ensures { generation < 2 ^ 32 }
+fn roll_told(generation: u32, key: &[u8; 56])
+    ensures { (generation < 2 ^ 32) × IsKeyText key.now }
 {
     let _generation = generation;
+    are_bytes(key);
 }
 
 fn fields_told(statement: &Statement)
@@ -57,54 +85,31 @@ fn fields_told(statement: &Statement)
             base,
             root,
             ..
-        } => {
-            epoch_told(*epoch);
-            digest_told(base);
-            digest_told(root);
-        }
+        } => ballot_told(*epoch, base, root),
         Statement::Confirm {
             epoch,
             name,
             certificate,
             root,
             ..
-        } => {
-            epoch_told(*epoch);
-            let _text = name.text();
-            digest_told(certificate);
-            digest_told(root);
-        }
+        } => confirm_told(*epoch, name, certificate, root),
         Statement::ConfirmAbsent {
             epoch,
             name,
             root,
             ..
-        } => {
-            epoch_told(*epoch);
-            let _text = name.text();
-            digest_told(root);
-        }
+        } => absence_told(*epoch, name, root),
         Statement::Answer {
             name,
             certificate,
             challenge,
-        } => {
-            let _text = name.text();
-            digest_told(certificate);
-            digest_told(challenge);
-        }
-        Statement::Status { epoch, value, .. } => {
-            epoch_told(*epoch);
-            value_told(value);
-        }
+        } => answer_told(name, certificate, challenge),
+        Statement::Status { epoch, value, .. } => status_told(*epoch, value),
         Statement::Roll {
             generation,
             key,
             ..
-        } => {
-            generation_told(*generation);
-            key_told(key);
-        }
+        } => roll_told(*generation, key),
     }
 }
 
