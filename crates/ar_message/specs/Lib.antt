@@ -1,6 +1,7 @@
 pub mod Confirmation
 pub mod Views
 pub mod Sending
+pub mod Shown
 pub mod Filling
 pub mod Lists
 pub mod Messages

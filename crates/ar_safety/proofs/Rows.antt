@@ -2,19 +2,15 @@
 use Rattle.std.proofs.Common.{◌≡◌, ◌≢◌, ℕ, zero, suc, ◌+◌, ◌-◌, ◌<◌, ◌++◌, take, drop, Bool, true, false, not, List, [], ◌∷◌, length, get_or, Option, Some, None, Result, Ok, Err, refl, sym, ap, ◌∙◌, subst, arith, eqb, eq-eqb}
 use Rattle.std.specs.Prelude.{Contains, map, nat_le, ◌==◌}
 use Rattle.std.specs.Option.{ok_or, option_map}
-use Rattle.std.specs.Str.{bytes_eq}
 use Rattle.std.proofs.lemmas.Bool.{eqb-true, ltb-true}
 use Rattle.std.proofs.lemmas.List.{append-nil, append_assoc, length-append, length-replicate}
 use Rattle.std.proofs.Math.ListN.{drop_of_length-le}
 use Rattle.std.proofs.Math.Seq.{take-append_seam}
 use Rattle.std.specs.Int.{w8, w16}
 use Rattle.ar_bytes.specs.RoundTrip.{number_text}
-use Rattle.std.proofs.lemmas.Slice.Eq.{bytes_eq-Decides}
 use Rattle.ar_base.specs.FirstFailing.{first_failing}
 use Rattle.ar_base.specs.Gives.{with_error}
 use Rattle.ar_base.specs.Places.{place_of}
-use Rattle.tree_proof.proofs.Tested.{is_off-Decides, is_on-Decides}
-use Rattle.ar_council.proofs.Lists.{both}
 use Rattle.ar_council.specs.Room.{HasRoom}
 use Rattle.ar_council.specs.Values.{confirmation_by}
 use Rattle.ar_statement.specs.declared.party.Party.{Party}
@@ -22,6 +18,7 @@ use Rattle.ar_statement.specs.declared.party.Role.TheVariants.{Client}
 use Rattle.ar_statement.specs.Claims.{party, text_of}
 use Rattle.ar_cert.specs.Certificate.{Certificate, digest_of}
 use Rattle.tree_proof.specs.declared.path.Bottom.{Bottom}
+use Rattle.client_rule.proofs.Meanings.{shown_decides}
 use Rattle.client_rule.specs.declared.judgement.Judgement.TheVariants as judgements
 use Rattle.key_roll.specs.Book.{IsRollBook, RollBook, texts_of}
 use Rattle.key_roll.specs.Due.{DueParts}
@@ -46,18 +43,16 @@ use Rattle.ar_message.specs.declared.message.Body.TheVariants.{Absent, Present}
 use Rattle.ar_message.specs.declared.message.Confirming.{Confirming}
 use Rattle.ar_message.specs.declared.message.Message.TheVariants.{Confirmation, HalfConfirmed}
 use Rattle.ar_message.specs.declared.unsigned.Unsigned.{Unsigned}
-use Rattle.client_rule.specs.Meaning.{Asked, IsShown}
+use Rattle.client_rule.specs.Meaning.{Asked}
 use Rattle.client_rule.specs.Rule.{claim_on, judgement}
 use Rattle.authority_core.specs.Calls.{confirming, kept_claim}
 use Rattle.authority_core.specs.ConfirmRows.{confirmation_with, half_claims, half_confirmed_row}
-use Rattle.authority_core.specs.Confirming.{confirmed_by, confirming_checks, content_tests, is_shown, kept_of, log_claimed, meant_for, parties_of, seen_in, vote_count, voted_by}
+use Rattle.ar_message.specs.Shown.{shows}
+use Rattle.authority_core.specs.Confirming.{confirmed_by, confirming_checks, content_tests, kept_of, log_claimed, meant_for, parties_of, seen_in, vote_count, voted_by}
 use Rattle.authority_core.specs.Refusals.{of_book, of_signers}
 use Rattle.authority_core.specs.State.{Answer, AuthorityState, blank, entering, if_due, in_order, sends}
 use Rattle.authority_core.specs.declared.refusal.AuthorityRefusal.{AuthorityRefusal}
 use Rattle.authority_core.specs.declared.refusal.AuthorityRefusal.TheVariants.{BadPath, FewVotes, NotForAuthority, SameAuthority}
-use Rattle.ar_names.specs.Names.{name_digest_of}
-use Rattle.hash_tree.specs.Strings.{value_digest}
-use Rattle.tree_proof.specs.Membership.{is_on}
 use Rattle.authority_core.proofs.Growing.{map-has}
 use Rattle.authority_core.proofs.Keeping.{order-first, order-then, passed-many, passed-shown}
 use Rattle.ar_safety.specs.Accepting.{IsHalfConfirmed, IsInTime, IsWithRing, KnowsSigners, bytes_to_client, confirmer_of, own_signature, own_text, signature_for}
@@ -130,8 +125,8 @@ are-two : (s : AuthorityState) (part : Confirming) (first_signature : List ℕ) 
 are-two s part first_signature is =
     let signers = signers_answer s.keys (parties_of part part.first) (half_claims part first_signature) in
     let tests = order-then (with_error of_signers signers) (first_failing (content_tests s.keys.quorum part)) tt (behind s part first_signature is) in
-    let third = rest-holds BadPath (is_shown part.name part.root part.body) ((SameAuthority, not (part.first == part.second)) ∷ [])
-    (rest-holds (FewVotes (vote_count part)) (nat_le s.keys.quorum (vote_count part)) ((BadPath, is_shown part.name part.root part.body) ∷ ((SameAuthority, not (part.first == part.second)) ∷ [])) tests) in
+    let third = rest-holds BadPath (shows part) ((SameAuthority, not (part.first == part.second)) ∷ [])
+    (rest-holds (FewVotes (vote_count part)) (nat_le s.keys.quorum (vote_count part)) ((BadPath, shows part) ∷ ((SameAuthority, not (part.first == part.second)) ∷ [])) tests) in
     let other : not (part.first == part.second) ≡ true = one-holds SameAuthority (not (part.first == part.second)) [] third in
     λ e. by (eqb part.first part.second) (eq-eqb part.first part.second e) other
   where
@@ -146,15 +141,6 @@ same-claim part p = by part.body
     by : (b : Body) → confirmation_by p part.epoch part.name (option_map digest_of (certificate_in (shown_in b))) part.root ≡ claim_on (about_in part) (shown_in b) p
     by (Present certificate path) = refl
     by (Absent bottom path) = refl
-
-is-shown : (part : Confirming) (b : Body) → is_shown part.name part.root b ≡ true → IsShown (about_in part) (shown_in b) (path_in b)
-unfolding is_shown
-is-shown part (Present certificate path) is =
-    let key : List ℕ = name_digest_of part.name in
-    let value : List ℕ = value_digest certificate.serial (digest_of certificate) in
-    let two = both (bytes_eq certificate.name part.name) (is_on key value path part.root) is in
-    ((bytes_eq-Decides certificate.name part.name).0 two.0, (is_on-Decides key value path part.root).0 two.1)
-is-shown part (Absent bottom path) is = (is_off-Decides (name_digest_of part.name) bottom path part.root).0 is
 
 -- ---- a leaf is left
 
@@ -219,7 +205,7 @@ row-checked s ring part first_signature later sent sound message e =
       first_signed = first;
       voters_signed = λ k d less. vote k d less;
       many = passed-many s part.second (parties_of part part.first) (half_claims part first_signature) part passed;
-      path = is-shown part part.body (passed-shown s part.second (parties_of part part.first) (half_claims part first_signature) part passed);
+      path = (shown_decides (about_in part) (shown_in part.body) (path_in part.body)).0 (passed-shown s part.second (parties_of part part.first) (half_claims part first_signature) part passed);
       two = are-two s part first_signature passed;
       room = subst (λ c. HasRoom s.past.signed (text_of c ∷ [])) (same-claim part (authority_party s.me)) room;
     }

@@ -21,7 +21,8 @@ use Rattle.party_keys.specs.declared.fault.SignerFault.{SignerFault}
 use Rattle.party_keys.specs.declared.fault.SignerFault.TheVariants as signer
 use Rattle.party_keys.specs.declared.learning.Learned.{Learned}
 use Rattle.authority_core.specs.ConfirmRows.{half_claims, half_confirmed_row, log_claims, log_confirmed_row}
-use Rattle.authority_core.specs.Confirming.{confirming_checks, content_tests, is_shown, meant_for, parties_of, vote_count}
+use Rattle.ar_message.specs.Shown.{shows}
+use Rattle.authority_core.specs.Confirming.{confirming_checks, content_tests, meant_for, parties_of, vote_count}
 use Rattle.authority_core.specs.Refusals.{of_book, of_message, of_signers}
 use Rattle.authority_core.specs.RollRows.{roll_note_by, roll_note_row}
 use Rattle.authority_core.specs.Row.{message_row}
@@ -57,8 +58,8 @@ meant me chosen = first NotForAuthority (chosen == me) [] (λ e. absurd cc) (λ 
 
 content : (quorum : ℕ) (part : Confirming) → IsNoFault (first_failing (content_tests quorum part))
 content quorum part =
-    first (FewVotes (vote_count part)) (nat_le quorum (vote_count part)) ((BadPath, is_shown part.name part.root part.body) ∷ ((SameAuthority, not (part.first == part.second)) ∷ [])) (λ e. absurd cc)
-    (first BadPath (is_shown part.name part.root part.body) ((SameAuthority, not (part.first == part.second)) ∷ []) (λ e. absurd cc)
+    first (FewVotes (vote_count part)) (nat_le quorum (vote_count part)) ((BadPath, shows part) ∷ ((SameAuthority, not (part.first == part.second)) ∷ [])) (λ e. absurd cc)
+    (first BadPath (shows part) ((SameAuthority, not (part.first == part.second)) ∷ []) (λ e. absurd cc)
     (first SameAuthority (not (part.first == part.second)) [] (λ e. absurd cc) (λ e. absurd cc)))
 
 checks : (s : AuthorityState) (chosen : ℕ) (parties : List Party) (claims : List Claimed) (part : Confirming) → IsNoFault (confirming_checks s chosen parties claims part)

@@ -36,7 +36,8 @@ use Rattle.party_keys.specs.Signers.{Claimed, all_known, all_signed, and_then, s
 use Rattle.party_keys.specs.declared.fault.SignerFault.{SignerFault}
 use Rattle.authority_core.specs.Calls.{MayConfirm, after_endorse, after_learn, after_roll, confirming, seen_of_half, seen_of_log, seen_of_votes}
 use Rattle.authority_core.specs.ConfirmRows.{half_claims, log_claims}
-use Rattle.authority_core.specs.Confirming.{confirmed_by, confirming_checks, content_tests, is_shown, kept_of, log_claimed, meant_for, parties_of, seen_in, vote_count, voted_by, voters_of}
+use Rattle.ar_message.specs.Shown.{shows}
+use Rattle.authority_core.specs.Confirming.{confirmed_by, confirming_checks, content_tests, kept_of, log_claimed, meant_for, parties_of, seen_in, vote_count, voted_by, voters_of}
 use Rattle.authority_core.specs.Honest.{HonestAuthority}
 use Rattle.authority_core.specs.Refusals.{of_signers}
 use Rattle.authority_core.specs.State.{Answer, AuthorityState, IsAuthority, if_due, in_order}
@@ -102,7 +103,7 @@ passed-members s chosen parties claims part is =
 
 -- the tests of the content behind the first
 abbrev later-tests : Confirming → List (AuthorityRefusal × Bool)
-later-tests part = (BadPath, is_shown part.name part.root part.body) ∷ ((SameAuthority, not (part.first == part.second)) ∷ [])
+later-tests part = (BadPath, shows part) ∷ ((SameAuthority, not (part.first == part.second)) ∷ [])
 
 pub passed-many : (s : AuthorityState) (chosen : ℕ) (parties : List Party) (claims : List Claimed) (part : Confirming) → Passed s chosen parties claims part → s.keys.quorum ≤ vote_count part
 passed-many s chosen parties claims part is =
@@ -111,9 +112,9 @@ passed-many s chosen parties claims part is =
     (order-then (with_error of_signers (signers_answer s.keys parties claims)) (first_failing (content_tests s.keys.quorum part)) tt (behind-first s chosen parties claims part is)))
 
 pub passed-shown : (s : AuthorityState) (chosen : ℕ) (parties : List Party) (claims : List Claimed) (part : Confirming) → Passed s chosen parties claims part
-    → is_shown part.name part.root part.body ≡ true
+    → shows part ≡ true
 passed-shown s chosen parties claims part is =
-    second-holds (FewVotes (vote_count part)) BadPath (nat_le s.keys.quorum (vote_count part)) (is_shown part.name part.root part.body) ((SameAuthority, not (part.first == part.second)) ∷ [])
+    second-holds (FewVotes (vote_count part)) BadPath (nat_le s.keys.quorum (vote_count part)) (shows part) ((SameAuthority, not (part.first == part.second)) ∷ [])
     (order-then (with_error of_signers (signers_answer s.keys parties claims)) (first_failing (content_tests s.keys.quorum part)) tt (behind-first s chosen parties claims part is))
 
 -- ---- a confirmation may be confirmed

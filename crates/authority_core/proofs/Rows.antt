@@ -22,7 +22,8 @@ use Rattle.party_keys.specs.declared.fault.LearnFault.{LearnFault}
 use Rattle.party_keys.specs.declared.learning.Learned.{Learned}
 use Rattle.authority_core.specs.Calls.{after_endorse}
 use Rattle.authority_core.specs.ConfirmRows.{half_claims, half_confirmed_row, log_claims, log_confirmed_row}
-use Rattle.authority_core.specs.Confirming.{confirming_checks, is_shown, parties_of, vote_count}
+use Rattle.ar_message.specs.Shown.{shows}
+use Rattle.authority_core.specs.Confirming.{confirming_checks, parties_of, vote_count}
 use Rattle.authority_core.specs.EndorseRow.{asked_of, endorse_due, endorse_row, endorsing}
 use Rattle.authority_core.specs.Honest.{HasAsked}
 use Rattle.authority_core.specs.RollRows.{learning, roll_by, roll_message, roll_note_by, roll_note_row, roll_row, rolling}
@@ -111,14 +112,14 @@ pub said-yes : (s : AuthorityState) (owner : ℕ) (cert : Certificate) (said : O
 said-yes s owner cert said later sent e = yes-only s owner (asked_of cert) said later sent e
 
 pub log-row-many : (s : AuthorityState) (part : Confirming) (later : AuthorityState) (sent : Unsigned) → log_confirmed_row s part ≡ Ok (later, sent)
-    → (s.keys.quorum ≤ vote_count part) × (is_shown part.name part.root part.body ≡ true)
+    → (s.keys.quorum ≤ vote_count part) × (shows part ≡ true)
 unfolding log_confirmed_row
 log-row-many s part later sent e =
     let passed = order-first (confirming_checks s part.first (parties_of part part.second) (log_claims part) part) _ (later, sent) e in
     (passed-many s part.first (parties_of part part.second) (log_claims part) part passed, passed-shown s part.first (parties_of part part.second) (log_claims part) part passed)
 
 pub half-row-many : (s : AuthorityState) (part : Confirming) (first_signature : List ℕ) (later : AuthorityState) (sent : Unsigned) → half_confirmed_row s part first_signature ≡ Ok (later, sent)
-    → (s.keys.quorum ≤ vote_count part) × (is_shown part.name part.root part.body ≡ true)
+    → (s.keys.quorum ≤ vote_count part) × (shows part ≡ true)
 unfolding half_confirmed_row
 half-row-many s part first_signature later sent e =
     let passed = order-first (confirming_checks s part.second (parties_of part part.first) (half_claims part first_signature) part) _ (later, sent) e in (

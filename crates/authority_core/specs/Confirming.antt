@@ -1,25 +1,20 @@
 -- What an authority checks of a confirmation that a log made, and what it does where it confirms it too. Two rows share it:
 -- that of the first of two authorities, and that of the second.
-use Rattle.std.specs.Prelude.{ℕ, ◌==◌, nat_le, Bool, not, ◌&&◌, List, [], ◌∷◌, ◌++◌, map, Option, Result}
+use Rattle.std.specs.Prelude.{ℕ, ◌==◌, nat_le, Bool, not, List, [], ◌∷◌, ◌++◌, map, Option, Result}
 use Rattle.std.specs.Option.{option_map}
-use Rattle.std.specs.Str.{bytes_eq}
-use Rattle.hash_tree.specs.Strings.{value_digest}
 use Rattle.tree_proof.specs.Fold.{digests_in}
-use Rattle.tree_proof.specs.Membership.{is_off, is_on}
 use Rattle.ar_base.specs.FirstFailing.{first_failing}
 use Rattle.ar_base.specs.Gives.{with_error}
-use Rattle.ar_names.specs.Names.{name_digest_of}
 use Rattle.ar_statement.specs.declared.party.Party.{Party}
 use Rattle.ar_statement.specs.declared.text.SeenText.{SeenText}
 use Rattle.ar_statement.specs.Claims.{text_of}
 use Rattle.ar_cert.specs.Certificate.{digest_of}
 use Rattle.ar_council.specs.Values.{vote_claim}
+use Rattle.ar_message.specs.Shown.{shows}
 use Rattle.ar_message.specs.Confirmation.{bottom_in, certificate_in}
 use Rattle.ar_message.specs.Messages.{message_text, path_in, shown_in}
 use Rattle.ar_message.specs.declared.address.Address.{Address}
 use Rattle.ar_message.specs.declared.lists.Vote.{Vote}
-use Rattle.ar_message.specs.declared.message.Body.{Body}
-use Rattle.ar_message.specs.declared.message.Body.TheVariants.{Absent, Present}
 use Rattle.ar_message.specs.declared.message.Confirming.{Confirming}
 use Rattle.ar_message.specs.declared.message.Message.{Message}
 use Rattle.party_keys.specs.Seen.{authority_party, log_party}
@@ -89,13 +84,6 @@ seen_in c = record { party = c.party; text = c.text }
 
 -- ---- checks
 
--- the table with the root has this for the name: the certificate is the name's, and the path leads from its entry to the
--- root; or the path shows that the name has none
-unfoldable pub is_shown : List ℕ → List ℕ → Body → Bool
-is_shown name root (Present certificate path) =
-    bytes_eq certificate.name name && is_on (name_digest_of name) (value_digest certificate.serial (digest_of certificate)) path root
-is_shown name root (Absent bottom path) = is_off (name_digest_of name) bottom path root
-
 -- how many logs voted
 abbrev pub vote_count : Confirming → ℕ
 vote_count part = distinct_count (voters_of part)
@@ -108,7 +96,7 @@ meant_for me chosen = (NotForAuthority, chosen == me) ∷ []
 abbrev pub content_tests : ℕ → Confirming → List (AuthorityRefusal × Bool)
 content_tests quorum part =
     (FewVotes (vote_count part), nat_le quorum (vote_count part))
-    ∷ (BadPath, is_shown part.name part.root part.body)
+    ∷ (BadPath, shows part)
     ∷ (SameAuthority, not (part.first == part.second))
     ∷ []
 

@@ -5,7 +5,8 @@ ghost use Rattle.ar_base.specs.FirstFailing.{first_failing};
 ghost use Rattle.tree_proof.specs.Fold.{digests_in};
 ghost use Rattle.ar_message.specs.Messages.{path_in, shown_in};
 ghost use Rattle.ar_message.specs.Confirmation.{bottom_in};
-ghost use Rattle.authority_core.specs.Confirming.{certificate_of, content_tests, is_shown, kept_of, log_claimed, parties_of, seen_in, voted_by, voters_of};
+ghost use Rattle.ar_message.specs.Shown.{shows};
+ghost use Rattle.authority_core.specs.Confirming.{certificate_of, content_tests, kept_of, log_claimed, parties_of, seen_in, voted_by, voters_of};
 ghost use Rattle.authority_core.specs.ConfirmRows.{half_claims, log_claims};
 ghost use Rattle.authority_core.specs.Calls.{kept_claim};
 ghost use Rattle.authority_core.specs.declared.refusal.AuthorityRefusal.TheVariants.{Memory};
@@ -18,7 +19,6 @@ use crate::record::kept_statement;
 use crate::refusal::AuthorityRefusal;
 use ar_base::Items;
 use ar_message::{Body, Confirming, Vote};
-use ar_names::Name;
 use ar_statement::{Party, Role, SeenText, Statement, Text};
 use hash_tree::value_digest;
 use party_keys::Claimed;
@@ -195,18 +195,19 @@ pub(crate) fn seen_in(alloc: Global, claims: &[Claimed]) -> Result<Vec<SeenText>
 
 // ---- the content
 
-// Whether the table with the root has this for the name.
-#[tactic(auto, unfolding(crate::specs::Confirming::is_shown))]
-fn is_shown(name: &Name, root: &[u8; 32], body: &Body) -> bool
-    ensures { result ≡ is_shown name.now root.now body.now }
+// Whether the table with its root has for the name what the confirmation says.
+#[tactic(auto, unfolding(ar_message::specs::Shown::is_shown))]
+fn shows(part: &Confirming) -> bool
+    ensures { result ≡ shows part.now }
 {
-    let key = name.digest();
-    match body {
+    let key = part.name.digest();
+    match &part.body {
         Body::Present { cert, path } => {
             let value = value_digest(cert.serial, &cert.digest());
-            cert.name.text() == name.text() && check_present(&key, &value, path.as_slice(), root)
+            cert.name.text() == part.name.text()
+                && check_present(&key, &value, path.as_slice(), &part.root)
         }
-        Body::Absent { bottom, path } => check_absent(&key, bottom, path.as_slice(), root),
+        Body::Absent { bottom, path } => check_absent(&key, bottom, path.as_slice(), &part.root),
     }
 }
 
@@ -230,7 +231,7 @@ fn content(quorum: usize, part: &Confirming, voters: &[u16]) -> Result<(), Autho
     if count < quorum {
         return Err(AuthorityRefusal::FewVotes(count));
     }
-    if !is_shown(&part.name, &part.root, &part.body) {
+    if !shows(part) {
         return Err(AuthorityRefusal::BadPath);
     }
     if part.first == part.second {

@@ -20,7 +20,8 @@ ghost use Rattle.ar_council.specs.Room.{HasRoom};
 ghost use Rattle.ar_council.specs.Values.{confirmation_by};
 ghost use Rattle.authority_core.specs.Calls.{MayConfirm, MayRoll, after_endorse, after_half_confirmed, after_learn, after_log_confirmed, after_roll, fresh_authority, kept_claim};
 ghost use Rattle.authority_core.specs.ConfirmRows.{half_confirmed_row, log_confirmed_row};
-ghost use Rattle.authority_core.specs.Confirming.{is_shown, vote_count};
+ghost use Rattle.ar_message.specs.Shown.{shows};
+ghost use Rattle.authority_core.specs.Confirming.{vote_count};
 ghost use Rattle.authority_core.specs.EndorseRow.{endorse_row};
 ghost use Rattle.authority_core.specs.Honest.{HasAsked, HasKept, HonestAuthority};
 ghost use Rattle.authority_core.specs.Record.{AuthorityRecord};
@@ -97,7 +98,7 @@ pub fn no_endorsement_without_a_yes()
 /// An authority confirms only what a quorum of logs voted for, over one base and root, and what the path shows.
 pub fn no_confirmation_without_a_quorum()
     ensures first { (s : AuthorityState) (part : Confirming) (later : AuthorityState) (sent : Unsigned) → log_confirmed_row s part ≡ Ok (later, sent)
-        → (s.keys.quorum ≤ vote_count part) × (is_shown part.name part.root part.body ≡ true) }
+        → (s.keys.quorum ≤ vote_count part) × (shows part ≡ true) }
     ensures second { (s : AuthorityState) (part : Confirming) (first_signature : List ℕ) (later : AuthorityState) (sent : Unsigned) → half_confirmed_row s part first_signature ≡ Ok (later, sent)
-        → (s.keys.quorum ≤ vote_count part) × (is_shown part.name part.root part.body ≡ true) }
+        → (s.keys.quorum ≤ vote_count part) × (shows part ≡ true) }
 {}

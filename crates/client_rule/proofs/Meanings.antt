@@ -19,7 +19,8 @@ use Rattle.ar_message.specs.Confirmation.{Subject, Body, present, absent, Confir
 use Rattle.party_keys.specs.Directory.{Directory}
 use Rattle.party_keys.specs.Signatures.{verified}
 use Rattle.party_keys.specs.declared.fault.VerifyFault.{VerifyFault}
-use Rattle.client_rule.specs.Rule.{has_parties, confirms, is_shown, is_young, is_live, is_current, checks, refusal_of, claim_on, taken, unless_refused, judgement_on, judgement}
+use Rattle.ar_message.specs.Shown.{is_shown}
+use Rattle.client_rule.specs.Rule.{has_parties, confirms, is_young, is_live, is_current, checks, refusal_of, claim_on, taken, unless_refused, judgement_on, judgement}
 use Rattle.client_rule.specs.Meaning.{Asked, Check, same_name, parties, log_signature, first_signature, second_signature, path, not_later, young, live, current, number_of, all_checks, HasParties, Confirms, IsShown, IsYoung, IsLive, IsCurrent, Holds, HoldsAll, HoldsUpTo, Passes, Accepts, AcceptsNone, Refuses}
 use Rattle.client_rule.specs.declared.judgement.Judgement.{Judgement}
 use Rattle.client_rule.specs.declared.judgement.Judgement.TheVariants.{Accepted, Absent, Refused}
@@ -50,7 +51,7 @@ confirms_decides : (keys : Directory) (about : Subject) (body : Body) (signer : 
 unfolding confirms
 confirms_decides keys about body signer signature = ok_decides (verified keys signer (text_of (claim_on about body signer)) signature)
 
-shown_decides : (about : Subject) (body : Body) (steps : List ℕ) → Decides (is_shown about body steps) (IsShown about body steps)
+pub shown_decides : (about : Subject) (body : Body) (steps : List ℕ) → Decides (is_shown about body steps) (IsShown about body steps)
 unfolding is_shown
 shown_decides about (present certificate) steps = Decides-and _ _ (bytes_eq-Decides _ _) (is_on-Decides _ _ _ _)
 shown_decides about (absent bottom) steps = is_off-Decides _ bottom _ _

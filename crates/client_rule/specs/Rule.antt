@@ -2,15 +2,13 @@
 use Rattle.std.specs.Prelude.{ℕ, ◌-◌, ◌==◌, nat_le, nat_lt, Bool, true, not, ◌&&◌, List, [], ◌∷◌, length, Option, Some, None, Result, Ok, Err}
 use Rattle.std.specs.Result.{is_ok, result_ok}
 use Rattle.std.specs.Str.{bytes_eq}
-use Rattle.hash_tree.specs.Strings.{value_digest}
-use Rattle.tree_proof.specs.Membership.{is_on, is_off}
 use Rattle.ar_base.specs.FirstFailing.{first_failing}
 use Rattle.ar_bytes.specs.Reading.{whole}
-use Rattle.ar_names.specs.Names.{name_digest_of}
 use Rattle.ar_statement.specs.Claims.{Claim, confirm, confirm_absent, text_of, party}
 use Rattle.ar_statement.specs.declared.party.Role.TheVariants.{LogServer, Authority}
 use Rattle.ar_statement.specs.declared.party.Party.{Party}
 use Rattle.ar_cert.specs.Certificate.{digest_of}
+use Rattle.ar_message.specs.Shown.{is_shown}
 use Rattle.ar_message.specs.Confirmation.{Subject, Body, present, absent, Confirmation, confirmation_at}
 use Rattle.party_keys.specs.Directory.{Directory}
 use Rattle.party_keys.specs.Signatures.{verified}
@@ -35,14 +33,6 @@ claim_on about (absent bottom) signer = confirm_absent signer about.epoch about.
 -- the party signed its own statement of it
 unfoldable pub confirms : Directory → Subject → Body → Party → List ℕ → Bool
 confirms keys about body signer signature = is_ok (verified keys signer (text_of (claim_on about body signer)) signature)
-
--- the table with the root has this for the name: the certificate is the name's, and the steps lead from
--- the name's entry to the root; or they show that the name has no entry
-unfoldable pub is_shown : Subject → Body → List ℕ → Bool
-is_shown about (present certificate) steps =
-    bytes_eq certificate.name about.name
-    && is_on (name_digest_of about.name) (value_digest certificate.serial (digest_of certificate)) steps about.root
-is_shown about (absent bottom) steps = is_off (name_digest_of about.name) bottom steps about.root
 
 -- so many epochs after its own, the confirmation is not older than the client and the certificate allow
 abbrev pub is_young : ℕ → ℕ → Body → Bool

@@ -1,7 +1,8 @@
 ghost use Rattle.std.specs.Prelude.{◌≡◌, ◌-◌};
 ghost use Rattle.ar_statement.specs.Claims.{party, text_of};
 ghost use Rattle.ar_statement.specs.declared.party.Role.TheVariants.{LogServer, Authority};
-ghost use Rattle.client_rule.specs.Rule.{claim_on, confirms, has_parties, is_current, is_live, is_shown, is_young, refusal_of};
+ghost use Rattle.ar_message.specs.Shown.{is_shown};
+ghost use Rattle.client_rule.specs.Rule.{claim_on, confirms, has_parties, is_current, is_live, is_young, refusal_of};
 ghost use Rattle.client_rule.specs.Views.{body_of, HasDigest};
 
 use crate::shown::Shown;
@@ -89,7 +90,7 @@ fn second_confirms(directory: &Directory, view: &ConfView, shown: &Shown) -> boo
 }
 
 // Whether the table with the root has this for the name.
-#[tactic(auto, unfolding(crate::specs::Rule::is_shown))]
+#[tactic(auto, unfolding(ar_message::specs::Shown::is_shown))]
 fn is_shown(view: &ConfView, shown: &Shown) -> bool
     requires { HasDigest shown.now }
     ensures { result ≡ is_shown view.now.about (body_of shown.now) view.now.steps }
