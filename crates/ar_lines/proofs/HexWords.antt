@@ -1,5 +1,5 @@
 -- A word of hex digits, an even number of them, spells bytes; and which word spells a key.
-use Rattle.std.proofs.Common.{◌≡◌, ℕ, ◌*◌, ◌%◌, ◌<◌, ◌==◌, Bool, true, false, ◌&&◌, ◌||◌, not, if◌then◌else◌, List, length, Option, Some, None, Result, Ok, Err, IsOk, refl, sym, ap, ◌∙◌, inl, inr, arith}
+use Rattle.std.proofs.Common.{◌≡◌, ℕ, ◌*◌, ◌%◌, ◌==◌, Bool, true, false, ◌||◌, not, cond, if◌then◌else◌, List, length, Option, Some, None, Result, Ok, Err, IsOk, refl, sym, ap, ◌∙◌, eq-eqb, arith}
 use Rattle.std.specs.Prelude.{MatchResult, is_some, option_and_then}
 use Rattle.std.specs.List.{list_all}
 use Rattle.std.specs.Result.{result_ok}
@@ -12,8 +12,8 @@ use Rattle.lms_tree.specs.declared.public_key.LmsPublic.{LmsPublic}
 use Rattle.lms_tree.specs.PublicKey.{is_key_text, key_of_text}
 use Rattle.lms_tree.proofs.KeyLemmas.{is_some-key_of_text}
 use Rattle.ar_lines.specs.Readings.{WordAt, or_fault, spelled}
-use Rattle.ar_lines.specs.Forms.{bytes_of_hex, is_hex, is_lower_hex_digit, key_of_hex}
-use Rattle.ar_lines.proofs.Respelled.{is_small}
+use Rattle.ar_lines.specs.Forms.{bytes_of_hex, is_hex, is_lower_hex_digit, key_of_hex, passing, sized_of_hex}
+use Rattle.ar_lines.proofs.Respelled.{is_small, passing_some}
 use Rattle.ar_lines.proofs.TextLaws.{all_pass}
 
 -- ---- bytes
@@ -66,15 +66,48 @@ hex_is_read word h = let bytes = hex_spells word.text h in rw bytes.1 refl
 
 pub ruleset hex_laws = (hex_spells, hex_alone, hex_decoded)
 
+-- ---- so many bytes
+
+pub sized-upper : (count : ℕ) (word : List ℕ) → list_all is_lower_hex_digit word ≡ false → sized_of_hex count word ≡ None
+unfolding sized_of_hex
+sized-upper count word low = rw low refl
+
+pub sized-bytes : (count : ℕ) (word bytes : List ℕ) → list_all is_lower_hex_digit word ≡ true → decode_sized word count ≡ Ok bytes → sized_of_hex count word ≡ Some bytes
+unfolding sized_of_hex
+sized-bytes count word bytes low is =
+    let twice : length word ≡ 2 * count = decode_sized-ok word count bytes is in
+    let same : decode_of word ≡ Ok bytes = sym (decode_sized-twice word count twice) ∙ is in
+    let len : length word ≡ 2 * length bytes = (decode_of-ok word bytes same).2 in
+    let all : (length bytes == count) ≡ true = eq-eqb (length bytes) count (omega (arith, twice, len)) in
+    rw (low, same, all) refl
+
+sized-fault : (count : ℕ) (word : List ℕ) (e : FromHexError) → decode_sized word count ≡ Err e → sized_of_hex count word ≡ None
+unfolding sized_of_hex
+sized-fault count word e fails = by (list_all is_lower_hex_digit word) (decode_of word) refl
+  where
+    other : (bytes : List ℕ) (b : Bool) → (length bytes == count) ≡ b → decode_of word ≡ Ok bytes → cond b (Some bytes) None ≡ None
+    other bytes false len is = refl
+    other bytes true len is =
+        let twice : length word ≡ 2 * count = (decode_of-ok word bytes is).2 ∙ ap (λ n. 2 * n) (eqb-true (length bytes) count len) in
+        absurd (cc (sym fails ∙ decode_sized-twice word count twice ∙ is))
+
+    by : (low : Bool) (read : Result (List ℕ) FromHexError) → decode_of word ≡ read → passing (λ bytes. length bytes == count) (if low then result_ok read else None) ≡ None
+    by false read is = refl
+    by true (Err f) is = refl
+    by true (Ok bytes) is = other bytes (length bytes == count) refl is
+
+-- what did not fit into so many bytes spells none
+pub sized-unread : (count : ℕ) (word out : List ℕ) (answer : Result (Unit {0}) FromHexError) (fault : FromHexError) → answer ≡ Err fault
+    → MatchResult (decode_sized word count) (λ bytes. (answer ≡ Ok tt) × (out ≡ bytes)) (λ e. answer ≡ Err e) → sized_of_hex count word ≡ None
+sized-unread count word out answer fault failed h = by (decode_sized word count) refl h
+  where
+    by : (read : Result (List ℕ) FromHexError) → decode_sized word count ≡ read → MatchResult read (λ bytes. (answer ≡ Ok tt) × (out ≡ bytes)) (λ e. answer ≡ Err e) → sized_of_hex count word ≡ None
+    by (Ok bytes) is h = let never = sym failed ∙ h.0 in absurd cc
+    by (Err e) is h = sized-fault count word e is
+
+pub ruleset sized_laws = (sized-upper, sized-bytes)
+
 -- ---- keys
-
-pub key_of_hex-upper : (word : List ℕ) → list_all is_lower_hex_digit word ≡ false → key_of_hex word ≡ None
-key_of_hex-upper word low = rw low refl
-
-pub key_of_hex-bytes : (word bytes : List ℕ) → list_all is_lower_hex_digit word ≡ true → decode_sized word 56 ≡ Ok bytes → key_of_hex word ≡ key_of_text bytes
-key_of_hex-bytes word bytes low is =
-    let same = sym (decode_sized-twice word 56 (decode_sized-ok word 56 bytes is)) ∙ is in
-    rw (low, same) refl
 
 -- bytes of another length are no key
 key_length : (bytes : List ℕ) → is_key_text bytes ≡ true → length bytes ≡ 56
@@ -90,22 +123,17 @@ no_key bytes other = by (key_of_text bytes) refl
         let some : true ≡ is_key_text bytes = ap is_some (sym is) ∙ is_some-key_of_text bytes in
         absurd (other (key_length bytes (sym some)))
 
-pub key_of_hex-fault : (word : List ℕ) (e : FromHexError) → decode_sized word 56 ≡ Err e → key_of_hex word ≡ None
-key_of_hex-fault word e fails = by (list_all is_lower_hex_digit word) (decode_of word) refl
+-- bytes that are no key's text spell no key
+pub key_of_hex-unsized : (word : List ℕ) → sized_of_hex 56 word ≡ None → key_of_hex word ≡ None
+unfolding sized_of_hex
+key_of_hex-unsized word none = by (bytes_of_hex word) none
   where
-    by : (low : Bool) (read : Result (List ℕ) FromHexError) → decode_of word ≡ read → option_and_then key_of_text (if low then result_ok read else None) ≡ None
-    by false read is = refl
-    by true (Err f) is = refl
-    by true (Ok bytes) is = no_key bytes (λ len.
-        let twice : length word ≡ 2 * 56 = (decode_of-ok word bytes is).2 ∙ ap (λ n. 2 * n) len in
-        cc (sym fails ∙ decode_sized-twice word 56 twice ∙ is))
+    by : (read : Option (List ℕ)) → passing (λ bytes. length bytes == 56) read ≡ None → option_and_then key_of_text read ≡ None
+    by None h = refl
+    by (Some bytes) h = no_key bytes (λ len. let all : true ≡ (length bytes == 56) = sym (eq-eqb (length bytes) 56 len) in cc)
 
--- what did not fit into 56 bytes spells no key
-pub key_of_hex-unread : (word out : List ℕ) (answer : Result (Unit {0}) FromHexError) (fault : FromHexError) → answer ≡ Err fault → MatchResult (decode_sized word 56) (λ bytes. (answer ≡ Ok tt) × (out ≡ bytes)) (λ e. answer ≡ Err e) → key_of_hex word ≡ None
-key_of_hex-unread word out answer fault failed h = by (decode_sized word 56) refl h
-  where
-    by : (read : Result (List ℕ) FromHexError) → decode_sized word 56 ≡ read → MatchResult read (λ bytes. (answer ≡ Ok tt) × (out ≡ bytes)) (λ e. answer ≡ Err e) → key_of_hex word ≡ None
-    by (Ok bytes) is h = let never = sym failed ∙ h.0 in absurd cc
-    by (Err e) is h = key_of_hex-fault word e is
+pub key_of_hex-sized : (word bytes : List ℕ) → sized_of_hex 56 word ≡ Some bytes → key_of_hex word ≡ key_of_text bytes
+unfolding sized_of_hex
+key_of_hex-sized word bytes some = ap (option_and_then key_of_text) (passing_some _ (bytes_of_hex word) bytes some).0
 
-pub ruleset key_laws = (key_of_hex-upper, key_of_hex-bytes)
+pub ruleset key_laws = (key_of_hex-unsized, key_of_hex-sized)

@@ -2,6 +2,7 @@ pub mod Faults
 pub mod HexWords
 pub mod LineLaws
 pub mod Numerals
+pub mod PartyWords
 pub mod Respelled
 pub mod RowsRead
 pub mod RowsWritten

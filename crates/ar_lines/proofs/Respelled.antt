@@ -15,8 +15,8 @@ use Rattle.hex.proofs.HexLemmas.{decode_of-even, decode_of-ok}
 use Rattle.lms_tree.specs.declared.public_key.LmsPublic.{LmsPublic}
 use Rattle.lms_tree.specs.PublicKey.{key_of_text}
 use Rattle.lms_tree.proofs.KeyLemmas.{key_text-key_of_text}
-use Rattle.ar_lines.specs.Forms.{bytes_of_hex, is_lower_hex_digit, is_numeral, key_of_hex, name_of, number_of, passing}
-use Rattle.ar_lines.specs.Written.{hex_of_key}
+use Rattle.ar_lines.specs.Forms.{bytes_of_hex, is_lower_hex_digit, is_numeral, key_of_hex, name_of, number_in, number_of, passing, sized_of_hex}
+use Rattle.ar_lines.specs.Written.{Writes, hex_of_key}
 use Rattle.ar_lines.proofs.Numerals.{numeral_digits, own}
 
 -- ---- what a value shows
@@ -27,9 +27,14 @@ kept true o y e = (refl, e)
 kept false o y e = absurd cc
 
 -- what a step behind a value shows
-stepped : {A B : Type 0} (f : A → Option B) (o : Option A) (y : B) → option_and_then f o ≡ Some y → (x : A) × (o ≡ Some x) × (f x ≡ Some y)
+pub stepped : {A B : Type 0} (f : A → Option B) (o : Option A) (y : B) → option_and_then f o ≡ Some y → (x : A) × (o ≡ Some x) × (f x ≡ Some y)
 stepped f (Some x) y e = (x, refl, e)
 stepped f None y e = absurd cc
+
+-- the value that was mapped
+pub mapped : {A B : Type 0} (f : A → B) (o : Option A) (y : B) → option_map f o ≡ Some y → (x : A) × (o ≡ Some x) × (f x ≡ y)
+mapped f (Some x) y h = (x, refl, same_Some (f x) y h)
+mapped f None y h = absurd cc
 
 gave : {A E : Type 0} (r : Result A E) (y : A) → result_ok r ≡ Some y → r ≡ Ok y
 gave (Ok x) y e = ap Ok (same_Some x y e)
@@ -40,6 +45,10 @@ passing_some test (Some x) y e =
     let p = cond_some (test x) x y e in
     (ap Some p.1, ap test (sym p.1) ∙ p.0)
 passing_some test None y e = absurd cc
+
+-- what passes a test is written as before
+pub passing_writes : {T : Type 0} (form : List ℕ → Option T) (write : T → List ℕ) (test : T → Bool) → Writes form write → Writes (λ word. passing test (form word)) write
+passing_writes form write test writes word value h = writes word value (passing_some test (form word) value h).0
 
 -- ---- hex
 
@@ -103,6 +112,10 @@ hex_own word bytes h =
     let ok = decode_of-ok word bytes decoded in
     (pairs_own 0 word bytes parts.0 (sym (decode_of-even word ok.0) ∙ decoded), ok.3)
 
+pub sized_writes : (count : ℕ) → Writes (sized_of_hex count) encode_lower
+unfolding sized_of_hex
+sized_writes count = passing_writes bytes_of_hex encode_lower _ (λ word bytes h. (hex_own word bytes h).0)
+
 -- ---- keys
 
 pub key_hex_own : (word : List ℕ) (key : LmsPublic) → key_of_hex word ≡ Some key → hex_of_key key ≡ word
@@ -131,6 +144,10 @@ number_own word n h =
     let digits = numeral_digits word tests.0 in
     ap decimal (sym parts.1)
     ∙ decimal-digits_value own word digits.0 digits.1 (zero_alone word tests.0) (ltb-true _ _ tests.1)
+
+pub number_in_writes : (least most : ℕ) → Writes (number_in least most) decimal
+unfolding number_in
+number_in_writes least most = passing_writes number_of decimal _ number_own
 
 -- ---- names
 

@@ -5,6 +5,7 @@ use Rattle.std.specs.List.{list_all}
 use Rattle.std.specs.Result.{result_ok}
 use Rattle.std.specs.Str.Parse.{digits_value}
 use Rattle.hex.specs.Hex.{decode_of}
+use Rattle.ar_base.specs.Ranges.{is_from_to}
 use Rattle.ar_names.specs.Names.{is_name}
 use Rattle.lms_tree.specs.PublicKey.{key_of_text}
 use Rattle.lms_tree.specs.declared.public_key.LmsPublic.{LmsPublic}
@@ -28,6 +29,10 @@ is_hex word = list_all is_lower_hex_digit word && length word % 2 == 0
 abbrev pub bytes_of_hex : List ℕ → Option (List ℕ)
 bytes_of_hex word = if list_all is_lower_hex_digit word then result_ok (decode_of word) else None
 
+-- the bytes that a word spells, where there are so many
+unfoldable pub sized_of_hex : ℕ → List ℕ → Option (List ℕ)
+sized_of_hex count word = passing (λ bytes. length bytes == count) (bytes_of_hex word)
+
 -- the public key that a word spells by the bytes of its text
 abbrev pub key_of_hex : List ℕ → Option LmsPublic
 key_of_hex word = option_and_then key_of_text (bytes_of_hex word)
@@ -43,6 +48,10 @@ is_numeral word =
 abbrev pub number_of : List ℕ → Option ℕ
 number_of word =
     if is_numeral word && nat_lt (digits_value 10 word) (2 ^ 64) then Some (digits_value 10 word) else None
+
+-- the number that a word spells, where it is not below the first of these bounds and not above the second
+unfoldable pub number_in : ℕ → ℕ → List ℕ → Option ℕ
+number_in least most word = passing (is_from_to least most) (number_of word)
 
 -- ---- names
 

@@ -1,5 +1,6 @@
 pub mod Forms
 pub mod Lines
+pub mod Parties
 pub mod Readings
 pub mod Refusals
 pub mod Rows

@@ -7,6 +7,7 @@ ghost use Rattle.std.specs.List.{list_all};
 ghost use Rattle.hex.specs.Hex.{IsBytes, encode_lower};
 ghost use Rattle.ar_names.specs.Names.{IsName};
 ghost use Rattle.ar_lines.specs.Forms.{bytes_of_hex, key_of_hex, name_of, number_of};
+ghost use Rattle.ar_lines.specs.Parties.{party_of, party_word};
 ghost use Rattle.ar_lines.specs.Lines.{is_text, lines_of};
 ghost use Rattle.ar_lines.specs.Written.{IsKey, IsReadAsWritten, Writes, hex_of_key, text_of_lines};
 
@@ -21,6 +22,7 @@ pub fn words_are_read_as_they_are_written()
     ensures number { IsReadAsWritten number_of decimal (λ n. n < 2 ^ 64) }
     ensures name { IsReadAsWritten name_of (λ name. name) IsName }
     ensures key { IsReadAsWritten key_of_hex hex_of_key IsKey }
+    ensures party { IsReadAsWritten party_of party_word (λ party. party.number < 2 ^ 16) }
 {}
 
 /// A word spells only what is written as it, so that no two words spell the same.
@@ -29,4 +31,5 @@ pub fn only_written_words_are_read()
     ensures number { Writes number_of decimal }
     ensures name { Writes name_of (λ name. name) }
     ensures key { Writes key_of_hex hex_of_key }
+    ensures party { Writes party_of party_word }
 {}

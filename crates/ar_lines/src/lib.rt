@@ -2,21 +2,23 @@
 //! lines stands on.
 //!
 //! `Lines` gives the lines of an input one after the other, as a `Word` or as the fields of a named line,
-//! and a `Word` is read as hex, as a number, as a name or as a key. `Refusal` says which line is refused,
-//! and why.
+//! and a `Word` is read as hex, as a number, as a name or as a key. `letter_of` and `party_of` are how a party is
+//! written and read. `Refusal` says which line is refused, and why.
 //!
-//! In `specs/`, `Lines` says how an input is cut, `Forms` what a word spells, `Refusals` how a refused
-//! line is told, `Readings` and `Rows` what is read of lines and of named lines, `Views` how a row that is
-//! read in place is seen, and `Written` how lines and words are written. `laws` says that what is written
-//! is read, and that it is read from nothing else.
+//! In `specs/`, `Lines` says how an input is cut, `Forms` what a word spells, `Parties` the words of parties,
+//! `Refusals` how a refused line is told, `Readings` and `Rows` what is read of lines and of named lines,
+//! `Views` how a row that is read in place is seen, and `Written` how lines and words are written. `laws` says
+//! that what is written is read, and that it is read from nothing else.
 #![tactic(auto)]
 
 pub use lines::{Lines, first_word, is_text};
+pub use party::{letter_of, party_of};
 pub use refusal::{LineFault, Reason, Refusal};
-pub use word::{Word, are_hex_digits, is_hex, number_of};
+pub use word::{Word, are_hex_digits, array_of_hex, is_hex, number_in, number_of};
 
 pub mod laws;
 mod lines;
+mod party;
 mod refusal;
 #[cfg(test)]
 mod tests;

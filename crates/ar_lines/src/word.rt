@@ -1,6 +1,6 @@
-ghost use Rattle.std.specs.Prelude.{◌≡◌, Option, List, ℕ};
+ghost use Rattle.std.specs.Prelude.{◌≡◌, ◌≤◌, IfSome, Option, List, ℕ};
 ghost use Rattle.std.specs.List.{list_all};
-ghost use Rattle.ar_lines.specs.Forms.{bytes_of_hex, is_hex, is_lower_hex_digit, is_numeral, key_of_hex, name_of, number_of};
+ghost use Rattle.ar_lines.specs.Forms.{bytes_of_hex, is_hex, is_lower_hex_digit, is_numeral, key_of_hex, name_of, number_in, number_of, sized_of_hex};
 ghost use Rattle.std.specs.Char.{is_ascii_digit};
 ghost use Rattle.ar_lines.specs.Readings.{ReadsOrWants, spelled};
 ghost use Rattle.ar_lines.specs.declared.refusal.Reason.TheVariants.{Field};
@@ -117,19 +117,28 @@ impl<'a> Word<'a> {
     }
 }
 
+/// The `N` bytes that a hex word of twice as many digits spells; `None` exactly where it spells no such bytes.
+#[tactic(auto, using(crate::proofs::HexWords::sized_laws))]
+pub fn array_of_hex<const N: usize>(word: &[u8]) -> Option<[u8; N]>
+    ensures { result ≡ sized_of_hex N word.now }
+{
+    if !are_hex_digits(word) {
+        return None;
+    }
+    let mut bytes = [0; N];
+    match hex::decode_to_slice(word, &mut bytes) {
+        Ok(()) => Some(bytes),
+        Err(_) => None,
+    }
+}
+
 /// The public key whose text a hex word of 112 digits spells; `None` exactly where it spells none.
 #[tactic(auto, using(crate::proofs::HexWords::key_laws))]
 fn key_of_hex(word: &[u8]) -> Option<LmsPublic>
     ensures { result ≡ key_of_hex word.now }
 {
-    if !are_hex_digits(word) {
-        return None;
-    }
-    let mut text = [0; 56];
-    match hex::decode_to_slice(word, &mut text) {
-        Ok(()) => LmsPublic::read(&text),
-        Err(_) => None,
-    }
+    let text = array_of_hex::<56>(word)?;
+    LmsPublic::read(&text)
 }
 
 /// Whether a word is `0`, or decimal digits of which the first is not `0`.
@@ -159,4 +168,17 @@ pub fn number_of(word: &[u8]) -> Option<u64>
         // Digits are text.
         Err(_) => unreachable!(),
     }
+}
+
+/// The number that such a word spells, where it is not below the first of these bounds and not above the second.
+#[tactic(auto, unfolding(crate::specs::Forms::number_in))]
+pub fn number_in(least: u64, most: u64, word: &[u8]) -> Option<u64>
+    ensures value { result ≡ number_in least most word.now }
+    ensures most { IfSome result (λ n. n ≤ most) }
+{
+    let number = number_of(word)?;
+    if number < least || most < number {
+        return None;
+    }
+    Some(number)
 }

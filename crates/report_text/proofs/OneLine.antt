@@ -9,14 +9,16 @@ use Rattle.std.proofs.lemmas.Option.{same_Some}
 use Rattle.hex.specs.Hex.{encode_lower}
 use Rattle.ar_base.specs.Bytes.{IsDigest}
 use Rattle.ar_lines.specs.Lines.{words_of}
+use Rattle.ar_lines.specs.Parties.{member_word, party_word}
 use Rattle.ar_lines.proofs.Spelled.{decimal_is_word, hex_is_word, name_is_word}
 use Rattle.ar_lines.proofs.TextLaws.{is_word, words_of-first, words_of-last}
+use Rattle.ar_statement.specs.Claims.{party}
 use Rattle.ar_statement.specs.declared.party.Party.{Party}
 use Rattle.ar_statement.specs.declared.party.Role.{Role}
 use Rattle.ar_statement.specs.declared.party.Role.TheVariants.{LogServer, Authority, Owner, Client}
 use Rattle.report_text.specs.Held.{AreNumbers, AreValues, IsCode, IsHappening, IsNumber, IsParty, IsSaid, IsShown, IsTarget, IsUnlearnt, IsWhat}
-use Rattle.report_text.specs.Lines.{kind_text, line_of, outcome_text, party_text, role_letter, rule_letter, sender_text, taken_text, target_text, value_text, values_text, what_text}
-use Rattle.report_text.proofs.Told.{ending_words, happening_is_told, learning_words, outcome_words, party_of, said_words, told, value_word, values_words, what_then, words_of_happening}
+use Rattle.report_text.specs.Lines.{kind_text, line_of, outcome_text, rule_letter, sender_text, taken_text, target_text, value_text, values_text, what_text}
+use Rattle.report_text.proofs.Told.{ending_words, happening_is_told, learning_words, outcome_words, said_words, told, value_word, values_words, what_then, words_of_happening}
 use Rattle.report_text.specs.declared.happening.Code.{Code}
 use Rattle.report_text.specs.declared.happening.Happening.{Happening}
 use Rattle.report_text.specs.declared.happening.Happening.TheVariants as happening
@@ -88,7 +90,7 @@ line_joined (happening.Taught a) = simp append_assoc
 line_joined (happening.Forgot a) = simp append_assoc
 line_joined (happening.Retired a) = simp append_assoc
 line_joined (happening.Draft n d) = simp append_assoc
-line_joined (happening.Step p w refused) = step_line (party_text p) w refused
+line_joined (happening.Step p w refused) = step_line (party_word p) w refused
 line_joined (happening.Ended log epoch None) = simp append_assoc
 line_joined (happening.Ended log epoch (Some root)) = simp append_assoc
 line_joined (happening.Learnt m None) = simp append_assoc
@@ -101,7 +103,7 @@ line_joined (happening.SignRefused p) = simp append_assoc
 line_joined (happening.Judged m (said.Accepted name serial epoch root certificate)) = simp append_assoc
 line_joined (happening.Judged m (said.Absent name epoch root)) = simp append_assoc
 line_joined (happening.Judged m (said.Refused k)) = simp append_assoc
-line_joined (happening.Order p taken) = rw (taken_line (party_text p) taken) (simp append_assoc)
+line_joined (happening.Order p taken) = rw (taken_line (party_word p) taken) (simp append_assoc)
 
 -- ---- the words of a line
 
@@ -111,10 +113,10 @@ split first (next ∷ more) h =
     let parts = and_parts (is_word first) (list_all is_word (next ∷ more)) h in
     words_of-first first (joined (next ∷ more)) parts.0 ∙ ap (λ ws. first ∷ ws) (split next more parts.1)
 
-party_word : (p : Party) → IsParty p → is_word (party_text p) ≡ true
-party_word p h = by p.role
+word_of_party : (p : Party) → IsParty p → is_word (party_word p) ≡ true
+word_of_party p h = by p.role
   where
-    by : (role : Role) → is_word (role_letter role ++ decimal p.number) ≡ true
+    by : (role : Role) → is_word (member_word role p.number) ≡ true
     by LogServer = rw (decimal_is_word p.number h) refl
     by Authority = rw (decimal_is_word p.number h) refl
     by Owner = rw (decimal_is_word p.number h) refl
@@ -125,7 +127,7 @@ digest_word d h = hex_is_word d h.bytes
 
 value_right : (v : Shown) → IsShown v → is_word (value_word v) ≡ true
 value_right (shown.Number n) h = decimal_is_word n h
-value_right (shown.Party p) h = party_word p h
+value_right (shown.Party p) h = word_of_party p h
 value_right (shown.Digest d) h = digest_word d h
 value_right shown.Full h = refl
 value_right shown.NoRoot h = refl
@@ -155,11 +157,11 @@ what_right (what.Handover n) more h m = rw (decimal_is_word n h, m) refl
 what_right (what.Object n) more h m = rw (decimal_is_word n h, m) refl
 
 sender_right : (from : Option Party) → IfSome from IsParty → is_word (sender_text from) ≡ true
-sender_right (Some p) h = party_word p h
+sender_right (Some p) h = word_of_party p h
 sender_right None h = refl
 
 target_right : (to : Target) → IsTarget to → is_word (target_text to) ≡ true
-target_right (target.One p) h = party_word p h
+target_right (target.One p) h = word_of_party p h
 target_right target.Logs h = refl
 target_right target.Nobody h = refl
 
@@ -197,21 +199,21 @@ numbers_right [] h = refl
 numbers_right (n ∷ ns) h = rw (decimal_is_word n h.0, numbers_right ns h.1) refl
 
 words_right : (h : Happening) → IsHappening h → list_all is_word (words_of_happening h) ≡ true
-words_right (happening.Made p d) h = rw (party_word p h.0, digest_word d h.1) refl
-words_right (happening.Dishonest p) h = rw (party_word p h) refl
-words_right (happening.Taught a) h = rw (party_word (party_of Authority a) h) refl
-words_right (happening.Forgot a) h = rw (party_word (party_of Authority a) h) refl
-words_right (happening.Retired a) h = rw (party_word (party_of Authority a) h) refl
+words_right (happening.Made p d) h = rw (word_of_party p h.0, digest_word d h.1) refl
+words_right (happening.Dishonest p) h = rw (word_of_party p h) refl
+words_right (happening.Taught a) h = rw (word_of_party (party Authority a) h) refl
+words_right (happening.Forgot a) h = rw (word_of_party (party Authority a) h) refl
+words_right (happening.Retired a) h = rw (word_of_party (party Authority a) h) refl
 words_right (happening.Draft n d) h = rw (decimal_is_word n h.0, digest_word d h.1) refl
-words_right (happening.Step p w refused) h = rw (party_word p h.0, what_right w (outcome_words refused) h.1 (outcome_right refused h.2)) refl
-words_right (happening.Ended log epoch None) h = rw (party_word (party_of LogServer log) h.0, decimal_is_word epoch h.1) refl
-words_right (happening.Ended log epoch (Some root)) h = rw (party_word (party_of LogServer log) h.0, decimal_is_word epoch h.1, digest_word root h.2) refl
+words_right (happening.Step p w refused) h = rw (word_of_party p h.0, what_right w (outcome_words refused) h.1 (outcome_right refused h.2)) refl
+words_right (happening.Ended log epoch None) h = rw (word_of_party (party LogServer log) h.0, decimal_is_word epoch h.1) refl
+words_right (happening.Ended log epoch (Some root)) h = rw (word_of_party (party LogServer log) h.0, decimal_is_word epoch h.1, digest_word root h.2) refl
 words_right (happening.Learnt m refused) h = rw (decimal_is_word m h.0, learning_right refused h.1) refl
 words_right (happening.Entered m k from to len d) h =
     rw (decimal_is_word m h.0, kind_right k, sender_right from h.1, target_right to h.2, decimal_is_word len h.3, digest_word d h.4) refl
-words_right (happening.SignRefused p) h = rw (party_word p h) refl
+words_right (happening.SignRefused p) h = rw (word_of_party p h) refl
 words_right (happening.Judged m s) h = rw (decimal_is_word m h.0, said_right s h.1) refl
-words_right (happening.Order p taken) h = rw (party_word p h.0, numbers_right taken h.1) refl
+words_right (happening.Order p taken) h = rw (word_of_party p h.0, numbers_right taken h.1) refl
 
 split_any : (ws : List (List ℕ)) → (ws ≡ [] → ⊥) → list_all is_word ws ≡ true → words_of (joined ws) ≡ ws
 split_any [] some h = absurd (some refl)

@@ -12,13 +12,15 @@ use Rattle.hex.proofs.HexLemmas.{length-encode_with}
 use Rattle.ar_base.specs.Bytes.{IsDigest}
 use Rattle.ar_names.specs.Names.{IsName}
 use Rattle.ar_lines.specs.Forms.{bytes_of_hex, is_numeral, number_of}
+use Rattle.ar_lines.specs.Parties.{member_word, party_word, role_of}
 use Rattle.ar_lines.proofs.Respelled.{number_own}
 use Rattle.ar_lines.proofs.Spelled.{bytes_of_hex-encode, number_of-decimal}
+use Rattle.ar_statement.specs.Claims.{party}
 use Rattle.ar_statement.specs.declared.party.Party.{Party}
 use Rattle.ar_statement.specs.declared.party.Role.{Role}
 use Rattle.ar_statement.specs.declared.party.Role.TheVariants.{LogServer, Authority, Owner, Client}
 use Rattle.report_text.specs.Held.{AreNumbers, AreValues, IsCode, IsHappening, IsNumber, IsParty, IsSaid, IsShown, IsTarget, IsUnlearnt, IsWhat}
-use Rattle.report_text.specs.Lines.{kind_text, party_text, role_letter, rule_letter, sender_text, target_text}
+use Rattle.report_text.specs.Lines.{kind_text, rule_letter, sender_text, target_text}
 use Rattle.report_text.specs.declared.happening.Code.{Code}
 use Rattle.report_text.specs.declared.happening.Happening.{Happening}
 use Rattle.report_text.specs.declared.happening.Happening.TheVariants as happening
@@ -63,14 +65,6 @@ digest_is_told : (digest : List ℕ) → IsDigest digest → digest_told (encode
 unfolding digest_told
 digest_is_told digest h = bytes_of_hex-encode digest h.bytes
 
-abbrev pub role_told : ℕ → Option Role
-role_told letter =
-    if letter == 76 then Some LogServer
-    else if letter == 65 then Some Authority
-    else if letter == 68 then Some Owner
-    else if letter == 67 then Some Client
-    else None
-
 abbrev pub rule_told : ℕ → Option Role
 rule_told letter =
     if letter == 76 then Some LogServer
@@ -79,35 +73,32 @@ rule_told letter =
     else if letter == 67 then Some Client
     else None
 
-abbrev pub party_of : Role → ℕ → Party
-party_of role number = record { role = role; number = number }
-
 abbrev pub numbered_told : {A : Type 0} → (ℕ → Option Role) → (Role → ℕ → A) → List ℕ → Option A
 numbered_told letters make [] = None
 numbered_told letters make (letter ∷ digits) = bind (letters letter) (λ role. bind (number_told digits) (λ number. Some (make role number)))
 
 unfoldable pub party_told : List ℕ → Option Party
-party_told word = numbered_told role_told party_of word
+party_told word = numbered_told role_of party word
 
-party_with : (role : Role) (n : ℕ) → IsNumber n → party_told (role_letter role ++ decimal n) ≡ Some (party_of role n)
+party_with : (role : Role) (n : ℕ) → IsNumber n → party_told (member_word role n) ≡ Some (party role n)
 unfolding party_told
 party_with LogServer n h = rw (number_is_told n h) refl
 party_with Authority n h = rw (number_is_told n h) refl
 party_with Owner n h = rw (number_is_told n h) refl
 party_with Client n h = rw (number_is_told n h) refl
 
-party_is_told : (party : Party) → IsParty party → party_told (party_text party) ≡ Some party
-party_is_told party h = party_with party.role party.number h
+party_is_told : (p : Party) → IsParty p → party_told (party_word p) ≡ Some p
+party_is_told p h = party_with p.role p.number h
 
 -- a party is no number and no hex
-no_number_with : (role : Role) (n : ℕ) → number_told (role_letter role ++ decimal n) ≡ None
+no_number_with : (role : Role) (n : ℕ) → number_told (member_word role n) ≡ None
 unfolding number_told
 no_number_with LogServer n = refl
 no_number_with Authority n = refl
 no_number_with Owner n = refl
 no_number_with Client n = refl
 
-no_hex_with : (role : Role) (n : ℕ) → digest_told (role_letter role ++ decimal n) ≡ None
+no_hex_with : (role : Role) (n : ℕ) → digest_told (member_word role n) ≡ None
 unfolding digest_told
 no_hex_with LogServer n = refl
 no_hex_with Authority n = refl
@@ -150,7 +141,7 @@ value_told word =
 
 abbrev pub value_word : Shown → List ℕ
 value_word (shown.Number number) = decimal number
-value_word (shown.Party party) = party_text party
+value_word (shown.Party party) = party_word party
 value_word (shown.Digest digest) = encode_lower digest
 value_word shown.Full = codes "full"
 value_word shown.NoRoot = codes "none"
@@ -387,22 +378,22 @@ ending_words (Some root) = codes "decided" ∷ encode_lower root ∷ []
 ending_words None = codes "skipped" ∷ []
 
 abbrev pub words_of_happening : Happening → List (List ℕ)
-words_of_happening (happening.Made party digest) = codes "party" ∷ party_text party ∷ encode_lower digest ∷ []
-words_of_happening (happening.Dishonest party) = codes "dishonest" ∷ party_text party ∷ []
-words_of_happening (happening.Taught authority) = party_text (party_of Authority authority) ∷ codes "taught" ∷ []
-words_of_happening (happening.Forgot authority) = party_text (party_of Authority authority) ∷ codes "forgot" ∷ []
-words_of_happening (happening.Retired authority) = party_text (party_of Authority authority) ∷ codes "retired" ∷ []
+words_of_happening (happening.Made party digest) = codes "party" ∷ party_word party ∷ encode_lower digest ∷ []
+words_of_happening (happening.Dishonest party) = codes "dishonest" ∷ party_word party ∷ []
+words_of_happening (happening.Taught authority) = party_word (party Authority authority) ∷ codes "taught" ∷ []
+words_of_happening (happening.Forgot authority) = party_word (party Authority authority) ∷ codes "forgot" ∷ []
+words_of_happening (happening.Retired authority) = party_word (party Authority authority) ∷ codes "retired" ∷ []
 words_of_happening (happening.Draft draft digest) = codes "draft" ∷ decimal draft ∷ encode_lower digest ∷ []
-words_of_happening (happening.Step party what refused) = party_text party ∷ what_then what (outcome_words refused)
-words_of_happening (happening.Ended log epoch root) = party_text (party_of LogServer log) ∷ codes "ended" ∷ decimal epoch ∷ ending_words root
+words_of_happening (happening.Step party what refused) = party_word party ∷ what_then what (outcome_words refused)
+words_of_happening (happening.Ended log epoch root) = party_word (party LogServer log) ∷ codes "ended" ∷ decimal epoch ∷ ending_words root
 words_of_happening (happening.Learnt message refused) = codes "learn" ∷ decimal message ∷ learning_words refused
 words_of_happening (happening.Entered message kind from to len digest) =
     codes "message" ∷ decimal message ∷ kind_text kind ∷ codes "from" ∷ sender_text from ∷ codes "to" ∷ target_text to ∷ decimal len ∷ encode_lower digest ∷ []
-words_of_happening (happening.SignRefused party) = party_text party ∷ codes "sign" ∷ codes "refused" ∷ []
+words_of_happening (happening.SignRefused party) = party_word party ∷ codes "sign" ∷ codes "refused" ∷ []
 words_of_happening (happening.Judged message said) = codes "judge" ∷ decimal message ∷ said_words said
-words_of_happening (happening.Order party taken) = codes "order" ∷ party_text party ∷ map decimal taken
+words_of_happening (happening.Order party taken) = codes "order" ∷ party_word party ∷ map decimal taken
 
-first_is : (party : Party) (words : List (List ℕ)) → IsParty party → told (party_text party ∷ words) ≡ party_line party words
+first_is : (party : Party) (words : List (List ℕ)) → IsParty party → told (party_word party ∷ words) ≡ party_line party words
 first_is party words h = rw (party_is_told party h) refl
 
 no_party : (first : List ℕ) (words : List (List ℕ)) → party_told first ≡ None → told (first ∷ words) ≡ word_line first words
@@ -418,7 +409,7 @@ step_is_told p (what.Submit n) refused h r = rw (number_is_told n h, outcome_is_
 step_is_told p (what.Handover n) refused h r = rw (number_is_told n h, outcome_is_told refused r) refl
 step_is_told p (what.Object n) refused h r = rw (number_is_told n h, outcome_is_told refused r) refl
 
-ended_is_told : (log epoch : ℕ) (root : Option (List ℕ)) → IsNumber epoch → IfSome root IsDigest → party_line (party_of LogServer log) (codes "ended" ∷ decimal epoch ∷ ending_words root) ≡ Some (happening.Ended log epoch root)
+ended_is_told : (log epoch : ℕ) (root : Option (List ℕ)) → IsNumber epoch → IfSome root IsDigest → party_line (party LogServer log) (codes "ended" ∷ decimal epoch ∷ ending_words root) ≡ Some (happening.Ended log epoch root)
 unfolding party_line
 ended_is_told log epoch None h r = rw (number_is_told epoch h) refl
 ended_is_told log epoch (Some root) h r = rw (number_is_told epoch h, digest_is_told root r) refl
@@ -427,12 +418,12 @@ pub happening_is_told : (h : Happening) → IsHappening h → told (words_of_hap
 unfolding word_line party_line
 happening_is_told (happening.Made p d) h = no_party (codes "party") _ (unfold party_told in refl) ∙ rw (party_is_told p h.0, digest_is_told d h.1) refl
 happening_is_told (happening.Dishonest p) h = no_party (codes "dishonest") _ (unfold party_told in refl) ∙ rw (party_is_told p h) refl
-happening_is_told (happening.Taught a) h = first_is (party_of Authority a) _ h
-happening_is_told (happening.Forgot a) h = first_is (party_of Authority a) _ h
-happening_is_told (happening.Retired a) h = first_is (party_of Authority a) _ h
+happening_is_told (happening.Taught a) h = first_is (party Authority a) _ h
+happening_is_told (happening.Forgot a) h = first_is (party Authority a) _ h
+happening_is_told (happening.Retired a) h = first_is (party Authority a) _ h
 happening_is_told (happening.Draft n d) h = no_party (codes "draft") _ (unfold party_told in refl) ∙ rw (number_is_told n h.0, digest_is_told d h.1) refl
 happening_is_told (happening.Step p w refused) h = first_is p _ h.0 ∙ step_is_told p w refused h.1 h.2
-happening_is_told (happening.Ended log epoch root) h = first_is (party_of LogServer log) _ h.0 ∙ ended_is_told log epoch root h.1 h.2
+happening_is_told (happening.Ended log epoch root) h = first_is (party LogServer log) _ h.0 ∙ ended_is_told log epoch root h.1 h.2
 happening_is_told (happening.Learnt m refused) h = no_party (codes "learn") _ (unfold party_told in refl) ∙ rw (number_is_told m h.0, learning_is_told refused h.1) refl
 happening_is_told (happening.Entered m k from to len d) h =
     no_party (codes "message") _ (unfold party_told in refl)

@@ -2,6 +2,7 @@
 use Rattle.std.specs.Prelude.{ℕ, List, [], ◌∷◌, ◌++◌, codes, flat_map, Option, Some, None}
 use Rattle.std.specs.Fmt.{decimal}
 use Rattle.hex.specs.Hex.{encode_lower}
+use Rattle.ar_lines.specs.Parties.{member_word, party_word}
 use Rattle.ar_statement.specs.declared.party.Party.{Party}
 use Rattle.ar_statement.specs.declared.party.Role.{Role}
 use Rattle.ar_statement.specs.declared.party.Role.TheVariants.{LogServer, Authority, Owner, Client}
@@ -24,17 +25,6 @@ use Rattle.report_text.specs.declared.happening.What.{What}
 use Rattle.report_text.specs.declared.happening.What.TheVariants as what
 
 -- ---- words
-
--- the letter of a role
-abbrev pub role_letter : Role → List ℕ
-role_letter LogServer = codes "L"
-role_letter Authority = codes "A"
-role_letter Owner = codes "D"
-role_letter Client = codes "C"
-
--- a party: its letter and its number
-abbrev pub party_text : Party → List ℕ
-party_text party = role_letter party.role ++ decimal party.number
 
 -- the letter of whose rule it is
 abbrev pub rule_letter : Role → List ℕ
@@ -62,14 +52,14 @@ kind_text kind.RollNote = codes "RollNote"
 
 -- who sent a message
 abbrev pub sender_text : Option Party → List ℕ
-sender_text (Some party) = party_text party
+sender_text (Some party) = party_word party
 sender_text None = codes "none"
 
 -- to whom a message goes
 abbrev pub target_text : Target → List ℕ
 target_text target.Nobody = codes "none"
 target_text target.Logs = codes "logs"
-target_text (target.One party) = party_text party
+target_text (target.One party) = party_word party
 
 -- what a party does
 abbrev pub what_text : What → List ℕ
@@ -84,7 +74,7 @@ what_text (what.Object draft) = codes "object " ++ decimal draft
 -- a value of a code behind a space
 abbrev pub value_text : Shown → List ℕ
 value_text (shown.Number number) = codes " " ++ decimal number
-value_text (shown.Party party) = codes " " ++ party_text party
+value_text (shown.Party party) = codes " " ++ party_word party
 value_text (shown.Digest digest) = codes " " ++ encode_lower digest
 value_text shown.Full = codes " full"
 value_text shown.NoRoot = codes " none"
@@ -141,11 +131,15 @@ digest_text digest = codes " " ++ (encode_lower digest ++ codes "\n")
 
 -- a key of the party is made
 abbrev pub made_text : Party → List ℕ → List ℕ
-made_text party digest = codes "party " ++ (party_text party ++ digest_text digest)
+made_text party digest = codes "party " ++ (party_word party ++ digest_text digest)
+
+-- a party is made dishonest
+abbrev pub dishonest_text : Party → List ℕ
+dishonest_text party = codes "dishonest " ++ (party_word party ++ codes "\n")
 
 -- the check of an authority is changed
 abbrev pub check_text : ℕ → List ℕ → List ℕ
-check_text authority done = codes "A" ++ (decimal authority ++ done)
+check_text authority done = member_word Authority authority ++ done
 
 -- a draft is made
 abbrev pub draft_text : ℕ → List ℕ → List ℕ
@@ -153,11 +147,11 @@ draft_text draft digest = codes "draft " ++ (decimal draft ++ digest_text digest
 
 -- a party makes a step
 abbrev pub step_text : Party → What → Option Code → List ℕ
-step_text party what refused = party_text party ++ (codes " " ++ (what_text what ++ outcome_text refused))
+step_text party what refused = party_word party ++ (codes " " ++ (what_text what ++ outcome_text refused))
 
 -- an epoch ends
 abbrev pub ended_text : ℕ → ℕ → Option (List ℕ) → List ℕ
-ended_text log epoch root = codes "L" ++ (decimal log ++ (codes " ended " ++ (decimal epoch ++ ending_text root)))
+ended_text log epoch root = member_word LogServer log ++ (codes " ended " ++ (decimal epoch ++ ending_text root))
 
 -- which message enters the pool
 abbrev pub message_text : ℕ → Kind → List ℕ
@@ -174,12 +168,12 @@ entry_text message kind from to length digest =
 
 -- a party took these deliveries of a burst, in this order
 abbrev pub order_text : Party → List ℕ → List ℕ
-order_text party taken = codes "order " ++ (party_text party ++ (taken_text taken ++ codes "\n"))
+order_text party taken = codes "order " ++ (party_word party ++ (taken_text taken ++ codes "\n"))
 
 -- the line of a happening
 abbrev pub line_of : Happening → List ℕ
 line_of (happening.Made party digest) = made_text party digest
-line_of (happening.Dishonest party) = codes "dishonest " ++ (party_text party ++ codes "\n")
+line_of (happening.Dishonest party) = dishonest_text party
 line_of (happening.Taught authority) = check_text authority (codes " taught\n")
 line_of (happening.Forgot authority) = check_text authority (codes " forgot\n")
 line_of (happening.Retired authority) = check_text authority (codes " retired\n")
@@ -188,6 +182,6 @@ line_of (happening.Step party what refused) = step_text party what refused
 line_of (happening.Ended log epoch root) = ended_text log epoch root
 line_of (happening.Learnt message refused) = codes "learn " ++ (decimal message ++ learning_text refused)
 line_of (happening.Entered message kind from to length digest) = entry_text message kind from to length digest
-line_of (happening.SignRefused party) = party_text party ++ codes " sign refused\n"
+line_of (happening.SignRefused party) = party_word party ++ codes " sign refused\n"
 line_of (happening.Judged message said) = codes "judge " ++ (decimal message ++ (codes " " ++ (said_text said ++ codes "\n")))
 line_of (happening.Order party taken) = order_text party taken

@@ -1,13 +1,14 @@
 ghost use Rattle.std.specs.Prelude.{◌≡◌, ◌+◌, ◌≤◌, ◌++◌, length, vec_len, vec_capacity, IsOk, OnOk, OnErr};
 ghost use Rattle.ar_text.specs.Parts.{Appends};
-ghost use Rattle.report_text.specs.Lines.{check_text, digest_text, draft_text, ended_text, ending_text, entry_text, learning_text, line_of, made_text, message_text, order_text, outcome_text, route_text, step_text};
+ghost use Rattle.report_text.specs.Lines.{check_text, digest_text, dishonest_text, draft_text, ended_text, ending_text, entry_text, learning_text, line_of, made_text, message_text, order_text, outcome_text, route_text, step_text};
 
 use crate::happening::{Code, Happening, Kind, Said, Target, Unlearnt, What};
 use crate::said::say;
 use crate::words::{
-    kind_word, put, put_code, put_numbered, put_party, put_sender, put_taken, put_target, put_what,
+    kind_word, put, put_code, put_numbered, put_party, put_party_then, put_sender, put_taken,
+    put_target, put_what,
 };
-use ar_statement::Party;
+use ar_statement::{Party, Role};
 use ar_text::{Part, append};
 use std::alloc::{AllocError, Global};
 
@@ -83,8 +84,7 @@ fn put_check(
 ) -> Result<(), AllocError>
     ensures { Appends (check_text authority done.now) out.old out.new result }
 {
-    put_numbered(alloc, out, b"A", u64::from(authority))?;
-    put(alloc, out, done)
+    put_party_then(alloc, out, Role::Authority.party(authority), done)
 }
 
 /// Appends the line of a step.
@@ -164,11 +164,10 @@ fn put_made(
 
 /// Appends the line of a party that is dishonest.
 fn put_dishonest(alloc: Global, out: &mut Vec<u8>, party: Party) -> Result<(), AllocError>
-    ensures { Appends (line_of (Happening.Dishonest party)) out.old out.new result }
+    ensures { Appends (dishonest_text party) out.old out.new result }
 {
     put(alloc, out, b"dishonest ")?;
-    put_party(alloc, out, party)?;
-    put(alloc, out, b"\n")
+    put_party_then(alloc, out, party, b"\n")
 }
 
 /// Appends the line of a draft.
@@ -194,7 +193,7 @@ fn put_ended(
 ) -> Result<(), AllocError>
     ensures { Appends (ended_text log epoch root) out.old out.new result }
 {
-    put_numbered(alloc, out, b"L", u64::from(log))?;
+    put_party(alloc, out, Role::LogServer.party(log))?;
     put_numbered(alloc, out, b" ended ", epoch)?;
     put_ending(alloc, out, root)
 }
@@ -216,8 +215,7 @@ fn put_learnt(
 fn put_sign_refused(alloc: Global, out: &mut Vec<u8>, party: Party) -> Result<(), AllocError>
     ensures { Appends (line_of (Happening.SignRefused party)) out.old out.new result }
 {
-    put_party(alloc, out, party)?;
-    put(alloc, out, b" sign refused\n")
+    put_party_then(alloc, out, party, b" sign refused\n")
 }
 
 /// Appends the line of a judgement.

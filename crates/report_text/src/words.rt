@@ -1,24 +1,14 @@
 //! The words of lines.
 ghost use Rattle.std.specs.Prelude.{◌≡◌, ◌++◌, decimal};
 ghost use Rattle.ar_text.specs.Parts.{Appends};
-ghost use Rattle.report_text.specs.Lines.{code_text, kind_text, party_text, role_letter, rule_letter, sender_text, taken_text, target_text, value_text, values_text, what_text};
+ghost use Rattle.ar_lines.specs.Parties.{party_word};
+ghost use Rattle.report_text.specs.Lines.{code_text, kind_text, rule_letter, sender_text, taken_text, target_text, value_text, values_text, what_text};
 
 use crate::happening::{Code, Kind, Shown, Target, Values, What};
+use ar_lines::letter_of;
 use ar_statement::{Party, Role};
 use ar_text::{Part, append};
 use std::alloc::{AllocError, Global};
-
-/// The letter of a role.
-fn letter(role: Role) -> &'static [u8]
-    ensures { result.now ≡ role_letter role }
-{
-    match role {
-        Role::LogServer => b"L",
-        Role::Authority => b"A",
-        Role::Owner => b"D",
-        Role::Client => b"C",
-    }
-}
 
 /// The letter of whose rule it is.
 fn rule_letter(role: Role) -> &'static [u8]
@@ -75,9 +65,27 @@ pub(crate) fn put_numbered(
 
 /// Appends a party.
 pub(crate) fn put_party(alloc: Global, out: &mut Vec<u8>, party: Party) -> Result<(), AllocError>
-    ensures { Appends (party_text party) out.old out.new result }
+    ensures { Appends (party_word party) out.old out.new result }
 {
-    put_numbered(alloc, out, letter(party.role), u64::from(party.number))
+    put_numbered(
+        alloc,
+        out,
+        &[letter_of(party.role)],
+        u64::from(party.number),
+    )
+}
+
+/// Appends a party, and a text behind it.
+pub(crate) fn put_party_then(
+    alloc: Global,
+    out: &mut Vec<u8>,
+    party: Party,
+    text: &[u8],
+) -> Result<(), AllocError>
+    ensures { Appends (party_word party ++ text.now) out.old out.new result }
+{
+    put_party(alloc, out, party)?;
+    put(alloc, out, text)
 }
 
 /// Appends who sent a message.

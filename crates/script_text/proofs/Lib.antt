@@ -1,6 +1,5 @@
 pub mod Parts
 pub mod NumberLists
-pub mod Secrets
 pub mod Table
 pub mod LinesWritten
 pub mod WordsWritten

@@ -1,5 +1,5 @@
 -- A line that is read by a row is written as the words that it was read from.
-use Rattle.std.proofs.Common.{◌≡◌, ℕ, ◌+◌, Bool, true, false, cond, if◌then◌else◌, List, [], ◌∷◌, Option, Some, None, Result, Ok, Err, refl, sym, ap, ◌∙◌}
+use Rattle.std.proofs.Common.{◌≡◌, ℕ, Bool, true, false, cond, List, [], ◌∷◌, Option, Some, None, Result, Ok, Err, refl, sym, ap, ◌∙◌}
 use Rattle.std.specs.Option.{ok_or}
 use Rattle.std.specs.Fmt.{decimal}
 use Rattle.std.specs.List.{join_with_byte}
@@ -7,19 +7,18 @@ use Rattle.std.specs.Str.{bytes_eq}
 use Rattle.std.proofs.lemmas.List.Splits.{join_with_byte-slice_split}
 use Rattle.std.proofs.lemmas.Slice.Eq.{bytes_eq-Decides}
 use Rattle.ar_base.specs.Chaining.{◌>>=◌}
-use Rattle.ar_lines.specs.Forms.{name_of, number_of}
+use Rattle.ar_lines.specs.Forms.{number_in, number_of}
 use Rattle.ar_lines.specs.Lines.{is_text, words_of}
 use Rattle.ar_lines.specs.Written.{Writes}
 use Rattle.ar_lines.specs.declared.refusal.Reason.{Reason}
-use Rattle.ar_lines.specs.declared.refusal.Reason.TheVariants.{Text, Word, Words, Field}
-use Rattle.ar_lines.proofs.Respelled.{number_own}
-use Rattle.ar_lines.proofs.WordLaws.{words_some}
+use Rattle.ar_lines.specs.declared.refusal.Reason.TheVariants.{Text, Field}
+use Rattle.ar_lines.proofs.PartyWords.{party_writes}
+use Rattle.ar_lines.proofs.Respelled.{number_in_writes, number_own, sized_writes}
 use Rattle.ar_statement.specs.declared.party.Role.TheVariants as role
-use Rattle.script_text.specs.Forms.{asks_of, binding_of, number_in, trusted_of}
+use Rattle.script_text.specs.Forms.{asks_of, binding_of, trusted_of}
 use Rattle.script_text.specs.Grammar.{Fields, Form, PolicyFields, Row, are_pieces, bound, five, five_words, four, four_words, is_skipped, line_by, line_with, no_words, one, one_word, pieces, plain, policy, policy_of, policy_words, some_line, some_words, three, three_words, two, two_words}
 use Rattle.script_text.specs.Rows.{read_of, table}
-use Rattle.script_text.specs.Rows as rows
-use Rattle.script_text.specs.Written.{binding_word, list_word, member_word, policy_then, text_of_line, trusted_word, words_of_line}
+use Rattle.script_text.specs.Written.{binding_word, list_word, policy_then, text_of_line, trusted_word, words_of_line}
 use Rattle.script_text.specs.declared.line.Line.{Line}
 use Rattle.script_text.specs.declared.line.PolicyWords.{PolicyWords}
 use Rattle.script_text.proofs.WordsWritten as words
@@ -179,9 +178,9 @@ five_row word first second third fourth fifth wa wb wc wd we m ha hb hc hd he wr
 policy_written : (p : PolicyFields) (terms : PolicyWords) (more : List (List ℕ)) → policy_of p ≡ Ok terms → policy_then terms more ≡ fields_then p more
 unfolding policy_of
 policy_written p terms more h =
-    let t = field (number_in 0 255) decimal p.threshold 3 _ terms (words.number_in_writes 0 255) h in
+    let t = field (number_in 0 255) decimal p.threshold 3 _ terms (number_in_writes 0 255) h in
     let k = field binding_of binding_word p.binding 4 _ terms words.binding_writes t.2 in
-    let m = field (number_in 0 0xffff_ffff) decimal p.max_age 5 _ terms (words.number_in_writes 0 0xffff_ffff) k.2 in
+    let m = field (number_in 0 0xffff_ffff) decimal p.max_age 5 _ terms (number_in_writes 0 0xffff_ffff) k.2 in
     let u = field number_of decimal p.until 6 _ terms number_own m.2 in
     let r = field trusted_of trusted_word p.trusted 7 _ terms words.trusted_writes u.2 in
     let made : PolicyWords = record { threshold = t.0; keyed = k.0.0; max_age = m.0; until = u.0; trusted = r.0; wait = k.0.1 } in
@@ -214,7 +213,7 @@ AllWrite (row ∷ more) = RowWrites row × AllWrite more
 
 table_writes : AllWrite table
 table_writes = (
-  one_row _ _ _ _ words.secret_writes (λ a. refl),
+  one_row _ _ _ _ (sized_writes 32) (λ a. refl),
   (
     bound_row _ _ _ _ _ _ words.lms_writes words.ots_writes (λ a b. refl),
     (
@@ -254,13 +253,13 @@ table_writes = (
                                       (
                                         five_row _ _ _ _ _ _ _ _ _ _ _ _ (words.member_writes role.LogServer) words.name_writes (words.member_writes role.Authority) (words.member_writes role.Authority) (words.member_writes role.Client) (λ a b c d e. refl),
                                         (
-                                          two_row _ _ _ _ _ _ number_own words.party_writes (λ a b. refl),
+                                          two_row _ _ _ _ _ _ number_own party_writes (λ a b. refl),
                                           (
                                             plain_row _ _ refl,
                                             (
-                                              four_row _ _ _ _ _ _ _ _ _ _ words.judged_writes words.name_writes (words.number_in_writes 1 0xffff_ffff_ffff_ffff) number_own (λ a b c d. refl),
+                                              four_row _ _ _ _ _ _ _ _ _ _ words.judged_writes words.name_writes (number_in_writes 1 0xffff_ffff_ffff_ffff) number_own (λ a b c d. refl),
                                               (
-                                                pieces_row _ _ _ _ words.party_writes (λ a ps. refl),
+                                                pieces_row _ _ _ _ party_writes (λ a ps. refl),
                                                 (
                                                   pieces_row _ _ _ _ words.receiver_writes (λ a ps. refl),
                                                   (

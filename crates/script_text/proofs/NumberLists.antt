@@ -3,8 +3,8 @@
 use Rattle.std.proofs.Common.{◌≡◌, ℕ, ◌+◌, ◌<◌, ◌≤◌, Bool, true, false, cond, leb, List, [], ◌∷◌, ◌++◌, length, Option, Some, None, refl, sym, ap, ◌∙◌, arith, length-append, append-nil, append_assoc}
 use Rattle.std.specs.Prelude.{option_and_then, option_map, nat_le}
 use Rattle.std.proofs.lemmas.Bool.{le-leb, leb-true}
-use Rattle.ar_lines.specs.Forms.{passing}
-use Rattle.script_text.specs.Forms.{ascending_of, ascends, each_of, list_of, number_in, parts_of}
+use Rattle.ar_lines.specs.Forms.{number_in, passing}
+use Rattle.script_text.specs.Forms.{ascending_of, ascends, each_of, list_of, parts_of}
 
 -- the numbers, before others
 abbrev pub before : List ℕ → Option (List ℕ) → Option (List ℕ)

@@ -1,47 +1,28 @@
 -- A word of each form is what is written of the value that it spells.
-use Rattle.std.proofs.Common.{◌≡◌, ℕ, ◌+◌, ◌==◌, Bool, true, false, cond, eqb, if◌then◌else◌, List, [], ◌∷◌, ◌++◌, length, take, drop, codes, map, Option, Some, None, refl, sym, ap, ◌∙◌, subst, inl, inr, ◌⊎◌, arith}
-use Rattle.std.specs.Prelude.{option_and_then, option_map}
+use Rattle.std.proofs.Common.{◌≡◌, ℕ, ◌+◌, ◌==◌, Bool, true, false, cond, List, [], ◌∷◌, ◌++◌, length, take, drop, codes, map, Option, Some, None, refl, sym, ap, ◌∙◌, subst, arith}
+use Rattle.std.specs.Prelude.{option_map}
 use Rattle.std.specs.Fmt.{decimal}
-use Rattle.std.specs.List.{join_with_byte, slice_split}
+use Rattle.std.specs.List.{join_with_byte}
 use Rattle.std.specs.Str.{bytes_eq}
 use Rattle.std.proofs.lemmas.Bool.{eqb-true}
 use Rattle.std.proofs.lemmas.List.Splits.{join_with_byte-slice_split}
-use Rattle.std.proofs.lemmas.Option.{cond_some, same_Some}
+use Rattle.std.proofs.lemmas.Option.{same_Some}
 use Rattle.std.proofs.lemmas.Slice.Eq.{bytes_eq-Decides}
 use Rattle.std.proofs.lemmas.List.{take-append-drop}
-use Rattle.hex.specs.Hex.{encode_lower}
-use Rattle.ar_lines.specs.Forms.{bytes_of_hex, name_of, number_of, passing}
+use Rattle.ar_lines.specs.Forms.{name_of, number_in, number_of, passing}
 use Rattle.ar_lines.specs.Written.{Writes}
 use Rattle.ar_lines.proofs.LineLaws.{pieces_are_some}
-use Rattle.ar_lines.proofs.Respelled.{hex_own, name_own, number_own, passing_some}
-use Rattle.ar_statement.specs.Claims.{party, role_number}
+use Rattle.ar_lines.proofs.PartyWords.{party_writes}
+use Rattle.ar_lines.proofs.Respelled.{mapped, name_own, number_in_writes, number_own, passing_some, passing_writes, stepped}
+use Rattle.ar_statement.specs.Claims.{role_number}
 use Rattle.ar_statement.specs.declared.party.Party.{Party}
 use Rattle.ar_statement.specs.declared.party.Role.{Role}
 use Rattle.ar_statement.specs.declared.party.Role.TheVariants as role
-use Rattle.script_text.specs.Forms.{ascending_of, asks_of, behind, binding_in, binding_of, each_of, judged_of, list_of, lms_of, new_owner_of, number_in, number_with, ots_of, parts_of, party_count_of, party_in, party_of, quorum_of, receiver_of, role_of, secret_of, trusted_of, wait_in, wait_of, witness_of}
-use Rattle.script_text.specs.Written.{binding_word, judged_word, letter_of, list_word, member_word, party_word, receiver_word, trusted_word, wait_word}
+use Rattle.ar_lines.specs.Parties.{member_word, party_of, party_word}
+use Rattle.script_text.specs.Forms.{ascending_of, asks_of, behind, binding_in, binding_of, each_of, judged_of, list_of, lms_of, new_owner_of, number_with, ots_of, parts_of, party_count_of, quorum_of, receiver_of, trusted_of, wait_in, wait_of, witness_of}
+use Rattle.script_text.specs.Written.{binding_word, judged_word, list_word, receiver_word, trusted_word, wait_word}
 
--- ---- what a value shows
-
--- what passes a test is written as before
-pub passing_writes : {T : Type 0} (form : List ℕ → Option T) (write : T → List ℕ) (test : T → Bool) → Writes form write → Writes (λ word. passing test (form word)) write
-passing_writes form write test writes word value h = writes word value (passing_some test (form word) value h).0
-
--- the value that was mapped
-mapped : {A B : Type 0} (f : A → B) (o : Option A) (y : B) → option_map f o ≡ Some y → (x : A) × (o ≡ Some x) × (f x ≡ y)
-mapped f (Some x) y h = (x, refl, same_Some (f x) y h)
-mapped f None y h = absurd cc
-
--- the step behind a value
-stepped : {A B : Type 0} (f : A → Option B) (o : Option A) (y : B) → option_and_then f o ≡ Some y → (x : A) × (o ≡ Some x) × (f x ≡ Some y)
-stepped f (Some x) y h = (x, refl, h)
-stepped f None y h = absurd cc
-
--- ---- numbers and hex
-
-pub number_in_writes : (least most : ℕ) → Writes (number_in least most) decimal
-unfolding number_in
-number_in_writes least most = passing_writes number_of decimal _ number_own
+-- ---- numbers
 
 pub party_count_writes : Writes party_count_of decimal
 unfolding party_count_of
@@ -59,45 +40,7 @@ pub ots_writes : (lms : ℕ) → Writes (ots_of lms) decimal
 unfolding ots_of
 ots_writes lms = passing_writes number_of decimal _ number_own
 
-pub secret_writes : Writes secret_of encode_lower
-unfolding secret_of
-secret_writes = passing_writes bytes_of_hex encode_lower _ (λ word bytes h. (hex_own word bytes h).0)
-
 -- ---- parties
-
--- a test of a letter
-letter_is : (test : Bool) (r found : Role) (rest : Option Role) → cond test (Some r) rest ≡ Some found → ((test ≡ true) × (r ≡ found)) ⊎ (rest ≡ Some found)
-letter_is true r found rest h = inl (refl, same_Some r found h)
-letter_is false r found rest h = inr h
-
-role_letter : (letter : ℕ) (r : Role) → role_of letter ≡ Some r → letter_of r ≡ letter
-role_letter letter r h =
-    elim (letter_is (letter == 76) role.LogServer r _ h) [
-      | inl p ↦ ap letter_of (sym p.1) ∙ sym (eqb-true letter 76 p.0)
-      | inr h ↦ elim (letter_is (letter == 65) role.Authority r _ h) [
-        | inl p ↦ ap letter_of (sym p.1) ∙ sym (eqb-true letter 65 p.0)
-        | inr h ↦ elim (letter_is (letter == 68) role.Owner r _ h) [
-          | inl p ↦ ap letter_of (sym p.1) ∙ sym (eqb-true letter 68 p.0)
-          | inr h ↦ elim (letter_is (letter == 67) role.Client r None h) [
-            | inl p ↦ ap letter_of (sym p.1) ∙ sym (eqb-true letter 67 p.0)
-            | inr h ↦ absurd cc
-          ]
-        ]
-      ]
-    ]
-
-party_in_writes : Writes party_in party_word
-party_in_writes [] value h = absurd cc
-party_in_writes (letter ∷ digits) value h =
-    let found = stepped _ (role_of letter) value h in
-    let number = mapped (party found.0) (number_in 0 65535 digits) value found.2 in
-    ap party_word (sym number.2)
-    ∙ ap (λ l. l ∷ decimal number.0) (role_letter letter found.0 found.1)
-    ∙ ap (λ d. letter ∷ d) (number_in_writes 0 65535 digits number.0 number.1)
-
-pub party_writes : Writes party_of party_word
-unfolding party_of
-party_writes = party_in_writes
 
 same_role : (one other : Role) → role_number one ≡ role_number other → one ≡ other
 same_role role.LogServer role.LogServer h = refl

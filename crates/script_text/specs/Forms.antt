@@ -1,23 +1,19 @@
--- The forms of the words of a script, and what a word of each means. The forms of names and of numbers, and
--- the digits of hex, are those of all lines.
-use Rattle.std.specs.Prelude.{ℕ, ◌==◌, nat_le, nat_lt, Bool, true, false, ◌&&◌, ◌||◌, if◌then◌else◌, List, [], ◌∷◌, length, take, drop, codes, Option, Some, None, option_and_then, option_map}
-use Rattle.std.specs.List.{list_all, list_any, slice_split}
+-- The forms of the words of a script, and what a word of each means. The forms of names, of numbers, of hex and of
+-- parties are those of all lines.
+use Rattle.std.specs.Prelude.{ℕ, ◌==◌, nat_le, nat_lt, Bool, true, false, ◌&&◌, if◌then◌else◌, List, [], ◌∷◌, length, take, drop, codes, Option, Some, None, option_and_then, option_map}
+use Rattle.std.specs.List.{list_any, slice_split}
 use Rattle.std.specs.Option.{is_some}
 use Rattle.std.specs.Str.{bytes_eq}
-use Rattle.ar_lines.specs.Forms.{bytes_of_hex, is_hex, number_of, passing}
+use Rattle.ar_lines.specs.Forms.{is_hex, number_in, number_of, passing}
+use Rattle.ar_lines.specs.Parties.{party_of}
 use Rattle.ar_statement.specs.Claims.{party, role_number}
-use Rattle.ar_base.specs.Ranges.{is_from_to}
 use Rattle.ar_statement.specs.Ranges.{is_witness}
 use Rattle.ar_statement.specs.declared.party.Party.{Party}
 use Rattle.ar_statement.specs.declared.party.Role.{Role}
-use Rattle.ar_statement.specs.declared.party.Role.TheVariants.{LogServer, Authority, Owner, Client}
+use Rattle.ar_statement.specs.declared.party.Role.TheVariants.{Owner}
 use Rattle.party_keys.specs.Directory.{is_party_count, is_quorum}
 
 -- ---- numbers
-
--- a number from the first of these bounds to the second
-unfoldable pub number_in : ℕ → ℕ → List ℕ → Option ℕ
-number_in least most word = passing (is_from_to least most) (number_of word)
 
 -- how many logs, or authorities, a word says that there are
 unfoldable pub party_count_of : List ℕ → Option ℕ
@@ -39,31 +35,7 @@ lms_of word = passing (λ lms. list_any (λ types. lms == types.0) key_types) (n
 unfoldable pub ots_of : ℕ → List ℕ → Option ℕ
 ots_of lms word = passing (λ ots. list_any (λ types. lms == types.0 && ots == types.1) key_types) (number_of word)
 
--- ---- hex
-
--- the secret of which all keys are made: 32 bytes
-unfoldable pub secret_of : List ℕ → Option (List ℕ)
-secret_of word = passing (λ bytes. length bytes == 32) (bytes_of_hex word)
-
 -- ---- parties
-
--- the role that a letter stands for: L, A, D or C
-abbrev pub role_of : ℕ → Option Role
-role_of letter =
-    if letter == 76 then Some LogServer
-    else if letter == 65 then Some Authority
-    else if letter == 68 then Some Owner
-    else if letter == 67 then Some Client
-    else None
-
--- the letter of a role, and its number, which is below 65536
-abbrev pub party_in : List ℕ → Option Party
-party_in [] = None
-party_in (letter ∷ digits) = option_and_then (λ role. option_map (party role) (number_in 0 65535 digits)) (role_of letter)
-
--- a party
-unfoldable pub party_of : List ℕ → Option Party
-party_of word = party_in word
 
 -- the number of a party of this role
 unfoldable pub number_with : Role → List ℕ → Option ℕ

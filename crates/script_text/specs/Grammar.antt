@@ -7,8 +7,8 @@ use Rattle.ar_base.specs.Chaining.{◌>>=◌}
 use Rattle.ar_lines.specs.Lines.{is_text, words_of}
 use Rattle.ar_lines.specs.declared.refusal.Reason.{Reason}
 use Rattle.ar_lines.specs.declared.refusal.Reason.TheVariants.{Text, Word, Words, Field}
-use Rattle.script_text.specs.Forms.{asks_of, binding_of, is_piece, number_in, trusted_of}
-use Rattle.ar_lines.specs.Forms.{number_of}
+use Rattle.script_text.specs.Forms.{asks_of, binding_of, is_piece, trusted_of}
+use Rattle.ar_lines.specs.Forms.{number_in, number_of}
 use Rattle.script_text.specs.declared.line.Line.{Line}
 use Rattle.script_text.specs.declared.line.PolicyWords.{PolicyWords}
 

@@ -2,12 +2,13 @@
 use Rattle.std.specs.Prelude.{ℕ, Bool, if◌then◌else◌, List, [], ◌∷◌, ◌++◌, codes, Option, None, Result, Ok, Err}
 use Rattle.std.specs.List.{list_any}
 use Rattle.std.specs.Str.{bytes_eq}
-use Rattle.ar_lines.specs.Forms.{name_of, number_of}
+use Rattle.ar_lines.specs.Forms.{name_of, number_in, number_of, sized_of_hex}
 use Rattle.ar_lines.specs.Lines.{is_text, words_of}
 use Rattle.ar_lines.specs.declared.refusal.Reason.{Reason}
 use Rattle.ar_lines.specs.declared.refusal.Reason.TheVariants.{Text}
 use Rattle.ar_statement.specs.declared.party.Role.TheVariants as role
-use Rattle.script_text.specs.Forms.{asks_of, judged_of, lms_of, new_owner_of, number_in, number_with, ots_of, party_count_of, party_of, quorum_of, receiver_of, secret_of, witness_of}
+use Rattle.ar_lines.specs.Parties.{party_of}
+use Rattle.script_text.specs.Forms.{asks_of, judged_of, lms_of, new_owner_of, number_with, ots_of, party_count_of, quorum_of, receiver_of, witness_of}
 use Rattle.script_text.specs.Grammar.{Fields, Row, bound, five, four, is_skipped, line_with, one, pieces, plain, policy, some_line, three, two}
 use Rattle.script_text.specs.declared.keyword.Keyword.{Keyword}
 use Rattle.script_text.specs.declared.keyword.Keyword.TheVariants as keyword
@@ -35,7 +36,7 @@ client_of = number_with role.Client
 
 -- `secret <64 hex>`: the secret of which the keys of all parties are made
 abbrev pub secret : Row
-secret = row (codes "secret") (one secret_of line.Secret)
+secret = row (codes "secret") (one (sized_of_hex 32) line.Secret)
 
 -- `keys <lms> <ots>`: the types of the keys of logs and authorities
 abbrev pub keys : Row

@@ -1,31 +1,16 @@
 -- Lines of scripts as they are written.
-use Rattle.std.specs.Prelude.{◌≡◌, ℕ, ◌+◌, ◌<◌, ◌≤◌, ◌^◌, Bool, true, false, if◌then◌else◌, List, [], ◌∷◌, ◌++◌, codes, length, map, All, Option, Some, None}
+use Rattle.std.specs.Prelude.{ℕ, Bool, if◌then◌else◌, List, [], ◌∷◌, ◌++◌, codes, map, Option, Some, None}
 use Rattle.std.specs.Fmt.{decimal}
 use Rattle.std.specs.List.{join_with_byte}
 use Rattle.hex.specs.Hex.{encode_lower}
+use Rattle.ar_lines.specs.Parties.{member_word, party_word}
 use Rattle.ar_statement.specs.declared.party.Party.{Party}
-use Rattle.ar_statement.specs.declared.party.Role.{Role}
 use Rattle.ar_statement.specs.declared.party.Role.TheVariants as role
 use Rattle.script_text.specs.declared.line.Line.{Line}
 use Rattle.script_text.specs.declared.line.Line.TheVariants as line
 use Rattle.script_text.specs.declared.line.PolicyWords.{PolicyWords}
 
 -- ---- words
-
--- the letter of a role
-abbrev pub letter_of : Role → ℕ
-letter_of role.LogServer = 76
-letter_of role.Authority = 65
-letter_of role.Owner = 68
-letter_of role.Client = 67
-
--- the party of a role with this number
-abbrev pub member_word : Role → ℕ → List ℕ
-member_word role number = letter_of role ∷ decimal number
-
--- a party
-abbrev pub party_word : Party → List ℕ
-party_word party = member_word party.role party.number
 
 -- a party, or all logs
 abbrev pub receiver_word : Option Party → List ℕ

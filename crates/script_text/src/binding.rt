@@ -2,7 +2,7 @@ ghost use Rattle.std.specs.Prelude.{◌≡◌};
 ghost use Rattle.std.specs.Option.{option_copied};
 ghost use Rattle.script_text.specs.Forms.{behind, binding_of, wait_of};
 
-use crate::forms::number_in;
+use ar_lines::number_in;
 
 /// What stands behind this beginning of a word.
 fn behind<'a>(front: &[u8], word: &'a [u8]) -> Option<&'a [u8]>

@@ -1,27 +1,14 @@
 ghost use Rattle.std.specs.Prelude.{◌≡◌, ◌<◌, ◌≤◌, ◌^◌, ◌∷◌, true, IfSome, length, ℕ};
 ghost use Rattle.std.specs.Option.{option_copied, option_map};
 ghost use Rattle.std.specs.List.{slice_split};
-ghost use Rattle.script_text.specs.Forms.{ascending_of, asks_of, behind, binding_of, is_piece, is_slice, judged_of, lms_of, list_of, new_owner_of, number_in, number_with, ots_of, party_count_of, party_of, quorum_of, receiver_of, role_of, secret_of, trusted_of, wait_of, witness_of, parts_of};
-ghost use Rattle.ar_lines.specs.Forms.{number_of};
+ghost use Rattle.script_text.specs.Forms.{ascending_of, asks_of, behind, binding_of, is_piece, is_slice, judged_of, lms_of, list_of, new_owner_of, number_with, ots_of, party_count_of, quorum_of, receiver_of, trusted_of, wait_of, witness_of, parts_of};
+ghost use Rattle.ar_lines.specs.Forms.{number_in, number_of};
 ghost use Rattle.party_keys.specs.Directory.{is_party_count, is_quorum};
 
 use crate::numbers::Numbers;
-use ar_lines::{are_hex_digits, number_of};
+use ar_lines::{number_in, number_of, party_of};
 use ar_statement::{Party, Role};
 use party_keys::{is_party_count, is_quorum};
-
-/// A number from the first of these bounds to the second.
-#[tactic(auto, unfolding(crate::specs::Forms::number_in))]
-pub(crate) fn number_in(least: u64, most: u64, word: &[u8]) -> Option<u64>
-    ensures value { result ≡ number_in least most word.now }
-    ensures most { IfSome result (λ n. n ≤ most) }
-{
-    let number = number_of(word)?;
-    if number < least || most < number {
-        return None;
-    }
-    Some(number)
-}
 
 /// A number below 256.
 pub(crate) fn byte_of(word: &[u8]) -> Option<u8>
@@ -88,47 +75,6 @@ pub(crate) fn ots_of(lms: u32, word: &[u8]) -> Option<u32>
         (5 | 6, 4) => Some(4),
         _ => None,
     }
-}
-
-/// A secret: 32 bytes.
-#[tactic(auto, using(crate::proofs::Secrets::secret_laws))]
-pub(crate) fn secret_of(word: &[u8]) -> Option<[u8; 32]>
-    ensures { result ≡ secret_of word.now }
-{
-    if word.len() != 64 || !are_hex_digits(word) {
-        return None;
-    }
-    let mut secret = [0; 32];
-    match hex::decode_to_slice(word, &mut secret) {
-        Ok(()) => Some(secret),
-        Err(_) => None,
-    }
-}
-
-/// The role that a letter stands for.
-fn role_of(letter: u8) -> Option<Role>
-    ensures { result ≡ role_of letter }
-{
-    match letter {
-        b'L' => Some(Role::LogServer),
-        b'A' => Some(Role::Authority),
-        b'D' => Some(Role::Owner),
-        b'C' => Some(Role::Client),
-        _ => None,
-    }
-}
-
-/// A party.
-#[tactic(auto, unfolding(crate::specs::Forms::party_of))]
-pub(crate) fn party_of(word: &[u8]) -> Option<Party>
-    ensures { result ≡ party_of word.now }
-{
-    let [letter, digits @ ..] = word else {
-        return None;
-    };
-    let role = role_of(*letter)?;
-    let number = number_in(0, 65535, digits)?;
-    Some(role.party(number as u16))
 }
 
 /// The number of a party of this role.

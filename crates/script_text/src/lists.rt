@@ -3,8 +3,8 @@ ghost use Rattle.std.specs.Option.{option_copied};
 ghost use Rattle.script_text.specs.Forms.{ascending_of, ascends, asks_of, list_of, parts_of, trusted_of};
 ghost use Rattle.script_text.specs.Views.{parts_behind};
 
-use crate::forms::number_in;
 use crate::numbers::Numbers;
+use ar_lines::number_in;
 
 /// Where the first of these bytes stands.
 fn first_mark(word: &[u8], mark: u8) -> Option<usize>

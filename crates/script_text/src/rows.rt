@@ -4,14 +4,14 @@ ghost use Rattle.script_text.specs.Grammar.{policy_of};
 
 use crate::binding::binding_of;
 use crate::forms::{
-    byte_of, judged_of, lms_of, new_owner_of, number_in, number_with, ots_of, party_count_of,
-    party_of, quorum_of, receiver_of, secret_of, short_of, witness_of,
+    byte_of, judged_of, lms_of, new_owner_of, number_with, ots_of, party_count_of, quorum_of,
+    receiver_of, short_of, witness_of,
 };
 use crate::line::{Line, PolicyWords};
 use crate::lists::{asks_of, trusted_of};
 use crate::pieces::pieces_of;
 use crate::words::{PolicyTexts, Words};
-use ar_lines::{Reason, number_of};
+use ar_lines::{Reason, array_of_hex, number_in, number_of, party_of};
 use ar_names::NameView;
 use ar_statement::Role;
 
@@ -68,7 +68,7 @@ pub(crate) fn secret<'a>(words: Words<'a>) -> Result<Line<'a>, Reason>
     ensures { result ≡ secret.fields words.entry }
 {
     let a = words.one()?;
-    let secret = secret_of(a.text()).ok_or(Reason::Field(1))?;
+    let secret = array_of_hex(a.text()).ok_or(Reason::Field(1))?;
     Ok(Line::Secret { secret })
 }
 

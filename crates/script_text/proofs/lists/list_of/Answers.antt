@@ -1,7 +1,7 @@
 -- The reading ends at a part that is no number, at a number too many, or where no part is left.
 use Rattle.std.proofs.Common.{◌≡◌, ◌∷◌, List, [], ℕ, Some, None, refl, sym, ap, ◌∙◌}
 use Rattle.std.specs.Option.{option_copied}
-use Rattle.script_text.specs.Forms.{number_in}
+use Rattle.ar_lines.specs.Forms.{number_in}
 use Rattle.script_text.specs.Views.{parts_behind}
 use Rattle.script_text.proofs.NumberLists.{number_fails, number_over, numbers_end}
 use Rattle.script_text.proofs.lists.list_of.Goals as goal
