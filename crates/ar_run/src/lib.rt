@@ -2,8 +2,8 @@
 //!
 //! What a command answers to an input, its lines and its status, it says by the trait `Respond`, and `run`
 //! does the rest over every source and every sink, with the cause of each status above those of
-//! answers. In `specs/`, `Answers` says what an answer is and what is written of it, and `Runs` what a run
-//! takes of its source and leaves in its sink.
+//! answers. In `specs/`, `Answers` says what an answer is and what is written of it, `Writing` what it is to write
+//! bytes that may not all be taken, and `Runs` what a run takes of its source and leaves in its sink.
 #![tactic(auto)]
 
 pub use answer::Answer;

@@ -1,8 +1,9 @@
-ghost use Rattle.std.specs.Prelude.{◌≡◌, ◌≢◌, ◌+◌, ◌<◌, ◌≤◌, ◌==◌, ◌++◌, ◌⊎◌, length, position, ℕ, List, IfOk, IfErr, OnOk, OnErr};
+ghost use Rattle.std.specs.Prelude.{◌≡◌, ◌≢◌, ◌+◌, ◌<◌, ◌≤◌, ◌==◌, ◌++◌, length, position, ℕ, List, IfOk, OnErr};
 ghost use Rattle.ar_base.specs.Faults.{HasRisen};
-ghost use Rattle.ar_io.specs.Wrote.{Appended, AppendedFront, Unchanged};
+ghost use Rattle.ar_io.specs.Wrote.{Unchanged};
 ghost use Rattle.ar_run.specs.Answers.{written_of};
 ghost use Rattle.ar_run.specs.Runs.{Answers, BreaksOff, TakesAll, TakesAtMost, most_bytes};
+ghost use Rattle.ar_run.specs.Writing.{Writes};
 
 use crate::{Answer, Fault, Respond};
 use ar_io::{ReadFault, Sink, Source, read_all, write_all};
@@ -37,12 +38,7 @@ pub fn answer_from<S: Source, C: Respond>(
 
 /// Writes a line as one piece. It takes no memory.
 pub fn write_line<K: Sink>(sink: &mut K, line: &[u8]) -> Result<(), Fault>
-    ensures ok { OnOk result (Appended K.wrote sink.old sink.new line.now) }
-    ensures sink { OnErr result (HasRisen (K.faults sink.old) (K.faults sink.new)
-        × AppendedFront K.wrote sink.old sink.new line.now) }
-    ensures only_sink { IfErr result (λ fault. fault ≡ Fault.Sink) }
-    ensures uncounted { OnOk result (K.faults sink.new ≡ K.faults sink.old) }
-    ensures faults { K.faults sink.old ≤ K.faults sink.new }
+    ensures { Writes K.faults K.wrote sink.old sink.new line.now result }
 {
     write_all(sink, line).map_err(|_| Fault::Sink)
 }
@@ -68,12 +64,7 @@ fn first_line(text: &[u8]) -> (&[u8], &[u8])
 
 /// Writes the lines of a text, each as one piece. It takes no memory.
 pub fn write_text<K: Sink>(sink: &mut K, text: &[u8]) -> Result<(), Fault>
-    ensures ok { OnOk result (Appended K.wrote sink.old sink.new text.now) }
-    ensures sink { OnErr result (HasRisen (K.faults sink.old) (K.faults sink.new)
-        × AppendedFront K.wrote sink.old sink.new text.now) }
-    ensures only_sink { IfErr result (λ fault. fault ≡ Fault.Sink) }
-    ensures uncounted { OnOk result (K.faults sink.new ≡ K.faults sink.old) }
-    ensures faults { K.faults sink.old ≤ K.faults sink.new }
+    ensures { Writes K.faults K.wrote sink.old sink.new text.now result }
 {
     let mut rest = text;
     while !rest.is_empty() {
@@ -86,12 +77,7 @@ pub fn write_text<K: Sink>(sink: &mut K, text: &[u8]) -> Result<(), Fault>
 
 /// Writes the lines of an answer, each as one piece. It takes no memory.
 pub fn write_answer<K: Sink>(sink: &mut K, answer: &Answer) -> Result<(), Fault>
-    ensures ok { OnOk result (Appended K.wrote sink.old sink.new (written_of answer.now)) }
-    ensures sink { OnErr result (HasRisen (K.faults sink.old) (K.faults sink.new)
-        × AppendedFront K.wrote sink.old sink.new (written_of answer.now)) }
-    ensures only_sink { IfErr result (λ fault. fault ≡ Fault.Sink) }
-    ensures uncounted { OnOk result (K.faults sink.new ≡ K.faults sink.old) }
-    ensures faults { K.faults sink.old ≤ K.faults sink.new }
+    ensures { Writes K.faults K.wrote sink.old sink.new (written_of answer.now) result }
 {
     for line in answer.lines() {
         write_line(sink, line.as_slice())?;

@@ -5,6 +5,7 @@ use Rattle.std.specs.List.{list_all}
 use Rattle.std.proofs.lemmas.List.Folds.{list_all-append}
 use Rattle.hex.specs.Hex.{IsBytes, encode_lower}
 use Rattle.std.proofs.lemmas.List.Elements.{All-head, All-tail}
+use Rattle.std.proofs.lemmas.Option.{same_Some}
 use Rattle.ar_names.specs.Names.{IsName}
 use Rattle.party_keys.specs.Directory.{Directory, IsDirectory, is_party_count, is_quorum}
 use Rattle.party_keys.proofs.Bounds.{length_first}
@@ -159,9 +160,6 @@ next_is_roll bytes next ahead = rw (words_of-first (codes "roll") (encode_lower 
 next_is_name : (name : List ℕ) (next : ℕ) (ahead : List (List ℕ)) → is_next (codes "roll") (before next ((codes "name " ++ name) ∷ ahead)) ≡ false
 next_is_name name next ahead = rw (words_of-first (codes "name") name refl) refl
 
-same_some : {A : Type 0} (x y : A) → Some x ≡ Some y → x ≡ y
-same_some x y e = cc
-
 -- the lines of these RollNotes, with a line of a name behind them
 abbrev rolls_before : List (List ℕ) → List ℕ → List (List ℕ) → List (List ℕ)
 rolls_before rolls name ahead = map roll_line rolls ++ ((codes "name " ++ name) ∷ ahead)
@@ -170,9 +168,9 @@ rolls_read : (most : ℕ) (keys last : Directory) (rolls : List (List ℕ)) (nex
     → rolls_at most keys (before next (rolls_before rolls name ahead)) ≡ Ok (last, before (next + length rolls) ((codes "name " ++ name) ∷ ahead))
 unfolding rolls_at
 rolls_read zero keys last [] next name ahead few h learnt =
-    let same : next + length {A = List ℕ} [] ≡ next = omega arith in rw (same, same_some keys last learnt) refl
+    let same : next + length {A = List ℕ} [] ≡ next = omega arith in rw (same, same_Some keys last learnt) refl
 rolls_read (suc most) keys last [] next name ahead few h learnt =
-    let same : next + length {A = List ℕ} [] ≡ next = omega arith in rw (same, next_is_name name next ahead, same_some keys last learnt) refl
+    let same : next + length {A = List ℕ} [] ≡ next = omega arith in rw (same, next_is_name name next ahead, same_Some keys last learnt) refl
 rolls_read zero keys last (note ∷ rolls) next name ahead few h learnt = absurd (omega (arith, few))
 rolls_read (suc most) keys last (note ∷ rolls) next name ahead few h learnt =
     by_note (λ known all. rolls_read most known last rolls (next + 1) name ahead (omega (arith, few)) (All-tail IsBytes note rolls h) all) (learnt_from keys note) refl learnt where

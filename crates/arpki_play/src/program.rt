@@ -1,8 +1,9 @@
-ghost use Rattle.std.specs.Prelude.{◌≡◌, ◌≢◌, ◌+◌, ◌<◌, ◌≤◌, ◌⊎◌, ℕ, None, Some, IfErr, IfOk, OnErr, OnOk};
+ghost use Rattle.std.specs.Prelude.{◌≡◌, ◌≢◌, ◌+◌, ◌<◌, ◌≤◌, ◌⊎◌, ℕ, None, Some, IfOk, OnOk};
 ghost use Rattle.ar_base.specs.Faults.{HasRisen};
 ghost use Rattle.ar_io.specs.Wrote.{Appended, AppendedFront, Unchanged};
 ghost use Rattle.ar_run.specs.Answers.{written_of};
 ghost use Rattle.ar_run.specs.Runs.{TakesAtMost, most_bytes};
+ghost use Rattle.ar_run.specs.Writing.{Writes};
 ghost use Rattle.arpki_play.specs.Answers.{usage};
 ghost use Rattle.arpki_play.specs.Program.{Answers, BreaksOff};
 ghost use Rattle.script_make.specs.Script.{script};
@@ -81,12 +82,7 @@ pub fn arpki_main<S: Source, K: Sink>(
 /// Writes the usage line, and returns its status. It takes no memory.
 fn show_usage<K: Sink>(sink: &mut K) -> Result<u8, Fault>
     ensures ok { IfOk result (λ status. status ≡ usage.status) }
-    ensures written { OnOk result (Appended K.wrote sink.old sink.new (written_of usage)) }
-    ensures sink { OnErr result (HasRisen (K.faults sink.old) (K.faults sink.new)
-        × AppendedFront K.wrote sink.old sink.new (written_of usage)) }
-    ensures only_sink { IfErr result (λ fault. fault ≡ Fault.Sink) }
-    ensures uncounted { OnOk result (K.faults sink.new ≡ K.faults sink.old) }
-    ensures faults { K.faults sink.old ≤ K.faults sink.new }
+    ensures written { Writes K.faults K.wrote sink.old sink.new (written_of usage) result }
 {
     write_line(sink, USAGE)?;
     Ok(2)

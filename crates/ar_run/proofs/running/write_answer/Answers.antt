@@ -7,13 +7,13 @@ use Rattle.ar_io.specs.Wrote.{AppendedFront}
 use Rattle.ar_run.proofs.Joined.{cut_off}
 use Rattle.ar_run.proofs.running.write_answer.Goals as goal
 
-pub returns-in_err-write_line-clause-sink : goal.returns-in_err-write_line-clause-sink
-returns-in_err-write_line-clause-sink g c =
+pub returns-in_err-write_line : goal.returns-in_err-write_line
+returns-in_err-write_line g c =
     let wrote = g.K.Sink.wrote in
     let old = c.args.sink.now in
     let new = c.write_line.new.sink in
     let items = c.lines-line-items.result.now in
-    let failed = c.in_err-write_line.ensures.sink in
+    let failed = c.in_err-write_line.ensures.front in
     let Cut : List ℕ → Type 0 = λ line. AppendedFront wrote c.loop-line.sink new line in
     let Whole : List (List ℕ) → Type 0 = λ lines. AppendedFront wrote old new (flat_map (λ line. line) lines) in
     let Risen : ℕ → Type 0 = λ count. HasRisen count (g.K.Sink.faults new) in
