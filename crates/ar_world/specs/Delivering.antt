@@ -1,0 +1,107 @@
+-- Deliveries: the line `deliver`, and which delivery is the next of a `flush`.
+use Rattle.std.specs.Prelude.{ℕ, ◌+◌, Bool, false, not, ◌&&◌, if◌then◌else◌, List, [], ◌∷◌, ◌++◌, filter, find, length, map, is_some, Option, Some, None, Result, Ok}
+use Rattle.std.specs.List.{list_any, range_with_len}
+use Rattle.std.specs.Option.{option_map}
+use Rattle.ar_base.specs.Chaining.{◌>>=◌}
+use Rattle.ar_statement.specs.Claims.{is_party}
+use Rattle.ar_statement.specs.declared.party.Party.{Party}
+use Rattle.ar_statement.specs.declared.party.Role.{Role}
+use Rattle.ar_statement.specs.declared.party.Role.TheVariants as role
+use Rattle.log_core.specs.State.{takes}
+use Rattle.owner_core.specs.Rows.{step_row}
+use Rattle.owner_core.specs.State.{Owner}
+use Rattle.party_keys.specs.Seen.{log_party}
+use Rattle.report_text.specs.declared.happening.Target.{Target}
+use Rattle.report_text.specs.declared.happening.Target.TheVariants.{Logs, Nobody, One}
+use Rattle.report_text.specs.declared.happening.What.TheVariants.{Take}
+use Rattle.ar_world.specs.Authorities.{Saying, authority_takes}
+use Rattle.ar_world.specs.Finding.{Effect, authority_at, log_at, message_at, named, owner_at, room}
+use Rattle.ar_world.specs.Logs.{log_steps}
+use Rattle.ar_world.specs.Parties.{AuthorityNode, LogNode}
+use Rattle.ar_world.specs.Pool.{Pooled, set_numbered}
+use Rattle.ar_world.specs.State.{Moved, World}
+use Rattle.ar_world.specs.Submitting.{owner_answers}
+use Rattle.ar_world.specs.declared.event.LogEvent.TheVariants as events
+use Rattle.ar_world.specs.declared.fault.WorldFault.{WorldFault}
+
+-- ---- who takes deliveries
+
+-- an honest log, an honest authority, or an owner
+pub data Taker : Type 0 where
+  a_log : (node : LogNode) → Taker
+  an_authority : (node : AuthorityNode) → Taker
+  an_owner : (me : Owner) → Taker
+
+-- the party of a role that takes deliveries
+abbrev pub taker_in : World → Role → ℕ → Option Taker
+taker_in w role.LogServer number = option_map a_log (log_at w number)
+taker_in w role.Authority number = option_map an_authority (authority_at w number)
+taker_in w role.Owner number = option_map an_owner (owner_at w number)
+taker_in w role.Client number = None
+
+abbrev pub taker_at : World → Party → Option Taker
+taker_at w who = taker_in w who.role who.number
+
+-- ---- a delivery
+
+-- a message that was delivered to a party, now or before
+abbrev pub delivered_to : Party → Pooled → Pooled
+delivered_to who p = if list_any (is_party who) p.delivered then p else record p { delivered = p.delivered ++ who ∷ [] }
+
+-- the world in which it was
+abbrev pub noted : World → ℕ → Pooled → Party → World
+noted w message p who = record w { pool = set_numbered w.pool message (delivered_to who p) }
+
+-- the party's step
+abbrev pub delivery : Saying → World → ℕ → List ℕ → ℕ → Taker → Moved
+delivery saying w message bytes number (a_log node) = log_steps w number node (Take message) (events.Take message) (takes bytes)
+delivery saying w message bytes number (an_authority node) = authority_takes saying w number node (Take message) bytes
+delivery saying w message bytes number (an_owner me) = owner_answers w number (Take message) (step_row me bytes)
+
+-- word 1 names a message, and word 2 a party that takes deliveries; and there is room for what it may send
+abbrev pub can_deliver : World → ℕ → Party → Result (Pooled × Taker) WorldFault
+can_deliver w message who = do
+  p ← named 1 (message_at w message)
+  taker ← named 2 (taker_at w who)
+  free ← room w
+  Ok (p, taker)
+
+-- the message goes to the party, whoever it is addressed to, and however often it was delivered
+abbrev pub deliver_line : Saying → World → ℕ → Party → Effect
+deliver_line saying w message who = do
+  found ← can_deliver w message who
+  Ok (delivery saying (noted w message found.0 who) message found.0.bytes who.number found.1)
+
+-- ---- what is due
+
+-- the party sent the message
+abbrev pub is_sender : Option Party → Party → Bool
+is_sender None who = false
+is_sender (Some sender) who = is_party sender who
+
+-- the parties that a message is addressed to, of so many logs: all logs are all but the sender, ascending
+abbrev pub addressed : ℕ → Option Party → Target → List Party
+addressed logs from Nobody = []
+addressed logs from Logs = filter (λ who. not (is_sender from who)) (map log_party (range_with_len 0 logs))
+addressed logs from (One who) = who ∷ []
+
+-- the party takes deliveries, and the message was never delivered to it
+abbrev pub is_due : World → Pooled → Party → Bool
+is_due w p who = is_some (taker_at w who) && not (list_any (is_party who) p.delivered)
+
+-- the first party to which a message is due
+abbrev pub due_to : World → Pooled → Option Party
+due_to w p = find (is_due w p) (addressed (length w.logs) p.from p.to)
+
+-- the first delivery that is due, of messages the first of which has this number
+abbrev pub due_or : ℕ → Option Party → Option (ℕ × Party) → Option (ℕ × Party)
+due_or message (Some who) later = Some (message, who)
+due_or message None later = later
+
+unfoldable pub due_from : World → ℕ → List Pooled → Option (ℕ × Party)
+due_from w message [] = None
+due_from w message (p ∷ more) = due_or message (due_to w p) (due_from w (message + 1) more)
+
+-- the next delivery of a `flush`: of the first message that is due to a party it is addressed to, to the first such
+abbrev pub next_due : World → Option (ℕ × Party)
+next_due w = due_from w 1 w.pool

@@ -1,0 +1,117 @@
+-- What the words of a line name, and why a line is refused where one names nothing or where there is no room.
+use Rattle.std.specs.Prelude.{ℕ, ◌==◌, nat_lt, Bool, true, ◌&&◌, if◌then◌else◌, List, length, find, position, slice_get, slice_set, Option, Some, None, option_and_then, is_some, Result, Ok, Err}
+use Rattle.std.specs.List.{list_all}
+use Rattle.std.specs.Option.{ok_or, option_map}
+use Rattle.ar_statement.specs.Claims.{is_party}
+use Rattle.ar_statement.specs.declared.party.Party.{Party}
+use Rattle.ar_statement.specs.declared.party.Role.{Role}
+use Rattle.ar_statement.specs.declared.party.Role.TheVariants.{LogServer, Authority, Owner, Client}
+use Rattle.owner_core.specs.State as owners
+use Rattle.ar_world.specs.Parties.{AuthorityNode, CheckParts, Forger, LogNode}
+use Rattle.ar_world.specs.Pool.{Pooled, bytes_in, numbered}
+use Rattle.ar_world.specs.State.{Drafted, Moved, World}
+use Rattle.ar_world.specs.declared.fault.WorldFault.{WorldFault}
+use Rattle.ar_world.specs.declared.fault.WorldFault.TheVariants.{Absent, Limit}
+
+-- what a line comes to, or why it is refused
+abbrev pub Effect : Type 0
+Effect = Result Moved WorldFault
+
+-- the test holds, or the line is refused
+abbrev pub need : Bool → WorldFault → Result (Unit {0}) WorldFault
+need holds fault = if holds then Ok tt else Err fault
+
+-- the word with this number names something
+abbrev pub named : {X : Type 0} → ℕ → Option X → Result X WorldFault
+named word found = ok_or found (Absent word)
+
+-- ---- parties
+
+-- the honest log with this number
+abbrev pub log_at : World → ℕ → Option LogNode
+log_at w number = option_and_then (λ node. node) (slice_get w.logs number)
+
+-- the honest authority with this number
+abbrev pub authority_at : World → ℕ → Option AuthorityNode
+authority_at w number = option_and_then (λ node. node) (slice_get w.authorities number)
+
+-- an honest authority with the check that it has
+abbrev pub with_check : AuthorityNode → Option (AuthorityNode × CheckParts)
+with_check node = option_map (λ check. (node, check)) node.check
+
+-- the honest authority with this number, where it has not retired
+abbrev pub checking_at : World → ℕ → Option (AuthorityNode × CheckParts)
+checking_at w number = option_and_then with_check (authority_at w number)
+
+-- the owner with this number
+abbrev pub is_owner : ℕ → owners.Owner → Bool
+is_owner number owner = owner.number == number
+
+abbrev pub owner_at : World → ℕ → Option owners.Owner
+owner_at w number = find (is_owner number) w.owners
+
+-- the dishonest party
+abbrev pub is_forger : Party → Forger → Bool
+is_forger party forger = is_party party forger.party
+
+abbrev pub forger_at : World → Party → Option Forger
+forger_at w party = find (is_forger party) w.forgers
+
+-- whether there is such a party: a log or an authority of the directory, honest or not, or an owner that was made; each
+-- client is there
+abbrev pub is_there : World → Role → ℕ → Bool
+is_there w LogServer number = nat_lt number (length w.logs)
+is_there w Authority number = nat_lt number (length w.authorities)
+is_there w Owner number = is_some (owner_at w number)
+is_there w Client number = true
+
+-- the word with this number names such a party
+abbrev pub existing : World → ℕ → Role → ℕ → Result (Unit {0}) WorldFault
+existing w word role number = need (is_there w role number) (Absent word)
+
+-- the word with this number names authorities alone
+abbrev pub known_asks : World → ℕ → List ℕ → Result (Unit {0}) WorldFault
+known_asks w word asks = need (list_all (is_there w Authority) asks) (Absent word)
+
+-- ---- drafts and messages
+
+abbrev pub draft_at : World → ℕ → Option Drafted
+draft_at w number = numbered w.drafts number
+
+abbrev pub message_at : World → ℕ → Option Pooled
+message_at w number = numbered w.pool number
+
+-- ---- items in the place of others
+
+-- the list with this item at a place, where there is one
+abbrev pub set_if : {X : Type 0} → List X → Option ℕ → X → List X
+set_if xs None x = xs
+set_if xs (Some place) x = slice_set xs place x
+
+-- the world with an owner as it is now
+abbrev pub with_owner : World → owners.Owner → World
+with_owner w owner = record w { owners = set_if w.owners (position (is_owner owner.number) w.owners) owner }
+
+-- the world with a dishonest party as it is now
+abbrev pub with_forger : World → Forger → World
+with_forger w forger = record w { forgers = set_if w.forgers (position (is_forger forger.party) w.forgers) forger }
+
+-- ---- room
+
+-- how many messages, and how many bytes, the pool holds when it is full
+abbrev pub most_messages : ℕ
+most_messages = 65528
+
+abbrev pub most_bytes : ℕ
+most_bytes = 260046848
+
+-- the pool is not full: a line that may send needs that
+unfoldable pub has_room : World → Bool
+has_room w = nat_lt (length w.pool) most_messages && nat_lt (bytes_in w.pool) most_bytes
+
+abbrev pub room : World → Result (Unit {0}) WorldFault
+room w = need (has_room w) Limit
+
+-- how many drafts there may be
+abbrev pub most_drafts : ℕ
+most_drafts = 4096

@@ -1,0 +1,50 @@
+-- The line `learn`: the clients' directory takes a message.
+use Rattle.std.specs.Prelude.{ℕ, [], ◌∷◌, Option, Some, None, Result, Ok, Err}
+use Rattle.ar_base.specs.Chaining.{◌>>=◌}
+use Rattle.ar_council.specs.Seen.{with_seen}
+use Rattle.ar_message.specs.Messages.{message_in}
+use Rattle.ar_message.specs.declared.message.Message.{Message}
+use Rattle.ar_message.specs.declared.message.Message.TheVariants.{RollNote}
+use Rattle.ar_statement.specs.declared.text.SeenText.{SeenText}
+use Rattle.party_keys.specs.Learning.{Announced, after_learning, learned, roll_text}
+use Rattle.party_keys.specs.declared.fault.LearnFault.{LearnFault}
+use Rattle.party_keys.specs.declared.fault.LearnFault.TheVariants as fault
+use Rattle.party_keys.specs.declared.learning.Learned.{Learned}
+use Rattle.report_text.specs.declared.happening.Happening.TheVariants.{Learnt}
+use Rattle.report_text.specs.declared.happening.Unlearnt.{Unlearnt}
+use Rattle.report_text.specs.declared.happening.Unlearnt.TheVariants as unlearnt
+use Rattle.ar_world.specs.Finding.{Effect, message_at, named}
+use Rattle.ar_world.specs.State.{Moved, World}
+
+-- what a message announces, where it is the note of a Roll
+abbrev pub note_of : Result Message ℕ → Option Announced
+note_of (Ok (RollNote party generation key signature)) = Some (record { party = party; generation = generation; key = key; signature = signature })
+note_of _ = None
+
+-- the Roll that was learnt, with its party
+abbrev pub roll_seen : Announced → SeenText
+roll_seen a = record { party = a.party; text = roll_text a.party a.generation a.key }
+
+-- why a key is not learnt, as it is printed; want of memory is never printed
+abbrev pub unlearnt_of : LearnFault → Unlearnt
+unlearnt_of fault.Unknown = unlearnt.Unknown
+unlearnt_of (fault.Bad condition) = unlearnt.Bad condition
+unlearnt_of fault.Other = unlearnt.Other
+unlearnt_of fault.Memory = unlearnt.Form
+
+-- the key is learnt, now or before, and the Roll is among those that were; or it is not, and all is as it was
+abbrev pub learnt_by : World → ℕ → Announced → Result Learned LearnFault → Moved
+learnt_by w message a (Ok how) =
+    (record w { clients = after_learning w.clients a; learned = with_seen w.learned (roll_seen a) }, Learnt message None ∷ [])
+learnt_by w message a (Err why) = (w, Learnt message (Some (unlearnt_of why)) ∷ [])
+
+-- what becomes of a note; a message that is none is not learnt
+abbrev pub learning : World → ℕ → Option Announced → Moved
+learning w message None = (w, Learnt message (Some unlearnt.Form) ∷ [])
+learning w message (Some a) = learnt_by w message a (learned w.clients a)
+
+-- word 1 names a message
+abbrev pub learn_line : World → ℕ → Effect
+learn_line w message = do
+  p ← named 1 (message_at w message)
+  Ok (learning w message (note_of (message_in p.bytes)))

@@ -1,0 +1,32 @@
+-- The parties of a world, as plain data.
+use Rattle.std.specs.Prelude.{ℕ, List, Option}
+use Rattle.ar_statement.specs.declared.party.Party.{Party}
+use Rattle.authority_core.specs.State.{AuthorityState}
+use Rattle.lms_tree.specs.KeyParts.{KeyParts}
+use Rattle.log_core.specs.State.{CoreState}
+use Rattle.owner_check.specs.Answers.{Told}
+use Rattle.owner_check.specs.declared.answer.Answer.{Answer}
+use Rattle.ar_world.specs.declared.event.LogEvent.{LogEvent}
+
+-- an honest log: where it stands, its key of each generation, and what it did without refusing, in order
+pub record LogNode : Type 0 where
+  pub core : CoreState
+  pub keys : List KeyParts
+  pub taken : List LogEvent
+
+-- a check of owners: its book and the numbers of its asks that fail, where it tells them, and the answers that it gave
+pub record CheckParts : Type 0 where
+  pub told : Option Told
+  pub answers : List Answer
+
+-- an honest authority: where it stands, its key of each generation, and its check, until it retires
+pub record AuthorityNode : Type 0 where
+  pub state : AuthorityState
+  pub keys : List KeyParts
+  pub check : Option CheckParts
+
+-- a dishonest log or authority: its key of generation 0, and the leaf by which it signs next
+pub record Forger : Type 0 where
+  pub party : Party
+  pub key : KeyParts
+  pub next : ℕ

@@ -1,0 +1,161 @@
+-- A whole script: the lines of an input, each taken by the world that those before it leave, until one is refused, and all that
+-- is written of it.
+use Rattle.std.specs.Prelude.{◌*◌, ℕ, zero, suc, ◌+◌, nat_lt, if◌then◌else◌, List, [], ◌∷◌, ◌++◌, codes, map, Option, Some, None, Result, Ok, Err}
+use Rattle.std.specs.Fmt.{decimal}
+use Rattle.ar_lines.specs.Lines.{lines_of}
+use Rattle.ar_lines.specs.Refusals.{reason_text}
+use Rattle.ar_lines.specs.declared.refusal.Reason.{Reason}
+use Rattle.ar_lines.specs.declared.refusal.Reason.TheVariants as reason
+use Rattle.ar_statement.specs.declared.party.Party.{Party}
+use Rattle.report_text.specs.Lines.{line_of}
+use Rattle.report_text.specs.declared.happening.Happening.{Happening}
+use Rattle.script_text.specs.Rows.{read_of}
+use Rattle.script_text.specs.declared.line.Line.{Line}
+use Rattle.script_text.specs.declared.line.Line.TheVariants as line
+use Rattle.ar_world.specs.Authorities.{Saying}
+use Rattle.ar_world.specs.Delivering.{deliver_line, next_due}
+use Rattle.ar_world.specs.Finding.{Effect, most_messages}
+use Rattle.ar_world.specs.Parties.{CheckParts}
+use Rattle.ar_world.specs.State.{World, first_world}
+use Rattle.ar_world.specs.Step.{step}
+use Rattle.ar_world.specs.declared.fault.WorldFault.{WorldFault}
+use Rattle.ar_world.specs.declared.fault.WorldFault.TheVariants as fault
+
+-- ---- what lines come to
+
+-- why a line is refused: it cannot be read, or the world does not take it
+pub data Cause : Type 0 where
+  unread : (why : Reason) → Cause
+  untaken : (why : WorldFault) → Cause
+
+-- the world behind some lines, what was printed, and why the last was refused, if it was
+pub record Progress : Type 0 where
+  pub world : World
+  pub said : List Happening
+  pub refused : Option Cause
+
+-- nothing happened
+abbrev pub unmoved : World → Progress
+unmoved w = record { world = w; said = []; refused = None }
+
+-- a line is refused, and does nothing
+abbrev pub refusing : World → Cause → Progress
+refusing w cause = record { world = w; said = []; refused = Some cause }
+
+-- what a line came to
+abbrev pub progress_of : World → Effect → Progress
+progress_of w (Ok made) = record { world = made.0; said = made.1; refused = None }
+progress_of w (Err why) = refusing w (untaken why)
+
+-- what was printed before
+abbrev pub behind : List Happening → Progress → Progress
+behind said p = record p { said = said ++ p.said }
+
+-- one after the other, unless the first was refused
+abbrev pub then_if : Option Cause → Progress → (World → Progress) → Progress
+then_if None p next = behind p.said (next p.world)
+then_if (Some cause) p next = p
+
+abbrev pub then_on : Progress → (World → Progress) → Progress
+then_on p next = then_if p.refused p next
+
+-- ---- `flush`
+
+-- the delivery that is due, where one is, and what follows
+abbrev pub delivering : Saying → World → Option (ℕ × Party) → (World → Progress) → Progress
+delivering saying w None next = unmoved w
+delivering saying w (Some due) next = then_on (progress_of w (deliver_line saying w due.0 due.1)) next
+
+-- all deliveries that are due, one after the other, and those that come to be due by them; at most so many
+unfoldable pub flushed : ℕ → Saying → World → Progress
+flushed zero saying w = unmoved w
+flushed (suc more) saying w = delivering saying w (next_due w) (flushed more saying)
+
+-- More deliveries than there can be: each message is due to at most 16 parties once, and no step that begins with room in the
+-- pool sends so many as are added here.
+abbrev pub most_deliveries : ℕ
+most_deliveries = 16 * (most_messages + 64)
+
+-- what follows a line: behind a `flush` the deliveries
+abbrev pub follows : Saying → Line → World → Progress
+follows saying line.Flush w = flushed most_deliveries saying w
+follows saying _ w = unmoved w
+
+-- ---- lines
+
+-- a line, with what follows it
+abbrev pub taken : Saying → World → Line → Progress
+taken saying w l = then_on (progress_of w (step saying w l)) (follows saying l)
+
+-- what a line is read as; one that is skipped does nothing
+abbrev pub taken_as : Saying → World → Result (Option Line) Reason → Progress
+taken_as saying w (Ok (Some l)) = taken saying w l
+taken_as saying w (Ok None) = unmoved w
+taken_as saying w (Err why) = refusing w (unread why)
+
+-- the most lines of a script
+abbrev pub most_lines : ℕ
+most_lines = 20000
+
+-- the line with this number
+unfoldable pub line_taken : Saying → ℕ → World → List ℕ → Progress
+line_taken saying number w text =
+    if nat_lt most_lines number then refusing w (unread reason.Limit) else taken_as saying w (read_of text)
+
+-- ---- a script
+
+-- the line that was refused, and why
+pub record Refused : Type 0 where
+  pub line : ℕ
+  pub cause : Cause
+
+-- what a script came to: the world behind it, all that was printed, and the line that was refused, if one was
+pub record Run : Type 0 where
+  pub world : World
+  pub said : List Happening
+  pub refused : Option Refused
+
+-- what was printed before
+abbrev pub behind_run : List Happening → Run → Run
+behind_run said r = record r { said = said ++ r.said }
+
+-- the lines behind one with this number, unless it was refused
+abbrev pub run_behind : ℕ → Progress → Option Cause → (World → Run) → Run
+run_behind number p None rest = behind_run p.said (rest p.world)
+run_behind number p (Some cause) rest = record { world = p.world; said = p.said; refused = Some (record { line = number; cause = cause }) }
+
+-- these lines, the first of which has this number
+unfoldable pub run_from : Saying → ℕ → World → List (List ℕ) → Run
+run_from saying number w [] = record { world = w; said = []; refused = None }
+run_from saying number w (text ∷ texts) =
+    let p = line_taken saying number w text
+    in run_behind number p p.refused (λ later. run_from saying (number + 1) later texts)
+
+-- the run of an input, with these checks of owners
+abbrev pub run : Saying → List CheckParts → List ℕ → Run
+run saying checks input = run_from saying 1 (first_world checks) (lines_of input)
+
+-- ---- what is written
+
+-- why a world does not take a line, as it is written; want of memory is never written
+abbrev pub fault_text : WorldFault → List ℕ
+fault_text fault.Order = codes "order"
+fault_text (fault.Absent word) = codes "none " ++ decimal word
+fault_text fault.Limit = codes "limit"
+fault_text fault.Memory = []
+
+abbrev pub cause_text : Cause → List ℕ
+cause_text (unread why) = reason_text why
+cause_text (untaken why) = fault_text why
+
+-- the line that tells which line is refused, and why
+abbrev pub refused_text : Refused → List ℕ
+refused_text r = codes "line " ++ (decimal r.line ++ (codes ": " ++ (cause_text r.cause ++ codes "\n")))
+
+abbrev pub refused_lines : Option Refused → List (List ℕ)
+refused_lines None = []
+refused_lines (Some r) = refused_text r ∷ []
+
+-- all lines that are written of a run, each with its newline
+abbrev pub lines_of_run : Run → List (List ℕ)
+lines_of_run r = map line_of r.said ++ refused_lines r.refused

@@ -1,0 +1,21 @@
+//! A world: all parties, the pool of messages, and what a line of a script makes of them. There are definitions and laws;
+//! the code is not there yet.
+//!
+//! `specs/State.antt` has the world between two lines, as plain data, with the parties (`Parties`) and the pool (`Pool`).
+//! Each group of lines has a file of its own, with what a line makes of the world, what is printed of it, and why it is
+//! refused, in the order of the reasons: the setup (`Founding`), owners and what authorities know of them (`Owning`),
+//! drafts (`Drafting`) and what becomes of them (`Submitting`), orders to logs and authorities (`Ordering`), messages
+//! that clients learn (`Learning`), ask for (`Asking`) and judge (`Judging`), deliveries (`Delivering`), and what
+//! dishonest parties send (`Forging`). `Logs` and `Authorities` have the steps of honest logs and authorities: the rows
+//! of the crates below with the party's signatures in what it sends. `Step` has the step of each line, and `Run` a whole
+//! script with all that is written of it.
+#![tactic(auto)]
+
+mod event;
+mod fault;
+pub mod laws;
+mod phase;
+
+pub use event::LogEvent;
+pub use fault::WorldFault;
+pub use phase::Phase;
