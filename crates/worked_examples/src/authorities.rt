@@ -9,3 +9,6 @@ mod messages;
 mod refusing;
 mod rolling;
 mod texts;
+
+pub(crate) use calls::{Answer, Checked, authority, directory, key, said, take_sent, teach};
+pub(crate) use council::{member, publics};

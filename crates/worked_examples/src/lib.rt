@@ -1,8 +1,11 @@
-//! Worked examples of calls, which need several crates side by side. What they give is compared with another
-//! program's answers.
+//! How the libraries are called: in `callers` by functions with contracts, and in tests by worked examples, which need several
+//! crates side by side. What these give is compared with another program's answers.
 #![tactic(auto)]
 
 #[cfg(test)]
 mod authorities;
+pub mod callers;
+#[cfg(test)]
+mod logs;
 #[cfg(test)]
 mod tables;
