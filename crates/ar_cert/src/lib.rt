@@ -4,6 +4,13 @@
 //! `specs/Certificate.antt` and `specs/Changes.antt` have the grammars, field by field, with the place
 //! of the first fault. `specs/Judging.antt` says what the rule is asked for a change, and which lists of
 //! changes are the chain of a name.
+//!
+//! ```rust
+//! let serial = CertView::read(bytes).map(|certificate| certificate.serial());
+//! ```
+//!
+//! A certificate is read in place, and this takes no memory; the caller `serial_of` of the crate `worked_examples` has
+//! the contract that goes with it.
 #![tactic(auto)]
 
 mod cert;

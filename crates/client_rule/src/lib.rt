@@ -1,6 +1,16 @@
 //! What a client does with a confirmation: it judges it under a directory of keys, without memory.
 //!
 //! `specs/Rule.antt` has the checks in their order.
+//!
+//! ```rust
+//! match judge(&directory, b"a.example", confirmation, now, age) {
+//!     Judgement::Accepted { certificate, .. } => connect_with(certificate.subject()),
+//!     Judgement::Absent { .. } => no_certificate(),
+//!     Judgement::Refused(number) => refused(number),
+//! }
+//! ```
+//!
+//! The caller `key_to_trust` of the crate `worked_examples` has the contract that goes with it.
 #![tactic(auto)]
 
 mod checks;

@@ -2,7 +2,16 @@
 //!
 //! `specs/` states the scheme on lists of bytes: `LmsKind` the table of types, `PublicKey` the text of
 //! a key, `Tree` the nodes and the way up, and `Validity` the five conditions and the verdict, which
-//! is the first that fails (`Tests`).
+//! is the first that fails.
+//!
+//! ```rust
+//! let key = LmsKey::make(alloc, &seed, 5, 3)?;
+//! let mut signature = vec![in alloc; 0u8; key.signature_len()]?;
+//! key.sign_at(0, message, &mut signature);
+//! let verdict = valid(&key.public(), message, &signature);
+//! ```
+//!
+//! `verdict` is `Verdict::Valid` then, which the caller `sign_and_verify` of the crate `worked_examples` proves.
 #![tactic(auto)]
 
 pub use key::{KeyFault, LmsKey};

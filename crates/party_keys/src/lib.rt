@@ -5,6 +5,12 @@
 //! `specs/Directory.antt` says which directories there are, `Signatures` what verifying answers, `Learning`
 //! how a directory comes to know further keys, `Signers` what a list of signers is answered, and `Seeds` has
 //! the secrets.
+//!
+//! ```rust
+//! let signed = directory.verify(party, Text::of(&statement).as_bytes(), signature).is_ok();
+//! ```
+//!
+//! The caller `has_signed` of the crate `worked_examples` has the contract that goes with it.
 #![tactic(auto)]
 
 mod directory;

@@ -2,6 +2,13 @@
 //!
 //! `specs/Book.antt` says what a book is, `specs/Entry.antt` which leaf it gives to a statement, and
 //! `laws` that no leaf serves two statements.
+//!
+//! ```rust
+//! let due = book.enter(alloc, &Statement::Handover { certificate })?;
+//! sign(&key, due, &mut signature);
+//! ```
+//!
+//! The caller `hand_over` of the crate `worked_examples` has the contract that goes with it.
 #![tactic(auto)]
 
 pub use book::SignBook;
