@@ -1,12 +1,12 @@
--- What signing the blanks of messages does to their lengths, and in which order blanks may be signed.
-use Rattle.std.proofs.Common.{◌≡◌, ℕ, ◌<◌, ◌∙◌, ap, sym, subst, refl, get_or, set, length, List, [], ◌∷◌, ◌++◌, Some}
+-- What signing the blanks of messages does to their lengths and to how many they are, and in which order blanks may be signed.
+use Rattle.std.proofs.Common.{◌≡◌, ℕ, ◌<◌, ◌∙◌, ap, sym, subst, refl, get_or, set, length, List, [], ◌∷◌, ◌++◌, Option, Some, None}
 use Rattle.std.specs.Prelude.{slice_get}
-use Rattle.std.proofs.lemmas.List.{get_or-map, length-map, map-set, set-get_or}
+use Rattle.std.proofs.lemmas.List.{get_or-map, length-map, length-set, map-set, set-get_or}
 use Rattle.std.proofs.lemmas.Option.{slice_get_within}
 use Rattle.lms_tree.specs.KeyParts.{KeyParts}
 use Rattle.ar_message.specs.declared.unsigned.Blank.{Blank}
 use Rattle.ar_message.specs.Sending.{Letter}
-use Rattle.ar_message.specs.Filling.{lengths, signed, signed_at}
+use Rattle.ar_message.specs.Filling.{lengths, signed, signed_at, signed_in, with_signature}
 
 abbrev pub length_of : Letter → ℕ
 length_of l = length l.bytes
@@ -32,3 +32,17 @@ pub none_left : (keys : List KeyParts) (blanks : List Blank) (letters : List Let
 unfolding signed
 none_left keys [] letters none = refl
 none_left keys (b ∷ blanks) letters none = absurd cc
+
+-- one blank leaves as many messages
+one_count : (keys : List KeyParts) (blank : Blank) (letters : List Letter) → length (signed_at keys blank letters) ≡ length letters
+one_count keys blank letters = by (slice_get letters blank.message)
+  where
+    by : (letter : Option Letter) → length (signed_in keys blank letters letter) ≡ length letters
+    by (Some letter) = length-set letters blank.message (with_signature keys blank letter)
+    by None = refl
+
+-- and so do all
+pub same_count : (keys : List KeyParts) (blanks : List Blank) (letters : List Letter) → length (signed keys blanks letters) ≡ length letters
+unfolding signed
+same_count keys [] letters = refl
+same_count keys (blank ∷ blanks) letters = one_count keys blank (signed keys blanks letters) ∙ same_count keys blanks letters

@@ -70,3 +70,8 @@ pub fn all_else_stays()
         → All (IsBlank keys (lengths letters)) blanks
         → map (λ letter. letter.to) (signed keys blanks letters) ≡ map (λ letter. letter.to) letters }
 {}
+
+/// Signing adds no message and takes none away.
+pub fn as_many_are_signed()
+    ensures { (keys : List KeyParts) (blanks : List Blank) (letters : List Letter) → length (signed keys blanks letters) ≡ length letters }
+{}
