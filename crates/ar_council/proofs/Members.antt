@@ -5,13 +5,14 @@ use Rattle.std.proofs.Math.ListN.{length-set}
 use Rattle.std.proofs.lemmas.List.{get_or_past}
 use Rattle.std.proofs.lemmas.List.Elements.{All-cons, All-nil}
 use Rattle.std.proofs.lemmas.Option.{slice_get_cases}
+use Rattle.key_roll.specs.Entry.{roll_text}
 use Rattle.ar_council.specs.Council.{Council, IsMember, council_of, count_of}
 use Rattle.ar_statement.specs.declared.party.Party.{Party}
 use Rattle.ar_statement.specs.declared.party.Role.{Role}
 use Rattle.ar_statement.specs.declared.party.Role.TheVariants.{Authority, Client, LogServer, Owner}
 use Rattle.lms_tree.specs.declared.public_key.LmsPublic.{LmsPublic}
 use Rattle.party_keys.specs.Directory.{Directory, keys_at, keys_of, role_keys}
-use Rattle.party_keys.specs.Learning.{Announced, after_adopting, after_learning, learned, learned_if, learning, roll_text, with_next_of}
+use Rattle.party_keys.specs.Learning.{Announced, after_adopting, after_learning, learned, learned_if, learning, with_next_of}
 use Rattle.party_keys.specs.Signatures.{answer_under, verified}
 use Rattle.party_keys.specs.Signers.{all_known, is_known}
 use Rattle.party_keys.specs.declared.fault.LearnFault.{LearnFault}

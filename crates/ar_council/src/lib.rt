@@ -14,5 +14,5 @@ mod statements;
 pub use keys::key_told;
 pub use room::{has_leaf, has_leaves};
 pub use statements::{
-    ballot_told, propose_statement, status_statement, value_told, vote_statement,
+    ballot_told, propose_statement, roots_of, status_statement, value_told, vote_statement,
 };

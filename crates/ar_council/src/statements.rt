@@ -49,8 +49,8 @@ pub fn ballot_told(value: &Option<Value>)
     }
 }
 
-/// A base and a root, as a statement has them.
-fn roots_of(value: &Option<Value>) -> Option<([u8; 32], [u8; 32])>
+/// A base and a root, as statements and messages have them.
+pub fn roots_of(value: &Option<Value>) -> Option<([u8; 32], [u8; 32])>
     ensures { result ≡ option_map roots_of value.now }
 {
     match value {

@@ -1,6 +1,6 @@
 -- What a step sends before it is signed, and what signing makes of it. Where a signature is due the message has
 -- zero bytes, a blank, and signing writes the signature over them.
-use Rattle.std.specs.Prelude.{◌≡◌, ◌≢◌, ℕ, ◌+◌, ◌<◌, ◌≤◌, ◌⊎◌, List, [], ◌∷◌, ◌++◌, take, drop, map, length, slice_get, slice_index, slice_index_or, slice_set, Option, Some, None, All}
+use Rattle.std.specs.Prelude.{◌≡◌, ◌≢◌, ℕ, ◌+◌, ◌<◌, ◌≤◌, ◌⊎◌, List, [], ◌∷◌, ◌++◌, take, drop, map, length, replicate, slice_get, slice_index, slice_index_or, slice_set, Option, Some, None, All}
 use Rattle.key_roll.specs.Due.{DueParts}
 use Rattle.key_roll.specs.Ring.{Owes, signature_by}
 use Rattle.lms_tree.specs.KeyParts.{KeyParts}
@@ -9,6 +9,18 @@ use Rattle.ar_message.specs.declared.unsigned.Unsigned.{Unsigned}
 use Rattle.ar_message.specs.declared.sent.Sent.{Sent}
 use Rattle.ar_message.specs.declared.address.Address.TheVariants.{Logs}
 use Rattle.ar_message.specs.Sending.{Letter}
+
+-- so many zero bytes, in place of a signature
+abbrev pub zeros : ℕ → List ℕ
+zeros len = replicate len 0
+
+-- no message is sent and no signature is due; this epoch ended, where one did
+abbrev pub only_ended : Option (ℕ × Option (List ℕ)) → Unsigned
+only_ended ended = record { sent = record { messages = []; ended = ended }; blanks = [] }
+
+-- nothing is sent, no epoch ended, and no signature is due
+abbrev pub nothing : Unsigned
+nothing = only_ended None
 
 -- bytes with others written over them from a place on
 abbrev pub written_at : ℕ → List ℕ → List ℕ → List ℕ

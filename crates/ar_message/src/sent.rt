@@ -1,7 +1,9 @@
 ghost use Rattle.std.specs.Prelude.{◌≡◌};
+ghost use Rattle.ar_message.specs.Filling.{nothing};
 
 use crate::Address;
 use ar_base::Items;
+use std::alloc::Global;
 use std::marker::Model;
 
 /// A message on its way: to whom it goes, and its text.
@@ -58,4 +60,16 @@ pub struct Sent {
     /// The epoch that ended in this step, where one did: with the root of its table where it was decided, and
     /// with none where it was skipped.
     pub ended: Option<(u64, Option<[u8; 32]>)>,
+}
+
+impl Sent {
+    /// No message, and no epoch that ended. It takes no memory.
+    pub fn nothing(alloc: Global) -> Sent
+        ensures { result ≡ nothing.sent }
+    {
+        Sent {
+            messages: Items::new(alloc),
+            ended: None,
+        }
+    }
 }

@@ -21,8 +21,9 @@ impl Model for Signature {
 }
 
 impl Signature {
-    ghost use Rattle.std.specs.Prelude.{◌≡◌, IfOk};
+    ghost use Rattle.std.specs.Prelude.{◌≡◌, ◌<◌, ◌^◌, IfOk};
     ghost use Rattle.ar_cert.specs.Changes.{IsSignature};
+    ghost use Rattle.ar_message.specs.Filling.{zeros};
 
     /// The bytes.
     pub fn as_slice(&self) -> &[u8]
@@ -30,6 +31,16 @@ impl Signature {
         ensures few { IsSignature self.now }
     {
         &self.bytes
+    }
+
+    /// So many zero bytes, where a signature is due.
+    pub fn zeros(alloc: Global, len: usize) -> Result<Signature, AllocError>
+        requires { len < 2 ^ 16 }
+        ensures { IfOk result (λ signature. signature ≡ zeros len) }
+    {
+        Ok(Signature {
+            bytes: vec![in alloc; 0u8; len]?,
+        })
     }
 
     /// These bytes as a signature of its own.

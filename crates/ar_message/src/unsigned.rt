@@ -1,6 +1,10 @@
+ghost use Rattle.std.specs.Prelude.{◌≡◌};
+ghost use Rattle.ar_message.specs.Filling.{nothing, only_ended};
+
 use crate::Sent;
 use ar_base::Items;
 use key_roll::RollDue;
+use std::alloc::Global;
 
 /// A place in a message where a signature is due. Its bytes are zero until it is signed.
 ///
@@ -18,4 +22,26 @@ pub struct Blank {
 pub struct Unsigned {
     pub sent: Sent,
     pub blanks: Items<Blank>,
+}
+
+impl Unsigned {
+    /// No message is sent and no signature is due; this epoch ended, where one did. It takes no memory.
+    pub fn ended(alloc: Global, ended: Option<(u64, Option<[u8; 32]>)>) -> Unsigned
+        ensures { result ≡ only_ended ended }
+    {
+        Unsigned {
+            sent: Sent {
+                messages: Items::new(alloc),
+                ended,
+            },
+            blanks: Items::new(alloc),
+        }
+    }
+
+    /// Nothing is sent, no epoch ended, and no signature is due. It takes no memory.
+    pub fn nothing(alloc: Global) -> Unsigned
+        ensures { result ≡ nothing }
+    {
+        Unsigned::ended(alloc, None)
+    }
 }

@@ -1,12 +1,13 @@
 -- The line `learn`: the clients' directory takes a message.
 use Rattle.std.specs.Prelude.{ℕ, [], ◌∷◌, Option, Some, None, Result, Ok, Err}
+use Rattle.key_roll.specs.Entry.{roll_text}
 use Rattle.ar_base.specs.Chaining.{◌>>=◌}
 use Rattle.ar_council.specs.Seen.{with_seen}
 use Rattle.ar_message.specs.Messages.{message_in}
 use Rattle.ar_message.specs.declared.message.Message.{Message}
 use Rattle.ar_message.specs.declared.message.Message.TheVariants.{RollNote}
 use Rattle.ar_statement.specs.declared.text.SeenText.{SeenText}
-use Rattle.party_keys.specs.Learning.{Announced, after_learning, learned, roll_text}
+use Rattle.party_keys.specs.Learning.{Announced, after_learning, learned}
 use Rattle.party_keys.specs.declared.fault.LearnFault.{LearnFault}
 use Rattle.party_keys.specs.declared.fault.LearnFault.TheVariants as fault
 use Rattle.party_keys.specs.declared.learning.Learned.{Learned}

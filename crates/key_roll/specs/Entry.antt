@@ -1,9 +1,10 @@
 -- What it means to enter a statement into a book, and to roll.
-use Rattle.std.specs.Prelude.{◌≡◌, ℕ, ◌+◌, ◌-◌, ◌==◌, Bool, nat_lt, if◌then◌else◌, List, [], ◌∷◌, ◌++◌, take, slice_get, Option, Some, None, option_and_then, Result, Ok, Err}
+use Rattle.std.specs.Prelude.{◌≡◌, ℕ, ◌+◌, ◌-◌, ◌<◌, ◌==◌, Bool, IsTrue, nat_lt, if◌then◌else◌, List, [], ◌∷◌, ◌++◌, take, slice_get, Option, Some, None, option_and_then, Result, Ok, Err}
 use Rattle.std.specs.Option.{option_map, ok_or}
 use Rattle.ar_base.specs.Places.{place_of}
 use Rattle.ar_statement.specs.declared.party.Party.{Party}
 use Rattle.ar_statement.specs.Claims.{roll, text_of}
+use Rattle.ar_statement.specs.Ranges.{IsKeyText, is_readable}
 use Rattle.lms_tree.specs.PublicKey.{key_text}
 use Rattle.lms_tree.specs.declared.public_key.LmsPublic.{LmsPublic}
 use Rattle.key_roll.specs.declared.signed.Signed.{Signed}
@@ -84,6 +85,12 @@ with_roll book text = record {
 -- the last generation
 abbrev pub last_generation : ℕ
 last_generation = 999
+
+-- A party may announce this key as its next one: the newest generation is not the last, and the key can be read.
+pub record MayRoll (book : RollBook) (key : List ℕ) : Type 0 where
+  pub not_last : book.newest < last_generation
+  pub is_key : IsKeyText key
+  pub readable : IsTrue (is_readable key)
 
 -- what a roll gives, where memory lasts
 abbrev pub rolled : RollBook → List ℕ → Result DueParts RollFault

@@ -1,5 +1,5 @@
 -- The keys of a party, one for each generation.
-use Rattle.std.specs.Prelude.{◌≡◌, ℕ, ◌+◌, ◌-◌, ◌^◌, ◌<◌, List, ◌∷◌, ◌++◌, length, slice_get, Some}
+use Rattle.std.specs.Prelude.{◌≡◌, ℕ, ◌+◌, ◌-◌, ◌^◌, ◌<◌, List, ◌∷◌, ◌++◌, length, slice_get, All, Some}
 use Rattle.std.specs.Int.{w32}
 use Rattle.sha2.specs.Sha256.{sha256}
 use Rattle.ar_bytes.specs.RoundTrip.{number_text}
@@ -7,6 +7,7 @@ use Rattle.lms_tree.specs.Key.{signature_of}
 use Rattle.lms_tree.specs.KeyParts.{KeyParts}
 use Rattle.lms_tree.specs.LmsKind.{height_of}
 use Rattle.lms_tree.specs.Signature.{lms_signature_len_of}
+use Rattle.key_roll.specs.Book.{RollBook}
 use Rattle.key_roll.specs.Due.{DueParts}
 
 -- the secret of the next generation: H(0x54 || SEED)
@@ -36,6 +37,13 @@ pub record IsNext (keys : List KeyParts) (key : KeyParts) : Type 0 where
 -- how many bytes a signature by a key has, with the generation in front
 abbrev pub ring_signature_len : KeyParts → ℕ
 ring_signature_len key = 4 + lms_signature_len_of key.lms key.ots
+
+-- The keys are those of a book: one for each generation up to its newest, each with as many leaves as the book says, and a
+-- signature of so many bytes.
+pub record AreKeysOf (book : RollBook) (len : ℕ) (keys : List KeyParts) : Type 0 where
+  pub many : length keys ≡ book.newest + 1
+  pub leaves : All (λ key. book.leaves ≡ 2 ^ height_of key.lms) keys
+  pub bytes : All (λ key. len ≡ ring_signature_len key) keys
 
 -- the keys have the one that owes a signature, with the leaves that its book counts on, and this many bytes
 -- are those of its signature behind a generation

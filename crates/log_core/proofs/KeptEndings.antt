@@ -6,6 +6,7 @@ use Rattle.std.specs.Option.{option_map}
 use Rattle.std.specs.List.Sorted.{IsStrictlyIncreasing}
 use Rattle.std.proofs.lemmas.List.{length-map}
 use Rattle.std.proofs.lemmas.List.Elements.{All-from_recursion, All-weaker}
+use Rattle.key_roll.specs.Entry.{roll_text}
 use Rattle.ar_base.specs.Bytes.{AreBytes, IsDigest}
 use Rattle.ar_base.proofs.Digests.{sha256-IsDigest}
 use Rattle.ar_names.specs.Names.{IsName}
@@ -26,7 +27,7 @@ use Rattle.ar_statement.specs.Ranges.{AreRoots, IsKeyText, is_readable}
 use Rattle.lms_tree.specs.PublicKey.{key_text}
 use Rattle.lms_tree.specs.declared.public_key.LmsPublic.{LmsPublic}
 use Rattle.party_keys.specs.Directory.{Directory, keys_of}
-use Rattle.party_keys.specs.Learning.{Announced, after_adopting, after_learning, learned, learned_if, roll_text}
+use Rattle.party_keys.specs.Learning.{Announced, after_adopting, after_learning, learned, learned_if}
 use Rattle.party_keys.specs.Seen.{log_party}
 use Rattle.party_keys.specs.Signers.{Claimed, is_known}
 use Rattle.party_keys.specs.Signatures.{verified}

@@ -4,6 +4,7 @@ use Rattle.std.specs.Prelude.{Contains, Ok, Err, Result, flat_map, map, slice_ge
 use Rattle.std.specs.List.{AllByRecursion}
 use Rattle.std.specs.Option.{option_map}
 use Rattle.std.proofs.lemmas.List.Elements.{All-contains, All-from_recursion}
+use Rattle.key_roll.specs.Entry.{roll_text}
 use Rattle.lms_tree.specs.PublicKey.{key_text}
 use Rattle.lms_tree.specs.declared.public_key.LmsPublic.{LmsPublic}
 use Rattle.ar_cert.specs.Certificate.{digest_of}
@@ -16,7 +17,7 @@ use Rattle.ar_message.specs.declared.message.Message.TheVariants as messages
 use Rattle.ar_statement.specs.declared.text.SeenText.{SeenText}
 use Rattle.ar_statement.specs.Claims.{endorse, propose, roll}
 use Rattle.party_keys.specs.Directory.{Directory, keys_of}
-use Rattle.party_keys.specs.Learning.{Announced, learned, roll_text}
+use Rattle.party_keys.specs.Learning.{Announced, learned}
 use Rattle.party_keys.specs.Seen.{authority_party, log_party}
 use Rattle.party_keys.specs.Signatures.{verified}
 use Rattle.vote_quorum.specs.declared.value.Value.{Value}

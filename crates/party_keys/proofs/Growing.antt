@@ -2,12 +2,14 @@
 use Rattle.std.proofs.Common.{◌≡◌, ℕ, zero, suc, ◌+◌, ◌≤◌, Bool, true, false, List, [], ◌∷◌, ◌++◌, length, take, slice_get, slice_set, if◌then◌else◌, Option, Some, None, Result, Ok, Err, refl, sym, ap, subst, ◌∙◌, arith}
 use Rattle.std.proofs.lemmas.List.{append-nil, append_assoc, take_all}
 use Rattle.lms_tree.specs.declared.public_key.LmsPublic.{LmsPublic}
+use Rattle.lms_tree.specs.PublicKey.{key_text}
 use Rattle.ar_statement.specs.declared.party.Role.{Role}
 use Rattle.ar_statement.specs.declared.party.Role.TheVariants.{LogServer, Authority, Owner, Client}
 use Rattle.ar_statement.specs.declared.party.Party.{Party}
+use Rattle.ar_statement.specs.Claims.{roll, text_of}
 use Rattle.party_keys.specs.Directory.{Directory, keys_at, keys_of, role_keys}
 use Rattle.party_keys.specs.Signatures.{answer_at, answer_by, answer_under, behind_generation, generation_of, verified}
-use Rattle.party_keys.specs.Learning.{Announced, after_all, after_learning, is_key, learned, learned_as, learned_if, learning, next_behind, roll_text, with_next_of}
+use Rattle.party_keys.specs.Learning.{Announced, after_all, after_learning, is_key, learned, learned_as, learned_if, learning, next_behind, with_next_of}
 use Rattle.party_keys.specs.declared.fault.VerifyFault.{VerifyFault}
 use Rattle.party_keys.specs.declared.fault.VerifyFault.TheVariants.{Unknown, Bad}
 use Rattle.party_keys.specs.declared.fault.LearnFault.{LearnFault}
@@ -81,7 +83,7 @@ new_if (Err fault) known key e = absurd cc
 
 new_has_none : (keys : Directory) (a : Announced) → learned keys a ≡ Ok New → slice_get (keys_of keys a.party) (a.generation + 1) ≡ None
 unfolding learned
-new_has_none keys a e = new_if (verified keys a.party (roll_text a.party a.generation a.key) a.signature) (slice_get (keys_of keys a.party) (a.generation + 1)) a.key e
+new_has_none keys a e = new_if (verified keys a.party (text_of (roll a.party a.generation (key_text a.key))) a.signature) (slice_get (keys_of keys a.party) (a.generation + 1)) a.key e
 
 learning_grows : (keys : Directory) (a : Announced) (party : Party) → Grows (keys_of keys party) (keys_of (after_learning keys a) party)
 learning_grows keys a party = by_answer (learned keys a) refl where

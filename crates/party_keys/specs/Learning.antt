@@ -24,10 +24,6 @@ pub record Announced : Type 0 where
   pub key : LmsPublic
   pub signature : List ℕ
 
--- the text of that Roll
-abbrev pub roll_text : Party → ℕ → LmsPublic → List ℕ
-roll_text party generation key = text_of (roll party generation (key_text key))
-
 -- ---- a key more
 
 -- the keys of the parties of a role, with these as the keys of one of them
@@ -78,7 +74,7 @@ learned_if (Err fault) known key = Err (fault_of fault)
 -- there.
 unfoldable pub learned : Directory → Announced → Result Learned LearnFault
 learned keys a =
-    learned_if (verified keys a.party (roll_text a.party a.generation a.key) a.signature)
+    learned_if (verified keys a.party (text_of (roll a.party a.generation (key_text a.key))) a.signature)
     (slice_get (keys_of keys a.party) (a.generation + 1)) a.key
 
 -- the directory behind what it learnt

@@ -1,6 +1,8 @@
 ghost use Rattle.std.specs.Prelude.{◌≡◌, Ok, Err, OnOk, OnErr};
+ghost use Rattle.lms_tree.specs.PublicKey.{key_text};
+ghost use Rattle.ar_statement.specs.Claims.{roll, text_of};
 ghost use Rattle.ar_base.specs.Gives.{GivesOrWants};
-ghost use Rattle.party_keys.specs.Learning.{after_adopting, after_learning, is_key, learned, roll_text, with_next};
+ghost use Rattle.party_keys.specs.Learning.{after_adopting, after_learning, is_key, learned, with_next};
 ghost use Rattle.party_keys.specs.declared.fault.LearnFault.TheVariants.{Memory};
 ghost use Rattle.party_keys.specs.declared.learning.Learned.TheVariants.{New};
 
@@ -21,7 +23,7 @@ pub enum Learned {
 
 /// The text of the Roll by which a party announces the key behind its key of this generation.
 fn roll_text(party: Party, generation: u32, key: &LmsPublic) -> Text
-    ensures { result ≡ roll_text party generation key.now }
+    ensures { result ≡ text_of (roll party generation (key_text key.now)) }
 {
     Text::of(&Statement::Roll {
         signer: party,
