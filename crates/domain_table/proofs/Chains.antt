@@ -2,6 +2,7 @@
 use Rattle.std.proofs.Common.{◌≡◌, ℕ, zero, suc, ◌+◌, ◌<◌, List, [], ◌∷◌, ◌++◌, length, get_or, drop, refl, sym, ap, ◌∙◌, arith, Some}
 use Rattle.std.specs.Prelude.{All}
 use Rattle.std.proofs.lemmas.List.{append-nil}
+use Rattle.std.proofs.lemmas.Option.{same_Some}
 use Rattle.ar_base.specs.Apart.{IsIn, Apart}
 use Rattle.ar_cert.specs.Certificate.{Certificate, IsCertificate, certificate_at, certificate_text, digest_of}
 use Rattle.ar_cert.specs.Changes.{Change, IsChange}
@@ -56,9 +57,6 @@ down strings apart one other good_one good_other e zero k d at top = top k (omeg
 down strings apart one other good_one good_other e (suc n) k d at top =
     before strings apart one other good_one good_other k d (omega (arith, at)) (omega (arith, at, e))
     (down strings apart one other good_one good_other e n (k + 1) d (omega (arith, at)) top)
-
-same_Some : {A : Type 0} (x y : A) → Some x ≡ Some y → x ≡ y
-same_Some x y e = cc
 
 pub one_chain : (strings : List (List ℕ)) → Apart strings → (one other : List Change) → Good strings one → Good strings other → newest one ≡ newest other → certificates_of one ≡ certificates_of other
 one_chain strings apart [] other good_one good_other e = absurd (omega (arith, good_one.is_chain.some))

@@ -8,7 +8,7 @@ use Rattle.std.specs.declared.cmp.Ordering.TheVariants.{Less, Equal, Greater}
 use Rattle.std.specs.Ordering.{eq_by_cmp, is_eq, is_lt, ordering_reverse}
 use Rattle.std.specs.FinMap.{find, is_sorted}
 use Rattle.std.specs.FinMap.Entries.{below_all}
-use Rattle.std.proofs.lemmas.Bool.{cases_lt}
+use Rattle.std.proofs.lemmas.Bool.{and_from, cases_lt}
 use Rattle.std.proofs.lemmas.List.{map-append}
 use Rattle.std.proofs.Math.ListN.{set}
 use Rattle.hash_tree.specs.Entries.{key_cmp}
@@ -78,14 +78,10 @@ less_before [] name (suc i) less = tt
 less_before (r ∷ rows) name (suc i) less =
     (less_is (key_cmp r.name.items name) (less 0 r (omega arith) (omega arith)), less_before rows name i (λ k d l m. less (suc k) d (omega (arith, l)) (omega (arith, m))))
 
-both : (a b : Bool) → a ≡ true → b ≡ true → (a && b) ≡ true
-both true b p q = q
-both false b p q = p
-
 all_greater : (rows : List Row) (name : List ℕ) → ((k : ℕ) (d : Row) → k < length rows → key_cmp name (get_or rows k d).name.items ≡ Less) → below_all key_cmp name (map chain_pair (data_in rows)) ≡ true
 all_greater [] name less = refl
 all_greater (r ∷ rows) name less =
-    both (is_lt (key_cmp name r.name.items)) (below_all key_cmp name (map chain_pair (data_in rows))) (ap is_lt (less 0 r (omega arith)))
+    and_from (is_lt (key_cmp name r.name.items)) (below_all key_cmp name (map chain_pair (data_in rows))) (ap is_lt (less 0 r (omega arith)))
     (all_greater rows name (λ k d l. less (suc k) d (omega (arith, l))))
 
 pub greater_from : (rows : List Row) (name : List ℕ) (i : ℕ) → ((k : ℕ) (d : Row) → i ≤ k → k < length rows → key_cmp name (get_or rows k d).name.items ≡ Less)

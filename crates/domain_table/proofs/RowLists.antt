@@ -13,6 +13,7 @@ use lib.Dec.{T}
 use Rattle.std.proofs.lemmas.List.{map-append}
 use Rattle.std.proofs.lemmas.List.Elements.{filter_map-append, recursion_from_All}
 use Rattle.std.proofs.lemmas.List.Sums.{sum_by-cons}
+use Rattle.std.proofs.lemmas.Bool.{and_from}
 use Rattle.hash_tree.specs.Strings as strings
 use Rattle.sha2.specs.Sha256.{sha256}
 use Rattle.hash_tree.specs.Entries.{Entry, Entries, key_cmp}
@@ -236,22 +237,18 @@ pub rise_changed : (front : List RowData) (r other : RowData) (back : List RowDa
 rise_changed [] r other back same = ap (λ n. below_all key_cmp n (map chain_pair back) && is_sorted key_cmp (map chain_pair back)) same
 rise_changed (f ∷ front) r other back same = λ i. below_changed f.name front r other back same i && rise_changed front r other back same i
 
-both : (a b : Bool) → a ≡ true → b ≡ true → (a && b) ≡ true
-both true b p q = q
-both false b p q = p
-
 below_came : (x : List ℕ) (front : List RowData) (r : RowData) (back : List RowData) → below_all key_cmp x (map chain_pair (front ++ back)) ≡ true → key_cmp x r.name ≡ Less
     → below_all key_cmp x (map chain_pair (front ++ r ∷ back)) ≡ true
-below_came x [] r back h less = both (is_lt (key_cmp x r.name)) (below_all key_cmp x (map chain_pair back)) (ap is_lt less) h
+below_came x [] r back h less = and_from (is_lt (key_cmp x r.name)) (below_all key_cmp x (map chain_pair back)) (ap is_lt less) h
 below_came x (f ∷ front) r back h less =
-    both (is_lt (key_cmp x f.name)) (below_all key_cmp x (map chain_pair (front ++ r ∷ back))) (both-first _ (below_all key_cmp x (map chain_pair (front ++ back))) h)
+    and_from (is_lt (key_cmp x f.name)) (below_all key_cmp x (map chain_pair (front ++ r ∷ back))) (both-first _ (below_all key_cmp x (map chain_pair (front ++ back))) h)
     (below_came x front r back (both-second (is_lt (key_cmp x f.name)) _ h) less)
 
 pub rise_came : (front : List RowData) (r : RowData) (back : List RowData) → IsTrue (is_sorted key_cmp (map chain_pair (front ++ back))) → AllByRecursion (λ f. key_cmp f.name r.name ≡ Less) front
     → below_all key_cmp r.name (map chain_pair back) ≡ true → IsTrue (is_sorted key_cmp (map chain_pair (front ++ r ∷ back)))
-rise_came [] r back rise less greater = both (below_all key_cmp r.name (map chain_pair back)) (is_sorted key_cmp (map chain_pair back)) greater rise
+rise_came [] r back rise less greater = and_from (below_all key_cmp r.name (map chain_pair back)) (is_sorted key_cmp (map chain_pair back)) greater rise
 rise_came (f ∷ front) r back rise less greater =
-    both (below_all key_cmp f.name (map chain_pair (front ++ r ∷ back))) (is_sorted key_cmp (map chain_pair (front ++ r ∷ back)))
+    and_from (below_all key_cmp f.name (map chain_pair (front ++ r ∷ back))) (is_sorted key_cmp (map chain_pair (front ++ r ∷ back)))
     (below_came f.name front r back (both-first _ (is_sorted key_cmp (map chain_pair (front ++ back))) rise) less.0)
     (rise_came front r back (both-second (below_all key_cmp f.name (map chain_pair (front ++ back))) _ rise) less.1 greater)
 
@@ -261,7 +258,7 @@ below_waits x [] h = refl
 below_waits x (r ∷ rows) h = at (r.waiting) (below_waits x rows (both-second (is_lt (key_cmp x r.name)) _ h)) where
   at : (o : Option Pending) → below_all key_cmp x (filter_map pending_pair rows) ≡ true → below_all key_cmp x (cons_option (option_map (λ p. (r.name, p)) o) (filter_map pending_pair rows)) ≡ true
   at None rest = rest
-  at (Some p) rest = both (is_lt (key_cmp x r.name)) (below_all key_cmp x (filter_map pending_pair rows)) (both-first _ (below_all key_cmp x (map chain_pair rows)) h) rest
+  at (Some p) rest = and_from (is_lt (key_cmp x r.name)) (below_all key_cmp x (filter_map pending_pair rows)) (both-first _ (below_all key_cmp x (map chain_pair rows)) h) rest
 
 pub waits_rise : (rows : List RowData) → IsTrue (is_sorted key_cmp (map chain_pair rows)) → IsTrue (is_sorted key_cmp (filter_map pending_pair rows))
 waits_rise [] h = refl
@@ -269,7 +266,7 @@ waits_rise (r ∷ rows) h = at (r.waiting) (waits_rise rows (both-second (below_
   at : (o : Option Pending) → is_sorted key_cmp (filter_map pending_pair rows) ≡ true → is_sorted key_cmp (cons_option (option_map (λ p. (r.name, p)) o) (filter_map pending_pair rows)) ≡ true
   at None rest = rest
   at (Some p) rest =
-      both (below_all key_cmp r.name (filter_map pending_pair rows)) (is_sorted key_cmp (filter_map pending_pair rows))
+      and_from (below_all key_cmp r.name (filter_map pending_pair rows)) (is_sorted key_cmp (filter_map pending_pair rows))
       (below_waits r.name rows (both-first (below_all key_cmp r.name (map chain_pair rows)) _ h)) rest
 
 -- ---- the entries of rows

@@ -5,6 +5,7 @@ use Rattle.std.specs.Prelude.{unwrap_or, All}
 use Rattle.std.specs.FinMap.{get}
 use Rattle.std.proofs.lemmas.List.{append-nil}
 use Rattle.std.proofs.lemmas.List.Elements.{All-push, All-nil}
+use Rattle.std.proofs.lemmas.Option.{same_Some}
 use Rattle.ar_cert.specs.Changes.{Change, IsChange}
 use Rattle.ar_cert.specs.Judging.{IsAccepted}
 use Rattle.ar_cert.proofs.Accepted.{one_is_chain, more_is_chain}
@@ -48,9 +49,6 @@ pub record Follows (P : List ℕ → Change → Type 0) (t u : Table) : Type 0 w
   pub sound : IsSound u
   pub holds : Holds P u
   pub begins : (name : List ℕ) → Begins (chain_of t name) (chain_of u name)
-
-same_Some : {A : Type 0} (x y : A) → Some x ≡ Some y → x ≡ y
-same_Some x y e = cc
 
 -- the chain of a name after a step
 grown : (P : List ℕ → Change → Type 0) (name : List ℕ) (before : Option (List Change)) (c : Change) (chain : List Change)

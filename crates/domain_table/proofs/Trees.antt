@@ -7,6 +7,7 @@ use Rattle.std.specs.Int.{w64, to_be_bytes, from_be_bytes}
 use Rattle.std.specs.FinMap.{get, entries, find, get-entries, get-from_entries}
 use Rattle.std.proofs.lemmas.Nat.{from_be_bytes-to_be_bytes_8}
 use Rattle.std.proofs.lemmas.List.Elements.{All-nil, All-cons}
+use Rattle.std.proofs.lemmas.Option.{same_Some}
 use Rattle.sha2.specs.Sha256.{sha256}
 use Rattle.ar_base.specs.Apart.{IsIn, Apart, none_collide}
 use Rattle.ar_base.proofs.Apart.{in_front, in_rest, in_both, apart, none_collide-part}
@@ -128,9 +129,6 @@ good_chain strings table sound listed name chain there =
       each = is.each;
       hashed = certs_listed strings chain (λ x i. chain_listed strings table listed name chain there x (inr (in_rest (newest_strings (newest chain)) _ x i)));
     }
-
-same_Some : {A : Type 0} (x y : A) → Some x ≡ Some y → x ≡ y
-same_Some x y e = cc
 
 mapped_from : {A B : Type 0} (f : A → B) (o : Option A) (y : B) → option_map f o ≡ Some y → (x : A) × (o ≡ Some x) × (f x ≡ y)
 mapped_from f None y e = absurd (cc)
