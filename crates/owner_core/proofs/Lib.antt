@@ -1,5 +1,6 @@
 pub mod Again
 pub mod Among
+pub mod Counted
 pub mod Spots
 pub mod Stepped
 pub mod Taken

@@ -1,7 +1,7 @@
 //! Laws on the rows of an owner, over the definitions alone: each is the contract of a function
 //! without a body.
 
-ghost use Rattle.std.specs.Prelude.{◌≡◌, ◌++◌, ℕ, List, [], ◌∷◌, None, Some, Ok, true};
+ghost use Rattle.std.specs.Prelude.{◌≡◌, ◌++◌, ℕ, List, [], ◌∷◌, None, Some, Ok, length, true};
 ghost use Rattle.ar_cert.specs.Certificate.{Certificate, digest_of};
 ghost use Rattle.ar_cert.specs.Changes.{Change, Endorsement, IsEndorsement};
 ghost use Rattle.ar_message.specs.declared.address.Address.TheVariants.{Logs};
@@ -65,3 +65,16 @@ pub fn what_is_submitted_is_endorsed()
 {
     what_was_verified_stays_so()
 }
+
+/// So many messages are sent: one to each authority that is asked, none where a message comes, and
+/// one with a change.
+pub fn so_many_are_sent()
+    ensures begin { (me later : Owner) (cert : Certificate) (asks : List ℕ) (reply : Sent)
+        → begin_row me cert asks ≡ Ok (reply, later) → length reply.messages ≡ length asks }
+    ensures step { (me later : Owner) (bytes : List ℕ) (reply : Sent)
+        → step_row me bytes ≡ Ok (reply, later) → length reply.messages ≡ 0 }
+    ensures object { (me later : Owner) (cert : Certificate) (reply : Sent)
+        → object_row me cert ≡ Ok (reply, later) → length reply.messages ≡ 1 }
+    ensures submit { (me : Owner) (digest : List ℕ) (reply : Sent)
+        → submit_row me digest ≡ Ok reply → length reply.messages ≡ 1 }
+{}
