@@ -2,9 +2,8 @@
 use Rattle.std.proofs.Common.{◌≡◌, ℕ, ◌≤◌, ◌==◌, ◌&&◌, List, length, take, drop, refl, sym, ap, ◌∙◌, arith, Bool, true, false, cond, nat_le, Option, Some, None}
 use Rattle.std.specs.Prelude.{is_some}
 use Rattle.std.specs.Int.{w32, from_be_bytes}
-use Rattle.std.proofs.lemmas.Bool.{eqb-true, le-leb}
+use Rattle.std.proofs.lemmas.Bool.{and_parts, eqb-true, le-leb}
 use Rattle.ar_base.specs.Ranges.{is_from_to}
-use Rattle.ar_council.proofs.Lists.{both}
 use Rattle.ar_statement.specs.Ranges.{is_readable}
 use Rattle.lm_ots.specs.OtsKind as ots_kind
 use Rattle.lm_ots.specs.declared.ots_type.OtsType.TheVariants.{W1, W2, W4, W8}
@@ -44,7 +43,7 @@ unfolding is_readable is_key_text
 readable key widths =
     let text : List ℕ = key_text key in
     let is : is_key_text text ≡ true = sym (is_some-key_of_text text) ∙ ap is_some (key_of_text-key_text key widths) in
-    let one = both (length text == 56) (is_some (lms_kind.type_of_number (from_be_bytes w32 (take 4 text))) && is_some (ots_kind.type_of_number (from_be_bytes w32 (take 4 (drop 4 text))))) is in
-    let two = both (is_some (lms_kind.type_of_number (from_be_bytes w32 (take 4 text)))) (is_some (ots_kind.type_of_number (from_be_bytes w32 (take 4 (drop 4 text))))) one.1 in
+    let one = and_parts (length text == 56) (is_some (lms_kind.type_of_number (from_be_bytes w32 (take 4 text))) && is_some (ots_kind.type_of_number (from_be_bytes w32 (take 4 (drop 4 text))))) is in
+    let two = and_parts (is_some (lms_kind.type_of_number (from_be_bytes w32 (take 4 text)))) (is_some (ots_kind.type_of_number (from_be_bytes w32 (take 4 (drop 4 text))))) one.1 in
     ap (λ b. b && is_from_to 1 4 (from_be_bytes w32 (take 4 (drop 4 text)))) (lms-range (from_be_bytes w32 (take 4 text)) two.0)
     ∙ ots-range (from_be_bytes w32 (take 4 (drop 4 text))) two.1

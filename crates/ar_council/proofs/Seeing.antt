@@ -2,7 +2,7 @@
 use Rattle.std.proofs.Common.{◌≡◌, ◌⊎◌, inl, inr, List, [], ◌∷◌, ◌++◌, refl, subst, Bool, true, false, cond, ◌&&◌, eqb}
 use Rattle.std.specs.Prelude.{◌↔◌, All, Contains, bytes_eq}
 use Rattle.std.specs.List.{list_any}
-use Rattle.std.proofs.lemmas.Bool.{eqb-true}
+use Rattle.std.proofs.lemmas.Bool.{and_parts, eqb-true}
 use Rattle.std.proofs.lemmas.Slice.Eq.{bytes_eq-Decides}
 use Rattle.std.proofs.lemmas.List.Elements.{All-cons, All-contains, All-contains_itself, All-weaker, All-head, All-nil, All-push, All-tail, Contains-append_left, Contains-push}
 use Rattle.ar_statement.specs.declared.party.Role.{Role}
@@ -11,7 +11,7 @@ use Rattle.ar_statement.specs.declared.party.Party.{Party}
 use Rattle.ar_statement.specs.declared.text.SeenText.{SeenText}
 use Rattle.ar_statement.specs.Claims.{is_party, role_number}
 use Rattle.ar_council.specs.Seen.{seen_after, with_seen}
-use Rattle.ar_council.proofs.Lists.{Within, both, found}
+use Rattle.ar_council.proofs.Lists.{Within, found}
 
 -- one number, one role
 one_role : (r s : Role) → role_number r ≡ role_number s → r ≡ s
@@ -34,14 +34,14 @@ one_role Client Client e = refl
 
 pub one_party : (p r : Party) → is_party p r ≡ true → p ≡ r
 one_party p r e =
-    let two = both (eqb (role_number p.role) (role_number r.role)) (eqb p.number r.number) e in
+    let two = and_parts (eqb (role_number p.role) (role_number r.role)) (eqb p.number r.number) e in
     let role : p.role ≡ r.role = one_role p.role r.role (eqb-true (role_number p.role) (role_number r.role) two.0) in
     let number : p.number ≡ r.number = eqb-true p.number r.number two.1 in
     λ i. record { role = role i; number = number i }
 
 one_seen : (s t : SeenText) → (is_party s.party t.party && bytes_eq s.text t.text) ≡ true → s ≡ t
 one_seen s t e =
-    let two = both (is_party s.party t.party) (bytes_eq s.text t.text) e in
+    let two = and_parts (is_party s.party t.party) (bytes_eq s.text t.text) e in
     let party : s.party ≡ t.party = one_party s.party t.party two.0 in
     let text : s.text ≡ t.text = (bytes_eq-Decides s.text t.text).0 two.1 in
     λ i. record { party = party i; text = text i }

@@ -4,12 +4,13 @@ use Rattle.std.specs.Prelude.{All, IfSome}
 use Rattle.std.specs.Option.{option_map}
 use Rattle.std.proofs.lemmas.Bool.{eq-eqb, eqb-true}
 use Rattle.std.proofs.lemmas.List.Elements.{All-contains}
+use Rattle.key_roll.specs.Entry.{MayRoll}
 use Rattle.ar_cert.specs.Changes.{Change}
 use Rattle.vote_quorum.specs.declared.value.Value.{Value}
 use Rattle.ar_council.proofs.Lists.{find-nothing, find-some}
 use Rattle.ar_council.specs.Room.{HasRoom}
 use Rattle.ar_council.specs.Values.{IsValue}
-use Rattle.epoch_log.specs.Calls.{MayConfirm, MayRoll, MayState, after_confirm, after_roll, casting, confirmation_text, confirmed_of, own_status_text, own_value, own_vote_text, proposing, stating, vote_of}
+use Rattle.epoch_log.specs.Calls.{MayConfirm, MayState, after_confirm, after_roll, casting, confirmation_text, confirmed_of, own_status_text, own_value, own_vote_text, proposing, stating, vote_of}
 use Rattle.epoch_log.specs.Ending.{own_vote}
 use Rattle.epoch_log.specs.Record.{base_of}
 use Rattle.epoch_log.specs.Right.{Fits, IsRightConfirmation, IsRightVote, newest_digest}
@@ -96,7 +97,7 @@ kept-confirming s w name kept may room =
       newest = kept.newest;
     }
 
-pub kept-rolling : (s : LogState) (key : List ℕ) → IsKept s → MayRoll s key → IsKept (after_roll s key)
+pub kept-rolling : (s : LogState) (key : List ℕ) → IsKept s → MayRoll s.past.signed key → IsKept (after_roll s key)
 kept-rolling s key kept may = record {
   number = kept.number;
   honest = honest-rolling s.council s.me s.past key kept.honest (valid-roll s.me s.past.signed.newest key kept.number may.not_last may.is_key may.readable)

@@ -2,7 +2,7 @@
 use Rattle.std.proofs.Common.{◌≡◌, ℕ, ◌+◌, ◌<◌, ◌≤◌, ◌^◌, List, [], ◌∷◌, ◌++◌, refl, sym, ap, subst, arith, Bool, true, false, cond, eqb, nat_lt, Option, Some, None}
 use Rattle.std.specs.Prelude.{All, ◌%◌, Contains, IfSome, flat_map, map}
 use Rattle.std.specs.List.{AllByRecursion}
-use Rattle.std.proofs.lemmas.Bool.{ltb-true}
+use Rattle.std.proofs.lemmas.Bool.{and_parts, ltb-true}
 use Rattle.std.proofs.lemmas.List.Elements.{All-append, All-cons, All-from_recursion, All-head, All-map, All-nil, All-tail, recursion_from_All}
 use Rattle.ar_cert.specs.Certificate.{digest_of}
 use Rattle.ar_cert.specs.Changes.{Change}
@@ -15,7 +15,7 @@ use Rattle.vote_quorum.specs.Numbers.{distinct_count}
 use Rattle.vote_quorum.specs.Statuses.{Status}
 use Rattle.vote_quorum.specs.declared.value.Value.{Value}
 use Rattle.ar_council.proofs.Books.{empty-book, second-room}
-use Rattle.ar_council.proofs.Lists.{All-unmap, both}
+use Rattle.ar_council.proofs.Lists.{All-unmap}
 use Rattle.ar_council.proofs.Seeing.{seen-has}
 use Rattle.ar_council.specs.Council.{Council, IsMember}
 use Rattle.ar_council.specs.Room.{HasRoom}
@@ -142,7 +142,7 @@ kept-state s kept may room = by (is_turn s.council s.me (epoch_of s + 1)) refl
 
     by : (b : Bool) → is_turn s.council s.me (epoch_of s + 1) ≡ b → IsKept (cond {A = LogState × Closing} b (after_status_seen (stating s) s.me (own_value s) None) (stating s, closings.Open)).0
     by true turn =
-        let member = ltb-true s.me s.council.logs (both (nat_lt s.me s.council.logs) (eqb ((epoch_of s + 1) % s.council.logs) s.me) turn).0 in
+        let member = ltb-true s.me s.council.logs (and_parts (nat_lt s.me s.council.logs) (eqb ((epoch_of s + 1) % s.council.logs) s.me) turn).0 in
         kept-status (stating s) s.me (own_value s) None stated member (own-value s kept)
     by false other = stated
 

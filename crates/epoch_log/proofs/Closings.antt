@@ -2,7 +2,7 @@
 use Rattle.std.proofs.Common.{◌≡◌, ℕ, ◌+◌, ◌<◌, ◌^◌, inl, inr, List, [], ◌∷◌, ◌++◌, length, get_or, refl, sym, ap, ◌∙◌, subst, arith, Bool, true, false, cond, ◌&&◌, eqb, Option, Some, None}
 use Rattle.std.specs.Prelude.{All, Contains, bytes_eq}
 use Rattle.std.specs.List.{list_any}
-use Rattle.std.proofs.lemmas.Bool.{cases_eq, eqb-true}
+use Rattle.std.proofs.lemmas.Bool.{and_parts, cases_eq, eqb-true}
 use Rattle.std.proofs.lemmas.List.{length-append}
 use Rattle.std.proofs.lemmas.List.Elements.{All-push, Contains-append_left, Contains-push}
 use Rattle.std.proofs.lemmas.Slice.Eq.{bytes_eq-Decides}
@@ -17,7 +17,7 @@ use Rattle.key_roll.proofs.Books.{after_entry_keeps}
 use Rattle.vote_quorum.specs.Statuses.{Status}
 use Rattle.domain_table.specs.Tree.{root_of}
 use Rattle.ar_council.proofs.Books.{entry-has, entry-keeps}
-use Rattle.ar_council.proofs.Lists.{Within, both, found, same-within}
+use Rattle.ar_council.proofs.Lists.{Within, found, same-within}
 use Rattle.ar_council.proofs.Texts.{own-text}
 use Rattle.ar_council.specs.Council.{Council}
 use Rattle.ar_council.specs.Room.{HasRoom}
@@ -123,9 +123,9 @@ one_digest (Some one) None e = absurd cc
 
 one_confirmation : (c d : Confirmed) → is_same_confirmation c d ≡ true → c ≡ d
 one_confirmation c d e =
-    let first = both (eqb c.epoch d.epoch) (bytes_eq c.name d.name && (is_same_digest c.certificate d.certificate && bytes_eq c.root d.root)) e in
-    let second = both (bytes_eq c.name d.name) (is_same_digest c.certificate d.certificate && bytes_eq c.root d.root) first.1 in
-    let third = both (is_same_digest c.certificate d.certificate) (bytes_eq c.root d.root) second.1 in
+    let first = and_parts (eqb c.epoch d.epoch) (bytes_eq c.name d.name && (is_same_digest c.certificate d.certificate && bytes_eq c.root d.root)) e in
+    let second = and_parts (bytes_eq c.name d.name) (is_same_digest c.certificate d.certificate && bytes_eq c.root d.root) first.1 in
+    let third = and_parts (is_same_digest c.certificate d.certificate) (bytes_eq c.root d.root) second.1 in
     let epoch : c.epoch ≡ d.epoch = eqb-true c.epoch d.epoch first.0 in
     let name : c.name ≡ d.name = (bytes_eq-Decides c.name d.name).0 second.0 in
     let certificate : c.certificate ≡ d.certificate = one_digest c.certificate d.certificate third.0 in

@@ -3,7 +3,7 @@ use Rattle.std.proofs.Common.{◌≡◌, ◌≢◌, ℕ, ◌+◌, ◌-◌, ◌<�
 use Rattle.std.specs.Prelude.{All, AllPairs, map, bytes_eq, filter, IfSome}
 use Rattle.std.specs.List.{AllByRecursion, list_all, list_any}
 use Rattle.std.specs.List.Sorted.{IsStrictlyIncreasing}
-use Rattle.std.proofs.lemmas.Bool.{eq-eqb, ltb-true}
+use Rattle.std.proofs.lemmas.Bool.{and_parts, eq-eqb, ltb-true}
 use Rattle.std.proofs.lemmas.List.{length-map, get_or-map}
 use Rattle.std.proofs.lemmas.List.Elements.{All-filter, All-map, filter_passes}
 use Rattle.std.proofs.lemmas.List.Kept.{AllPairs-from_increasing}
@@ -16,7 +16,7 @@ use Rattle.ar_base.specs.Counting.{one_if}
 use Rattle.vote_quorum.specs.Numbers.{distinct_count}
 use Rattle.vote_quorum.specs.Statuses.{Excludes, Status, is_for, logs_of, report_count}
 use Rattle.vote_quorum.specs.declared.value.Value.{Value}
-use Rattle.ar_council.proofs.Lists.{All-unmap, both}
+use Rattle.ar_council.proofs.Lists.{All-unmap}
 use Rattle.ar_council.specs.Council.{Council}
 use Rattle.ar_council.specs.Values.{IsValue, status_claim, vote_claim}
 use Rattle.ar_council.specs.Votes.{SawVotes}
@@ -30,7 +30,7 @@ use Rattle.epoch_log.proofs.Lists.{All-placed, AllPairs-placed}
 
 one_value : (v w : Value) → is_same v w ≡ true → v ≡ w
 one_value v w e =
-    let two = both (bytes_eq v.base w.base) (bytes_eq v.root w.root) e in
+    let two = and_parts (bytes_eq v.base w.base) (bytes_eq v.root w.root) e in
     let base : v.base ≡ w.base = (bytes_eq-Decides v.base w.base).0 two.0 in
     let root : v.root ≡ w.root = (bytes_eq-Decides v.root w.root).0 two.1 in
     λ i. record { base = base i; root = root i }
@@ -181,7 +181,7 @@ excluded-each council statuses [] root e = inl refl
 excluded-each council statuses (s ∷ front) root e = by (is_for root s.1) refl (excluded-each council statuses front root)
   where
     two : (is_excluded council statuses s.1 ≡ true) × (list_all (λ s. is_excluded council statuses s.1) front ≡ true)
-    two = both (is_excluded council statuses s.1) (list_all (λ s. is_excluded council statuses s.1) front) e
+    two = and_parts (is_excluded council statuses s.1) (list_all (λ s. is_excluded council statuses s.1) front) e
 
     sum : report_count root (s ∷ front) ≡ one_if (is_for root s.1) + report_count root front
     sum = sum_by-cons (λ (s : Status). one_if (is_for root s.1)) s front
@@ -202,7 +202,7 @@ excluded-each council statuses (s ∷ front) root e = by (is_for root s.1) refl 
 
 pub excludes-each : (council : Council) (statuses : List Status) → excludes_all council statuses ≡ true → Excludes council.logs council.quorum statuses
 excludes-each council statuses e root =
-    let two = both (falls_short council statuses 0) (list_all (λ s. is_excluded council statuses s.1) statuses) e in
+    let two = and_parts (falls_short council statuses 0) (list_all (λ s. is_excluded council statuses s.1) statuses) e in
     elim (excluded-each council statuses statuses root two.1) [
       | inl none ↦ omega (arith, none, ltb-true (0 + (council.logs - length statuses) + 2) council.quorum two.0)
       | inr short ↦ ltb-true (report_count root statuses + (council.logs - length statuses) + 2) council.quorum short

@@ -1,5 +1,5 @@
 -- What each thing that a log does makes of where it stands, and when it may do so.
-use Rattle.std.specs.Prelude.{◌≡◌, ◌≢◌, ℕ, ◌+◌, ◌%◌, ◌<◌, ◌≤◌, ◌==◌, Bool, ◌&&◌, nat_le, nat_lt, if◌then◌else◌, List, [], ◌∷◌, ◌++◌, map, flat_map, All, Option, Some, None, IfSome, IsTrue}
+use Rattle.std.specs.Prelude.{◌≡◌, ◌≢◌, ℕ, ◌+◌, ◌%◌, ◌<◌, ◌≤◌, ◌==◌, Bool, ◌&&◌, nat_le, nat_lt, if◌then◌else◌, List, [], ◌∷◌, ◌++◌, map, flat_map, All, Option, Some, None, IfSome}
 use Rattle.std.specs.List.{list_any}
 use Rattle.std.specs.Option.{option_map}
 use Rattle.std.specs.Str.{bytes_eq}
@@ -11,7 +11,6 @@ use Rattle.ar_names.specs.Names.{IsName}
 use Rattle.ar_statement.specs.declared.party.Party.{Party}
 use Rattle.ar_statement.specs.declared.text.SeenText.{SeenText}
 use Rattle.ar_statement.specs.Claims.{Claim, endorse, propose, roll, text_of}
-use Rattle.ar_statement.specs.Ranges.{IsKeyText, is_readable}
 use Rattle.key_roll.specs.Entry.{after_entry, with_roll}
 use Rattle.party_keys.specs.Seen.{authority_party, log_party}
 use Rattle.vote_quorum.specs.Ballots.{has_ballot}
@@ -288,12 +287,6 @@ after_confirm s w name = record s {
 -- a party's Roll is seen
 abbrev pub after_learn : LogState → Party → ℕ → List ℕ → LogState
 after_learn s party generation key = seeing s (seen_of party (roll party generation key) ∷ [])
-
--- the log announces its next key, a key that can be read
-pub record MayRoll (s : LogState) (key : List ℕ) : Type 0 where
-  pub not_last : s.past.signed.newest < 999
-  pub is_key : IsKeyText key
-  pub readable : IsTrue (is_readable key)
 
 -- its own Roll is signed, and the book is at the next generation
 abbrev pub after_roll : LogState → List ℕ → LogState

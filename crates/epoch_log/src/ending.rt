@@ -15,7 +15,7 @@ use std::mem;
 use vote_quorum::Value;
 
 /// The last epoch that a statement can name. It does not end.
-pub(crate) const LAST_EPOCH: u64 = 1 << 63;
+pub const LAST_EPOCH: u64 = 1 << 63;
 
 /// What a decision takes: the changes, the value that a quorum is for, the table to which the changes lead, and the votes.
 #[derive(Drop)]

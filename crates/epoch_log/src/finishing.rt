@@ -17,8 +17,8 @@ use std::alloc::{AllocError, Global};
 use std::mem;
 use vote_quorum::Value;
 
-/// The own vote of an epoch.
-pub(crate) fn own_vote(voted: &[Voted], epoch: u64) -> Option<&Voted>
+/// The own vote of an epoch, if there is one, among what a log voted.
+pub fn own_vote(voted: &[Voted], epoch: u64) -> Option<&Voted>
     ensures { option_map (λ v. v.now) result ≡ own_vote voted.now epoch }
 {
     voted.iter().find(|v| v.epoch == epoch)

@@ -7,6 +7,7 @@ ghost use Rattle.ar_statement.specs.Ranges.{IsValid};
 ghost use Rattle.ar_statement.specs.declared.party.Party.{Party};
 ghost use Rattle.ar_statement.specs.declared.text.SeenText.{SeenText};
 ghost use Rattle.key_roll.specs.Book.{texts_of};
+ghost use Rattle.key_roll.specs.Entry.{MayRoll};
 ghost use Rattle.vote_quorum.specs.Ballots.{has_ballot, log_count};
 ghost use Rattle.vote_quorum.specs.Statuses.{Excludes, Status};
 ghost use Rattle.vote_quorum.specs.declared.value.Value.{Value};
@@ -16,7 +17,7 @@ ghost use Rattle.ar_council.specs.Council.{Council, IsMember};
 ghost use Rattle.ar_council.specs.Room.{HasRoom};
 ghost use Rattle.ar_council.specs.Seen.{seen_after};
 ghost use Rattle.ar_council.specs.Values.{IsValue, confirm_claim, status_claim, vote_claim};
-ghost use Rattle.epoch_log.specs.Calls.{AreEndorsers, IsProposed, IsTurn, MayConfirm, MayDecide, MayRoll, MaySkip, MayState, MayVote, SignedStatus, after_ballot, after_confirm, after_decide, after_endorsed, after_learn, after_propose, after_roll, after_skip, after_state, after_status_seen, after_vote, confirmation_text, fresh, own_status_text, own_vote_text, proposal_texts, with_status, with_vote};
+ghost use Rattle.epoch_log.specs.Calls.{AreEndorsers, IsProposed, IsTurn, MayConfirm, MayDecide, MaySkip, MayState, MayVote, SignedStatus, after_ballot, after_confirm, after_decide, after_endorsed, after_learn, after_propose, after_roll, after_skip, after_state, after_status_seen, after_vote, confirmation_text, fresh, own_status_text, own_vote_text, proposal_texts, with_status, with_vote};
 ghost use Rattle.epoch_log.specs.Ending.{closed, decided, excludes_all, may_end, own_vote, skipped};
 ghost use Rattle.epoch_log.specs.Honest.{EndsInOrder, HonestLog};
 ghost use Rattle.epoch_log.specs.Record.{LogRecord};
@@ -104,7 +105,7 @@ pub fn a_confirmation_keeps_a_log()
 pub fn rolls_keep_a_log()
     ensures learn { (s : LogState) (party : Party) (generation : ℕ) (key : List ℕ) → IsKept s → IsMember s.council party
         → IsKept (after_learn s party generation key) }
-    ensures roll { (s : LogState) (key : List ℕ) → IsKept s → MayRoll s key → IsKept (after_roll s key) }
+    ensures roll { (s : LogState) (key : List ℕ) → IsKept s → MayRoll s.past.signed key → IsKept (after_roll s key) }
 {}
 
 /// An honest log signed a vote, a status or a confirmation, of those that are valid, exactly where its record has the

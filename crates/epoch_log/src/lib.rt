@@ -35,7 +35,10 @@ mod stating;
 mod tables;
 mod voting;
 
+pub use ending::LAST_EPOCH;
 pub use entries::{Closing, Confirmed, Ended, How, Newest, Stated, Voted};
+pub use finishing::own_vote;
 pub use foreseeing::Foreseen;
 pub use log::EpochLog;
 pub use past::Record;
+pub use tables::{apply_one, copies};

@@ -12,7 +12,7 @@ ghost use Rattle.party_keys.specs.Seen.{log_party};
 ghost use Rattle.party_keys.specs.declared.fault.LearnFault.TheVariants as learn_fault;
 ghost use Rattle.domain_table.specs.Sound.{IsSound};
 ghost use Rattle.epoch_log.specs.Answers.{IsOpenTo, confirmed, proposed, stated, voted};
-ghost use Rattle.epoch_log.specs.Calls.{AreEndorsers, IsProposed, IsTurn, MayState, after_ballot, after_confirm, after_decide, after_endorsed, after_learn, after_propose, after_roll, after_skip, after_state, after_status_seen, after_vote, fresh};
+ghost use Rattle.epoch_log.specs.Calls.{AreEndorsers, IsProposed, IsTurn, MayState, after_ballot, after_confirm, after_decide, after_endorsed, after_learn, after_propose, after_roll, after_skip, after_state, after_status_seen, after_vote, fresh, is_turn, own_value};
 ghost use Rattle.epoch_log.specs.Foreseeing.{IsForeseen};
 ghost use Rattle.epoch_log.specs.Log.{moved, record_of};
 ghost use Rattle.epoch_log.specs.Right.{SawEndorsements};
@@ -71,6 +71,20 @@ impl EpochLog {
         ensures sound { IsSound (table_of self.now.state) }
     {
         let _parts = &self.parts;
+    }
+
+    /// Whether it is the log's turn in an epoch.
+    pub fn is_turn(&self, epoch: u64) -> bool
+        ensures { result ≡ is_turn self.now.state.council self.now.state.me epoch }
+    {
+        self.parts.is_turn(epoch)
+    }
+
+    /// What the log voted for in the current epoch, if it did.
+    pub fn own_value(&self) -> Option<Value>
+        ensures { result ≡ own_value self.now.state }
+    {
+        self.parts.own_value()
     }
 
     /// The number of the log.

@@ -8,8 +8,8 @@ use ar_cert::Change;
 use domain_table::{ApplyFault, Table};
 use std::alloc::{AllocError, Global};
 
-/// Copies of all, in their order.
-pub(crate) fn copies(alloc: Global, changes: &[Change]) -> Result<Vec<Change>, AllocError>
+/// Copies of changes, in their order. The only error is want of memory.
+pub fn copies(alloc: Global, changes: &[Change]) -> Result<Vec<Change>, AllocError>
     ensures { IfOk result (λ list. list.items ≡ changes.now) }
 {
     let mut list = Vec::with_capacity(alloc, changes.len())?;
@@ -19,8 +19,8 @@ pub(crate) fn copies(alloc: Global, changes: &[Change]) -> Result<Vec<Change>, A
     Ok(list)
 }
 
-/// Applies a copy of a change that is taken.
-fn apply_one(
+/// Applies a copy of a change that is taken. The only error is want of memory.
+pub fn apply_one(
     alloc: Global,
     epoch: u64,
     table: &mut Table,

@@ -2,6 +2,7 @@
 use Rattle.std.proofs.Common.{◌≡◌, ℕ, ◌+◌, ◌*◌, ◌<◌, ◌≤◌, List, [], Ok, Err, Bool, true, false, ◌&&◌, nat_le, nat_lt, if◌then◌else◌, length, refl, subst, arith}
 use Rattle.std.proofs.lemmas.List.{length-map}
 use Rattle.std.proofs.lemmas.Bool.Decides.{nat_tests}
+use Rattle.std.proofs.lemmas.Bool.{and_parts}
 use Rattle.lms_tree.specs.declared.public_key.LmsPublic.{LmsPublic}
 use Rattle.party_keys.specs.Directory.{Directory, HaveKeys, IsDirectory, directory_of, directory_with, first_keys, is_party_count, is_quorum}
 use Rattle.party_keys.specs.declared.fault.DirectoryFault.TheVariants.{Logs, Authorities, Quorum}
@@ -19,10 +20,6 @@ le_is a b e = grind (arith, nat_tests)
 lt_is : (a b : ℕ) → nat_lt a b ≡ true → a < b
 lt_is a b e = grind (arith, nat_tests)
 
-both : (a b : Bool) → (a && b) ≡ true → (a ≡ true) × (b ≡ true)
-both true b e = (refl, e)
-both false b e = absurd cc
-
 pub made_keeps : (logs authorities : List LmsPublic) (q : ℕ) (keys : Directory) → directory_of logs authorities q ≡ Ok keys → IsDirectory keys
 made_keeps logs authorities q keys e = by_tests (is_party_count (length logs)) (is_party_count (length authorities)) (is_quorum q (length logs)) refl refl refl e where
   by_tests : (a b c : Bool) → is_party_count (length logs) ≡ a → is_party_count (length authorities) ≡ b → is_quorum q (length logs) ≡ c
@@ -32,9 +29,9 @@ made_keeps logs authorities q keys e = by_tests (is_party_count (length logs)) (
   by_tests true true false ea eb ec e = absurd cc
   by_tests true true true ea eb ec e =
       let is : directory_with logs authorities q ≡ keys = cc in
-      let few = both _ _ ea in
-      let fewer = both _ _ eb in
-      let quorum = both _ _ ec in
+      let few = and_parts _ _ ea in
+      let fewer = and_parts _ _ eb in
+      let quorum = and_parts _ _ ec in
       subst (λ (keys : Directory). IsDirectory keys) is record {
         logs_least = rw (length_first logs) (le_is 3 (length logs) few.0);
         logs_most = rw (length_first logs) (le_is (length logs) 16 few.1);
