@@ -3,7 +3,7 @@ use Rattle.std.proofs.Common.{◌≡◌, ℕ, ◌<◌, ◌^◌, inl, List, [], �
 use Rattle.std.specs.Prelude.{All, Contains, IfSome, map, nat_le}
 use Rattle.std.specs.List.{list_any}
 use Rattle.std.specs.Str.{bytes_eq}
-use Rattle.std.proofs.lemmas.Bool.{eqb-true, leb-true}
+use Rattle.std.proofs.lemmas.Bool.{and_parts, eqb-true, leb-true}
 use Rattle.std.proofs.lemmas.List.Elements.{All-cons, All-contains, All-contains_itself, All-map, All-nil, All-weaker, Contains-append_right, Contains-push}
 use Rattle.std.proofs.lemmas.Slice.Eq.{bytes_eq-Decides}
 use Rattle.ar_base.specs.Bytes.{IsDigest}
@@ -14,12 +14,12 @@ use Rattle.ar_statement.specs.Claims.{Claim, answer, confirm, confirm_absent, en
 use Rattle.ar_statement.specs.Fields.{is_epoch}
 use Rattle.ar_statement.specs.Ranges.{IsTextOf, IsValid}
 use Rattle.key_roll.specs.Book.{texts_of}
-use Rattle.key_roll.specs.Entry.{after_entry}
+use Rattle.key_roll.specs.Entry.{MayRoll, after_entry}
 use Rattle.key_roll.specs.Rolls.{is_roll}
 use Rattle.key_roll.proofs.Books.{after_entry_keeps, is_roll-kind, named-roll, roll_keeps}
 use Rattle.party_keys.specs.Seen.{Saw, authority_party, log_party}
 use Rattle.ar_council.proofs.Books.{empty-book, entry-all, entry-has, roll-all}
-use Rattle.ar_council.proofs.Lists.{All-unmap, Within, both, found, pushed-within, same-within}
+use Rattle.ar_council.proofs.Lists.{All-unmap, Within, found, pushed-within, same-within}
 use Rattle.ar_council.proofs.Seeing.{seen-all, seen-has, seen-keeps}
 use Rattle.ar_council.proofs.Texts.{own-text}
 use Rattle.ar_council.specs.Council.{Council, IsMember}
@@ -28,7 +28,7 @@ use Rattle.ar_council.specs.Seen.{seen_after, seen_of}
 use Rattle.ar_council.specs.Values.{confirmation_by, is_same_digest, vote_claim}
 use Rattle.ar_council.proofs.Votes.{votes-more}
 use Rattle.ar_council.specs.Votes.{SawVotes}
-use Rattle.authority_core.specs.Calls.{MayConfirm, MayRoll, after_endorse, after_half_confirmed, after_learn, after_log_confirmed, after_roll, confirming, fresh_authority, is_same_asked, is_same_kept, is_same_path, kept_claim, kept_value, seen_of_half, seen_of_log, seen_of_votes, with_asked, with_kept}
+use Rattle.authority_core.specs.Calls.{MayConfirm, after_endorse, after_half_confirmed, after_learn, after_log_confirmed, after_roll, confirming, fresh_authority, is_same_asked, is_same_kept, is_same_path, kept_claim, kept_value, seen_of_half, seen_of_log, seen_of_votes, with_asked, with_kept}
 use Rattle.authority_core.specs.Honest.{HasAsked, HasKept, HonestAuthority, ToldBy}
 use Rattle.authority_core.specs.Record.{AuthorityRecord}
 use Rattle.authority_core.specs.declared.entries.Asked.{Asked}
@@ -91,8 +91,8 @@ asked-has asked a = by (list_any (λ b. is_same_asked b a) asked) refl
     by : (b : Bool) → list_any (λ b. is_same_asked b a) asked ≡ b → HasAsked (cond b asked (asked ++ a ∷ [])) a.certificate
     by true is =
         let f = found (λ (b : Asked). is_same_asked b a) asked is in
-        let two = both (bytes_eq f.0.name a.name) (bytes_eq f.0.key a.key && bytes_eq f.0.certificate a.certificate) f.1.1 in
-        let rest = both (bytes_eq f.0.key a.key) (bytes_eq f.0.certificate a.certificate) two.1 in
+        let two = and_parts (bytes_eq f.0.name a.name) (bytes_eq f.0.key a.key && bytes_eq f.0.certificate a.certificate) f.1.1 in
+        let rest = and_parts (bytes_eq f.0.key a.key) (bytes_eq f.0.certificate a.certificate) two.1 in
         (f.0, (f.1.0, (bytes_eq-Decides f.0.certificate a.certificate).0 rest.1))
     by false is = (a, (Contains-push asked a, refl))
 
@@ -117,11 +117,11 @@ kept-has council seen kept k base saw = by (list_any (λ l. is_same_kept l k) ke
     by true is =
         let f = found (λ (l : Kept). is_same_kept l k) kept is in
         let l : Kept = f.0 in
-        let epoch = both (l.epoch == k.epoch) (bytes_eq l.name k.name && (is_same_digest l.certificate k.certificate && (bytes_eq l.base k.base && (bytes_eq l.root k.root && is_same_path l k)))) f.1.1 in
-        let name = both (bytes_eq l.name k.name) (is_same_digest l.certificate k.certificate && (bytes_eq l.base k.base && (bytes_eq l.root k.root && is_same_path l k))) epoch.1 in
-        let certificate = both (is_same_digest l.certificate k.certificate) (bytes_eq l.base k.base && (bytes_eq l.root k.root && is_same_path l k)) name.1 in
-        let roots = both (bytes_eq l.base k.base) (bytes_eq l.root k.root && is_same_path l k) certificate.1 in
-        let root = both (bytes_eq l.root k.root) (is_same_path l k) roots.1 in
+        let epoch = and_parts (l.epoch == k.epoch) (bytes_eq l.name k.name && (is_same_digest l.certificate k.certificate && (bytes_eq l.base k.base && (bytes_eq l.root k.root && is_same_path l k)))) f.1.1 in
+        let name = and_parts (bytes_eq l.name k.name) (is_same_digest l.certificate k.certificate && (bytes_eq l.base k.base && (bytes_eq l.root k.root && is_same_path l k))) epoch.1 in
+        let certificate = and_parts (is_same_digest l.certificate k.certificate) (bytes_eq l.base k.base && (bytes_eq l.root k.root && is_same_path l k)) name.1 in
+        let roots = and_parts (bytes_eq l.base k.base) (bytes_eq l.root k.root && is_same_path l k) certificate.1 in
+        let root = and_parts (bytes_eq l.root k.root) (is_same_path l k) roots.1 in
         let same : l.base ≡ k.base = (bytes_eq-Decides l.base k.base).0 roots.0 in (
           l,
           (
@@ -151,11 +151,11 @@ honest-endorse council me r a h small digest =
 claim-valid : (me : ℕ) (epoch : ℕ) (name : List ℕ) (certificate : Option (List ℕ)) (root : List ℕ) → me < 2 ^ 16 → is_epoch epoch ≡ true → IsName name → IfSome certificate IsDigest → IsDigest root
     → IsValid (confirmation_by (authority_party me) epoch name certificate root)
 claim-valid me epoch name None root small is is-name are digest = record {
-  held = record { signer = small; fields = (omega (arith, leb-true epoch (2 ^ 63) (both (nat_le 1 epoch) (nat_le epoch (2 ^ 63)) is).1), (is-name, digest)) };
+  held = record { signer = small; fields = (omega (arith, leb-true epoch (2 ^ 63) (and_parts (nat_le 1 epoch) (nat_le epoch (2 ^ 63)) is).1), (is-name, digest)) };
   ranges = is;
 }
 claim-valid me epoch name (Some certificate) root small is is-name are digest = record {
-  held = record { signer = small; fields = (omega (arith, leb-true epoch (2 ^ 63) (both (nat_le 1 epoch) (nat_le epoch (2 ^ 63)) is).1), (is-name, (are, digest))) };
+  held = record { signer = small; fields = (omega (arith, leb-true epoch (2 ^ 63) (and_parts (nat_le 1 epoch) (nat_le epoch (2 ^ 63)) is).1), (is-name, (are, digest))) };
   ranges = is;
 }
 
@@ -235,7 +235,7 @@ honest-learn council me r party generation key h member =
           (All-cons (λ (s : SeenText). IsMember council s.party) (seen_of party (roll party generation key)) [] member (All-nil (λ (s : SeenText). IsMember council s.party)));
     }
 
-pub honest-roll : (council : Council) (me : ℕ) (r : AuthorityRecord) (key : List ℕ) → HonestAuthority council me r → me < 2 ^ 16 → MayRoll r key → HonestAuthority council me (after_roll me r key)
+pub honest-roll : (council : Council) (me : ℕ) (r : AuthorityRecord) (key : List ℕ) → HonestAuthority council me r → me < 2 ^ 16 → MayRoll r.signed key → HonestAuthority council me (after_roll me r key)
 unfolding ToldBy
 honest-roll council me r key h small may =
     let claim : Claim = roll (authority_party me) r.signed.newest key in

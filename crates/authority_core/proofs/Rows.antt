@@ -23,12 +23,13 @@ use Rattle.party_keys.specs.declared.learning.Learned.{Learned}
 use Rattle.authority_core.specs.Calls.{after_endorse}
 use Rattle.authority_core.specs.ConfirmRows.{half_claims, half_confirmed_row, log_claims, log_confirmed_row}
 use Rattle.ar_message.specs.Shown.{shows}
+use Rattle.ar_message.specs.Filling.{nothing}
 use Rattle.authority_core.specs.Confirming.{confirming_checks, parties_of, vote_count}
 use Rattle.authority_core.specs.EndorseRow.{asked_of, endorse_due, endorse_row, endorsing}
 use Rattle.authority_core.specs.Honest.{HasAsked}
 use Rattle.authority_core.specs.RollRows.{learning, roll_by, roll_message, roll_note_by, roll_note_row, roll_row, rolling}
 use Rattle.authority_core.specs.Row.{message_row}
-use Rattle.authority_core.specs.State.{Answer, AuthorityState, IsAuthority, StepsBy, sends, sends_nothing}
+use Rattle.authority_core.specs.State.{Answer, AuthorityState, IsAuthority, StepsBy, sends}
 use Rattle.authority_core.specs.declared.refusal.AuthorityRefusal.{AuthorityRefusal}
 use Rattle.authority_core.specs.declared.entries.Asked.{Asked}
 use Rattle.authority_core.proofs.Growing.{asked-has}
@@ -64,7 +65,7 @@ unfolding roll_note_row
 note-row-keeps s a is later sent e = by (learned s.keys a) refl e
   where
     by : (r : Result Learned LearnFault) → learned s.keys a ≡ r → roll_note_by s a r ≡ Ok (later, sent) → IsAuthority later
-    by (Ok l) at h = let same : later ≡ learning s a = same-state (learning s a, sends_nothing) (later, sent) h in subst IsAuthority (sym same) (note-keeps s a l is at)
+    by (Ok l) at h = let same : later ≡ learning s a = same-state (learning s a, nothing) (later, sent) h in subst IsAuthority (sym same) (note-keeps s a l is at)
     by (Err fault) at h = absurd cc
 
 -- what is sent

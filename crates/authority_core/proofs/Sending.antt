@@ -9,13 +9,14 @@ use Rattle.ar_message.specs.declared.address.Address.TheVariants.{One}
 use Rattle.ar_message.specs.declared.message.Confirming.{Confirming}
 use Rattle.ar_message.specs.declared.message.Message.TheVariants.{HalfConfirmed}
 use Rattle.ar_message.specs.declared.unsigned.Unsigned.{Unsigned}
+use Rattle.ar_message.specs.Filling.{zeros}
 use Rattle.key_roll.specs.Due.{DueParts}
 use Rattle.party_keys.specs.Seen.{authority_party}
 use Rattle.authority_core.specs.Calls.{confirming, kept_claim}
 use Rattle.authority_core.specs.ConfirmRows.{confirmation_with, half_claims, half_confirmed_row, log_claims, log_confirmed_row}
 use Rattle.authority_core.specs.Confirming.{confirming_checks, confirming_with, kept_of, parties_of, seen_in}
 use Rattle.authority_core.specs.Record.{AuthorityRecord}
-use Rattle.authority_core.specs.State.{Answer, AuthorityState, EntersBy, Prepared, StepsBy, blank, entering, if_due, in_order, prepared, sent_with}
+use Rattle.authority_core.specs.State.{Answer, AuthorityState, EntersBy, Prepared, StepsBy, entering, if_due, in_order, prepared, sent_with}
 use Rattle.authority_core.specs.declared.entries.Kept.{Kept}
 use Rattle.authority_core.specs.declared.refusal.AuthorityRefusal.{AuthorityRefusal}
 
@@ -54,20 +55,20 @@ same_parts s seen seen' k k' p p' a b d =
 
 pub log_row_is : (s : AuthorityState) (part : Confirming) (seen : List SeenText) (k : Kept) (p : Prepared) → k ≡ kept_of part
     → in_order (confirming_checks s part.first (parties_of part part.second) (log_claims part) part) (Ok (map seen_in (log_claims part))) ≡ Ok seen
-    → p ≡ prepared s.signature_len (One (authority_party part.second)) (message_text (HalfConfirmed part (blank s.signature_len)))
+    → p ≡ prepared s.signature_len (One (authority_party part.second)) (message_text (HalfConfirmed part (zeros s.signature_len)))
     → confirming_with s seen k p ≡ log_confirmed_row s part
 unfolding log_confirmed_row confirming_with
 log_row_is s part seen k p kept-is checked p-is =
-    let ready : Prepared = prepared s.signature_len (One (authority_party part.second)) (message_text (HalfConfirmed part (blank s.signature_len))) in
+    let ready : Prepared = prepared s.signature_len (One (authority_party part.second)) (message_text (HalfConfirmed part (zeros s.signature_len))) in
     let both = passed (confirming_checks s part.first (parties_of part part.second) (log_claims part) part) (map seen_in (log_claims part)) seen (confirming_with s (map seen_in (log_claims part)) (kept_of part) ready) checked in
     same_parts s seen (map seen_in (log_claims part)) k (kept_of part) p ready both.1 kept-is p-is ∙ both.0
 
 pub half_row_is : (s : AuthorityState) (part : Confirming) (first_signature : List ℕ) (seen : List SeenText) (k : Kept) (p : Prepared) → k ≡ kept_of part
     → in_order (confirming_checks s part.second (parties_of part part.first) (half_claims part first_signature) part) (Ok (map seen_in (half_claims part first_signature))) ≡ Ok seen
-    → p ≡ prepared s.signature_len (One (party Client part.client)) (message_text (confirmation_with part first_signature (blank s.signature_len)))
+    → p ≡ prepared s.signature_len (One (party Client part.client)) (message_text (confirmation_with part first_signature (zeros s.signature_len)))
     → confirming_with s seen k p ≡ half_confirmed_row s part first_signature
 unfolding half_confirmed_row confirming_with
 half_row_is s part first_signature seen k p kept-is checked p-is =
-    let ready : Prepared = prepared s.signature_len (One (party Client part.client)) (message_text (confirmation_with part first_signature (blank s.signature_len))) in
+    let ready : Prepared = prepared s.signature_len (One (party Client part.client)) (message_text (confirmation_with part first_signature (zeros s.signature_len))) in
     let both = passed (confirming_checks s part.second (parties_of part part.first) (half_claims part first_signature) part) (map seen_in (half_claims part first_signature)) seen (confirming_with s (map seen_in (half_claims part first_signature)) (kept_of part) ready) checked in
     same_parts s seen (map seen_in (half_claims part first_signature)) k (kept_of part) p ready both.1 kept-is p-is ∙ both.0

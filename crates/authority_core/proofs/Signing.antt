@@ -11,7 +11,7 @@ use Rattle.ar_base.specs.Places.{place_of}
 use Rattle.ar_bytes.specs.RoundTrip.{counted_text, number_text}
 use Rattle.ar_cert.specs.Certificate.{Certificate}
 use Rattle.ar_message.specs.Confirmation.{body_text, confirmation_fields_text, form_text, is_present, path_text, signed_text, subject_text}
-use Rattle.ar_message.specs.Filling.{CanFill, FitsIn, IsBlank, lengths}
+use Rattle.ar_message.specs.Filling.{CanFill, FitsIn, IsBlank, lengths, nothing, zeros}
 use Rattle.ar_message.specs.Messages.{about_in, confirming_text, fields_text, message_text, path_in, shown_in, signed_in}
 use Rattle.ar_message.specs.declared.address.Address.{Address}
 use Rattle.ar_message.specs.declared.address.Address.TheVariants.{Logs, One}
@@ -25,13 +25,13 @@ use Rattle.ar_statement.specs.declared.text.SeenText.{SeenText}
 use Rattle.key_roll.specs.Book.{IsRollBook, RollBook, texts_of}
 use Rattle.key_roll.specs.Due.{DueParts}
 use Rattle.key_roll.specs.Entry.{after_at, after_entry, due_at, entered, has_room, leaf_of, roll_text}
-use Rattle.key_roll.specs.Ring.{IsNext, Owes, ring_signature_len}
+use Rattle.key_roll.specs.Ring.{AreKeysOf, IsNext, Owes}
+use Rattle.key_roll.proofs.Rings.{next_keys, owed_by, same_keys}
 use Rattle.key_roll.specs.declared.fault.BookFault.TheVariants.{Spent}
 use Rattle.key_roll.specs.declared.fault.RollFault.TheVariants.{Last}
 use Rattle.key_roll.specs.declared.signed.Signed.{Signed}
 use Rattle.lms_tree.specs.Key.{public_of}
 use Rattle.lms_tree.specs.KeyParts.{KeyParts}
-use Rattle.lms_tree.specs.LmsKind.{height_of}
 use Rattle.lms_tree.specs.PublicKey.{key_text}
 use Rattle.lms_tree.specs.declared.public_key.LmsPublic.{LmsPublic}
 use Rattle.owner_check.specs.declared.answer.Outcome.{Outcome}
@@ -48,7 +48,7 @@ use Rattle.authority_core.specs.Keyed.{IsRingOf}
 use Rattle.authority_core.specs.Refusals.{of_book}
 use Rattle.authority_core.specs.RollRows.{learning, roll_by, roll_message, roll_note_by, roll_note_row, roll_row, rolling}
 use Rattle.authority_core.specs.Row.{message_row, row}
-use Rattle.authority_core.specs.State.{Answer, AuthorityState, blank, entering, if_due, in_order, sends, sends_nothing}
+use Rattle.authority_core.specs.State.{Answer, AuthorityState, entering, if_due, in_order, sends}
 use Rattle.authority_core.specs.declared.entries.Asked.{Asked}
 use Rattle.authority_core.specs.declared.entries.Kept.{Kept}
 use Rattle.authority_core.specs.declared.refusal.AuthorityRefusal.{AuthorityRefusal}
@@ -58,8 +58,8 @@ use Rattle.authority_core.specs.declared.refusal.AuthorityRefusal.{AuthorityRefu
 behind : (n : ℕ) (front back : List ℕ) → n ≤ length back → n ≤ length (front ++ back)
 behind n front back less = omega (arith, less, length-append front back)
 
-last : (len : ℕ) → len ≤ length (counted_text (blank len))
-last len = behind len (number_text w16 (length (blank len))) (blank len) (omega (arith, length-replicate {A = ℕ} len 0))
+last : (len : ℕ) → len ≤ length (counted_text (zeros len))
+last len = behind len (number_text w16 (length (zeros len))) (zeros len) (omega (arith, length-replicate {A = ℕ} len 0))
 
 pub endorsed-fits : (s : AuthorityState) (owner : ℕ) (certificate : List ℕ) → s.signature_len ≤ length (message_text (endorsed_message s owner certificate))
 unfolding message_text fields_text
@@ -68,11 +68,11 @@ endorsed-fits s owner certificate =
     (behind s.signature_len (number_text w16 owner) _
     (behind s.signature_len (number_text w16 s.me) _ (behind s.signature_len certificate _ (last s.signature_len))))
 
-pub half-fits : (part : Confirming) (len : ℕ) → len ≤ length (message_text (HalfConfirmed part (blank len)))
+pub half-fits : (part : Confirming) (len : ℕ) → len ≤ length (message_text (HalfConfirmed part (zeros len)))
 unfolding message_text fields_text
 half-fits part len = behind len (number_text w8 11) _ (behind len (confirming_text part) _ (last len))
 
-pub confirmation-fits : (part : Confirming) (first_signature : List ℕ) (len : ℕ) → len ≤ length (message_text (confirmation_with part first_signature (blank len)))
+pub confirmation-fits : (part : Confirming) (first_signature : List ℕ) (len : ℕ) → len ≤ length (message_text (confirmation_with part first_signature (zeros len)))
 unfolding message_text fields_text confirmation_fields_text
 confirmation-fits part first_signature len =
     behind len (number_text w8 12) _
@@ -100,20 +100,13 @@ can-fill keys len to bytes due owes less =
 
 -- ---- what is due of an authority's book is due of its keys
 
-there-is : {X : Type 0} (xs : List X) (k : ℕ) → k < length xs → (x : X) × (slice_get xs k ≡ Some x)
-there-is [] k less = absurd (omega (arith, less))
-there-is (x ∷ xs) zero less = (x, refl)
-there-is (x ∷ xs) (suc k) less = there-is xs k (omega (arith, less))
-
 -- something is due with these leaves, of a generation up to this one
 pub record IsDueOf (leaves newest : ℕ) (due : DueParts) : Type 0 where
   pub counts_on : due.leaves ≡ leaves
   pub upto : due.generation ≤ newest
 
 pub owed : (s : AuthorityState) (keys : List KeyParts) (due : DueParts) → IsRingOf s keys → IsDueOf s.past.signed.leaves s.past.signed.newest due → Owes keys due s.signature_len
-owed s keys due is of-book =
-    let own = there-is keys due.generation (omega (arith, of-book.upto, is.each)) in
-    record { key = own.0; has = own.1; leaves = of-book.counts_on ∙ is.leaves due.generation own.0 own.1; bytes_are = sym (is.bytes due.generation own.0 own.1) }
+owed s keys due is of-book = owed_by s.past.signed s.signature_len keys due is of-book.upto of-book.counts_on
 
 -- what an entry leaves of a book
 pub record IsSameBook (book later : RollBook) : Type 0 where
@@ -180,11 +173,9 @@ pub record IsSameKeys (s later : AuthorityState) : Type 0 where
   pub len : later.signature_len ≡ s.signature_len
 
 pub keys-stay : (s later : AuthorityState) (keys : List KeyParts) → IsRingOf s keys → IsSameKeys s later → IsRingOf later keys
-keys-stay s later keys is same = record {
-  each = is.each ∙ ap (λ n. n + 1) (sym same.book.newest);
-  leaves = λ g key at. same.book.leaves ∙ is.leaves g key at;
-  bytes = λ g key at. is.bytes g key at ∙ sym same.len;
-}
+keys-stay s later keys is same =
+    subst (λ n. AreKeysOf later.past.signed n keys) (sym same.len)
+    (same_keys s.past.signed later.past.signed s.signature_len keys same.book.leaves same.book.newest is)
 
 -- the keys sign what an answer leaves blank, and stay the authority's own
 pub record IsSignedBy (s : AuthorityState) (keys : List KeyParts) (later : AuthorityState) (sent : Unsigned) : Type 0 where
@@ -231,9 +222,9 @@ asked-signs s keys false owner cert said is sound = endorse-signs s keys owner (
 
 -- a confirmation is signed and sent
 confirming-signs : (s : AuthorityState) (keys : List KeyParts) (seen : List SeenText) (k : Kept) (to : Address) (message : List ℕ → Message) → IsRingOf s keys → IsRollBook s.past.signed
-    → s.signature_len ≤ length (message_text (message (blank s.signature_len))) → Signs s keys (confirming_too s seen k to message)
+    → s.signature_len ≤ length (message_text (message (zeros s.signature_len))) → Signs s keys (confirming_too s seen k to message)
 confirming-signs s keys seen k to message is sound less =
-    due-signs s keys (entering s.past (kept_claim (authority_party s.me) k)) (record s { past = confirming s.me s.past seen k }) to (message_text (message (blank s.signature_len)))
+    due-signs s keys (entering s.past (kept_claim (authority_party s.me) k)) (record s { past = confirming s.me s.past seen k }) to (message_text (message (zeros s.signature_len)))
     (λ due e. entering-owes s keys (kept_claim (authority_party s.me) k) due is sound e) less (entering-same s seen k)
 
 log-signs : (s : AuthorityState) (keys : List KeyParts) (part : Confirming) → IsRingOf s keys → IsRollBook s.past.signed → Signs s keys (log_confirmed_row s part)
@@ -250,7 +241,7 @@ half-signs s keys part first_signature is sound =
     (confirmation-fits part first_signature s.signature_len))
 
 -- nothing is sent
-nothing-fills : (keys : List KeyParts) → CanFill keys sends_nothing
+nothing-fills : (keys : List KeyParts) → CanFill keys nothing
 nothing-fills keys = All-nil (IsBlank keys [])
 
 note-signs : (s : AuthorityState) (keys : List KeyParts) (a : Announced) → Signs s keys (roll_note_row s a)
@@ -259,7 +250,7 @@ note-signs s keys a = by (learned s.keys a)
   where
     by : (r : Result Learned LearnFault) → Signs s keys (roll_note_by s a r)
     by (Ok l) = λ later sent e.
-        let pair : (learning s a, sends_nothing) ≡ (later, sent) = cc in
+        let pair : (learning s a, nothing) ≡ (later, sent) = cc in
         subst (λ (p : AuthorityState × Unsigned). IsSignedBy s keys p.0 p.1) pair (record { fills = nothing-fills keys; stays = record { book = record { leaves = refl; newest = refl }; len = refl } })
     by (Err fault) = λ later sent e. absurd cc
 
@@ -287,24 +278,9 @@ row-signs s keys retired (Err place) said is sound = λ later sent e. absurd cc
 -- ---- a roll
 
 -- the keys with the next behind them are those of the authority that rolled
-key-cases : (keys : List KeyParts) (next : KeyParts) (g : ℕ) (key : KeyParts) → slice_get (keys ++ next ∷ []) g ≡ Some key → (slice_get keys g ≡ Some key) ⊎ (key ≡ next)
-key-cases [] next zero key at = inr cc
-key-cases [] next (suc g) key at = absurd cc
-key-cases (k ∷ keys) next zero key at = inl at
-key-cases (k ∷ keys) next (suc g) key at = key-cases keys next g key at
-
 pub rolled-ring : (s : AuthorityState) (keys : List KeyParts) (next : KeyParts) → IsRingOf s keys → IsNext keys next → IsRingOf (rolling s (public_of next)) (keys ++ next ∷ [])
-rolled-ring s keys next is behind-newest = record {
-  each = omega (arith, is.each, length-append keys (next ∷ []));
-  leaves = λ g key at. elim (key-cases keys next g key at) [
-    | inl old ↦ is.leaves g key old
-    | inr new ↦ is.leaves (length keys - 1) behind-newest.newest behind-newest.last ∙ ap (λ (k : KeyParts). 2 ^ height_of k.lms) (sym (new ∙ behind-newest.is))
-  ];
-  bytes = λ g key at. elim (key-cases keys next g key at) [
-    | inl old ↦ is.bytes g key old
-    | inr new ↦ ap ring_signature_len (new ∙ behind-newest.is) ∙ is.bytes (length keys - 1) behind-newest.newest behind-newest.last
-  ];
-}
+rolled-ring s keys next is behind-newest =
+    next_keys s.past.signed (roll_text (authority_party s.me) s.past.signed.newest (public_of next)) s.signature_len keys next is behind-newest
 
 -- what a roll answers
 pub record IsRolledBy (s : AuthorityState) (keys : List KeyParts) (next : LmsPublic) (later : AuthorityState) (sent : Unsigned) : Type 0 where

@@ -8,7 +8,6 @@ use Rattle.ar_statement.specs.declared.party.Party.{Party}
 use Rattle.ar_statement.specs.declared.text.SeenText.{SeenText}
 use Rattle.ar_statement.specs.Claims.{Claim, endorse, roll, text_of}
 use Rattle.ar_statement.specs.Fields.{is_epoch}
-use Rattle.ar_statement.specs.Ranges.{IsKeyText, is_readable}
 use Rattle.key_roll.specs.Entry.{after_entry, with_roll}
 use Rattle.party_keys.specs.Seen.{authority_party, log_party}
 use Rattle.tree_proof.specs.declared.path.Bottom.{Bottom}
@@ -132,12 +131,6 @@ after_half_confirmed me r log voters first k = confirming me r (seen_of_half log
 -- a party's Roll is seen
 abbrev pub after_learn : AuthorityRecord → Party → ℕ → List ℕ → AuthorityRecord
 after_learn r party generation key = record r { seen = seen_after r.seen (seen_of party (roll party generation key) ∷ []) }
-
--- the authority announces its next key, a key that can be read
-pub record MayRoll (r : AuthorityRecord) (key : List ℕ) : Type 0 where
-  pub not_last : r.signed.newest < 999
-  pub is_key : IsKeyText key
-  pub readable : IsTrue (is_readable key)
 
 -- its own Roll is signed, and the book is at the next generation
 abbrev pub after_roll : ℕ → AuthorityRecord → List ℕ → AuthorityRecord

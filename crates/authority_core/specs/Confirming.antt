@@ -17,13 +17,14 @@ use Rattle.ar_message.specs.declared.address.Address.{Address}
 use Rattle.ar_message.specs.declared.lists.Vote.{Vote}
 use Rattle.ar_message.specs.declared.message.Confirming.{Confirming}
 use Rattle.ar_message.specs.declared.message.Message.{Message}
+use Rattle.ar_message.specs.Filling.{zeros}
 use Rattle.party_keys.specs.Seen.{authority_party, log_party}
 use Rattle.party_keys.specs.Signers.{Claimed, signers_answer}
 use Rattle.vote_quorum.specs.Numbers.{distinct_count}
 use Rattle.vote_quorum.specs.declared.value.Value.{Value}
 use Rattle.authority_core.specs.Calls.{confirming, kept_claim}
 use Rattle.authority_core.specs.Refusals.{of_signers}
-use Rattle.authority_core.specs.State.{Answer, AuthorityState, Prepared, blank, entering, if_due, in_order, sends, sent_with}
+use Rattle.authority_core.specs.State.{Answer, AuthorityState, Prepared, entering, if_due, in_order, sends, sent_with}
 use Rattle.authority_core.specs.declared.entries.Kept.{Kept}
 use Rattle.authority_core.specs.declared.refusal.AuthorityRefusal.{AuthorityRefusal}
 use Rattle.authority_core.specs.declared.refusal.AuthorityRefusal.TheVariants.{BadPath, FewVotes, NotForAuthority, SameAuthority}
@@ -113,7 +114,7 @@ confirming_checks s chosen parties claims part =
 abbrev pub confirming_too : AuthorityState → List SeenText → Kept → Address → (List ℕ → Message) → Answer
 confirming_too s seen k to message =
     if_due (entering s.past (kept_claim (authority_party s.me) k))
-    (λ due. (record s { past = confirming s.me s.past seen k }, sends s.signature_len to (message_text (message (blank s.signature_len))) due))
+    (λ due. (record s { past = confirming s.me s.past seen k }, sends s.signature_len to (message_text (message (zeros s.signature_len))) due))
 
 -- the same where the message is prepared
 unfoldable pub confirming_with : AuthorityState → List SeenText → Kept → Prepared → Answer

@@ -7,6 +7,7 @@ use Rattle.ar_message.specs.Messages.{message_text}
 use Rattle.ar_message.specs.declared.address.Address.TheVariants.{One}
 use Rattle.ar_message.specs.declared.message.Message.TheVariants.{Endorsed}
 use Rattle.ar_message.specs.declared.message.Message.{Message}
+use Rattle.ar_message.specs.Filling.{zeros}
 use Rattle.key_roll.specs.Due.{DueParts}
 use Rattle.lms_tree.specs.PublicKey.{key_text}
 use Rattle.owner_check.specs.Answers.{Told, outcome_of, with_answer}
@@ -16,7 +17,7 @@ use Rattle.owner_check.specs.declared.answer.Outcome.TheVariants.{Yes, No, Faile
 use Rattle.authority_core.specs.Calls.{after_endorse}
 use Rattle.authority_core.specs.State as state
 use Rattle.authority_core.specs.Record.{AuthorityRecord}
-use Rattle.authority_core.specs.State.{AuthorityState, blank, entering, if_due, sends}
+use Rattle.authority_core.specs.State.{AuthorityState, entering, if_due, sends}
 use Rattle.authority_core.specs.declared.entries.Asked.{Asked}
 use Rattle.authority_core.specs.declared.refusal.AuthorityRefusal.{AuthorityRefusal}
 use Rattle.authority_core.specs.declared.refusal.AuthorityRefusal.TheVariants.{CheckFault, Memory, NotForAuthority, NotOwner}
@@ -33,7 +34,7 @@ endorse_due me r a Yes = entering r (endorse me a.certificate)
 
 -- the owner who asked gets the endorsement
 abbrev pub endorsed_message : AuthorityState → ℕ → List ℕ → Message
-endorsed_message s owner certificate = Endorsed owner s.me certificate (blank s.signature_len)
+endorsed_message s owner certificate = Endorsed owner s.me certificate (zeros s.signature_len)
 
 -- the row of what is asked
 unfoldable pub endorsing : AuthorityState → ℕ → Asked → Outcome → state.Answer

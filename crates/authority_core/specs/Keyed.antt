@@ -1,10 +1,9 @@
 -- An authority with its keys, and its answers with its signatures in them.
-use Rattle.std.specs.Prelude.{◌≡◌, ℕ, ◌+◌, ◌^◌, ◌⊎◌, List, length, slice_get, Option, Some, Result, Ok, Err}
+use Rattle.std.specs.Prelude.{◌≡◌, ◌⊎◌, List, Option, Result, Ok, Err}
 use Rattle.ar_message.specs.Filling.{filled}
 use Rattle.ar_message.specs.declared.sent.Sent.{Sent}
-use Rattle.key_roll.specs.Ring.{RingParts, ring_signature_len}
+use Rattle.key_roll.specs.Ring.{AreKeysOf, RingParts}
 use Rattle.lms_tree.specs.KeyParts.{KeyParts}
-use Rattle.lms_tree.specs.LmsKind.{height_of}
 use Rattle.authority_core.specs.State.{Answer, AuthorityState}
 use Rattle.authority_core.specs.declared.refusal.AuthorityRefusal.{AuthorityRefusal}
 use Rattle.authority_core.specs.declared.refusal.AuthorityRefusal.TheVariants.{Memory}
@@ -15,12 +14,9 @@ pub record AuthorityParts (C : Type 0) : Type 0 where
   pub check : Option C
   pub ring : RingParts
 
--- The keys are those of the authority's book: there is one for each generation, with as many leaves as the book counts on,
--- and a signature of each has as many bytes as a row leaves blank.
-pub record IsRingOf (s : AuthorityState) (keys : List KeyParts) : Type 0 where
-  pub each : length keys ≡ s.past.signed.newest + 1
-  pub leaves : (g : ℕ) (key : KeyParts) → slice_get keys g ≡ Some key → s.past.signed.leaves ≡ 2 ^ height_of key.lms
-  pub bytes : (g : ℕ) (key : KeyParts) → slice_get keys g ≡ Some key → ring_signature_len key ≡ s.signature_len
+-- the keys are those of the authority's book, and a signature of each has as many bytes as a row leaves blank
+abbrev pub IsRingOf : AuthorityState → List KeyParts → Type 0
+IsRingOf s keys = AreKeysOf s.past.signed s.signature_len keys
 
 -- the answer with the authority's signatures in what it sends
 abbrev pub signed_answer : List KeyParts → Answer → Result (AuthorityState × Sent) AuthorityRefusal

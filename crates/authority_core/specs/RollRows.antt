@@ -5,6 +5,7 @@ use Rattle.ar_message.specs.Messages.{message_text}
 use Rattle.ar_message.specs.declared.address.Address.TheVariants.{Logs}
 use Rattle.ar_message.specs.declared.message.Message.{Message}
 use Rattle.ar_message.specs.declared.message.Message.TheVariants.{RollNote}
+use Rattle.ar_message.specs.Filling.{nothing, zeros}
 use Rattle.key_roll.specs.Due.{DueParts}
 use Rattle.key_roll.specs.Entry.{roll_text, rolled}
 use Rattle.key_roll.specs.declared.fault.RollFault.{RollFault}
@@ -18,7 +19,7 @@ use Rattle.party_keys.specs.declared.learning.Learned.{Learned}
 use Rattle.authority_core.specs.Calls.{after_learn, after_roll}
 use Rattle.authority_core.specs.Record.{AuthorityRecord}
 use Rattle.authority_core.specs.Refusals.{of_learning, of_roll}
-use Rattle.authority_core.specs.State.{Answer, AuthorityState, blank, sends, sends_nothing}
+use Rattle.authority_core.specs.State.{Answer, AuthorityState, sends}
 use Rattle.authority_core.specs.declared.refusal.AuthorityRefusal.{AuthorityRefusal}
 use Rattle.authority_core.specs.declared.refusal.AuthorityRefusal.TheVariants.{Memory}
 
@@ -29,7 +30,7 @@ abbrev pub learning : AuthorityState → Announced → AuthorityState
 learning s a = record s { keys = after_learning s.keys a; past = after_learn s.past a.party a.generation (key_text a.key) }
 
 abbrev pub roll_note_by : AuthorityState → Announced → Result Learned LearnFault → Answer
-roll_note_by s a (Ok _) = Ok (learning s a, sends_nothing)
+roll_note_by s a (Ok _) = Ok (learning s a, nothing)
 roll_note_by s a (Err fault) = Err (of_learning a.party a.generation fault)
 
 unfoldable pub roll_note_row : AuthorityState → Announced → Answer
@@ -46,7 +47,7 @@ rolling s next = record s {
 
 -- what the logs get
 abbrev pub roll_message : AuthorityState → LmsPublic → Message
-roll_message s next = RollNote (authority_party s.me) s.past.signed.newest next (blank s.signature_len)
+roll_message s next = RollNote (authority_party s.me) s.past.signed.newest next (zeros s.signature_len)
 
 abbrev pub roll_by : AuthorityState → LmsPublic → Result DueParts RollFault → Answer
 roll_by s next (Ok due) =

@@ -1,5 +1,5 @@
 -- Where an authority stands, as plain data, and what an answer to a message makes of that.
-use Rattle.std.specs.Prelude.{◌≡◌, ℕ, ◌^◌, ◌<◌, ◌⊎◌, ◌-◌, List, [], ◌∷◌, length, replicate, None, Result, Ok, Err}
+use Rattle.std.specs.Prelude.{◌≡◌, ℕ, ◌^◌, ◌<◌, ◌⊎◌, ◌-◌, List, [], ◌∷◌, length, None, Result, Ok, Err}
 use Rattle.ar_base.specs.Gives.{with_error}
 use Rattle.ar_council.specs.Council.{council_of}
 use Rattle.ar_message.specs.Sending.{Letter}
@@ -47,10 +47,6 @@ in_order (Err refusal) later = Err refusal
 
 -- ---- what is sent
 
--- zero bytes, where a signature is due
-abbrev pub blank : ℕ → List ℕ
-blank len = replicate len 0
-
 -- messages, and where the authority's own signature begins in the first
 abbrev pub Prepared : Type 0
 Prepared = List Letter × ℕ
@@ -69,9 +65,6 @@ sent_with p due = record {
 -- one message, whose last bytes are the authority's own signature, so many bytes, which is due
 abbrev pub sends : ℕ → Address → List ℕ → DueParts → Unsigned
 sends len to bytes due = sent_with (prepared len to bytes) due
-
-abbrev pub sends_nothing : Unsigned
-sends_nothing = record { sent = record { messages = []; ended = None }; blanks = [] }
 
 -- ---- what is signed
 

@@ -6,6 +6,7 @@ ghost use Rattle.ar_base.specs.Gives.{GivesUnless};
 ghost use Rattle.ar_message.specs.Messages.{message_text};
 ghost use Rattle.ar_message.specs.declared.address.Address.TheVariants as address;
 ghost use Rattle.ar_message.specs.declared.message.Message.TheVariants as message;
+ghost use Rattle.ar_message.specs.Filling.{zeros};
 ghost use Rattle.ar_statement.specs.Claims.{party};
 ghost use Rattle.ar_statement.specs.declared.party.Role.TheVariants as role;
 ghost use Rattle.party_keys.specs.Seen.{authority_party};
@@ -14,14 +15,14 @@ ghost use Rattle.authority_core.specs.Confirming.{confirming_with, confirming_ch
 ghost use Rattle.authority_core.specs.ConfirmRows.{confirmation_with, half_claims, half_confirmed_row, log_claims, log_confirmed_row};
 ghost use Rattle.authority_core.specs.EndorseRow.{SaysAsTold, answers_after, asked_of, endorsed_message, endorsing, outcome_by};
 ghost use Rattle.authority_core.specs.RollRows.{roll_message, roll_note_row, roll_row};
-ghost use Rattle.authority_core.specs.State.{StepsBy, blank, entering, if_due, in_order, prepared, sent_with};
+ghost use Rattle.authority_core.specs.State.{StepsBy, entering, if_due, in_order, prepared, sent_with};
 ghost use Rattle.authority_core.specs.declared.refusal.AuthorityRefusal.TheVariants as refusal;
 
 use crate::confirming::{check_content, half_claims, kept_of, log_claims, parties_of, seen_in};
 use crate::entries::{Asked, Kept};
 use crate::record::AuthorityRecord;
 use crate::refusal::AuthorityRefusal;
-use crate::reply::{Prepared, blank, discard, nothing, prepare, send};
+use crate::reply::{Prepared, discard, prepare, send};
 use ar_cert::Cert;
 use ar_message::{Address, Confirming, Message, Signature, Unsigned};
 use ar_statement::{Party, Role, SeenText};
@@ -77,7 +78,7 @@ impl Desk {
             owner,
             authority: self.me,
             certificate: *certificate,
-            signature: blank(alloc, self.signature_len)?,
+            signature: Signature::zeros(alloc, self.signature_len as usize)?,
         };
         let to = Address::One(Role::Owner.party(owner));
         prepare(alloc, to, &message, self.signature_len)
@@ -171,12 +172,12 @@ impl Desk {
 
     // The message to the second authority.
     fn prepare_half(&self, alloc: Global, part: Confirming) -> Result<Prepared, AllocError>
-        ensures { IfOk result (λ p. p ≡ prepared self.now.signature_len (address.One (authority_party part.second)) (message_text (message.HalfConfirmed part (blank self.now.signature_len)))) }
+        ensures { IfOk result (λ p. p ≡ prepared self.now.signature_len (address.One (authority_party part.second)) (message_text (message.HalfConfirmed part (zeros self.now.signature_len)))) }
     {
         let to = Address::One(Role::Authority.party(part.second));
         let message = Message::HalfConfirmed {
             part,
-            first_signature: blank(alloc, self.signature_len)?,
+            first_signature: Signature::zeros(alloc, self.signature_len as usize)?,
         };
         prepare(alloc, to, &message, self.signature_len)
     }
@@ -188,7 +189,7 @@ impl Desk {
         part: Confirming,
         first_signature: Signature,
     ) -> Result<Prepared, AllocError>
-        ensures { IfOk result (λ p. p ≡ prepared self.now.signature_len (address.One (party role.Client part.client)) (message_text (confirmation_with part first_signature (blank self.now.signature_len)))) }
+        ensures { IfOk result (λ p. p ≡ prepared self.now.signature_len (address.One (party role.Client part.client)) (message_text (confirmation_with part first_signature (zeros self.now.signature_len)))) }
     {
         let to = Address::One(Role::Client.party(part.client));
         let message = Message::Confirmation {
@@ -202,7 +203,7 @@ impl Desk {
             first: part.first,
             first_signature,
             second: part.second,
-            second_signature: blank(alloc, self.signature_len)?,
+            second_signature: Signature::zeros(alloc, self.signature_len as usize)?,
         };
         prepare(alloc, to, &message, self.signature_len)
     }
@@ -274,7 +275,7 @@ impl Desk {
     {
         self.past
             .learn(alloc, &mut self.keys, party, generation, key, signature)?;
-        Ok(nothing(alloc))
+        Ok(Unsigned::nothing(alloc))
     }
 
     // The message to the logs.
@@ -285,7 +286,7 @@ impl Desk {
             party: Role::Authority.party(self.me),
             generation: self.past.signed().generation(),
             key: *next,
-            signature: blank(alloc, self.signature_len)?,
+            signature: Signature::zeros(alloc, self.signature_len as usize)?,
         };
         prepare(alloc, Address::Logs, &message, self.signature_len)
     }

@@ -14,11 +14,12 @@ ghost use Rattle.lms_tree.specs.declared.public_key.LmsPublic.{LmsPublic};
 ghost use Rattle.owner_check.specs.declared.answer.Outcome.{Outcome};
 ghost use Rattle.owner_check.specs.declared.answer.Outcome.TheVariants.{Yes};
 ghost use Rattle.key_roll.specs.Book.{texts_of};
+ghost use Rattle.key_roll.specs.Entry.{MayRoll};
 ghost use Rattle.party_keys.specs.Seen.{authority_party};
 ghost use Rattle.ar_council.specs.Council.{Council, IsMember};
 ghost use Rattle.ar_council.specs.Room.{HasRoom};
 ghost use Rattle.ar_council.specs.Values.{confirmation_by};
-ghost use Rattle.authority_core.specs.Calls.{MayConfirm, MayRoll, after_endorse, after_half_confirmed, after_learn, after_log_confirmed, after_roll, fresh_authority, kept_claim};
+ghost use Rattle.authority_core.specs.Calls.{MayConfirm, after_endorse, after_half_confirmed, after_learn, after_log_confirmed, after_roll, fresh_authority, kept_claim};
 ghost use Rattle.authority_core.specs.ConfirmRows.{half_confirmed_row, log_confirmed_row};
 ghost use Rattle.ar_message.specs.Shown.{shows};
 ghost use Rattle.authority_core.specs.Confirming.{vote_count};
@@ -65,7 +66,7 @@ pub fn rolls_keep_an_authority()
     ensures learn { (council : Council) (me : ℕ) (r : AuthorityRecord) (party : Party) (generation : ℕ) (key : List ℕ)
         → HonestAuthority council me r → IsMember council party → HonestAuthority council me (after_learn r party generation key) }
     ensures roll { (council : Council) (me : ℕ) (r : AuthorityRecord) (key : List ℕ) → HonestAuthority council me r → me < 2 ^ 16
-        → MayRoll r key → HonestAuthority council me (after_roll me r key) }
+        → MayRoll r.signed key → HonestAuthority council me (after_roll me r key) }
 {}
 
 /// An honest authority endorsed only where its check said yes, and confirmed only what it keeps, with the votes of a quorum

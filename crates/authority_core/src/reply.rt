@@ -1,10 +1,10 @@
 ghost use Rattle.std.specs.Prelude.{◌≡◌, IfOk};
 ghost use Rattle.ar_message.specs.Messages.{message_text};
-ghost use Rattle.authority_core.specs.State.{blank, prepared, sends_nothing, sent_with};
+ghost use Rattle.authority_core.specs.State.{prepared, sent_with};
 
 use ar_base::Items;
-use ar_message::{Address, Blank, Message, Outgoing, Sent, Signature, Unsigned};
-use key_roll::{RollDue, forgo};
+use ar_message::{Address, Blank, Message, Outgoing, Sent, Unsigned};
+use key_roll::RollDue;
 use std::alloc::{AllocError, Global};
 use std::marker::Model;
 
@@ -65,14 +65,7 @@ pub(crate) fn send(ready: Prepared, due: RollDue) -> Unsigned
         at,
         due,
     };
-    match blanks.push(blank) {
-        Ok(()) => {}
-        Err(refused) => {
-            let Blank { due, .. } = refused.value;
-            forgo(due);
-            unreachable!()
-        }
-    }
+    blanks.push_reserved(blank);
     Unsigned {
         sent: Sent {
             messages: Items::from_vec(messages),
@@ -90,26 +83,4 @@ pub(crate) fn discard(ready: Prepared) {
         at: _,
     } = ready;
     blanks.destroy_empty();
-}
-
-/// Nothing is sent. It takes no memory.
-pub(crate) fn nothing(alloc: Global) -> Unsigned
-    ensures { result ≡ sends_nothing }
-{
-    Unsigned {
-        sent: Sent {
-            messages: Items::new(alloc),
-            ended: None,
-        },
-        blanks: Items::new(alloc),
-    }
-}
-
-/// Zero bytes, as many as a signature has.
-pub(crate) fn blank(alloc: Global, len: u16) -> Result<Signature, AllocError>
-    ensures { IfOk result (λ signature. signature ≡ blank len) }
-{
-    Ok(Signature {
-        bytes: vec![in alloc; 0u8; len as usize]?,
-    })
 }
