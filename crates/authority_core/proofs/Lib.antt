@@ -1,4 +1,5 @@
 pub mod Faults
+pub mod Few
 pub mod Growing
 pub mod Keeping
 pub mod Read

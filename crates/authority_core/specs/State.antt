@@ -66,6 +66,10 @@ sent_with p due = record {
 abbrev pub sends : ℕ → Address → List ℕ → DueParts → Unsigned
 sends len to bytes due = sent_with (prepared len to bytes) due
 
+-- the most messages that a step sends
+abbrev pub most_sent : ℕ
+most_sent = 1
+
 -- ---- what is signed
 
 -- what is due where a statement is entered in the book, or that no leaf is left

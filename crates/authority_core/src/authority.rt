@@ -1,4 +1,4 @@
-ghost use Rattle.std.specs.Prelude.{◌≡◌, ◌<◌, ◌++◌, ◌∷◌, ◌^◌, [], IfSome, Err, None, Some, is_none, is_some, true, OnOk, OnErr, MatchResult};
+ghost use Rattle.std.specs.Prelude.{◌≡◌, ◌≤◌, ◌<◌, ◌++◌, ◌∷◌, ◌^◌, [], length, IfOk, IfSome, Err, None, Some, is_none, is_some, true, OnOk, OnErr, MatchResult};
 ghost use Rattle.std.specs.Option.{option_map};
 ghost use Rattle.ar_base.specs.Faults.{HasRisen};
 ghost use Rattle.ar_council.specs.Council.{council_of};
@@ -14,6 +14,7 @@ ghost use Rattle.authority_core.specs.Honest.{HonestAuthority};
 ghost use Rattle.authority_core.specs.Keyed.{IsRingOf, SendsBy};
 ghost use Rattle.authority_core.specs.RollRows.{roll_row};
 ghost use Rattle.authority_core.specs.Row.{answers_behind, asked_in, row};
+ghost use Rattle.authority_core.specs.State.{most_sent};
 ghost use Rattle.authority_core.specs.declared.refusal.AuthorityRefusal.TheVariants as refusal;
 
 use crate::keyless::AuthorityCore;
@@ -153,6 +154,8 @@ impl<C: OwnerCheck> Authority<C> {
     pub fn step(&mut self, alloc: Global, bytes: &[u8]) -> Result<Sent, AuthorityRefusal>
         // The answer, signed, and where the authority stands then.
         ensures row { SendsBy self.old.ring.keys result self.old.state self.new.state (row self.old.state (is_none self.old.check) (message_in bytes.now) (outcome_by result)) }
+        // How many messages it sends at most.
+        ensures few { IfOk result (λ sent. length sent.messages ≤ most_sent) }
         ensures ring { self.new.ring ≡ self.old.ring }
         // The check is there where it was.
         ensures retired { is_none self.new.check ≡ is_none self.old.check }
@@ -178,6 +181,8 @@ impl<C: OwnerCheck> Authority<C> {
         // The answer, signed, with the one key that is the next of the ring, and where the authority stands then.
         ensures row { (next : KeyParts) → IsNext self.old.ring.keys next
             → SendsBy (self.old.ring.keys ++ next ∷ []) result self.old.state self.new.state (roll_row self.old.state (public_of next)) }
+        // How many messages it sends at most.
+        ensures few { IfOk result (λ sent. length sent.messages ≤ most_sent) }
         // Which keys it has.
         ensures ok { OnOk result ((next : KeyParts) → IsNext self.old.ring.keys next → self.new.ring.keys ≡ self.old.ring.keys ++ next ∷ []) }
         ensures err { OnErr result (self.new.ring.keys ≡ self.old.ring.keys) }

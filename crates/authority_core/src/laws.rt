@@ -1,5 +1,5 @@
 //! Laws on the definitions of `specs/`: each is the contract of a function with an empty body.
-ghost use Rattle.std.specs.Prelude.{◌≡◌, ℕ, ◌<◌, ◌≤◌, ◌^◌, Bool, true, false, [], ◌∷◌, List, Option, Contains, Ok, Err};
+ghost use Rattle.std.specs.Prelude.{◌≡◌, ℕ, ◌<◌, ◌≤◌, ◌^◌, Bool, true, false, [], ◌∷◌, List, Option, Contains, Result, Ok, Err, length};
 ghost use Rattle.ar_base.specs.Bytes.{IsDigest};
 ghost use Rattle.ar_statement.specs.declared.party.Party.{Party};
 ghost use Rattle.ar_statement.specs.Claims.{endorse, text_of};
@@ -27,8 +27,8 @@ ghost use Rattle.authority_core.specs.EndorseRow.{endorse_row};
 ghost use Rattle.authority_core.specs.Honest.{HasAsked, HasKept, HonestAuthority};
 ghost use Rattle.authority_core.specs.Record.{AuthorityRecord};
 ghost use Rattle.authority_core.specs.RollRows.{roll_row};
-ghost use Rattle.authority_core.specs.Row.{message_row};
-ghost use Rattle.authority_core.specs.State.{AuthorityState, IsAuthority};
+ghost use Rattle.authority_core.specs.Row.{message_row, row};
+ghost use Rattle.authority_core.specs.State.{AuthorityState, IsAuthority, most_sent};
 ghost use Rattle.authority_core.specs.declared.refusal.AuthorityRefusal.TheVariants.{NotForAuthority};
 ghost use Rattle.authority_core.specs.declared.entries.Asked.{Asked};
 ghost use Rattle.authority_core.specs.declared.entries.Kept.{Kept};
@@ -102,4 +102,12 @@ pub fn no_confirmation_without_a_quorum()
         → (s.keys.quorum ≤ vote_count part) × (shows part ≡ true) }
     ensures second { (s : AuthorityState) (part : Confirming) (first_signature : List ℕ) (later : AuthorityState) (sent : Unsigned) → half_confirmed_row s part first_signature ≡ Ok (later, sent)
         → (s.keys.quorum ≤ vote_count part) × (shows part ≡ true) }
+{}
+
+/// A step sends at most one message.
+pub fn each_step_sends_few()
+    ensures step { (s : AuthorityState) (retired : Bool) (m : Result Message ℕ) (said : Outcome) (later : AuthorityState) (sent : Unsigned)
+        → row s retired m said ≡ Ok (later, sent) → length sent.sent.messages ≤ most_sent }
+    ensures roll { (s : AuthorityState) (next : LmsPublic) (later : AuthorityState) (sent : Unsigned) → roll_row s next ≡ Ok (later, sent)
+        → length sent.sent.messages ≤ most_sent }
 {}
