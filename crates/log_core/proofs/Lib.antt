@@ -6,6 +6,7 @@ pub mod Composed
 pub mod Confirmations
 pub mod Decisions
 pub mod Drafts
+pub mod Few
 pub mod Judged
 pub mod Keyed
 pub mod KeptCore

@@ -42,3 +42,7 @@ nothing = record { sent = record { messages = []; ended = None }; blanks = [] }
 -- the most changes that are queued
 abbrev pub most_queued : ℕ
 most_queued = 256
+
+-- the most messages that a step sends: a proposal, and the decision where the log's own vote is a quorum
+abbrev pub most_sent : ℕ
+most_sent = 2

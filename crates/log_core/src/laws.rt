@@ -6,6 +6,7 @@ ghost use Rattle.party_keys.specs.Signers.{Claimed};
 ghost use Rattle.ar_message.specs.Filling.{CanFill};
 ghost use Rattle.ar_message.specs.declared.lists.LogStatus.{LogStatus};
 ghost use Rattle.lms_tree.specs.KeyParts.{KeyParts};
+ghost use Rattle.lms_tree.specs.declared.public_key.LmsPublic.{LmsPublic};
 ghost use Rattle.vote_quorum.specs.Statuses.{IsMostReported, Status};
 ghost use Rattle.domain_table.specs.Applying.{apply, judge_ripe};
 ghost use Rattle.domain_table.specs.Tables.{Table};
@@ -17,11 +18,12 @@ ghost use Rattle.log_core.specs.Checks.{Check, checked};
 ghost use Rattle.log_core.specs.Judged.{judged};
 ghost use Rattle.log_core.specs.Kept.{IsKeptCore};
 ghost use Rattle.log_core.specs.Reported.{most_reported};
+ghost use Rattle.log_core.specs.Rolling.{rolling_row};
 ghost use Rattle.log_core.specs.Row.{IsInput, row};
 ghost use Rattle.log_core.specs.Sees.{SeesVerified};
 ghost use Rattle.log_core.specs.Signers.{endorsements_in, signers};
 ghost use Rattle.log_core.specs.Skipped.{skip_row};
-ghost use Rattle.log_core.specs.State.{CoreState, Input, Reply};
+ghost use Rattle.log_core.specs.State.{CoreState, Input, Reply, most_sent};
 ghost use Rattle.log_core.specs.Submit.{is_queued};
 ghost use Rattle.log_core.specs.Walk.{StandIn, bytes_of, proposal, proposed_value};
 ghost use Rattle.log_core.specs.declared.refusal.LogRefusal.{LogRefusal};
@@ -99,4 +101,10 @@ pub fn each_own_signature_is_zero_bytes()
 pub fn each_step_can_be_signed()
     ensures { (s : CoreState) (input : Input) (reply : Reply) (keys : List KeyParts) → IsKeptCore s → IsInput input → row s input ≡ Ok reply
         → AreKeysOf reply.after.log.past.signed reply.after.signature_len keys → CanFill keys reply.unsigned }
+{}
+
+/// A step sends at most two messages.
+pub fn each_step_sends_few()
+    ensures step { (s : CoreState) (input : Input) (reply : Reply) → row s input ≡ Ok reply → length reply.unsigned.sent.messages ≤ most_sent }
+    ensures roll { (s : CoreState) (key : LmsPublic) (reply : Reply) → rolling_row s key ≡ Ok reply → length reply.unsigned.sent.messages ≤ most_sent }
 {}

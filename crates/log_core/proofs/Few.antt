@@ -1,0 +1,173 @@
+-- How many messages a step sends, before it is signed and then.
+use Rattle.std.proofs.Common.{◌≡◌, ℕ, ◌+◌, ◌≤◌, List, [], ◌∷◌, ◌++◌, length, sym, subst, arith, Bool, true, false, cond, Option, Some, None}
+use Rattle.std.specs.Prelude.{Ok, Err, Result, map}
+use Rattle.std.specs.Option.{option_map}
+use Rattle.std.proofs.lemmas.List.{length-append, length-map}
+use Rattle.ar_cert.specs.Changes.{Change}
+use Rattle.ar_council.specs.Values.{value_of_roots}
+use Rattle.ar_message.proofs.Filled.{same_count}
+use Rattle.ar_message.specs.Filling.{filled}
+use Rattle.ar_message.specs.Messages.{message_in}
+use Rattle.ar_message.specs.declared.lists.LogStatus.{LogStatus}
+use Rattle.ar_message.specs.declared.message.Message.{Message}
+use Rattle.ar_message.specs.declared.message.Message.TheVariants as messages
+use Rattle.ar_message.specs.declared.sent.Sent.{Sent}
+use Rattle.ar_message.specs.declared.unsigned.Unsigned.{Unsigned}
+use Rattle.lms_tree.specs.KeyParts.{KeyParts}
+use Rattle.lms_tree.specs.declared.public_key.LmsPublic.{LmsPublic}
+use Rattle.party_keys.specs.Learning.{Announced}
+use Rattle.vote_quorum.specs.declared.value.Value.{Value}
+use Rattle.epoch_log.specs.Calls.{after_ballot, after_propose, after_state, after_status_seen, is_turn}
+use Rattle.epoch_log.specs.State.{LogState, epoch_of}
+use Rattle.epoch_log.specs.declared.entries.Closing.{Closing}
+use Rattle.epoch_log.specs.declared.entries.Closing.TheVariants as closings
+use Rattle.epoch_log.specs.declared.entries.Newest.{Newest}
+use Rattle.log_core.specs.Balloted.{ballot_checks, ballot_reply, ballot_row}
+use Rattle.log_core.specs.Checks.{Check, checked}
+use Rattle.log_core.specs.Closings.{closing_drafts, closing_reply, decision_drafts}
+use Rattle.log_core.specs.Confirming.{Asked, confirm_checks, confirm_reply, confirm_row}
+use Rattle.log_core.specs.Decided.{Decision, decision_checks, decision_reply, decision_row}
+use Rattle.log_core.specs.Learning.{roll_note_checks, roll_note_reply, roll_note_row}
+use Rattle.log_core.specs.Passing.{passing_checks, passing_reply, passing_row, status_draft, status_drafts}
+use Rattle.log_core.specs.Proposed.{Proposal, proposed_checks, proposed_reply, proposed_row}
+use Rattle.log_core.specs.Proposing.{proposal_draft, proposing_checks, proposing_reply, proposing_row}
+use Rattle.log_core.specs.Rolling.{rolling_checks, rolling_reply, rolling_row}
+use Rattle.log_core.specs.Row.{message_row, read_row, row}
+use Rattle.log_core.specs.Sending.{Draft, letter_of}
+use Rattle.log_core.specs.Skipped.{skip_checks, skip_reply, skip_row}
+use Rattle.log_core.specs.State.{Answer, CoreState, Input, Reply, most_sent, passes, proposes, rolls, takes}
+use Rattle.log_core.specs.Stated.{status_checks, status_reply, status_row}
+use Rattle.log_core.specs.Submit.{submit_checks, submit_reply, submit_row}
+use Rattle.log_core.specs.Walk.{proposal, proposed_value}
+use Rattle.log_core.proofs.Checked.{passed}
+
+-- a reply sends few messages
+abbrev IsFew : Reply → Type 0
+IsFew reply = length reply.unsigned.sent.messages ≤ most_sent
+
+-- so does a row, where it answers
+abbrev SendsFew : Answer → Type 0
+SendsFew answer = (reply : Reply) → answer ≡ Ok reply → IsFew reply
+
+-- ---- the closing rule
+
+newest-one : (len : ℕ) (before after : LogState) (newest : Option Newest) → length (decision_drafts len before after newest) ≤ 1
+newest-one len before after None = omega arith
+newest-one len before after (Some w) = omega arith
+
+closing-one : (closing : Closing) (len : ℕ) (before after : LogState) → length (closing_drafts closing len before after) ≤ 1
+closing-one closings.Open len before after = omega arith
+closing-one closings.Decided len before after = newest-one len before after after.newest
+closing-one (closings.Skipped statuses) len before after = omega arith
+
+closing-few : (s : CoreState) (before : LogState) (drafts : List Draft) (x : LogState × Closing) → length drafts ≤ 1 → IsFew (closing_reply s before drafts x)
+closing-few s before drafts x one =
+    let more : List Draft = closing_drafts x.1 s.signature_len before x.0 in
+    let all : length (map letter_of (drafts ++ more)) ≡ length (drafts ++ more) = length-map (drafts ++ more) letter_of in
+    let both : length (drafts ++ more) ≡ length drafts + length more = length-append drafts more in
+    let other : length more ≤ 1 = closing-one x.1 s.signature_len before x.0 in
+    omega (arith, all, both, other, one)
+
+-- ---- each row
+
+checked-few : (checks : List Check) (reply : Reply) → IsFew reply → SendsFew (checked checks reply)
+checked-few checks reply few r answer = subst IsFew (passed checks reply r answer).1 few
+
+proposing-few : (s : CoreState) → SendsFew (proposing_row s)
+unfolding proposing_row
+proposing-few s =
+    checked-few (proposing_checks s) (proposing_reply s)
+    (closing-few s s.log (proposal_draft s (proposed_value s) (proposal s) ∷ []) (after_propose s.log (proposed_value s) (proposal s)) (omega arith))
+
+passing-few : (s : CoreState) → SendsFew (passing_row s)
+unfolding passing_row
+passing-few s =
+    checked-few (passing_checks s) (passing_reply s)
+    (closing-few s s.log (status_drafts s) (after_state s.log) (by (is_turn s.log.council s.log.me (epoch_of s.log + 1))))
+  where
+    by : (b : Bool) → length (cond b [] (status_draft s ∷ [])) ≤ 1
+    by true = omega arith
+    by false = omega arith
+
+pub rolling-few : (s : CoreState) (key : LmsPublic) → SendsFew (rolling_row s key)
+unfolding rolling_row
+rolling-few s key = checked-few (rolling_checks s) (rolling_reply s key) (omega arith)
+
+submit-few : (s : CoreState) (change : Change) → SendsFew (submit_row s change)
+unfolding submit_row
+submit-few s change = checked-few (submit_checks s change) (submit_reply s change) (omega arith)
+
+proposed-few : (s : CoreState) (p : Proposal) → SendsFew (proposed_row s p)
+unfolding proposed_row
+proposed-few s p = checked-few (proposed_checks s p) (proposed_reply s p) (omega arith)
+
+ballot-few : (s : CoreState) (log epoch : ℕ) (value : Value) (signature : List ℕ) → SendsFew (ballot_row s log epoch value signature)
+unfolding ballot_row
+ballot-few s log epoch value signature =
+    checked-few (ballot_checks s log epoch value signature) (ballot_reply s log value signature)
+    (closing-few s s.log [] (after_ballot s.log log value signature) (omega arith))
+
+status-few : (s : CoreState) (log epoch : ℕ) (value : Option Value) (signature : List ℕ) → SendsFew (status_row s log epoch value signature)
+unfolding status_row
+status-few s log epoch value signature =
+    checked-few (status_checks s log epoch value signature) (status_reply s log value signature)
+    (closing-few s s.log [] (after_status_seen s.log log value (Some signature)) (omega arith))
+
+decision-few : (s : CoreState) (d : Decision) → SendsFew (decision_row s d)
+unfolding decision_row
+decision-few s d = checked-few (decision_checks s d) (decision_reply s d) (omega arith)
+
+skip-few : (s : CoreState) (epoch : ℕ) (statuses : List LogStatus) → SendsFew (skip_row s epoch statuses)
+unfolding skip_row
+skip-few s epoch statuses = checked-few (skip_checks s epoch statuses) (skip_reply s statuses) (omega arith)
+
+confirm-few : (s : CoreState) (asked : Asked) → SendsFew (confirm_row s asked)
+unfolding confirm_row
+confirm-few s asked = checked-few (confirm_checks s asked) (confirm_reply s s.log.newest asked) (by s.log.newest)
+  where
+    by : (newest : Option Newest) → IsFew (confirm_reply s newest asked)
+    by None = omega arith
+    by (Some w) = omega arith
+
+roll_note-few : (s : CoreState) (a : Announced) → SendsFew (roll_note_row s a)
+unfolding roll_note_row
+roll_note-few s a = checked-few (roll_note_checks s a) (roll_note_reply s a) (omega arith)
+
+message-few : (s : CoreState) (m : Message) → SendsFew (message_row s m)
+message-few s (messages.EndorseAsk owner cert) reply answer = absurd cc
+message-few s (messages.Endorsed owner authority certificate signature) reply answer = absurd cc
+message-few s (messages.Submit change) reply answer = submit-few s change reply answer
+message-few s (messages.Propose log epoch base root changes signature) reply answer =
+    proposed-few s (record { log = log; epoch = epoch; value = value_of_roots (base, root); changes = changes; signature = signature }) reply answer
+message-few s (messages.Ballot log epoch base root signature) reply answer = ballot-few s log epoch (value_of_roots (base, root)) signature reply answer
+message-few s (messages.StatusNote log epoch value signature) reply answer = status-few s log epoch (option_map value_of_roots value) signature reply answer
+message-few s (messages.Decision epoch base root changes votes) reply answer =
+    decision-few s (record { epoch = epoch; value = value_of_roots (base, root); changes = changes; votes = votes }) reply answer
+message-few s (messages.SkipNote epoch statuses) reply answer = skip-few s epoch statuses reply answer
+message-few s (messages.ConfirmAsk client name first second) reply answer =
+    confirm-few s (record { client = client; name = name; first = first; second = second }) reply answer
+message-few s (messages.LogConfirmed part) reply answer = absurd cc
+message-few s (messages.HalfConfirmed part first_signature) reply answer = absurd cc
+message-few s (messages.Confirmation client epoch name root body log log_signature first first_signature second second_signature) reply answer = absurd cc
+message-few s (messages.RollNote party generation key signature) reply answer =
+    roll_note-few s (record { party = party; generation = generation; key = key; signature = signature }) reply answer
+
+read-few : (s : CoreState) (read : Result Message ℕ) → SendsFew (read_row s read)
+read-few s (Ok m) reply answer = message-few s m reply answer
+read-few s (Err place) reply answer = absurd cc
+
+pub row-few : (s : CoreState) (input : Input) → SendsFew (row s input)
+unfolding row
+row-few s (takes bytes) reply answer = read-few s (message_in bytes) reply answer
+row-few s proposes reply answer = proposing-few s reply answer
+row-few s passes reply answer = passing-few s reply answer
+row-few s (rolls key) reply answer = rolling-few s key reply answer
+
+-- ---- signed
+
+-- as many messages are sent once they are signed
+pub filled-few : (keys : List KeyParts) (unsigned : Unsigned) (sent : Sent) → length unsigned.sent.messages ≤ most_sent → sent ≡ filled keys unsigned
+    → length sent.messages ≤ most_sent
+filled-few keys unsigned sent few is =
+    let many : length (filled keys unsigned).messages ≡ length unsigned.sent.messages = same_count keys unsigned.blanks unsigned.sent.messages in
+    subst (λ (s : Sent). length s.messages ≤ most_sent) (sym is) (subst (λ n. n ≤ most_sent) (sym many) few)
