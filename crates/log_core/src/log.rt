@@ -1,4 +1,4 @@
-ghost use Rattle.std.specs.Prelude.{◌≡◌, ◌<◌, ◌++◌, ◌∷◌, ◌^◌, [], length, IfOk, OnOk, OnErr};
+ghost use Rattle.std.specs.Prelude.{◌≡◌, ◌≤◌, ◌<◌, ◌++◌, ◌∷◌, ◌^◌, [], length, IfOk, OnOk, OnErr};
 ghost use Rattle.ar_council.specs.Council.{council_of};
 ghost use Rattle.epoch_log.specs.Calls.{fresh};
 ghost use Rattle.epoch_log.specs.Log.{record_of};
@@ -11,7 +11,7 @@ ghost use Rattle.log_core.specs.Inputs.{input_of};
 ghost use Rattle.log_core.specs.Keyed.{AreBehind, IsOwn, IsPlain, IsRingOf, SendsBy};
 ghost use Rattle.log_core.specs.Rolling.{rolling_row};
 ghost use Rattle.log_core.specs.Row.{IsInput, row};
-ghost use Rattle.log_core.specs.State.{rolls};
+ghost use Rattle.log_core.specs.State.{most_sent, rolls};
 
 use crate::log_core::LogCore;
 use crate::refusal::LogRefusal;
@@ -157,6 +157,7 @@ impl Log {
     fn answer(&mut self, alloc: Global, input: &LogInput) -> Result<Sent, LogRefusal>
         requires { IsPlain (input_of input.now) }
         ensures row { SendsBy self.old.ring.keys result self.old.core self.new.core (row self.old.core (input_of input.now)) }
+        ensures few { IfOk result (λ sent. length sent.messages ≤ most_sent) }
         ensures ring { self.new.ring ≡ self.old.ring }
     {
         self.core.told();
@@ -174,6 +175,8 @@ impl Log {
         // The answer, signed, with the one key that is the next of the ring, and where the log stands then.
         ensures row { (next : KeyParts) → IsNext self.old.ring.keys next
             → SendsBy (self.old.ring.keys ++ next ∷ []) result self.old.core self.new.core (rolling_row self.old.core (public_of next)) }
+        // How many messages it sends at most.
+        ensures few { IfOk result (λ sent. length sent.messages ≤ most_sent) }
         // Which keys it has.
         ensures ok { OnOk result ((next : KeyParts) → IsNext self.old.ring.keys next → self.new.ring.keys ≡ self.old.ring.keys ++ next ∷ []) }
         ensures err { OnErr result (self.new.ring.keys ≡ self.old.ring.keys) }
@@ -196,6 +199,8 @@ impl Log {
         requires { IsOwn self.old.ring.keys (input_of input.now) }
         // The answer, signed, and where the log stands then.
         ensures row { SendsBy self.new.ring.keys result self.old.core self.new.core (row self.old.core (input_of input.now)) }
+        // How many messages it sends at most.
+        ensures few { IfOk result (λ sent. length sent.messages ≤ most_sent) }
         // Which keys it has.
         ensures ok { OnOk result (AreBehind (input_of input.now) self.old.ring.keys self.new.ring.keys) }
         ensures err { OnErr result (self.new.ring.keys ≡ self.old.ring.keys) }

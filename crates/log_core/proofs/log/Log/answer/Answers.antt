@@ -1,4 +1,5 @@
 use Rattle.log_core.specs.Inputs.{input_of}
+use Rattle.log_core.proofs.Few.{filled-few, row-few}
 use Rattle.log_core.proofs.Keyed.{plain-signs}
 use Rattle.log_core.proofs.log.Log.answer.Goals as goal
 
@@ -11,3 +12,9 @@ pub invariant_of-self-2 : goal.invariant_of-self-2
 invariant_of-self-2 c =
     (plain-signs c.self.inside.core (input_of c.args.input.now) c.self.inside.ring.keys c.step.new.self c.in_ok-unsigned.unsigned c.told.ensures c.input_told.ensures
     c.requires c.self.invariant c.in_ok-unsigned.ensures).stays
+
+pub returns-clause-few : goal.returns-clause-few
+returns-clause-few c =
+    filled-few c.self.inside.ring.keys c.in_ok-unsigned.unsigned c.fill.result
+    (row-few c.self.inside.core (input_of c.args.input.now) (record { unsigned = c.in_ok-unsigned.unsigned; after = c.step.new.self }) c.in_ok-unsigned.ensures)
+    c.fill.ensures

@@ -4,6 +4,7 @@ use Rattle.lms_tree.specs.declared.public_key.LmsPublic.{LmsPublic}
 use Rattle.log_core.specs.Rolling.{rolling_row}
 use Rattle.log_core.specs.Row.{IsInput}
 use Rattle.log_core.specs.State.{rolls}
+use Rattle.log_core.proofs.Few.{filled-few, rolling-few}
 use Rattle.log_core.proofs.Keyed.{rolled-signs}
 use Rattle.log_core.proofs.log.Log.roll.Goals as goal
 
@@ -22,3 +23,9 @@ invariant_of-self-2 c =
     let row : rolling_row c.self.inside.core (public_of c.in_ok-key.key) ≡ Ok (record { unsigned = c.in_ok-unsigned.unsigned; after = c.roll.new.self }) = search rules in
     (rolled-signs c.self.inside.core c.self.inside.ring.keys c.add.new.ring.keys c.in_ok-key.key c.roll.new.self c.in_ok-unsigned.unsigned c.told.ensures is c.self.invariant
     c.in_ok-key.ensures keys row).stays
+
+pub returns-clause-few : goal.returns-clause-few
+returns-clause-few c =
+    let row : rolling_row c.self.inside.core (public_of c.in_ok-key.key) ≡ Ok (record { unsigned = c.in_ok-unsigned.unsigned; after = c.roll.new.self }) = search rules in
+    filled-few c.add.new.ring.keys c.in_ok-unsigned.unsigned c.fill.result
+    (rolling-few c.self.inside.core (public_of c.in_ok-key.key) (record { unsigned = c.in_ok-unsigned.unsigned; after = c.roll.new.self }) row) c.fill.ensures
