@@ -3,14 +3,13 @@ use Rattle.std.proofs.Common.{◌≡◌, ℕ, zero, suc, ◌+◌, ◌<◌, ◌�
 use Rattle.std.specs.Prelude.{Contains, IsTrue}
 use Rattle.std.specs.List.{list_any}
 use Rattle.std.specs.Str.{bytes_eq}
-use Rattle.std.proofs.lemmas.Bool.{eqb-true}
+use Rattle.std.proofs.lemmas.Bool.{and_from, and_parts, eqb-true}
 use Rattle.std.proofs.lemmas.Slice.Eq.{bytes_eq-Decides}
 use Rattle.ar_base.specs.Counting.{one_if}
 use Rattle.party_keys.specs.Seen.{log_party}
 use Rattle.vote_quorum.specs.Counted.{AtLeast, count_below}
 use Rattle.vote_quorum.specs.declared.value.Value.{Value}
 use Rattle.vote_quorum.proofs.Counts.{at_least_from_count, count_below-either, count_from_at_least}
-use Rattle.ar_council.proofs.Lists.{both}
 use Rattle.epoch_log.specs.Told.{HasVoted}
 use Rattle.epoch_log.specs.declared.entries.Voted.{Voted}
 use Rattle.ar_safety.specs.Agreed.{Backed, Backs, backing, has_vote}
@@ -20,10 +19,6 @@ use Rattle.ar_safety.specs.Records.{Records, is_dishonest}
 
 abbrev is_for : ℕ → List ℕ → Voted → Bool
 is_for epoch to v = eqb v.epoch epoch && bytes_eq v.root to
-
-both-true : (a b : Bool) → a ≡ true → b ≡ true → (a && b) ≡ true
-both-true true b x y = y
-both-true false b x y = absurd cc
 
 any-there : (p : Voted → Bool) (vs : List Voted) (v : Voted) → Contains vs v → p v ≡ true → list_any p vs ≡ true
 any-there p [] v there is = absurd (omega (arith, there.1))
@@ -47,7 +42,7 @@ any-is p (w ∷ vs) is = by (p w) refl is (any-is p vs)
 voted-test : (vs : List Voted) (epoch : ℕ) (from to : List ℕ) → HasVoted vs epoch (record { base = from; root = to }) → has_vote vs epoch to ≡ true
 voted-test vs epoch from to has =
     any-there (is_for epoch to) vs has.0 has.1.0
-    (both-true (eqb has.0.epoch epoch) (bytes_eq has.0.root to) (eq-eqb has.0.epoch epoch has.1.1) ((bytes_eq-Decides has.0.root to).1 (ap (λ (x : Value). x.root) has.1.2)))
+    (and_from (eqb has.0.epoch epoch) (bytes_eq has.0.root to) (eq-eqb has.0.epoch epoch has.1.1) ((bytes_eq-Decides has.0.root to).1 (ap (λ (x : Value). x.root) has.1.2)))
 
 abbrev valued : List ℕ → List ℕ → Value
 valued from to = record { base = from; root = to }
@@ -56,7 +51,7 @@ test-voted : (vs : List Voted) (epoch : ℕ) (to : List ℕ) → has_vote vs epo
 test-voted vs epoch to is =
     let found = any-is (is_for epoch to) vs is in
     let v : Voted = found.0 in
-    let two = both (eqb v.epoch epoch) (bytes_eq v.root to) found.1.1 in
+    let two = and_parts (eqb v.epoch epoch) (bytes_eq v.root to) found.1.1 in
     let root : v.root ≡ to = (bytes_eq-Decides v.root to).0 two.1 in
     (v.base, (v, (found.1.0, eqb-true v.epoch epoch two.0, ap (valued v.base) root)))
 

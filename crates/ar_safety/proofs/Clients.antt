@@ -8,6 +8,8 @@ use Rattle.std.specs.Option.{option_map}
 use Rattle.std.specs.Cmp.Derive.{both_true}
 use Rattle.std.proofs.lemmas.Bool.{le-leb}
 use Rattle.std.proofs.lemmas.List.Elements.{All-contains}
+use Rattle.std.proofs.lemmas.Option.{same_Some}
+use Rattle.authority_core.proofs.Keeping.{digest-fits}
 use Rattle.ar_base.specs.Apart.{Apart, IsIn, none_collide}
 use Rattle.ar_base.specs.Bytes.{IsDigest}
 use Rattle.ar_base.proofs.Apart.{apart, in_both, in_front, in_rest, none_collide-part}
@@ -63,10 +65,6 @@ claim-is c p = by c.body
     by : (b : Body) → claim_on c.about b p ≡ confirmation_by p c.about.epoch c.about.name (digest_in b) c.about.root
     by (present certificate) = refl
     by (absent bottom) = refl
-
-digest-fits : (certificate : Certificate) → IsDigest (digest_of certificate)
-unfolding digest_of
-digest-fits certificate = sha256-IsDigest _
 
 is-read : (council : Council) (j : Judged) → IsJudged council j → IsConfirmation j.confirmation
 is-read council j is = ((only_text confirmation_at confirmation_text IsConfirmation confirmation_again confirmation_pass j.bytes j.confirmation is.bytes).0 is.passes.is_read).0
@@ -178,12 +176,9 @@ clean-path r clean t fine path within =
 name-fits : (name : List ℕ) → IsDigest (name_digest_of name)
 name-fits name = sha256-IsDigest _
 
-same-some : {A : Type 0} (x y : A) → Some x ≡ Some y → x ≡ y
-same-some x y e = cc
-
 mapped : {A B : Type 0} (f : A → B) (o : Option A) (y : B) → option_map f o ≡ Some y → (x : A) × ((o ≡ Some x) × (f x ≡ y))
 mapped f None y e = absurd cc
-mapped f (Some x) y e = (x, (refl, same-some (f x) y e))
+mapped f (Some x) y e = (x, (refl, same_Some (f x) y e))
 
 mapped-none : {A B : Type 0} (f : A → B) (o : Option A) → option_map f o ≡ None → o ≡ None
 mapped-none f None e = refl

@@ -2,7 +2,7 @@
 use Rattle.std.proofs.Common.{◌≡◌, ◌≢◌, ℕ, zero, suc, ◌+◌, ◌<◌, ◌≤◌, ◌^◌, ◌⊎◌, inl, inr, List, [], ◌∷◌, length, get_or, refl, sym, ap, ◌∙◌, subst, arith, Bool, true, false, nat_le, Option, Some, None}
 use Rattle.std.specs.Prelude.{Contains}
 use Rattle.std.specs.List.{list_any}
-use Rattle.std.proofs.lemmas.Bool.{cases_eq, leb-true}
+use Rattle.std.proofs.lemmas.Bool.{and_parts, cases_eq, leb-true}
 use Rattle.std.proofs.lemmas.List.Elements.{All-contains}
 use Rattle.ar_base.specs.Bytes.{IsDigest}
 use Rattle.ar_statement.specs.declared.party.Role.{Role}
@@ -19,7 +19,7 @@ use Rattle.domain_table.specs.Tables.{Table}
 use Rattle.domain_table.specs.Tree.{root_of}
 use Rattle.epoch_log.specs.Honest.{HonestLog}
 use Rattle.epoch_log.specs.Record.{base_of}
-use Rattle.ar_council.proofs.Lists.{both, found}
+use Rattle.ar_council.proofs.Lists.{found}
 use Rattle.ar_council.proofs.Seeing.{one_party}
 use Rattle.ar_council.specs.Values.{IsValue, confirm_claim, confirmation_by}
 use Rattle.ar_council.specs.Votes.{SawVotes}
@@ -73,8 +73,8 @@ backed-agreed r honest few e to backed =
 -- ---- what an honest party confirms
 
 epoch-of : (p : Party) (e : ℕ) (name : List ℕ) (certificate : Option (List ℕ)) (to : List ℕ) → IsValid (confirmation_by p e name certificate to) → is_epoch e ≡ true
-epoch-of p e name None to valid = (both _ (is_epoch e) valid.ranges).1
-epoch-of p e name (Some certificate) to valid = (both _ (is_epoch e) valid.ranges).1
+epoch-of p e name None to valid = (and_parts _ (is_epoch e) valid.ranges).1
+epoch-of p e name (Some certificate) to valid = (and_parts _ (is_epoch e) valid.ranges).1
 
 root-of-claim : (p : Party) (e : ℕ) (name : List ℕ) (certificate : Option (List ℕ)) (to : List ℕ) → IsValid (confirmation_by p e name certificate to) → IsDigest to
 root-of-claim p e name None to valid = valid.held.fields.1.1
@@ -96,8 +96,8 @@ log-backed r honest forged log is e to c =
     decided-backed r honest forged log is e right.changes to right.decided
 
 before : (e : ℕ) → is_epoch e ≡ true → (n : ℕ) × ((e ≡ n + 1) × (n < 2 ^ 63))
-before zero is = absurd (omega (arith, leb-true 1 0 (both (nat_le 1 0) (nat_le 0 (2 ^ 63)) is).0))
-before (suc n) is = (n, (omega arith, omega (arith, leb-true (suc n) (2 ^ 63) (both (nat_le 1 (suc n)) (nat_le (suc n) (2 ^ 63)) is).1)))
+before zero is = absurd (omega (arith, leb-true 1 0 (and_parts (nat_le 1 0) (nat_le 0 (2 ^ 63)) is).0))
+before (suc n) is = (n, (omega arith, omega (arith, leb-true (suc n) (2 ^ 63) (and_parts (nat_le 1 (suc n)) (nat_le (suc n) (2 ^ 63)) is).1)))
 
 authority-backed : (r : Records) → AreHonest r → NoForgery r → (a : ℕ) → IsHonest r (authority_party a) → (e : ℕ) (to : List ℕ) → Confirms r (authority_party a) e to → Backed r e to
 authority-backed r honest forged a is e to c =

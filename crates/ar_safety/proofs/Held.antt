@@ -7,6 +7,7 @@ use Rattle.std.specs.List.{cons_option, filter_map, list_any}
 use Rattle.std.specs.Option.{option_map}
 use Rattle.std.specs.Result.{result_ok}
 use Rattle.std.proofs.lemmas.List.Elements.{All-cons, All-contains, All-nil}
+use Rattle.std.proofs.lemmas.Option.{same_Some}
 use Rattle.ar_base.specs.Bytes.{AreBytes}
 use Rattle.ar_bytes.specs.Reading.{whole}
 use Rattle.ar_statement.specs.declared.party.Party.{Party}
@@ -71,15 +72,12 @@ as_judged directory t c = record { asked = asked_by directory t; bytes = t.bytes
 judged-is : (directory : Directory) (t : Taken) (c : Confirmation) → whole confirmation_at t.bytes ≡ Ok c → judged_in directory t ≡ Some (as_judged directory t c)
 judged-is directory t c is = ap (λ (r : Result Confirmation ℕ). option_map (as_judged directory t) (result_ok r)) is
 
-some-is : {A : Type 0} (x y : A) → Some x ≡ Some y → x ≡ y
-some-is x y e = cc
-
 all-judged : (h : Held) → AreKept h → All (IsJudged (council_of h.directory)) (records_of h).judged
 all-judged h kept = all-taken (judged_in h.directory) (IsJudged (council_of h.directory)) h.judged (λ t there j gives.
     let bytes : AreBytes t.bytes = All-contains (λ (x : Taken). AreBytes x.bytes) h.judged t kept.bytes there in
     let taken : IsTaken (verdict_on h.directory t) = All-contains (λ (x : Taken). IsTaken (verdict_on h.directory x)) h.judged t kept.taken there in
     let was : WasRead h.directory t = read-of h.directory t (verdict_on h.directory t) refl taken in
-    let same : as_judged h.directory t was.confirmation ≡ j = some-is _ _ (sym (judged-is h.directory t was.confirmation was.passes.is_read) ∙ gives) in
+    let same : as_judged h.directory t was.confirmation ≡ j = same_Some _ _ (sym (judged-is h.directory t was.confirmation was.passes.is_read) ∙ gives) in
     subst (IsJudged (council_of h.directory)) same (record { bytes = bytes; passes = was.passes; same_council = refl }))
 
 -- ---- the run is safe

@@ -6,7 +6,7 @@ use Rattle.std.specs.List.{list_all}
 use Rattle.std.specs.Option.{option_map}
 use Rattle.std.specs.Str.{bytes_eq}
 use Rattle.std.proofs.lemmas.List.Elements.{All-append, All-cons, All-contains, All-map, All-nil, Contains-append_left, Contains-append_right}
-use Rattle.std.proofs.lemmas.Bool.{cases_eq, ltb-true}
+use Rattle.std.proofs.lemmas.Bool.{and_parts, cases_eq, ltb-true}
 use Rattle.std.proofs.lemmas.Slice.Eq.{bytes_eq-Decides}
 use Rattle.std.specs.FinMap as maps
 use Rattle.std.specs.FinMap.{get, get-entries}
@@ -48,7 +48,6 @@ use Rattle.domain_table.specs.Tables.{Table, certificates, certificates_of, newe
 use Rattle.domain_table.specs.Tree.{certificate_string, root_of, table_strings}
 use Rattle.epoch_log.specs.Calls as calls
 use Rattle.ar_council.proofs.Books.{entry-has, entry-keeps}
-use Rattle.ar_council.proofs.Lists.{both}
 use Rattle.ar_council.proofs.Seeing.{seen-all}
 use Rattle.ar_council.proofs.Texts.{own-text}
 use Rattle.ar_council.specs.Council.{IsMember}
@@ -556,7 +555,7 @@ subject-spelled =
 -- what a test on each says
 tested : (xs : List ℕ) → list_all (λ b. nat_lt b 256) xs ≡ true → Spelled xs
 tested [] e = tt
-tested (b ∷ xs) e = let two = both (nat_lt b 256) (list_all (λ c. nat_lt c 256) xs) e in (ltb-true b 256 two.0, tested xs two.1)
+tested (b ∷ xs) e = let two = and_parts (nat_lt b 256) (list_all (λ c. nat_lt c 256) xs) e in (ltb-true b 256 two.0, tested xs two.1)
 
 body-spelled : Spelled (body_text confirmation.body)
 unfolding body_text certificate_text front_text rules_text wait_text key_text number_text

@@ -32,7 +32,7 @@ use Rattle.party_keys.specs.Signers.{Claimed, all_known, all_signed, and_then, s
 use Rattle.party_keys.specs.declared.fault.SignerFault.{SignerFault}
 use Rattle.ar_message.specs.Confirmation as confirmation
 use Rattle.ar_message.specs.Confirmation.{body_text, certificate_in, confirmation_fields_text, form_text, is_present, path_text, signed_text, subject_text}
-use Rattle.ar_message.specs.Filling.{bytes_at, filled, signature_due, signed, written_at}
+use Rattle.ar_message.specs.Filling.{bytes_at, filled, signature_due, signed, written_at, zeros}
 use Rattle.ar_message.specs.Sending.{Letter}
 use Rattle.ar_message.specs.declared.address.Address.{Address}
 use Rattle.ar_message.specs.declared.address.Address.TheVariants.{One}
@@ -50,7 +50,7 @@ use Rattle.authority_core.specs.ConfirmRows.{confirmation_with, half_claims, hal
 use Rattle.ar_message.specs.Shown.{shows}
 use Rattle.authority_core.specs.Confirming.{confirmed_by, confirming_checks, content_tests, kept_of, log_claimed, meant_for, parties_of, seen_in, vote_count, voted_by}
 use Rattle.authority_core.specs.Refusals.{of_book, of_signers}
-use Rattle.authority_core.specs.State.{Answer, AuthorityState, blank, entering, if_due, in_order, sends}
+use Rattle.authority_core.specs.State.{Answer, AuthorityState, entering, if_due, in_order, sends}
 use Rattle.authority_core.specs.declared.refusal.AuthorityRefusal.{AuthorityRefusal}
 use Rattle.authority_core.specs.declared.refusal.AuthorityRefusal.TheVariants.{BadPath, FewVotes, NotForAuthority, SameAuthority}
 use Rattle.authority_core.proofs.Growing.{map-has}
@@ -172,7 +172,7 @@ due-there (Err refusal) f x is = absurd cc
 abbrev Answering : AuthorityState → Confirming → List ℕ → DueParts → AuthorityState × Unsigned
 Answering s part first_signature due = (
   record s { past = confirming s.me s.past (map seen_in (half_claims part first_signature)) (kept_of part) },
-  sends s.signature_len (One (party Client part.client)) (message_text (confirmation_with part first_signature (blank s.signature_len))) due,
+  sends s.signature_len (One (party Client part.client)) (message_text (confirmation_with part first_signature (zeros s.signature_len))) due,
 )
 
 abbrev Rest : AuthorityState → Confirming → List ℕ → Answer
@@ -271,15 +271,15 @@ written-last front old new same =
     ∙ ap (λ l. l ++ (new ++ drop (length front + length new) (front ++ old))) before
     ∙ ap (λ l. front ++ (new ++ l)) behind ∙ ap (λ l. front ++ l) (append-nil new)
 
-length-blank : (n : ℕ) → length (blank n) ≡ n
+length-blank : (n : ℕ) → length (zeros n) ≡ n
 length-blank n = length-replicate n 0
 
 -- the second authority's message, with its signature over the blank
 filled-bytes : (part : Confirming) (first_signature signature : List ℕ) (len : ℕ) → length signature ≡ len
-    → written_at (length (message_text (confirmation_with part first_signature (blank len))) - len) signature (message_text (confirmation_with part first_signature (blank len)))
+    → written_at (length (message_text (confirmation_with part first_signature (zeros len))) - len) signature (message_text (confirmation_with part first_signature (zeros len)))
     ≡ message_text (confirmation_with part first_signature signature)
 filled-bytes part first_signature signature len same =
-    let old : List ℕ = blank len in
+    let old : List ℕ = zeros len in
     let long : length old ≡ length signature = length-blank len ∙ sym same in
     let whole = text-ends part first_signature old in
     ap (λ w. written_at (length w - len) signature w) whole
@@ -311,7 +311,7 @@ row-sent s ring part first_signature later sent e long =
     ap (λ t. signature_for ring (due_of (after_entry s.past.signed t) t)) (sym same-text) ∙ ap (signature_for ring) is-due in
     let own : List ℕ = signature_due ring due.0 in
     let own-long : length own ≡ s.signature_len = ap (λ (l : List ℕ). length l) (sym signature) ∙ long in
-    let bytes : List ℕ = message_text (confirmation_with part first_signature (blank s.signature_len)) in
+    let bytes : List ℕ = message_text (confirmation_with part first_signature (zeros s.signature_len)) in
     let out : sends s.signature_len (One (party Client part.client)) bytes due.0 ≡ sent = ap (λ (p : AuthorityState × Unsigned). p.1) due.1.1 in
     ap (λ u. (filled ring u).messages) (sym out)
     ∙ filled-letter ring s.signature_len (One (party Client part.client)) bytes due.0

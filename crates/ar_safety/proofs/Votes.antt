@@ -2,7 +2,7 @@
 use Rattle.std.proofs.Common.{◌≡◌, ℕ, zero, suc, ◌+◌, ◌<◌, ◌≤◌, ◌^◌, ◌⊎◌, inl, inr, List, [], ◌∷◌, length, get_or, refl, sym, ap, ◌∙◌, subst, arith, Bool, true, false, not, ◌&&◌, ◌||◌, eqb, Some}
 use Rattle.std.specs.Prelude.{All, IsTrue, map}
 use Rattle.std.specs.List.{list_any}
-use Rattle.std.proofs.lemmas.Bool.{eq-eqb, eqb-true}
+use Rattle.std.proofs.lemmas.Bool.{and_parts, eq-eqb, eqb-true}
 use Rattle.std.proofs.lemmas.List.{length-map}
 use Rattle.std.proofs.lemmas.List.Elements.{All-contains, recursion_from_All}
 use Rattle.std.proofs.lemmas.Slice.Eq.{bytes_eq-Decides}
@@ -28,7 +28,6 @@ use Rattle.domain_table.specs.Tables.{Table}
 use Rattle.domain_table.specs.Tree.{root_of}
 use Rattle.epoch_log.specs.Honest.{HonestLog}
 use Rattle.epoch_log.specs.Record.{base_of, ending}
-use Rattle.ar_council.proofs.Lists.{both}
 use Rattle.ar_council.specs.Values.{IsValue, status_claim, vote_claim}
 use Rattle.ar_council.specs.Votes.{SawVotes}
 use Rattle.epoch_log.specs.Right.{IsRightDecision, IsRightSkip}
@@ -71,7 +70,7 @@ dishonest-among role (p ∷ parties) k e = by (is_party (party role k) p) refl (
     by : (b : Bool) → is_party (party role k) p ≡ b → (list_any (is_party (party role k)) parties ≡ true → among k (map (λ (q : Party). q.number) parties) ≡ true)
         → among k (p.number ∷ map (λ (q : Party). q.number) parties) ≡ true
     by true is rest =
-        let two = both (eqb (role_number role) (role_number p.role)) (eqb k p.number) is in
+        let two = and_parts (eqb (role_number role) (role_number p.role)) (eqb k p.number) is in
         let same : eqb p.number k ≡ true = eq-eqb p.number k (sym (eqb-true k p.number two.1)) in
         ap (λ b. b || among k (map (λ (q : Party). q.number) parties)) same
     by false is rest =
@@ -116,8 +115,8 @@ witness r honest few P Q a b =
     let either = count_below-either n d good in
     let some = some_below n good (omega (arith, counted r.council.quorum n P a, counted r.council.quorum n Q b, in-both, wider, either, few-dishonest r few LogServer n, honest.quorums.wide)) in
     let k : ℕ = some.0 in
-    let parts = both (p k && s k) (not (d k)) some.1.1 in
-    let two = both (p k) (s k) parts.0 in
+    let parts = and_parts (p k && s k) (not (d k)) some.1.1 in
+    let two = and_parts (p k) (s k) parts.0 in
     (k, (record { known = some.1.0; honest = not-false (d k) parts.1 }, has r.council.quorum n P a k two.0, has r.council.quorum n Q b k two.1))
 
 -- what an honest log backs it voted for

@@ -5,8 +5,7 @@ use Rattle.std.specs.Prelude.{All, Contains, unwrap_or}
 use Rattle.std.specs.FinMap.{get}
 use Rattle.std.specs.Option.{option_map}
 use Rattle.std.proofs.lemmas.List.Elements.{All-contains, recursion_from_All}
-use Rattle.ar_base.proofs.Digests.{sha256-IsDigest}
-use Rattle.ar_base.specs.Bytes.{IsDigest}
+use Rattle.std.proofs.lemmas.Bool.{and_parts}
 use Rattle.ar_cert.specs.Certificate.{Certificate, digest_of}
 use Rattle.ar_cert.specs.Changes.{Change}
 use Rattle.ar_cert.specs.Judging.{IsAccepted, endorsers_of}
@@ -22,12 +21,12 @@ use Rattle.vote_quorum.proofs.Counting.{among}
 use Rattle.vote_quorum.proofs.Counts.{Contains-from_among, count_below-either, count_below-wider}
 use Rattle.domain_table.specs.Sound.{IsChainOf, Waits}
 use Rattle.domain_table.specs.Tables.{Pending, Table, certificates_of, chain_of, pair_of}
-use Rattle.ar_council.proofs.Lists.{both}
 use Rattle.ar_council.specs.Council.{IsMember}
 use Rattle.epoch_log.specs.Honest.{HonestLog}
 use Rattle.epoch_log.specs.Right.{SawEndorsements}
 use Rattle.authority_core.specs.Honest.{HasAsked}
 use Rattle.authority_core.proofs.Read.{endorsed-asked}
+use Rattle.authority_core.proofs.Keeping.{digest-fits}
 use Rattle.ar_safety.specs.Agreed.{Agreed, IsVouchedFor}
 use Rattle.ar_safety.specs.Hashed.{StandsIn}
 use Rattle.ar_safety.specs.Records.{IsHonest, Records, is_dishonest}
@@ -86,7 +85,7 @@ honest-endorser r few seen members change saw three =
     let wider = count_below-wider n p (λ k. d k || good k) (λ k less is. split (d k) (p k) is) in
     let either = count_below-either n d good in
     let some = some_below n good (omega (arith, many, wider, either, few-dishonest r few Authority n, three)) in
-    let parts = both (p some.0) (not (d some.0)) some.1.1 in
+    let parts = and_parts (p some.0) (not (d some.0)) some.1.1 in
     record {
       number = some.0;
       honest = record { known = some.1.0; honest = not-false (d some.0) parts.1 };
@@ -97,10 +96,6 @@ honest-endorser r few seen members change saw three =
     member a there = All-contains (λ (s : SeenText). IsMember r.council s.party) seen (record { party = authority_party a; text = text_of (endorse a (digest_of change.cert)) }) members there
 
 -- ---- and vouches
-
-digest-fits : (certificate : Certificate) → IsDigest (digest_of certificate)
-unfolding digest_of
-digest-fits certificate = sha256-IsDigest _
 
 was-asked : (r : Records) → AreHonest r → (a : ℕ) → IsHonest r (authority_party a) → (certificate : Certificate) → Contains (texts_of (r.authorities a).signed) (text_of (endorse a (digest_of certificate)))
     → HasAsked (r.authorities a).asked (digest_of certificate)

@@ -1,27 +1,27 @@
 -- The messages of drafts have zero bytes where signatures are due, and the keys of the book can sign there.
-use Rattle.std.proofs.Common.{◌≡◌, ℕ, ◌+◌, ◌-◌, ◌<◌, ◌≤◌, ◌^◌, List, [], ◌∷◌, ◌++◌, length, get_or, refl, sym, ap, ◌∙◌, subst, arith, append_assoc, Bool, true, false, Option, Some, None, ⊎_elim}
+use Rattle.std.proofs.Common.{◌≡◌, ℕ, ◌+◌, ◌-◌, ◌<◌, ◌≤◌, List, [], ◌∷◌, ◌++◌, length, refl, sym, ap, ◌∙◌, subst, arith, append_assoc, Bool, true, false, Option, Some, None}
 use Rattle.std.specs.Prelude.{All, flat_map, map, slice_get, unwrap_or, option_and_then}
 use Rattle.std.specs.List.{AllByRecursion}
 use Rattle.std.specs.Option.{option_map}
 use Rattle.std.proofs.lemmas.List.{length-append, length-replicate, length_push}
 use Rattle.std.proofs.Math.Seq.{get_or-append_seam}
 use Rattle.std.proofs.lemmas.List.Elements.{All-from_recursion}
-use Rattle.std.proofs.lemmas.Option.{get_or_from_slice_get, slice_get-map, slice_get_cases, slice_get_read, slice_get_within}
+use Rattle.std.proofs.lemmas.Option.{slice_get-map, slice_get_read}
 use Rattle.ar_base.specs.Places.{place_of}
 use Rattle.lms_tree.specs.KeyParts.{KeyParts}
-use Rattle.lms_tree.specs.LmsKind.{height_of}
 use Rattle.key_roll.specs.Book.{IsRollBook, RollBook, texts_of}
 use Rattle.key_roll.specs.Due.{DueParts}
 use Rattle.key_roll.specs.Entry.{due_at, due_of, leaf_of}
-use Rattle.key_roll.specs.Ring.{Owes, ring_signature_len}
+use Rattle.key_roll.specs.Ring.{AreKeysOf, Owes}
+use Rattle.key_roll.proofs.Rings.{at-place, owed_by}
 use Rattle.key_roll.specs.declared.signed.Signed.{Signed}
-use Rattle.ar_message.specs.Filling.{CanFill, IsBlank, lengths}
+use Rattle.ar_message.specs.Filling.{CanFill, IsBlank, lengths, zeros}
 use Rattle.ar_message.specs.Messages.{message_text}
 use Rattle.ar_message.specs.Sending.{Letter}
 use Rattle.ar_message.specs.declared.unsigned.Blank.{Blank}
 use Rattle.ar_message.specs.declared.unsigned.Unsigned.{Unsigned}
-use Rattle.log_core.specs.Blanks.{AreKeysOf, IsDraft, IsZero, StandsAt}
-use Rattle.log_core.specs.Sending.{Draft, Place, blanks_by, blanks_from, if_own, letter_of, own_places, place_for, unsigned_of, zeros}
+use Rattle.log_core.specs.Blanks.{IsDraft, IsZero, StandsAt}
+use Rattle.log_core.specs.Sending.{Draft, Place, blanks_by, blanks_from, if_own, letter_of, own_places, place_for, unsigned_of}
 
 -- ---- bytes at the end of others
 
@@ -86,10 +86,6 @@ own-stand is_own entry len text ends (x ∷ xs) whole pre post at is place =
     (own-stand is_own entry len text ends xs whole (pre ++ entry x) post (at + length (entry x)) next many)
 
 -- ---- the blanks of drafts
-
--- an element of which a list's `All` speaks
-pub at-place : {X : Type 0} (P : X → Type 0) (xs : List X) (k : ℕ) (x : X) → All P xs → slice_get xs k ≡ Some x → P x
-at-place P xs k x all is = subst P (get_or_from_slice_get xs k x x is) (all k x (slice_get_within xs k x is))
 
 at-seam : {X : Type 0} (done : List X) (x : X) (rest : List X) → slice_get (done ++ x ∷ rest) (length done) ≡ Some x
 at-seam {X} done x rest =
@@ -166,17 +162,7 @@ owed : (book : RollBook) (len : ℕ) (keys : List KeyParts) (text : List ℕ) (d
     → Owes keys due len
 owed book len keys text due sound are is =
     let its = due-is book text due sound is in
-    let less : due.generation < length keys = omega (arith, its.0, are.many) in
-    ⊎_elim
-    (λ (found : (key : KeyParts) × (due.generation < length keys) × (slice_get keys due.generation ≡ Some key) × (get_or keys due.generation key ≡ key)).
-    record {
-      key = found.0;
-      has = found.2;
-      leaves = its.1 ∙ at-place (λ (key : KeyParts). book.leaves ≡ 2 ^ height_of key.lms) keys due.generation found.0 are.leaves found.2;
-      bytes_are = at-place (λ (key : KeyParts). len ≡ ring_signature_len key) keys due.generation found.0 are.bytes found.2;
-    })
-    (λ (past : (length keys ≤ due.generation) × (slice_get keys due.generation ≡ None)). absurd (omega (arith, less, past.0)))
-    (slice_get_cases keys due.generation).1
+    owed_by book len keys due are its.0 its.1
 
 blank-fits : (book : RollBook) (len : ℕ) (keys : List KeyParts) (letters : List Letter) (blank : Blank) → IsRollBook book → AreKeysOf book len keys
     → IsZero len letters blank → IsDueIn book blank → IsBlank keys (lengths letters) blank

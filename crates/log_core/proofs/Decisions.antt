@@ -1,10 +1,11 @@
 -- A decision of which another log tells is its row.
-use Rattle.std.proofs.Common.{◌≡◌, ℕ, Bool, true, false, cond, List, [], refl, sym, ap, ◌∙◌, subst, ◌⊎◌, inl, inr, Option, Some, None}
+use Rattle.std.proofs.Common.{◌≡◌, ℕ, Bool, true, false, cond, List, refl, sym, ap, ◌∙◌, subst, ◌⊎◌, inl, inr, Option, Some, None}
 use Rattle.std.specs.Prelude.{All, Ok, Err, is_some}
 use Rattle.ar_cert.specs.Changes.{Change, IsChange}
 use Rattle.ar_council.specs.Values.{IsValue}
 use Rattle.ar_message.specs.Lists.{AreVotes}
 use Rattle.ar_message.specs.declared.unsigned.Unsigned.{Unsigned}
+use Rattle.ar_message.specs.Filling.{only_ended}
 use Rattle.vote_quorum.specs.declared.value.Value.{Value}
 use Rattle.epoch_log.specs.Calls.{MayDecide, after_decide}
 use Rattle.epoch_log.specs.Ending.{may_end}
@@ -96,7 +97,7 @@ decision-keeps s d new queue kept digests are votes-are is news queues =
 
 pub decision-ends : (s : CoreState) (d : Decision) (new : LogParts) (queue : List Change) (unsigned : Unsigned) → first_refusal (decision_checks s d) ≡ Ok tt
     → new ≡ log-decided s d → queue ≡ queue-if (may_end s.log.past) new.state s.queue
-    → unsigned ≡ record { sent = record { messages = []; ended = decided_epoch s.log d.value.root }; blanks = [] }
+    → unsigned ≡ only_ended (decided_epoch s.log d.value.root)
     → decision_row s d ≡ Ok (record { unsigned = unsigned; after = core-of s new queue })
 decision-ends s d new queue unsigned is news queues sends =
     decision-made s d is

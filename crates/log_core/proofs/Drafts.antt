@@ -18,6 +18,7 @@ use Rattle.ar_message.specs.declared.lists.Vote.{Vote}
 use Rattle.ar_message.specs.declared.message.Confirming.{Confirming}
 use Rattle.ar_message.specs.declared.message.Message.{Message}
 use Rattle.ar_message.specs.declared.message.Message.TheVariants.{Ballot, Decision, LogConfirmed, Propose, RollNote, SkipNote, StatusNote}
+use Rattle.ar_message.specs.Filling.{zeros}
 use Rattle.ar_statement.specs.declared.party.Party.{Party}
 use Rattle.ar_statement.specs.Claims.{party_text, roots_text}
 use Rattle.lms_tree.specs.PublicKey.{key_text}
@@ -29,7 +30,7 @@ use Rattle.epoch_log.specs.declared.entries.Newest.{Newest}
 use Rattle.log_core.specs.Blanks.{IsDraft, StandsAt}
 use Rattle.log_core.specs.Closings.{decision_draft, decision_of, skip_draft, skip_of}
 use Rattle.log_core.specs.Confirming.{Asked, confirmed_draft, confirming_of, newest_vote_text}
-use Rattle.log_core.specs.Sending.{draft_with, own_statuses, own_votes, place_for, sent_status, sent_statuses, sent_vote, sent_votes, zeros}
+use Rattle.log_core.specs.Sending.{draft_with, own_statuses, own_votes, place_for, sent_status, sent_statuses, sent_vote, sent_votes}
 use Rattle.log_core.specs.State.{CoreState}
 use Rattle.log_core.proofs.Blanks.{EndsIn, ends-behind, ends-itself, joined, own-stand, stands-end}
 

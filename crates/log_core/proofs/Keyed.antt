@@ -1,9 +1,7 @@
 -- The keys of a log stay those of its book: a step leaves the book its keys, and a Roll has one more.
-use Rattle.std.proofs.Common.{◌≡◌, ℕ, ◌+◌, ◌-◌, ◌^◌, List, [], ◌∷◌, ◌++◌, length, Bool, true, false, cond, Option, Some, None, Result, Ok, Err, refl, sym, ap, ◌∙◌, subst}
-use Rattle.std.specs.Prelude.{All, OnOk, map}
+use Rattle.std.proofs.Common.{◌≡◌, ℕ, ◌+◌, ◌-◌, List, [], ◌∷◌, ◌++◌, Bool, true, false, cond, Option, Some, None, Result, Ok, Err, refl, sym, ap, ◌∙◌, subst}
+use Rattle.std.specs.Prelude.{OnOk, map}
 use Rattle.std.specs.Option.{option_map}
-use Rattle.std.proofs.lemmas.List.{length-append}
-use Rattle.std.proofs.lemmas.List.Elements.{All-append, All-cons, All-nil}
 use Rattle.ar_base.specs.Places.{place_of}
 use Rattle.ar_cert.specs.Changes.{Change}
 use Rattle.ar_council.proofs.Readable.{readable}
@@ -16,14 +14,15 @@ use Rattle.ar_message.specs.declared.message.Message.TheVariants as messages
 use Rattle.ar_message.specs.declared.sent.Sent.{Sent}
 use Rattle.ar_message.specs.declared.unsigned.Unsigned.{Unsigned}
 use Rattle.key_roll.specs.Book.{RollBook, texts_of}
-use Rattle.key_roll.specs.Entry.{after_at, after_entry, has_room, with_text}
-use Rattle.key_roll.specs.Ring.{IsNext, ring_signature_len}
+use Rattle.key_roll.specs.Entry.{after_at, after_entry, has_room, roll_text, with_text}
+use Rattle.key_roll.specs.Ring.{AreKeysOf, IsNext}
+use Rattle.key_roll.proofs.Rings.{next_keys, same_keys}
 use Rattle.lms_tree.specs.Key.{public_of}
 use Rattle.lms_tree.specs.KeyParts.{KeyParts}
-use Rattle.lms_tree.specs.LmsKind.{height_of}
 use Rattle.lms_tree.specs.PublicKey.{HasWidths, key_text}
 use Rattle.lms_tree.specs.declared.public_key.LmsPublic.{LmsPublic}
 use Rattle.party_keys.specs.Learning.{Announced}
+use Rattle.party_keys.specs.Seen.{log_party}
 use Rattle.vote_quorum.specs.declared.value.Value.{Value}
 use Rattle.epoch_log.specs.Calls.{after_status_seen, casting, counting_own, confirmation_text, decision_seen, is_turn, own_status_text, own_value, own_vote_text, plain_statuses, propose_claim, proposing, seeing, stating, statuses_seen, vote_of}
 use Rattle.epoch_log.specs.Ending.{closed, closed_by, closed_by_statuses, decided, excludes_all, has_quorum, may_end, own_vote, skipped, votes_for}
@@ -36,7 +35,6 @@ use Rattle.epoch_log.specs.declared.entries.Voted.{Voted}
 use Rattle.ar_statement.specs.Claims.{text_of}
 use Rattle.ar_statement.specs.Ranges.{IsKeyText}
 use Rattle.log_core.specs.Balloted.{ballot_checks, ballot_reply, ballot_row}
-use Rattle.log_core.specs.Blanks.{AreKeysOf}
 use Rattle.log_core.specs.Confirming.{Asked, confirm_checks, confirm_reply, confirm_row}
 use Rattle.log_core.specs.Decided.{Decision, decision_checks, decision_reply, decision_row, plain_votes}
 use Rattle.log_core.specs.Keyed.{IsOfNext, IsOwn, IsPlain, IsRingOf, SendsBy}
@@ -53,7 +51,7 @@ use Rattle.log_core.specs.Stated.{status_checks, status_reply, status_row}
 use Rattle.log_core.specs.Submit.{is_queued, queueing, submit_checks, submit_reply, submit_row}
 use Rattle.log_core.specs.Walk.{proposal, proposed_value}
 use Rattle.log_core.specs.declared.refusal.LogRefusal.{LogRefusal}
-use Rattle.log_core.proofs.Blanks.{at-place, composed-fill}
+use Rattle.log_core.proofs.Blanks.{composed-fill}
 use Rattle.log_core.proofs.Checked.{passed}
 use Rattle.log_core.proofs.Composed.{row-composed}
 use Rattle.log_core.proofs.KeptEndings.{kept-row}
@@ -256,14 +254,7 @@ row-same s (rolls key) reply plain answer = absurd plain
 keys-stay : (s later : CoreState) (keys : List KeyParts) → IsRingOf s keys → IsSameKeys s later → IsRingOf later keys
 keys-stay s later keys is same =
     subst (λ n. AreKeysOf later.log.past.signed n keys) (sym same.len)
-    (by later.log.past.signed same.book.leaves same.book.newest)
-  where
-    by : (book : RollBook) → book.leaves ≡ s.log.past.signed.leaves → book.newest ≡ s.log.past.signed.newest → AreKeysOf book s.signature_len keys
-    by book leaves newest = record {
-      many = is.many ∙ ap (λ n. n + 1) (sym newest);
-      leaves = subst (λ n. All (λ (key : KeyParts). n ≡ 2 ^ height_of key.lms) keys) (sym leaves) is.leaves;
-      bytes = is.bytes;
-    }
+    (same_keys s.log.past.signed later.log.past.signed s.signature_len keys same.book.leaves same.book.newest is)
 
 -- the keys sign what a step leaves blank, and are those of the log behind it
 pub record IsSignedBy (keys : List KeyParts) (later : CoreState) (unsigned : Unsigned) : Type 0 where
@@ -289,19 +280,8 @@ plain-signs s input keys later unsigned kept is plain are answer =
 -- the keys with the next behind them are those of the log that rolled
 rolled-ring : (s : CoreState) (key : LmsPublic) (keys : List KeyParts) (next : KeyParts) → IsRingOf s keys → IsNext keys next
     → IsRingOf (rolling_reply s key).after (keys ++ next ∷ [])
-rolled-ring s key keys next are behind = record {
-  many = length-append keys (next ∷ []) ∙ ap (λ n. n + 1) are.many;
-  leaves = All-append (λ (k : KeyParts). s.log.past.signed.leaves ≡ 2 ^ height_of k.lms) keys (next ∷ []) are.leaves
-      (All-cons (λ (k : KeyParts). s.log.past.signed.leaves ≡ 2 ^ height_of k.lms) next []
-      (at-place (λ (k : KeyParts). s.log.past.signed.leaves ≡ 2 ^ height_of k.lms) keys (length keys - 1) behind.newest are.leaves behind.last
-      ∙ ap (λ (k : KeyParts). 2 ^ height_of k.lms) (sym behind.is))
-      (All-nil (λ (k : KeyParts). s.log.past.signed.leaves ≡ 2 ^ height_of k.lms)));
-  bytes = All-append (λ (k : KeyParts). s.signature_len ≡ ring_signature_len k) keys (next ∷ []) are.bytes
-      (All-cons (λ (k : KeyParts). s.signature_len ≡ ring_signature_len k) next []
-      (at-place (λ (k : KeyParts). s.signature_len ≡ ring_signature_len k) keys (length keys - 1) behind.newest are.bytes behind.last
-      ∙ ap ring_signature_len (sym behind.is))
-      (All-nil (λ (k : KeyParts). s.signature_len ≡ ring_signature_len k)));
-}
+rolled-ring s key keys next are behind =
+    next_keys s.log.past.signed (roll_text (log_party s.log.me) s.log.past.signed.newest key) s.signature_len keys next are behind
 
 rolled-is : (s : CoreState) (key : LmsPublic) (reply : Reply) → rolling_row s key ≡ Ok reply → rolling_reply s key ≡ reply
 unfolding rolling_row

@@ -10,11 +10,12 @@ use Rattle.ar_bytes.specs.Tested.{flag_text}
 use Rattle.ar_bytes.specs.RoundTrip.{counted_text, number_text}
 use Rattle.ar_bytes.proofs.Passing.{length-number_text}
 use Rattle.ar_message.specs.Lists.{status_text, vote_text}
+use Rattle.ar_message.specs.Filling.{zeros}
 use Rattle.ar_statement.specs.Claims.{roots_text}
 use Rattle.vote_quorum.specs.declared.value.Value.{Value}
 use Rattle.ar_council.specs.Values.{IsValue, roots_of}
 use Rattle.epoch_log.specs.State.{CountedStatus}
-use Rattle.log_core.specs.Sending.{Place, if_own, own_places, place_for, sent_status, sent_vote, zeros}
+use Rattle.log_core.specs.Sending.{Place, if_own, own_places, place_for, sent_status, sent_vote}
 
 counted-len : (bytes : List ℕ) → length (counted_text bytes) ≡ 2 + length bytes
 counted-len bytes = length-append (number_text w16 (length bytes)) bytes ∙ ap (λ n. n + length bytes) (length-number_text w16 (length bytes))

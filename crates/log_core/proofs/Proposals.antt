@@ -40,6 +40,7 @@ use Rattle.log_core.proofs.Closed.{close-step, core-of, made, row-refused}
 use Rattle.log_core.proofs.KeptRows.{kept-proposing}
 use Rattle.log_core.proofs.Sendable.{propose-can, told-can}
 use Rattle.log_core.proofs.Walked.{proposal-applies, proposal-fits, walk-all}
+use Rattle.log_core.proofs.Submitted.{given-holds}
 
 -- ---- the checks
 
@@ -79,14 +80,6 @@ pub leaves-hold : (s : CoreState) (value : Value) (changes : List Change) → tu
 leaves-hold s value changes turn same all is =
     leaves-judged s value turn same ∙ ap (λ c. given (c ∷ []) (proposed_value s, proposal s)) (sym is)
     ∙ ap (λ v. Ok (v, proposal s)) (sym same) ∙ ap (λ l. Ok (value, l)) (sym all)
-
-abbrev value-or : {A : Type 0} → Result A LogRefusal → A → A
-value-or (Ok a) other = a
-value-or (Err e) other = other
-
-given-holds : {A : Type 0} (check : Check) (value x : A) → given_by check value ≡ Ok x → (check ≡ Ok tt) × (value ≡ x)
-given-holds (Ok u) value x is = (refl, ap (λ r. value-or r value) is)
-given-holds (Err refusal) value x is = absurd cc
 
 judged-holds : (s : CoreState) (value : Value) (changes : List Change) → proposing_judged s ≡ Ok (value, changes)
     → (first_refusal (proposing_checks s) ≡ Ok tt) × (proposed_value s ≡ value) × (proposal s ≡ changes)

@@ -5,7 +5,7 @@ use Rattle.std.specs.List.{AllByRecursion, count_by, list_all}
 use Rattle.std.specs.Option.{option_map}
 use Rattle.std.specs.Ordering.{nat_cmp, is_le}
 use Rattle.std.specs.Cmp.Lexicographic.{slice_cmp}
-use Rattle.std.proofs.lemmas.Bool.{eq-eqb, eqb-true, ltb-true}
+use Rattle.std.proofs.lemmas.Bool.{and_parts, eq-eqb, eqb-true, ltb-true}
 use Rattle.std.proofs.lemmas.List.Sums.{sum_by-cons}
 use Rattle.std.proofs.lemmas.Slice.Eq.{bytes_eq-Decides}
 use Rattle.std.proofs.lemmas.List.Elements.{All-contains, All-contains_itself, All-from_recursion, All-weaker, recursion_from_All}
@@ -13,7 +13,7 @@ use Rattle.ar_base.specs.Counting.{one_if}
 use Rattle.vote_quorum.specs.Statuses.{IsMostReported, Leads, Status, is_for, report_count}
 use Rattle.vote_quorum.specs.declared.value.Value.{Value}
 use Rattle.vote_quorum.proofs.Reported.{first_of_all, one_most}
-use Rattle.ar_council.proofs.Lists.{both, find-none, find-nothing, find-some}
+use Rattle.ar_council.proofs.Lists.{find-none, find-nothing, find-some}
 use Rattle.log_core.specs.Reported.{comes_before, comes_before_reported, most_reported, reports_first, reports_of_root}
 
 -- ---- the test of leading
@@ -27,7 +27,7 @@ from-test root other count others is = by (nat_lt others count) refl is
     by : (b : Bool) → nat_lt others count ≡ b → (b || (eqb others count && least)) ≡ true → Leads root count other others
     by true less fine = let l = ltb-true others count less in (omega (arith, l), λ same. absurd (omega (arith, l, same)))
     by false more fine =
-        let two = both (eqb others count) least fine in
+        let two = and_parts (eqb others count) least fine in
         (let same = eqb-true others count two.0 in omega (arith, same), λ _. two.1)
 
 to-test : (root other : List ℕ) (count others : ℕ) → Leads root count other others → comes_before root count other others ≡ true
@@ -51,7 +51,7 @@ to-test root other count others leads = by (nat_lt others count) refl
 
 all-each : {X : Type 0} (p : X → Bool) (xs : List X) → list_all p xs ≡ true → AllByRecursion (λ x. p x ≡ true) xs
 all-each p [] is = tt
-all-each p (x ∷ xs) is = let two = both (p x) (list_all p xs) is in (two.0, all-each p xs two.1)
+all-each p (x ∷ xs) is = let two = and_parts (p x) (list_all p xs) is in (two.0, all-each p xs two.1)
 
 each-all : {X : Type 0} (p : X → Bool) (xs : List X) → AllByRecursion (λ x. p x ≡ true) xs → list_all p xs ≡ true
 each-all p [] all = refl

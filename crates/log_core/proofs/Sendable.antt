@@ -10,6 +10,7 @@ use Rattle.ar_bytes.specs.Ascending.{Ascend}
 use Rattle.ar_cert.specs.Changes.{Change, IsSignature}
 use Rattle.ar_message.specs.Lists.{AreChanges, AreStatuses, AreVotes, IsStatus, IsVote}
 use Rattle.ar_message.specs.declared.lists.Vote.{Vote}
+use Rattle.ar_message.specs.Filling.{zeros}
 use Rattle.ar_statement.specs.declared.text.SeenText.{SeenText}
 use Rattle.ar_statement.specs.Ranges.{AreRoots}
 use Rattle.party_keys.specs.Seen.{log_party}
@@ -33,7 +34,7 @@ use Rattle.epoch_log.specs.declared.foreseeing.Foreseen.{Foreseen}
 use Rattle.epoch_log.specs.declared.foreseeing.Foreseen.TheVariants as foreseen
 use Rattle.log_core.specs.Decided.{plain_votes}
 use Rattle.log_core.specs.Sendable.{AreApart, AreBallots, AreReports, AreVoices, CanBeSent, CanBeTold, FitsIn, IsReport, IsVoice}
-use Rattle.log_core.specs.Sending.{sent_status, sent_statuses, sent_vote, sent_votes, zeros}
+use Rattle.log_core.specs.Sending.{sent_status, sent_statuses, sent_vote, sent_votes}
 
 -- ---- one more ballot
 

@@ -1,10 +1,11 @@
 -- What is judged of a skip, and what it makes of the log, is its row.
-use Rattle.std.proofs.Common.{◌≡◌, ◌⊎◌, inl, inr, ℕ, List, [], length, refl, sym, ap, ◌∙◌, subst, arith, Bool, true, false, Option}
+use Rattle.std.proofs.Common.{◌≡◌, ◌⊎◌, inl, inr, ℕ, List, length, refl, sym, ap, ◌∙◌, subst, arith, Bool, true, false, Option}
 use Rattle.std.specs.Prelude.{Ok, Err}
 use Rattle.std.specs.List.{AllByRecursion}
 use Rattle.ar_message.specs.Lists as lists
 use Rattle.ar_message.specs.declared.lists.LogStatus.{LogStatus}
 use Rattle.ar_message.specs.declared.unsigned.Unsigned.{Unsigned}
+use Rattle.ar_message.specs.Filling.{only_ended}
 use Rattle.party_keys.specs.Directory.{Directory}
 use Rattle.vote_quorum.specs.Statuses.{AreStatuses, Excludes, IsMostReported, Status}
 use Rattle.ar_council.specs.Council.{Council, council_of}
@@ -98,14 +99,10 @@ skip-keeps s epoch statuses signed new kept are judged same is =
 abbrev answer-with : Unsigned → CoreState → Answer
 answer-with unsigned after = Ok (record { unsigned = unsigned; after = after })
 
--- nothing is sent, and this ended
-abbrev only-ended : Option (ℕ × Option (List ℕ)) → Unsigned
-only-ended ended = record { sent = record { messages = []; ended = ended }; blanks = [] }
-
 pub skip-done : (s : CoreState) (epoch : ℕ) (statuses : List LogStatus) (signed : List SignedStatus) (ended : Option (ℕ × Option (List ℕ))) (unsigned : Unsigned) (new : LogParts)
-    → skip_judged s epoch statuses ≡ Ok tt → signed ≡ signed_statuses statuses → ended ≡ skipped_epoch s.log → unsigned ≡ only-ended ended
+    → skip_judged s epoch statuses ≡ Ok tt → signed ≡ signed_statuses statuses → ended ≡ skipped_epoch s.log → unsigned ≡ only_ended ended
     → new ≡ moved (log-in s) (after_skip s.log signed) → skip_row s epoch statuses ≡ Ok (record { unsigned = unsigned; after = core-with s new })
 skip-done s epoch statuses signed ended unsigned new judged same ends sends is =
     let news : new ≡ log-skipped s statuses = is ∙ ap (λ (l : List SignedStatus). moved (log-in s) (after_skip s.log l)) same in
     skip-made s epoch statuses judged
-    ∙ sym (ap (λ (u : Unsigned). answer-with u (core-with s new)) (sends ∙ ap only-ended ends) ∙ ap (λ (n : LogParts). answer-with (only-ended (skipped_epoch s.log)) (core-with s n)) news)
+    ∙ sym (ap (λ (u : Unsigned). answer-with u (core-with s new)) (sends ∙ ap only_ended ends) ∙ ap (λ (n : LogParts). answer-with (only_ended (skipped_epoch s.log)) (core-with s n)) news)

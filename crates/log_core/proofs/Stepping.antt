@@ -6,6 +6,7 @@ use Rattle.ar_council.proofs.Readable.{readable}
 use Rattle.ar_message.specs.declared.address.Address.TheVariants.{Logs}
 use Rattle.ar_message.specs.declared.message.Message.TheVariants.{RollNote}
 use Rattle.ar_message.specs.declared.unsigned.Unsigned.{Unsigned}
+use Rattle.ar_message.specs.Filling.{nothing, zeros}
 use Rattle.ar_statement.specs.Ranges.{IsKeyText}
 use Rattle.key_roll.specs.Due.{DueParts}
 use Rattle.key_roll.specs.Entry.{roll_text, rolled}
@@ -24,10 +25,10 @@ use Rattle.epoch_log.specs.Calls.{after_learn, after_roll}
 use Rattle.epoch_log.specs.Log.{LogParts}
 use Rattle.log_core.specs.Checks.{checked, unless}
 use Rattle.log_core.specs.Rolling.{roll_draft, rolling_reply, rolling_row}
-use Rattle.log_core.specs.Sending.{none_composed, sealed, with_draft, zeros}
+use Rattle.log_core.specs.Sending.{none_composed, sealed, with_draft}
 use Rattle.log_core.specs.Kept.{IsKeptCore}
 use Rattle.log_core.specs.Learning.{is_learned, roll_note_reply, roll_note_row}
-use Rattle.log_core.specs.State.{Answer, CoreState, nothing}
+use Rattle.log_core.specs.State.{Answer, CoreState}
 use Rattle.log_core.specs.Steps.{IsStep, learn_refusal, noted, roll_refusal}
 use Rattle.log_core.specs.declared.refusal.LogRefusal.{LogRefusal}
 use Rattle.log_core.specs.declared.refusal.LogRefusal.TheVariants as refusals

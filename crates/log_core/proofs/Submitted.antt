@@ -3,12 +3,13 @@ use Rattle.std.proofs.Common.{◌≡◌, Bool, false, cond, refl, sym, ap, ◌�
 use Rattle.std.specs.List.{AllByRecursion}
 use Rattle.ar_cert.specs.Changes.{Change, IsChange}
 use Rattle.ar_message.specs.declared.unsigned.Unsigned.{Unsigned}
+use Rattle.ar_message.specs.Filling.{nothing}
 use Rattle.epoch_log.specs.Calls.{AreEndorsers, after_endorsed}
 use Rattle.epoch_log.specs.Log.{LogParts}
 use Rattle.log_core.specs.Checks.{Check, by_check, first_refusal}
 use Rattle.log_core.specs.Kept.{IsKeptCore}
 use Rattle.log_core.specs.Signers.{endorsements_in}
-use Rattle.log_core.specs.State.{Answer, CoreState, Reply, nothing}
+use Rattle.log_core.specs.State.{Answer, CoreState, Reply}
 use Rattle.log_core.specs.Steps.{IsStep, given_by}
 use Rattle.log_core.specs.Submit.{is_queued, queueing, submit_checks, submit_judged, submit_reply, submit_row}
 use Rattle.log_core.specs.declared.refusal.LogRefusal.{LogRefusal}

@@ -8,6 +8,7 @@ use Rattle.ar_message.specs.Lists.{AreChanges}
 use Rattle.ar_message.specs.declared.address.Address.TheVariants.{One}
 use Rattle.ar_message.specs.declared.message.Message.TheVariants.{Ballot}
 use Rattle.ar_message.specs.declared.unsigned.Unsigned.{Unsigned}
+use Rattle.ar_message.specs.Filling.{zeros}
 use Rattle.key_roll.specs.Book.{RollBook}
 use Rattle.key_roll.specs.Due.{DueParts}
 use Rattle.key_roll.specs.declared.fault.BookFault.{BookFault}
@@ -22,7 +23,7 @@ use Rattle.epoch_log.specs.State.{epoch_of}
 use Rattle.log_core.specs.Checks.{by_check, first_refusal, turn_of}
 use Rattle.log_core.specs.Kept.{IsKeptCore}
 use Rattle.log_core.specs.Proposed.{Proposal, ballot_draft, proposed_checks, proposed_judged, proposed_reply, proposed_row}
-use Rattle.log_core.specs.Sending.{Composed, none_composed, sealed, with_draft, zeros}
+use Rattle.log_core.specs.Sending.{Composed, none_composed, sealed, with_draft}
 use Rattle.log_core.specs.State.{Answer, CoreState}
 use Rattle.log_core.specs.Steps.{IsStep, book_refusal}
 use Rattle.log_core.specs.declared.refusal.LogRefusal.{LogRefusal}

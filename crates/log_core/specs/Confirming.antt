@@ -13,6 +13,7 @@ use Rattle.ar_message.specs.declared.message.Body.{Body}
 use Rattle.ar_message.specs.declared.message.Body.TheVariants.{Absent, Present}
 use Rattle.ar_message.specs.declared.message.Confirming.{Confirming}
 use Rattle.ar_message.specs.declared.message.Message.TheVariants.{LogConfirmed}
+use Rattle.ar_message.specs.Filling.{nothing, zeros}
 use Rattle.party_keys.specs.Seen.{authority_party}
 use Rattle.domain_table.specs.Tables.{Table, chain_of, newest}
 use Rattle.domain_table.specs.Tree.{tree_entries}
@@ -23,9 +24,9 @@ use Rattle.ar_statement.specs.Claims.{text_of}
 use Rattle.epoch_log.specs.declared.entries.Newest.{Newest}
 use Rattle.log_core.specs.Checks.{Check, checked, has_decision, leaves_left}
 use Rattle.log_core.specs.Closings.{open_reply}
-use Rattle.log_core.specs.Sending.{Composed, Draft, Place, none_composed, own_votes, place_for, sent_votes, with_draft, zeros}
+use Rattle.log_core.specs.Sending.{Composed, Draft, Place, none_composed, own_votes, place_for, sent_votes, with_draft}
 use Rattle.log_core.specs.Signers.{known}
-use Rattle.log_core.specs.State.{Answer, CoreState, Reply, nothing}
+use Rattle.log_core.specs.State.{Answer, CoreState, Reply}
 use Rattle.log_core.specs.Steps.{given}
 use Rattle.log_core.specs.declared.refusal.LogRefusal.{LogRefusal}
 

@@ -2,11 +2,10 @@
 use Rattle.std.specs.Prelude.{◌≡◌, ◌⊎◌, List, [], ◌∷◌, ◌++◌, Result, Ok, Err}
 use Rattle.ar_message.specs.Filling.{filled}
 use Rattle.ar_message.specs.declared.sent.Sent.{Sent}
-use Rattle.key_roll.specs.Ring.{IsNext, RingParts}
+use Rattle.key_roll.specs.Ring.{AreKeysOf, IsNext, RingParts}
 use Rattle.lms_tree.specs.Key.{public_of}
 use Rattle.lms_tree.specs.KeyParts.{KeyParts}
 use Rattle.lms_tree.specs.declared.public_key.LmsPublic.{LmsPublic}
-use Rattle.log_core.specs.Blanks.{AreKeysOf}
 use Rattle.log_core.specs.State.{Answer, CoreState, Input, passes, proposes, rolls, takes}
 use Rattle.log_core.specs.declared.refusal.LogRefusal.{LogRefusal}
 use Rattle.log_core.specs.declared.refusal.LogRefusal.TheVariants.{Memory}

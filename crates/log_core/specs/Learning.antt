@@ -1,5 +1,6 @@
 -- The row of RollNote: the log learns another party's next key.
 use Rattle.std.specs.Prelude.{ℕ, List, [], ◌∷◌, Result, Ok, Err}
+use Rattle.ar_message.specs.Filling.{nothing}
 use Rattle.lms_tree.specs.PublicKey.{key_text}
 use Rattle.ar_statement.specs.declared.party.Party.{Party}
 use Rattle.party_keys.specs.Learning.{Announced, after_learning, learned}
@@ -8,7 +9,7 @@ use Rattle.party_keys.specs.declared.fault.LearnFault.TheVariants as learn_fault
 use Rattle.party_keys.specs.declared.learning.Learned.{Learned}
 use Rattle.epoch_log.specs.Calls.{after_learn}
 use Rattle.log_core.specs.Checks.{Check, checked}
-use Rattle.log_core.specs.State.{Answer, CoreState, Reply, nothing}
+use Rattle.log_core.specs.State.{Answer, CoreState, Reply}
 use Rattle.log_core.specs.declared.refusal.LogRefusal.TheVariants as refusals
 
 -- the signer has signed, and no other key is known as its next

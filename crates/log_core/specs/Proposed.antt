@@ -3,6 +3,7 @@ use Rattle.std.specs.Prelude.{ℕ, List, [], ◌∷◌, flat_map, Result}
 use Rattle.ar_cert.specs.Changes.{Change}
 use Rattle.ar_message.specs.declared.address.Address.TheVariants.{One}
 use Rattle.ar_message.specs.declared.message.Message.TheVariants.{Ballot}
+use Rattle.ar_message.specs.Filling.{zeros}
 use Rattle.ar_statement.specs.Claims.{propose}
 use Rattle.party_keys.specs.Seen.{log_party}
 use Rattle.party_keys.specs.Signers.{Claimed}
@@ -12,7 +13,7 @@ use Rattle.epoch_log.specs.State.{LogState, epoch_of, table_of}
 use Rattle.log_core.specs.Checks.{Check, all_taken, checked, leaves_left, in_epoch, in_turn, not_stated, not_voted, same_base, same_root, turn_of}
 use Rattle.log_core.specs.Closings.{open_reply}
 use Rattle.log_core.specs.Judged.{judged}
-use Rattle.log_core.specs.Sending.{Composed, Draft, draft_with, none_composed, with_draft, zeros}
+use Rattle.log_core.specs.Sending.{Composed, Draft, draft_with, none_composed, with_draft}
 use Rattle.log_core.specs.Signers.{endorsements_in, signed_by, signers}
 use Rattle.log_core.specs.State.{Answer, CoreState, Reply}
 use Rattle.log_core.specs.Steps.{given}

@@ -3,13 +3,14 @@ use Rattle.std.specs.Prelude.{List, [], ◌∷◌, ◌++◌, Result}
 use Rattle.ar_cert.specs.Changes.{Change}
 use Rattle.ar_message.specs.declared.address.Address.TheVariants.{Logs}
 use Rattle.ar_message.specs.declared.message.Message.TheVariants.{Propose}
+use Rattle.ar_message.specs.Filling.{zeros}
 use Rattle.ar_statement.specs.Claims.{text_of}
 use Rattle.vote_quorum.specs.declared.value.Value.{Value}
 use Rattle.epoch_log.specs.Calls.{after_propose, proposal_texts, propose_claim}
 use Rattle.epoch_log.specs.State.{epoch_of}
 use Rattle.log_core.specs.Checks.{Check, checked, first_refusal, in_turn, leaves_left, not_stated, not_voted}
 use Rattle.log_core.specs.Closings.{closing_reply}
-use Rattle.log_core.specs.Sending.{Draft, draft_with, zeros}
+use Rattle.log_core.specs.Sending.{Draft, draft_with}
 use Rattle.log_core.specs.State.{Answer, CoreState, Reply}
 use Rattle.log_core.specs.Steps.{given}
 use Rattle.log_core.specs.Walk.{proposal, proposed_value}

@@ -4,12 +4,13 @@ use Rattle.lms_tree.specs.PublicKey.{key_text}
 use Rattle.lms_tree.specs.declared.public_key.LmsPublic.{LmsPublic}
 use Rattle.ar_message.specs.declared.address.Address.TheVariants.{Logs}
 use Rattle.ar_message.specs.declared.message.Message.TheVariants.{RollNote}
+use Rattle.ar_message.specs.Filling.{zeros}
 use Rattle.key_roll.specs.Entry.{roll_text}
 use Rattle.party_keys.specs.Learning.{after_adopting}
 use Rattle.party_keys.specs.Seen.{log_party}
 use Rattle.epoch_log.specs.Calls.{after_roll}
 use Rattle.log_core.specs.Checks.{Check, checked, has_next}
-use Rattle.log_core.specs.Sending.{Draft, draft_with, unsigned_of, zeros}
+use Rattle.log_core.specs.Sending.{Draft, draft_with, unsigned_of}
 use Rattle.log_core.specs.State.{Answer, CoreState, Reply}
 
 -- the newest generation is not the last

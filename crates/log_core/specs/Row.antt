@@ -22,26 +22,26 @@ use Rattle.log_core.specs.Stated.{status_row}
 use Rattle.log_core.specs.Submit.{submit_row}
 use Rattle.log_core.specs.declared.refusal.LogRefusal.TheVariants as refusals
 
+-- the row of a message beside those of changes, proposals, ballots and statuses: how an epoch ended, a request to confirm,
+-- and a next key; no other is for a log
+abbrev pub other_row : CoreState → Message → Answer
+other_row s (messages.Decision epoch base root changes votes) =
+    decision_row s (record { epoch = epoch; value = value_of_roots (base, root); changes = changes; votes = votes })
+other_row s (messages.SkipNote epoch statuses) = skip_row s epoch statuses
+other_row s (messages.ConfirmAsk client name first second) =
+    confirm_row s (record { client = client; name = name; first = first; second = second })
+other_row s (messages.RollNote party generation key signature) =
+    roll_note_row s (record { party = party; generation = generation; key = key; signature = signature })
+other_row s message = Err refusals.NotForLog
+
 -- the row of a message
 abbrev pub message_row : CoreState → Message → Answer
-message_row s (messages.EndorseAsk owner cert) = Err refusals.NotForLog
-message_row s (messages.Endorsed owner authority certificate signature) = Err refusals.NotForLog
 message_row s (messages.Submit change) = submit_row s change
 message_row s (messages.Propose log epoch base root changes signature) =
     proposed_row s (record { log = log; epoch = epoch; value = value_of_roots (base, root); changes = changes; signature = signature })
 message_row s (messages.Ballot log epoch base root signature) = ballot_row s log epoch (value_of_roots (base, root)) signature
 message_row s (messages.StatusNote log epoch value signature) = status_row s log epoch (option_map value_of_roots value) signature
-message_row s (messages.Decision epoch base root changes votes) =
-    decision_row s (record { epoch = epoch; value = value_of_roots (base, root); changes = changes; votes = votes })
-message_row s (messages.SkipNote epoch statuses) = skip_row s epoch statuses
-message_row s (messages.ConfirmAsk client name first second) =
-    confirm_row s (record { client = client; name = name; first = first; second = second })
-message_row s (messages.LogConfirmed part) = Err refusals.NotForLog
-message_row s (messages.HalfConfirmed part first_signature) = Err refusals.NotForLog
-message_row s (messages.Confirmation client epoch name root body log log_signature first first_signature second second_signature) =
-    Err refusals.NotForLog
-message_row s (messages.RollNote party generation key signature) =
-    roll_note_row s (record { party = party; generation = generation; key = key; signature = signature })
+message_row s message = other_row s message
 
 -- the row of bytes: a message, or the place of the first field that fails
 abbrev pub read_row : CoreState → Result Message ℕ → Answer

@@ -1,6 +1,6 @@
 -- What a step sends. Where a signature of the log's own is due a message has zero bytes, and a blank tells what is signed
 -- there.
-use Rattle.std.specs.Prelude.{ℕ, ◌+◌, ◌-◌, Bool, true, false, List, [], ◌∷◌, ◌++◌, length, flat_map, map, replicate, Option, Some, None, is_none, unwrap_or}
+use Rattle.std.specs.Prelude.{ℕ, ◌+◌, ◌-◌, Bool, true, false, List, [], ◌∷◌, ◌++◌, length, flat_map, map, Option, Some, None, is_none, unwrap_or}
 use Rattle.key_roll.specs.Book.{RollBook}
 use Rattle.key_roll.specs.Due.{DueParts}
 use Rattle.key_roll.specs.Entry.{due_of}
@@ -13,6 +13,7 @@ use Rattle.ar_message.specs.declared.lists.Vote.{Vote}
 use Rattle.ar_message.specs.declared.message.Message.{Message}
 use Rattle.ar_message.specs.declared.unsigned.Blank.{Blank}
 use Rattle.ar_message.specs.declared.unsigned.Unsigned.{Unsigned}
+use Rattle.ar_message.specs.Filling.{zeros}
 use Rattle.ar_council.specs.Values.{roots_of}
 use Rattle.epoch_log.specs.State.{CountedStatus}
 use Rattle.std.specs.Option.{option_map}
@@ -33,10 +34,6 @@ pub record Draft : Type 0 where
   pub to : Address
   pub message : Message
   pub own : List Place
-
--- zero bytes in place of a signature
-abbrev pub zeros : ℕ → List ℕ
-zeros len = replicate len 0
 
 -- a message with one signature of the log's own, which has so many bytes and stands in front of so many
 abbrev pub draft_with : Address → Message → ℕ → ℕ → List ℕ → Draft

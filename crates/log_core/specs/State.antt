@@ -1,5 +1,5 @@
 -- What a log is between two steps, what it is asked, and what a step makes of it.
-use Rattle.std.specs.Prelude.{ℕ, List, [], Result, None}
+use Rattle.std.specs.Prelude.{ℕ, List, Result}
 use Rattle.lms_tree.specs.declared.public_key.LmsPublic.{LmsPublic}
 use Rattle.ar_cert.specs.Changes.{Change}
 use Rattle.ar_message.specs.declared.unsigned.Unsigned.{Unsigned}
@@ -34,10 +34,6 @@ pub record Reply : Type 0 where
 -- the answer of a row: a refusal, which leaves the log as it is, or what the step makes
 abbrev pub Answer : Type 0
 Answer = Result Reply LogRefusal
-
--- nothing is sent, no epoch ended, and no signature is due
-abbrev pub nothing : Unsigned
-nothing = record { sent = record { messages = []; ended = None }; blanks = [] }
 
 -- the most changes that are queued
 abbrev pub most_queued : ℕ

@@ -1,6 +1,7 @@
 -- What it is that a step of a log is its row's.
 use Rattle.std.specs.Prelude.{◌≡◌, ◌⊎◌, ℕ, List, Result, Ok, Err}
 use Rattle.ar_message.specs.declared.unsigned.Unsigned.{Unsigned}
+use Rattle.ar_message.specs.Filling.{nothing}
 use Rattle.ar_statement.specs.declared.party.Party.{Party}
 use Rattle.key_roll.specs.declared.fault.BookFault.{BookFault}
 use Rattle.key_roll.specs.declared.fault.BookFault.TheVariants as book_fault
@@ -10,7 +11,7 @@ use Rattle.party_keys.specs.declared.fault.LearnFault.{LearnFault}
 use Rattle.party_keys.specs.declared.fault.LearnFault.TheVariants as learn_fault
 use Rattle.party_keys.specs.declared.learning.Learned.{Learned}
 use Rattle.log_core.specs.Checks.{Check, first_refusal}
-use Rattle.log_core.specs.State.{Answer, CoreState, nothing}
+use Rattle.log_core.specs.State.{Answer, CoreState}
 use Rattle.log_core.specs.declared.refusal.LogRefusal.{LogRefusal}
 use Rattle.log_core.specs.declared.refusal.LogRefusal.TheVariants as refusals
 

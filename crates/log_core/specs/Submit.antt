@@ -2,6 +2,7 @@
 use Rattle.std.specs.Prelude.{Bool, not, ◌++◌, List, filter, [], ◌∷◌, Result, Ok, Err, if◌then◌else◌}
 use Rattle.std.specs.List.{list_any}
 use Rattle.std.specs.Str.{bytes_eq}
+use Rattle.ar_message.specs.Filling.{nothing}
 use Rattle.ar_cert.specs.Changes.{Change, change_text}
 use Rattle.cert_policy.specs.declared.manner.Manner.{Manner}
 use Rattle.domain_table.specs.declared.refusal.ChangeRefusal.{ChangeRefusal}
@@ -10,7 +11,7 @@ use Rattle.epoch_log.specs.Calls.{after_endorsed}
 use Rattle.epoch_log.specs.State.{epoch_of, table_of}
 use Rattle.log_core.specs.Checks.{Check, checked, has_place}
 use Rattle.log_core.specs.Signers.{endorsements_in, signers}
-use Rattle.log_core.specs.State.{Answer, CoreState, Reply, nothing}
+use Rattle.log_core.specs.State.{Answer, CoreState, Reply}
 use Rattle.log_core.specs.Closings.{core_after}
 use Rattle.log_core.specs.Steps.{given}
 use Rattle.log_core.specs.declared.refusal.LogRefusal.{LogRefusal}

@@ -4,14 +4,13 @@ ghost use Rattle.std.specs.List.{list_any};
 ghost use Rattle.std.specs.Option.{option_map};
 ghost use Rattle.ar_council.specs.Council.{council_of};
 ghost use Rattle.ar_statement.specs.Claims.{claim_of, text_of};
-ghost use Rattle.epoch_log.specs.Ending.{own_vote};
 ghost use Rattle.log_core.specs.Checks.{enough, in_epoch, in_turn, leaves_left, no_vote, not_stated, not_voted, same_base, turn_of};
 ghost use Rattle.log_core.specs.Steps.{book_refusal};
 
 use crate::LogRefusal;
 use ar_council::{has_leaf, has_leaves};
 use ar_statement::Statement;
-use epoch_log::{EpochLog, Stated, Voted};
+use epoch_log::{EpochLog, Stated, Voted, own_vote};
 use key_roll::{BookFault, RollBook};
 use party_keys::Directory;
 
@@ -43,13 +42,6 @@ pub(crate) fn in_turn(directory: &Directory, epoch: u64, log: u16) -> Result<(),
     } else {
         Err(LogRefusal::NotCoordinator(turn))
     }
-}
-
-/// The own vote of an epoch.
-pub(crate) fn own_vote(voted: &[Voted], epoch: u64) -> Option<&Voted>
-    ensures { option_map (λ v. v.now) result ≡ own_vote voted.now epoch }
-{
-    voted.iter().find(|v| v.epoch == epoch)
 }
 
 /// That there is no vote.

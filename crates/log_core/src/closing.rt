@@ -19,7 +19,6 @@ ghost use Rattle.log_core.specs.Sending.{sealed, sent_statuses, sent_votes, with
 
 use crate::own_places::{CountedStatus, own_statuses, own_votes, sent_statuses, sent_votes};
 use crate::sending::{Drafts, Ready, written};
-use crate::statements::own_value;
 use ar_base::Items;
 use ar_cert::Change;
 use ar_message::{Address, Changes, Message, Unsigned, Votes};
@@ -126,7 +125,7 @@ fn add_skip(
         len,
         log.number(),
         log.epoch(),
-        &own_value(log),
+        &log.own_value(),
         bytes.len(),
         statuses,
     )?;

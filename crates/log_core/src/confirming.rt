@@ -19,7 +19,7 @@ use crate::LogRefusal;
 use crate::checks::book_refusal;
 use crate::log_core::LogCore;
 use crate::own_places::{own_votes, sent_votes};
-use crate::sending::{Drafts, OwnPlace, Ready, written, zeros};
+use crate::sending::{Drafts, OwnPlace, Ready, written};
 use crate::showing::{body_of, newest_certificate};
 use crate::signers::known;
 use ar_message::{Address, Confirming, Message, Signature, Unsigned};
@@ -125,9 +125,7 @@ impl LogCore {
         ensures { IfOk result (λ part. part ≡ confirming_of self.now newest.now asked.now) }
     {
         let name = asked.name.view().to_name(alloc)?;
-        let signature = Signature {
-            bytes: zeros(alloc, self.signature_len)?,
-        };
+        let signature = Signature::zeros(alloc, self.signature_len)?;
         let votes = sent_votes(alloc, self.signature_len, newest.votes.as_slice())?;
         let body = body_of(alloc, self.log.table(), asked.name)?;
         Ok(Confirming {

@@ -18,12 +18,11 @@ use crate::closing::keep_wanted;
 use crate::judging::leads;
 use crate::log_core::LogCore;
 use crate::signers::Signers;
-use crate::skipping::{LAST_EPOCH, ended};
 use ar_base::Items;
 use ar_cert::Change;
 use ar_council::value_told;
 use ar_message::{Unsigned, Vote};
-use epoch_log::EpochLog;
+use epoch_log::{EpochLog, LAST_EPOCH};
 use std::alloc::{AllocError, Global};
 use vote_quorum::Value;
 
@@ -122,6 +121,6 @@ impl LogCore {
         let decided = decided_epoch(&self.log, value.root);
         self.log.decide(alloc, changes, value.root, votes)?;
         keep_if(decided.is_some(), &self.log, &mut self.queue);
-        Ok(ended(alloc, decided))
+        Ok(Unsigned::ended(alloc, decided))
     }
 }

@@ -1,6 +1,7 @@
 //! Laws on the rows, over the definitions alone: each is the contract of a function with an empty body.
 ghost use Rattle.std.specs.Prelude.{◌≡◌, ◌≤◌, ◌<◌, ◌^◌, ◌++◌, ◌∷◌, [], ℕ, List, All, Option, Some, Ok, Err, length, slice_get, take, filter, flat_map, not};
 ghost use Rattle.std.specs.Result.{result_ok};
+ghost use Rattle.key_roll.specs.Ring.{AreKeysOf};
 ghost use Rattle.ar_cert.specs.Changes.{Change, IsChange};
 ghost use Rattle.party_keys.specs.Signers.{Claimed};
 ghost use Rattle.ar_message.specs.Filling.{CanFill};
@@ -13,7 +14,7 @@ ghost use Rattle.domain_table.specs.Tables.{Table};
 ghost use Rattle.domain_table.specs.Tree.{root_of};
 ghost use Rattle.domain_table.specs.declared.refusal.ChangeRefusal.{ChangeRefusal};
 ghost use Rattle.epoch_log.specs.State.{epoch_of, table_of};
-ghost use Rattle.log_core.specs.Blanks.{AreKeysOf, IsZero};
+ghost use Rattle.log_core.specs.Blanks.{IsZero};
 ghost use Rattle.log_core.specs.Checks.{Check, checked};
 ghost use Rattle.log_core.specs.Judged.{judged};
 ghost use Rattle.log_core.specs.Kept.{IsKeptCore};

@@ -29,7 +29,6 @@ mod sending;
 mod showing;
 mod signers;
 mod skipping;
-mod statements;
 mod stating;
 mod step;
 mod submitting;

@@ -5,13 +5,11 @@ ghost use Rattle.epoch_log.specs.Log.{record_of};
 ghost use Rattle.epoch_log.specs.State.{epoch_of};
 ghost use Rattle.log_core.specs.Kept.{IsKeptCore};
 ghost use Rattle.log_core.specs.Learning.{roll_note_row};
-ghost use Rattle.log_core.specs.State.{nothing};
 ghost use Rattle.log_core.specs.Steps.{IsStep, learn_refusal, noted};
 
 use crate::LogRefusal;
-use ar_base::Items;
 use ar_cert::Change;
-use ar_message::{Sent, Unsigned};
+use ar_message::Unsigned;
 use ar_statement::Party;
 use epoch_log::{EpochLog, Record};
 use lms_tree::LmsPublic;
@@ -44,19 +42,6 @@ impl Model for LogCore {
     ghost invariant = { λ c. IsKeptCore (record { log = c.log.state; keys = c.log.keys; queue = c.queue.items; signature_len = c.signature_len }) };
 }
 
-/// Nothing is sent, no epoch ended, and no signature is due.
-pub(crate) fn nothing(alloc: Global) -> Unsigned
-    ensures { result ≡ nothing }
-{
-    Unsigned {
-        sent: Sent {
-            messages: Items::new(alloc),
-            ended: None,
-        },
-        blanks: Items::new(alloc),
-    }
-}
-
 /// Why a key is not learnt, as a refusal.
 fn learn_refusal(fault: LearnFault, party: Party, generation: u32) -> LogRefusal
     ensures { result ≡ learn_refusal fault party generation }
@@ -79,7 +64,7 @@ fn noted(
     ensures { result ≡ noted learned party generation }
 {
     match learned {
-        Ok(_) => Ok(nothing(alloc)),
+        Ok(_) => Ok(Unsigned::nothing(alloc)),
         Err(fault) => Err(learn_refusal(fault, party, generation)),
     }
 }

@@ -9,13 +9,13 @@ ghost use Rattle.ar_bytes.specs.Joined.{optional_text};
 ghost use Rattle.ar_cert.specs.Changes.{IsSignature};
 ghost use Rattle.ar_council.specs.Values.{roots_of, status_claim, vote_claim};
 ghost use Rattle.ar_message.specs.Lists.{AreStatuses, AreVotes, IsStatus, IsVote, status_text, vote_text};
+ghost use Rattle.ar_message.specs.Filling.{zeros};
 ghost use Rattle.ar_statement.specs.Claims.{claim_of, roots_text, text_of};
-ghost use Rattle.log_core.specs.Sending.{if_own, own_places, own_statuses, own_votes, place_for, sent_status, sent_statuses, sent_vote, sent_votes, zeros};
+ghost use Rattle.log_core.specs.Sending.{if_own, own_places, own_statuses, own_votes, place_for, sent_status, sent_statuses, sent_vote, sent_votes};
 
-use crate::sending::{OwnPlace, zeros};
-use crate::statements::roots_of;
+use crate::sending::OwnPlace;
 use ar_base::Items;
-use ar_council::{status_statement, value_told, vote_statement};
+use ar_council::{roots_of, status_statement, value_told, vote_statement};
 use ar_message::{LogStatus, Signature, Statuses, Vote, Votes};
 use ar_statement::Statement;
 use std::alloc::{AllocError, Global};
@@ -42,9 +42,7 @@ fn sent_signature(
         Some(bytes) => Ok(Signature {
             bytes: Vec::from_slice(alloc, bytes.as_slice())?,
         }),
-        None => Ok(Signature {
-            bytes: zeros(alloc, len)?,
-        }),
+        None => Signature::zeros(alloc, len),
     }
 }
 

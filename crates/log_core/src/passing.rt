@@ -2,7 +2,7 @@
 
 ghost use Rattle.std.specs.Prelude.{◌≡◌, ◌++◌, IfOk, OnOk};
 ghost use Rattle.ar_statement.specs.Claims.{claim_of, text_of};
-ghost use Rattle.epoch_log.specs.Calls.{after_state, is_turn, own_status_text};
+ghost use Rattle.epoch_log.specs.Calls.{after_state, own_status_text};
 ghost use Rattle.log_core.specs.Closings.{closing_drafts};
 ghost use Rattle.log_core.specs.Passing.{passing_judged, passing_row, status_draft, status_drafts};
 ghost use Rattle.log_core.specs.Sending.{none_composed, with_draft, with_drafts};
@@ -12,9 +12,8 @@ use crate::LogRefusal;
 use crate::checks::{leaf_left, not_stated, turn_of};
 use crate::closing::{add_closing, close};
 use crate::log_core::LogCore;
-use crate::sending::{Drafts, Ready, zeros};
-use crate::statements::{own_value, roots_of};
-use ar_council::status_statement;
+use crate::sending::{Drafts, Ready};
+use ar_council::{roots_of, status_statement};
 use ar_message::{Address, Message, Signature, Unsigned};
 use ar_statement::{Role, Statement};
 use epoch_log::EpochLog;
@@ -25,16 +24,7 @@ use std::alloc::{AllocError, Global};
 fn own_status(log: &EpochLog) -> Statement<'static>
     ensures { text_of (claim_of result) ≡ own_status_text log.now.state }
 {
-    status_statement(log.number(), log.epoch(), &own_value(log))
-}
-
-/// Whether it is this log's turn in an epoch.
-fn is_turn(log: &EpochLog, epoch: u64) -> bool
-    ensures { result ≡ is_turn log.now.state.council log.now.state.me epoch }
-{
-    log.told();
-    let logs = log.directory().logs();
-    (log.number() as usize) < logs && epoch % logs as u64 == log.number() as u64
+    status_statement(log.number(), log.epoch(), &log.own_value())
 }
 
 impl LogCore {
@@ -56,10 +46,8 @@ impl LogCore {
         let note = Message::StatusNote {
             log: self.log.number(),
             epoch: self.log.epoch(),
-            value: roots_of(&own_value(&self.log)),
-            signature: Signature {
-                bytes: zeros(alloc, self.signature_len)?,
-            },
+            value: roots_of(&self.log.own_value()),
+            signature: Signature::zeros(alloc, self.signature_len)?,
         };
         drafts.add(
             alloc,
@@ -79,7 +67,7 @@ impl LogCore {
     ) -> Result<(), AllocError>
         ensures { OnOk result (drafts.new ≡ with_drafts drafts.old (status_drafts self.now)) }
     {
-        if is_turn(&self.log, self.log.epoch() + 1) {
+        if self.log.is_turn(self.log.epoch() + 1) {
             return Ok(());
         }
         self.add_status(alloc, drafts)

@@ -15,7 +15,7 @@ use crate::LogRefusal;
 use crate::checks::{book_refusal, in_epoch, in_turn, leaf_left, not_stated, not_voted, turn_of};
 use crate::judging::leads;
 use crate::log_core::LogCore;
-use crate::sending::{Drafts, Ready, zeros};
+use crate::sending::{Drafts, Ready};
 use crate::signers::Signers;
 use ar_cert::Change;
 use ar_council::{propose_statement, value_told, vote_statement};
@@ -91,9 +91,7 @@ impl LogCore {
             epoch,
             base: value.base,
             root: value.root,
-            signature: Signature {
-                bytes: zeros(alloc, self.signature_len)?,
-            },
+            signature: Signature::zeros(alloc, self.signature_len)?,
         };
         let mut drafts = Drafts::new(alloc);
         drafts.add(

@@ -5,12 +5,13 @@ ghost use Rattle.ar_base.specs.Gives.{GivesUnless};
 ghost use Rattle.ar_message.specs.Lists.{AreChanges};
 ghost use Rattle.ar_message.specs.declared.address.Address.TheVariants.{Logs};
 ghost use Rattle.ar_message.specs.declared.message.Message.TheVariants.{Propose};
+ghost use Rattle.ar_message.specs.Filling.{zeros};
 ghost use Rattle.ar_statement.specs.Claims.{propose, text_of};
 ghost use Rattle.epoch_log.specs.Calls.{after_propose, proposal_texts};
 ghost use Rattle.log_core.specs.Checks.{leaves_left};
 ghost use Rattle.log_core.specs.Closings.{closing_drafts};
 ghost use Rattle.log_core.specs.Proposing.{proposal_draft, proposing_judged, proposing_row, turn_judged};
-ghost use Rattle.log_core.specs.Sending.{draft_with, none_composed, with_draft, with_drafts, zeros};
+ghost use Rattle.log_core.specs.Sending.{draft_with, none_composed, with_draft, with_drafts};
 ghost use Rattle.log_core.specs.Steps.{IsStep};
 ghost use Rattle.log_core.specs.Walk.{proposal, proposed_value};
 ghost use Rattle.log_core.specs.declared.refusal.LogRefusal.TheVariants as refusals;
@@ -19,25 +20,15 @@ use crate::LogRefusal;
 use crate::checks::{in_turn, leaves_left, not_stated, not_voted};
 use crate::closing::{add_closing, close};
 use crate::log_core::LogCore;
-use crate::sending::{Drafts, Ready, zeros};
+use crate::sending::{Drafts, Ready};
 use crate::walking::Walked;
 use ar_cert::Change;
 use ar_council::{propose_statement, vote_statement};
 use ar_message::{Address, Changes, Message, Signature, Unsigned};
+use epoch_log::copies;
 use key_roll::forgo;
 use std::alloc::{AllocError, Global};
 use vote_quorum::Value;
-
-/// Copies of changes, in their order.
-fn copies(alloc: Global, changes: &[Change]) -> Result<Vec<Change>, AllocError>
-    ensures { IfOk result (λ list. list.items ≡ changes.now) }
-{
-    let mut list = Vec::with_capacity(alloc, changes.len())?;
-    for change in changes {
-        list.push(change.copy(alloc)?)?;
-    }
-    Ok(list)
-}
 
 /// A log's proposal, with zero bytes in place of its signature.
 fn proposal_message(
@@ -52,9 +43,7 @@ fn proposal_message(
     requires len { signature_len < 2 ^ 16 }
     ensures { IfOk result (λ message. message ≡ Propose log epoch value.now.base value.now.root changes.now (zeros signature_len)) }
 {
-    let signature = Signature {
-        bytes: zeros(alloc, signature_len)?,
-    };
+    let signature = Signature::zeros(alloc, signature_len)?;
     let changes = Changes {
         list: copies(alloc, changes)?,
     };

@@ -8,7 +8,7 @@ ghost use Rattle.log_core.specs.Steps.{IsStep, roll_refusal};
 
 use crate::LogRefusal;
 use crate::log_core::LogCore;
-use crate::sending::{Drafts, Ready, zeros};
+use crate::sending::{Drafts, Ready};
 use ar_council::key_told;
 use ar_message::{Address, Message, Signature, Unsigned};
 use ar_statement::{Role, Statement};
@@ -42,9 +42,7 @@ impl LogCore {
             party,
             generation,
             key: *next,
-            signature: Signature {
-                bytes: zeros(alloc, self.signature_len)?,
-            },
+            signature: Signature::zeros(alloc, self.signature_len)?,
         };
         let mut drafts = Drafts::new(alloc);
         drafts.add(

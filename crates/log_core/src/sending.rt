@@ -6,13 +6,13 @@ ghost use Rattle.ar_message.specs.Messages.{message_text};
 ghost use Rattle.ar_message.specs.declared.message.Message.{Message};
 ghost use Rattle.ar_statement.specs.Claims.{claim_of, text_of};
 ghost use Rattle.key_roll.specs.Entry.{due_of};
-ghost use Rattle.log_core.specs.Sending.{blanks_by, blanks_in, draft_with, none_composed, sealed, with_draft, zeros};
+ghost use Rattle.log_core.specs.Sending.{blanks_by, blanks_in, draft_with, none_composed, sealed, with_draft};
 
 use ar_base::Items;
-use ar_message::{Address, Blank, Message, Outgoing, Sent, Signature, Unsigned};
+use ar_message::{Address, Blank, Message, Outgoing, Sent, Unsigned};
 use ar_statement::Statement;
 use epoch_log::EpochLog;
-use key_roll::{RollDue, forgo};
+use key_roll::RollDue;
 use std::alloc::{AllocError, Global};
 use std::marker::Model;
 
@@ -99,13 +99,6 @@ impl<'a> Model for Ready<'a> {
     ghost view = { λ r. r.drafts };
 
     ghost invariant = { λ r. (r.blanks.items ≡ []) × (length r.drafts.places ≤ vec_capacity r.blanks) };
-}
-
-/// Zero bytes, as many as a signature has.
-pub(crate) fn zeros(alloc: Global, len: usize) -> Result<Vec<u8>, AllocError>
-    ensures { IfOk result (λ bytes. bytes.items ≡ zeros len) }
-{
-    vec![in alloc; 0u8; len]
 }
 
 /// The bytes of a message, with zero bytes in place of the log's own signatures.
@@ -217,14 +210,7 @@ fn add_blank(log: &EpochLog, place: &Numbered, blanks: &mut Vec<Blank>)
         at: place.own.at(),
         due,
     };
-    match blanks.push(blank) {
-        Ok(()) => {}
-        Err(refused) => {
-            let Blank { due, .. } = refused.value;
-            forgo(due);
-            unreachable!()
-        }
-    }
+    blanks.push_reserved(blank);
 }
 
 impl<'a> Ready<'a> {

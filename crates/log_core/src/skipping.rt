@@ -1,6 +1,6 @@
 //! The row of a SkipNote: the log ends its epoch as skipped.
 
-ghost use Rattle.std.specs.Prelude.{◌≡◌, ◌++◌, [], IfOk, None, OnOk, length};
+ghost use Rattle.std.specs.Prelude.{◌≡◌, ◌++◌, IfOk, OnOk, length};
 ghost use Rattle.ar_base.specs.Gives.{GivesUnless};
 ghost use Rattle.ar_council.specs.Council.{council_of};
 ghost use Rattle.epoch_log.specs.Calls.{plain_statuses};
@@ -16,16 +16,12 @@ use crate::LogRefusal;
 use crate::checks::in_epoch;
 use crate::log_core::LogCore;
 use crate::signers::Signers;
-use ar_base::Items;
 use ar_council::status_statement;
-use ar_message::{LogStatus, Sent, Statuses, Unsigned};
-use epoch_log::EpochLog;
+use ar_message::{LogStatus, Statuses, Unsigned};
+use epoch_log::{EpochLog, LAST_EPOCH};
 use party_keys::Directory;
 use std::alloc::{AllocError, Global};
 use vote_quorum::{Value, excluded};
-
-/// The last epoch that a statement can name. It does not end.
-pub(crate) const LAST_EPOCH: u64 = 1 << 63;
 
 /// What a status says that its log voted for.
 fn value_of(status: &LogStatus) -> Option<Value>
@@ -124,19 +120,6 @@ fn skipped_epoch(log: &EpochLog) -> Option<(u64, Option<[u8; 32]>)>
     }
 }
 
-/// Nothing is sent, and this ended.
-pub(crate) fn ended(alloc: Global, ended: Option<(u64, Option<[u8; 32]>)>) -> Unsigned
-    ensures { result ≡ record { sent = record { messages = []; ended = ended }; blanks = [] } }
-{
-    Unsigned {
-        sent: Sent {
-            messages: Items::new(alloc),
-            ended,
-        },
-        blanks: Items::new(alloc),
-    }
-}
-
 impl LogCore {
     /// The checks of a SkipNote, in their order.
     #[tactic(auto, unfolding(crate::specs::Skipped::skip_judged))]
@@ -167,6 +150,6 @@ impl LogCore {
         let signed = signed_statuses(alloc, statuses.list.as_slice())?;
         let skipped = skipped_epoch(&self.log);
         self.log.skip(alloc, signed)?;
-        Ok(ended(alloc, skipped))
+        Ok(Unsigned::ended(alloc, skipped))
     }
 }

@@ -6,7 +6,7 @@ ghost use Rattle.ar_base.specs.Gives.{GivesUnless, with_error};
 ghost use Rattle.ar_council.specs.Values.{value_of_roots};
 ghost use Rattle.ar_message.specs.Messages.{message_in};
 ghost use Rattle.log_core.specs.Inputs.{input_of};
-ghost use Rattle.log_core.specs.Row.{message_row, read_row, row};
+ghost use Rattle.log_core.specs.Row.{message_row, other_row, read_row, row};
 ghost use Rattle.log_core.specs.Steps.{IsStep};
 ghost use Rattle.log_core.specs.declared.refusal.LogRefusal.TheVariants as refusals;
 
@@ -51,6 +51,41 @@ fn read(alloc: Global, bytes: &[u8]) -> Result<Message, LogRefusal>
 }
 
 impl LogCore {
+    /// The row of a message beside those of changes, proposals, ballots and statuses.
+    fn take_other(&mut self, alloc: Global, message: Message) -> Result<Unsigned, LogRefusal>
+        ensures { IsStep result self.old self.new (other_row self.old message) }
+    {
+        match message {
+            Message::Decision {
+                epoch,
+                base,
+                root,
+                changes,
+                votes,
+            } => self.decision(
+                alloc,
+                epoch,
+                Value { base, root },
+                changes.list,
+                Items::from_vec(votes.list),
+            ),
+            Message::SkipNote { epoch, statuses } => { self.skip_note(alloc, epoch, &statuses) }
+            Message::ConfirmAsk {
+                client,
+                name,
+                first,
+                second,
+            } => self.confirm_ask(alloc, client, &name, first, second),
+            Message::RollNote {
+                party,
+                generation,
+                key,
+                signature,
+            } => self.roll_note(alloc, party, generation, key, signature.as_slice()),
+            _ => Err(LogRefusal::NotForLog),
+        }
+    }
+
     /// The row of a message.
     fn take_message(&mut self, alloc: Global, message: Message) -> Result<Unsigned, LogRefusal>
         ensures { IsStep result self.old self.new (message_row self.old message) }
@@ -85,33 +120,7 @@ impl LogCore {
                 value,
                 signature,
             } => self.status_note(alloc, log, epoch, value_of(value), &signature),
-            Message::Decision {
-                epoch,
-                base,
-                root,
-                changes,
-                votes,
-            } => self.decision(
-                alloc,
-                epoch,
-                Value { base, root },
-                changes.list,
-                Items::from_vec(votes.list),
-            ),
-            Message::SkipNote { epoch, statuses } => { self.skip_note(alloc, epoch, &statuses) }
-            Message::ConfirmAsk {
-                client,
-                name,
-                first,
-                second,
-            } => self.confirm_ask(alloc, client, &name, first, second),
-            Message::RollNote {
-                party,
-                generation,
-                key,
-                signature,
-            } => self.roll_note(alloc, party, generation, key, signature.as_slice()),
-            _ => Err(LogRefusal::NotForLog),
+            message => self.take_other(alloc, message),
         }
     }
 

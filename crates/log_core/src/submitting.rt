@@ -12,7 +12,7 @@ ghost use Rattle.log_core.specs.Submit.{queueing, submit_judged, submit_row, tak
 ghost use Rattle.log_core.specs.declared.refusal.LogRefusal.TheVariants as refusals;
 
 use crate::LogRefusal;
-use crate::log_core::{LogCore, nothing};
+use crate::log_core::LogCore;
 use crate::queued::is_queued;
 use crate::signers::Signers;
 use ar_cert::Change;
@@ -99,6 +99,6 @@ impl LogCore {
         if !queued {
             self.enqueue(alloc, change)?;
         }
-        Ok(nothing(alloc))
+        Ok(Unsigned::nothing(alloc))
     }
 }

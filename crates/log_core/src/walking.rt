@@ -8,7 +8,8 @@ ghost use Rattle.log_core.specs.Walk.{IsStepOver, IsWalked, left_of, proposal, p
 
 use crate::log_core::LogCore;
 use ar_cert::Change;
-use domain_table::{ApplyFault, Table};
+use domain_table::Table;
+use epoch_log::apply_one;
 use std::alloc::{AllocError, Global};
 use vote_quorum::Value;
 
@@ -44,23 +45,6 @@ fn text_len(alloc: Global, change: &Change) -> Result<usize, AllocError>
     let mut text = Vec::new(alloc);
     change.write(alloc, &mut text)?;
     Ok(text.len())
-}
-
-/// Applies a copy of a change that is accepted.
-fn apply_one(
-    alloc: Global,
-    epoch: u64,
-    table: &mut Table,
-    change: &Change,
-) -> Result<(), AllocError>
-    requires { IsOk (judge table.old epoch change.now) }
-    ensures { OnOk result (Some table.new ≡ apply table.old epoch (change.now ∷ [])) }
-{
-    match table.apply(alloc, epoch, change.copy(alloc)?) {
-        Ok(()) => Ok(()),
-        Err((_, ApplyFault::Memory)) => Err(AllocError),
-        Err((_, ApplyFault::Change(_))) => unreachable!(),
-    }
 }
 
 impl Walker {

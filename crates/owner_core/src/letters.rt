@@ -11,16 +11,6 @@ use ar_message::{Address, Message, Outgoing, Sent};
 use ar_statement::Role;
 use std::alloc::{AllocError, Global};
 
-/// No message.
-pub(crate) fn nothing(alloc: Global) -> Sent
-    ensures { result ≡ sent [] }
-{
-    Sent {
-        messages: Items::new(alloc),
-        ended: None,
-    }
-}
-
 /// The text of a message.
 fn text_of(alloc: Global, message: Message) -> Result<Vec<u8>, AllocError>
     ensures { IfOk result (λ text. text.items ≡ message_text message) }

@@ -5,7 +5,6 @@ ghost use Rattle.party_keys.specs.Signatures.{verified};
 ghost use Rattle.owner_core.specs.Rows.{roll_refusal, verified_as};
 
 use crate::drafts;
-use crate::letters::nothing;
 use crate::owner::Owner;
 use crate::refusal::OwnerRefusal;
 use ar_base::Items;
@@ -98,7 +97,7 @@ impl Owner {
         )?;
         let endorsement = endorsement(authority, signature);
         drafts::endorse(&mut self.drafts, &certificate, endorsement)?;
-        Ok(nothing(alloc))
+        Ok(Sent::nothing(alloc))
     }
 
     /// Learns the next key of a party.
@@ -117,7 +116,7 @@ impl Owner {
             .directory
             .learn(alloc, party, generation, key, signature.as_slice());
         match learned {
-            Ok(_) => Ok(nothing(alloc)),
+            Ok(_) => Ok(Sent::nothing(alloc)),
             Err(fault) => Err(roll_refusal(party, generation, fault)),
         }
     }

@@ -8,6 +8,6 @@ pub returns-clause-added : goal.returns-clause-added
 returns-clause-added c =
     let book : RollBook = c.args.log.now.state.past.signed in
     let place : ℕ × Place = (c.place.inside.message, c.place.inside.own) in
-    subst (λ (p : ℕ × Place). c.push.new.self.items ≡ c.args.blanks.now.items ++ blanks_in book (p ∷ [])) c.place.view_is
-    (c.in-Ok.ensures.items ∙ ap (λ (at : ℕ). c.args.blanks.now.items ++ record { message = c.place.inside.message; at = at; due = c.in-Some.due } ∷ []) c.at.ensures
+    subst (λ (p : ℕ × Place). c.push_reserved.new.self.items ≡ c.args.blanks.now.items ++ blanks_in book (p ∷ [])) c.place.view_is
+    (c.push_reserved.ensures.items ∙ ap (λ (at : ℕ). c.args.blanks.now.items ++ record { message = c.place.inside.message; at = at; due = c.in-Some.due } ∷ []) c.at.ensures
     ∙ blanks_some book place c.in-Some.due c.args.blanks.now.items (sym c.in-Some.ensures))

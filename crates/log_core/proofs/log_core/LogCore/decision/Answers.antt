@@ -1,9 +1,9 @@
-use Rattle.std.proofs.Common.{◌≡◌, ◌∙◌, ap, [], List, Ok, Option, ℕ, subst, sym, ◌⊎◌, Err}
+use Rattle.std.proofs.Common.{◌≡◌, ◌∙◌, ap, List, Ok, subst, sym, ◌⊎◌, Err}
 use Rattle.std.specs.Prelude.{All}
 use Rattle.std.proofs.lemmas.List.Elements.{All-from_recursion}
 use Rattle.ar_cert.specs.Changes.{Change, IsChange}
 use Rattle.ar_message.specs.declared.lists.Vote.{Vote}
-use Rattle.ar_message.specs.declared.unsigned.Unsigned.{Unsigned}
+use Rattle.ar_message.specs.Filling.{only_ended}
 use Rattle.epoch_log.specs.Ending.{may_end}
 use Rattle.epoch_log.specs.Telling.{votes_in}
 use Rattle.log_core.specs.Checks.{first_refusal}
@@ -67,5 +67,5 @@ returns c =
     let queues : c.keep_if.new.queue.items ≡ queue-if (may_end was.log.past) c.decide.new.self.state was.queue =
     queue-is was d.value.root c.decide.new.self.state c.keep_if.new.queue.items c.is_some.result c.decided_epoch-decided.result c.is_some.ensures c.decided_epoch-decided.ensures c.keep_if.ensures in
     let ends = decision-ends was d c.decide.new.self c.keep_if.new.queue.items c.ended.result checked news queues
-    (c.ended.ensures ∙ ap (λ (e : Option (ℕ × Option (List ℕ))). let u : Unsigned = record { sent = record { messages = []; ended = e }; blanks = [] } in u) c.decided_epoch-decided.ensures) in
+    (c.ended.ensures ∙ ap only_ended c.decided_epoch-decided.ensures) in
     rw (← c.self.view_is) ends
