@@ -14,25 +14,25 @@ use Rattle.log_core.specs.State as log_input
 use Rattle.log_core.specs.Row.{row}
 use Rattle.ar_message.specs.Messages.{message_in}
 use Rattle.authority_core.specs.RollRows.{roll_row}
-use Rattle.lms_tree.specs.Key.{public_of}
+use Rattle.lms_tree.specs.Key.{public_of, type_to_make}
+use Rattle.lm_ots.specs.OtsKind.{type_of_number}
+use Rattle.owner_check.specs.declared.answer.Outcome.{Outcome}
 use Rattle.owner_core.specs.State.{Owner}
 use Rattle.owner_core.specs.declared.refusal.OwnerRefusal.{OwnerRefusal}
-use Rattle.party_keys.specs.Learning.{Announced, learned}
-use Rattle.party_keys.specs.declared.fault.LearnFault.{LearnFault}
-use Rattle.party_keys.specs.declared.learning.Learned.{Learned}
+use Rattle.party_keys.specs.Directory.{is_party_count, is_quorum}
 use Rattle.report_text.specs.declared.happening.Happening.{Happening}
 use Rattle.report_text.specs.declared.happening.Happening.TheVariants.{Dishonest, Draft, Judged, Learnt, Retired, SignRefused, Step}
 use Rattle.report_text.specs.declared.happening.What.{What}
 use Rattle.script_text.specs.declared.line.PolicyWords.{PolicyWords}
 use Rattle.ar_world.specs.Asking.{ask_line, question}
-use Rattle.ar_world.specs.Authorities.{Saying, authority_answers, authority_reply, authority_rolled, authority_rolls, authority_takes, node_behind}
+use Rattle.ar_world.specs.Authorities.{authority_answers, authority_reply, authority_rolled, authority_rolls, authority_takes, node_behind}
 use Rattle.ar_world.specs.Delivering.{Taker, a_log, an_authority, an_owner, can_deliver, deliver_line, delivered_to, delivery, noted, taker_at}
-use Rattle.ar_world.specs.Drafting.{begun, draft_if, drafted, first_certificate, next_certificate, register_line, revoke_line, terms_of, update_line}
-use Rattle.ar_world.specs.Finding.{authority_at, checking_at, draft_at, existing, forger_at, known_asks, log_at, message_at, most_drafts, named, need, owner_at, room, with_owner}
-use Rattle.ar_world.specs.Forging.{composed, forged, inject_line, receiver_in, sign_line, signing_if}
-use Rattle.ar_world.specs.Founding.{authorities_line, dishonest_line, honest_key, key_made, keys_made, leaves_of, logs_line, without}
+use Rattle.ar_world.specs.Drafting.{begun, draft_if, draft_room, drafted, first_certificate, next_certificate, policy_of, register_line, revoke_line, update_line}
+use Rattle.ar_world.specs.Finding.{authority_at, checking_at, draft_at, existing, forger_at, known_asks, log_at, message_at, named, need, owner_at, room, with_owner}
+use Rattle.ar_world.specs.Forging.{composed_in, forged, inject_line, receiver_in, sign_line, signing_if}
+use Rattle.ar_world.specs.Founding.{authorities_line, dishonest_line, genesis_of, honest_key, key_made, keys_line, keys_made, leaves_of, logs_line, without}
 use Rattle.ar_world.specs.Judging.{judge_line, judged_number, said_of}
-use Rattle.ar_world.specs.Learning.{learn_line, learning, learnt_by, note_of, unlearnt_of}
+use Rattle.ar_world.specs.Learning.{learn_line, note_of, refused_by}
 use Rattle.ar_world.specs.Logs.{log_answers, log_rolls, log_steps, next_of}
 use Rattle.ar_world.specs.Ordering.{log_order, roll_line, roll_of}
 use Rattle.ar_world.specs.Owning.{check_line, owner_key, owner_line, owner_party, retire_line}
@@ -45,14 +45,13 @@ use Rattle.ar_world.specs.State.{Drafted, Setup, World, key_for, with_authority,
 use Rattle.ar_world.specs.Submitting.{attached, attached_by, handed, handover_line, object_line, owner_answers, submit_line, submitted}
 use Rattle.ar_world.specs.declared.event.LogEvent.{LogEvent}
 use Rattle.ar_world.specs.declared.fault.WorldFault.{WorldFault}
-use Rattle.ar_world.specs.declared.fault.WorldFault.TheVariants.{Absent, Limit}
+use Rattle.ar_world.specs.declared.fault.WorldFault.TheVariants.{Absent}
 use Rattle.client_rule.specs.Rule.{judgement}
 use Rattle.ar_cert.specs.Certificate.{Certificate, digest_of}
 use Rattle.ar_message.specs.Filling.{filled}
 use Rattle.owner_core.specs.Rows.{Row, attach_row, begin_row, handover_row, object_row, step_row, submit_row}
 use Rattle.party_keys.specs.Seen.{authority_party, log_party}
 use Rattle.report_text.specs.declared.happening.Target.TheVariants.{Nobody}
-use Rattle.report_text.specs.declared.happening.Unlearnt.TheVariants as unlearnt
 use Rattle.report_text.specs.declared.happening.What.TheVariants as whats
 use Rattle.report_text.specs.declared.happening.What.TheVariants.{Handover, Object, Submit, Take}
 use Rattle.ar_world.specs.Codes.{authority_code, log_code, owner_code}
@@ -103,11 +102,11 @@ authority-tells w number node what (Ok answer) =
     does-tells (with_authority w number (record node { state = answer.0 })) (authority_party number) what (filled node.keys answer.1)
 authority-tells w number node what (Err refusal) = quiet w.pool (Step (authority_party number) what (Some (authority_code refusal)) ∷ []) refl
 
-pub authority-takes-tells : (saying : Saying) (w : World) (number : ℕ) (node : AuthorityNode) (what : What) (bytes : List ℕ)
-    → Tells w.pool (authority_takes saying w number node what bytes)
+pub authority-takes-tells : (says : Outcome) (w : World) (number : ℕ) (node : AuthorityNode) (what : What) (bytes : List ℕ)
+    → Tells w.pool (authority_takes says w number node what bytes)
 unfolding authority_takes
-authority-takes-tells saying w number node what bytes =
-    let a = authority_reply saying number node (message_in bytes)
+authority-takes-tells says w number node what bytes =
+    let a = authority_reply says node (message_in bytes)
     in authority-tells w number (node_behind node (message_in bytes) a) what a
 
 rolled-tells : (w : World) (number : ℕ) (node : AuthorityNode) (next : KeyParts) (a : authority_state.Answer) → Tells w.pool (authority_rolled w number node next a)
@@ -182,19 +181,19 @@ delivered-alike who p = by (list_any (is_party who) p.delivered)
     by true = refl
     by false = refl
 
-delivery-tells : (saying : Saying) (w : World) (message : ℕ) (bytes : List ℕ) (number : ℕ) (taker : Taker) → Tells w.pool (delivery saying w message bytes number taker)
-delivery-tells saying w message bytes number (a_log node) = log-steps-tells w number node (Take message) (events.Take message) (log_input.takes bytes)
-delivery-tells saying w message bytes number (an_authority node) = authority-takes-tells saying w number node (Take message) bytes
-delivery-tells saying w message bytes number (an_owner me) = owner-tells w number (Take message) (step_row me bytes)
+delivery-tells : (says : Outcome) (w : World) (message : ℕ) (bytes : List ℕ) (number : ℕ) (taker : Taker) → Tells w.pool (delivery says w message bytes number taker)
+delivery-tells says w message bytes number (a_log node) = log-steps-tells w number node (Take message) (events.Take message) (log_input.takes bytes)
+delivery-tells says w message bytes number (an_authority node) = authority-takes-tells says w number node (Take message) bytes
+delivery-tells says w message bytes number (an_owner me) = owner-tells w number (Take message) (step_row me bytes)
 
-pub deliver-tells : (saying : Saying) (w : World) (message : ℕ) (who : Party) → IfOk (deliver_line saying w message who) (Tells w.pool)
-deliver-tells saying w message who =
-    if-chained (can_deliver w message who) (λ found. Ok (delivery saying (noted w message found.0 who) message found.0.bytes who.number found.1)) (Tells w.pool) (λ found same.
+pub deliver-tells : (says : Outcome) (w : World) (message : ℕ) (who : Party) → IfOk (deliver_line says w message who) (Tells w.pool)
+deliver-tells says w message who =
+    if-chained (can_deliver w message who) (λ found. Ok (delivery says (noted w message found.0 who) message found.0.bytes who.number found.1)) (Tells w.pool) (λ found same.
     tells-from w.pool (noted w message found.0 who).pool
-    (delivery saying (noted w message found.0 who) message found.0.bytes who.number found.1).0.pool
-    (delivery saying (noted w message found.0 who) message found.0.bytes who.number found.1).1
+    (delivery says (noted w message found.0 who) message found.0.bytes who.number found.1).0.pool
+    (delivery says (noted w message found.0 who) message found.0.bytes who.number found.1).1
     (numbered-alike w.pool message found.0 (delivered_to who found.0) (can-found (message_at w message) (taker_at w who) (room w) found same) (delivered-alike who found.0))
-    (delivery-tells saying (noted w message found.0 who) message found.0.bytes who.number found.1))
+    (delivery-tells says (noted w message found.0 who) message found.0.bytes who.number found.1))
 
 -- ---- the setup
 
@@ -202,11 +201,21 @@ made-quiet : (setup : Setup) (r : Role) (numbers : List ℕ) → entries_in (map
 made-quiet setup r [] = refl
 made-quiet setup r (number ∷ numbers) = made-quiet setup r numbers
 
-pub logs-tells : (w : World) (count quorum : ℕ) → Tells w.pool (logs_line w count quorum)
-logs-tells w count quorum = quiet w.pool (keys_made w.setup role.LogServer count) (made-quiet w.setup role.LogServer (range_with_len 0 count))
+pub keys-tells : (w : World) (lms ots : ℕ) → IfOk (keys_line w lms ots) (Tells w.pool)
+keys-tells w lms ots =
+    if-chained (named 1 (type_to_make lms)) _ (Tells w.pool) (λ tree same.
+    if-chained (named 2 (type_of_number ots)) _ (Tells w.pool) (λ one there. quiet w.pool [] refl))
 
-pub authorities-tells : (w : World) (count : ℕ) → Tells w.pool (authorities_line w count)
-authorities-tells w count = quiet w.pool (keys_made w.setup role.Authority count) (made-quiet w.setup role.Authority (range_with_len 0 count))
+pub logs-tells : (w : World) (count quorum : ℕ) → IfOk (logs_line w count quorum) (Tells w.pool)
+logs-tells w count quorum =
+    if-chained (need (is_party_count count) (Absent 1)) _ (Tells w.pool) (λ counted same.
+    if-chained (need (is_quorum quorum count) (Absent 2)) _ (Tells w.pool) (λ bound there.
+    quiet w.pool (keys_made w.setup role.LogServer count) (made-quiet w.setup role.LogServer (range_with_len 0 count))))
+
+pub authorities-tells : (w : World) (count : ℕ) → IfOk (authorities_line w count) (Tells w.pool)
+authorities-tells w count =
+    if-chained (named 1 (genesis_of w.setup count)) _ (Tells w.pool) (λ genesis same.
+    quiet w.pool (keys_made w.setup role.Authority count) (made-quiet w.setup role.Authority (range_with_len 0 count)))
 
 without-pool : (w : World) (r : Role) (number : ℕ) → (without w r number).pool ≡ w.pool
 without-pool w role.LogServer number = refl
@@ -237,21 +246,22 @@ retire-tells w number = if-chained (named 1 (checking_at w number)) _ (Tells w.p
 
 draft-if-tells : (w : World) (owner : Owner) (cert : Certificate) (asks : List ℕ) → IfOk (draft_if w owner cert asks) (Tells w.pool)
 draft-if-tells w owner cert asks =
-    if-chained (need (nat_lt (length w.drafts) most_drafts) Limit) _ (Tells w.pool) (λ few same.
-    if-chained (room w) _ (Tells w.pool) (λ free there. drafted-tells w owner cert asks))
+    if-chained (draft_room w) _ (Tells w.pool) (λ free same. drafted-tells w owner cert asks)
 
 pub register-tells : (w : World) (number : ℕ) (name : List ℕ) (policy : PolicyWords) (asks : List ℕ) → IfOk (register_line w number name policy asks) (Tells w.pool)
 register-tells w number name policy asks =
     if-chained (named 1 (owner_at w number)) _ (Tells w.pool) (λ owner same.
+    if-chained (named 3 (policy_of policy)) _ (Tells w.pool) (λ terms said.
     if-chained (known_asks w 8 asks) _ (Tells w.pool) (λ known there.
-    draft-if-tells w owner (first_certificate owner name (terms_of policy)) asks))
+    draft-if-tells w owner (first_certificate owner name terms) asks)))
 
 pub update-tells : (w : World) (number draft : ℕ) (policy : PolicyWords) (asks : List ℕ) → IfOk (update_line w number draft policy asks) (Tells w.pool)
 update-tells w number draft policy asks =
     if-chained (named 1 (owner_at w number)) _ (Tells w.pool) (λ owner same.
     if-chained (named 2 (draft_at w draft)) _ (Tells w.pool) (λ old there.
+    if-chained (named 3 (policy_of policy)) _ (Tells w.pool) (λ terms said.
     if-chained (known_asks w 8 asks) _ (Tells w.pool) (λ known all.
-    draft-if-tells w owner (next_certificate owner old.cert (terms_of policy) false) asks)))
+    draft-if-tells w owner (next_certificate owner old.cert terms false) asks))))
 
 pub revoke-tells : (w : World) (number draft : ℕ) (asks : List ℕ) → IfOk (revoke_line w number draft asks) (Tells w.pool)
 revoke-tells w number draft asks =
@@ -301,17 +311,10 @@ roll-tells w who = roll-of-tells w who.role who.number
 
 -- ---- messages, clients, dishonest parties
 
-learnt-tells : (w : World) (message : ℕ) (a : Announced) (r : Result Learned LearnFault) → Tells w.pool (learnt_by w message a r)
-learnt-tells w message a (Ok how) = quiet w.pool (Learnt message None ∷ []) refl
-learnt-tells w message a (Err why) = quiet w.pool (Learnt message (Some (unlearnt_of why)) ∷ []) refl
-
-learning-tells : (w : World) (message : ℕ) (note : Option Announced) → Tells w.pool (learning w message note)
-learning-tells w message None = quiet w.pool (Learnt message (Some unlearnt.Form) ∷ []) refl
-learning-tells w message (Some a) = learnt-tells w message a (learned w.clients a)
-
 pub learn-tells : (w : World) (message : ℕ) → IfOk (learn_line w message) (Tells w.pool)
 learn-tells w message =
-    if-chained (named 1 (message_at w message)) _ (Tells w.pool) (λ p same. learning-tells w message (note_of (message_in p.bytes)))
+    if-chained (named 1 (message_at w message)) _ (Tells w.pool) (λ p same.
+    quiet w.pool (Learnt message (refused_by w.clients (note_of (message_in p.bytes))) ∷ []) refl)
 
 pub ask-tells : (w : World) (asked : ℕ) (name : List ℕ) (first second client : ℕ) → IfOk (ask_line w asked name first second client) (Tells w.pool)
 ask-tells w asked name first second client =
@@ -334,11 +337,9 @@ signing-tells false w forger text = quiet w.pool (SignRefused forger.party ∷ [
 pub sign-tells : (w : World) (who : Party) (pieces : List (List ℕ)) → IfOk (sign_line w who pieces) (Tells w.pool)
 sign-tells w who pieces =
     if-chained (named 1 (forger_at w who)) _ (Tells w.pool) (λ forger same.
-    if-chained (composed w pieces) _ (Tells w.pool) (λ text there.
-    if-chained (room w) _ (Tells w.pool) (λ free all. signing-tells (nat_lt forger.next (leaves_of forger.key)) w forger text)))
+    if-chained (composed_in w pieces) _ (Tells w.pool) (λ text there. signing-tells (nat_lt forger.next (leaves_of forger.key)) w forger text))
 
 pub inject-tells : (w : World) (who : Option Party) (pieces : List (List ℕ)) → IfOk (inject_line w who pieces) (Tells w.pool)
 inject-tells w who pieces =
     if-chained (receiver_in w who) _ (Tells w.pool) (λ to same.
-    if-chained (composed w pieces) _ (Tells w.pool) (λ bytes there.
-    if-chained (room w) _ (Tells w.pool) (λ free all. tells-messages w.pool (raw None to bytes ∷ []) [] refl)))
+    if-chained (composed_in w pieces) _ (Tells w.pool) (λ bytes there. tells-messages w.pool (raw None to bytes ∷ []) [] refl))

@@ -2,8 +2,8 @@
 use Rattle.std.proofs.Common.{◌≡◌, ◌≢◌, refl, ap, ◌∙◌, true, false, nat_lt, Option, Some, None, IfOk}
 use Rattle.std.specs.Prelude.{Ok, Err}
 use Rattle.ar_base.specs.Chaining.{◌>>=◌}
+use Rattle.owner_check.specs.declared.answer.Outcome.{Outcome}
 use Rattle.script_text.specs.declared.line.Line.{Line}
-use Rattle.ar_world.specs.Authorities.{Saying}
 use Rattle.ar_world.specs.Finding.{Effect, need}
 use Rattle.ar_world.specs.Founding.{in_order, may_come, place_of}
 use Rattle.ar_world.specs.State.{World}
@@ -38,14 +38,14 @@ early phase.DishonestTold before = absurd cc
 early phase.Running before = absurd cc
 
 -- a step whose line may not come
-step-refused : (saying : Saying) (w : World) (l : Line) (next : Phase) → leads_to l ≡ Some next → may_come w.phase next ≡ false → step saying w l ≡ Err Order
-step-refused saying w l next leads may = ap (λ o. stepped w o (effect saying w l)) leads ∙ refused w next (effect saying w l) may
+step-refused : (says : Outcome) (w : World) (l : Line) (next : Phase) → leads_to l ≡ Some next → may_come w.phase next ≡ false → step says w l ≡ Err Order
+step-refused says w l next leads may = ap (λ o. stepped w o (effect says w l)) leads ∙ refused w next (effect says w l) may
 
-pub setup-first : (saying : Saying) (w : World) (l : Line) (next : Phase) → w.phase ≡ phase.Running → leads_to l ≡ Some next → next ≢ phase.Running → step saying w l ≡ Err Order
-setup-first saying w l next running leads other = step-refused saying w l next leads (ap (λ now. may_come now next) running ∙ late next other)
+pub setup-first : (says : Outcome) (w : World) (l : Line) (next : Phase) → w.phase ≡ phase.Running → leads_to l ≡ Some next → next ≢ phase.Running → step says w l ≡ Err Order
+setup-first says w l next running leads other = step-refused says w l next leads (ap (λ now. may_come now next) running ∙ late next other)
 
-pub others-later : (saying : Saying) (w : World) (l : Line) → nat_lt (place_of w.phase) 4 ≡ true → leads_to l ≡ Some phase.Running → step saying w l ≡ Err Order
-others-later saying w l before leads = step-refused saying w l phase.Running leads (early w.phase before)
+pub others-later : (says : Outcome) (w : World) (l : Line) → nat_lt (place_of w.phase) 4 ≡ true → leads_to l ≡ Some phase.Running → step says w l ≡ Err Order
+others-later says w l before leads = step-refused says w l phase.Running leads (early w.phase before)
 
 -- where a line is taken, its phase is reached
 reached : (w : World) (next : Option Phase) (made : Effect) → IfOk (stepped w next made) (λ m. next ≡ Some m.0.phase)
@@ -53,5 +53,5 @@ reached w None made = tt
 reached w (Some next) made =
     if-chained (need (may_come w.phase next) Order) _ _ (λ comes same. if-chained made _ _ (λ m there. refl))
 
-pub phase-reached : (saying : Saying) (w : World) (l : Line) → IfOk (step saying w l) (λ m. leads_to l ≡ Some m.0.phase)
-phase-reached saying w l = reached w (leads_to l) (effect saying w l)
+pub phase-reached : (says : Outcome) (w : World) (l : Line) → IfOk (step says w l) (λ m. leads_to l ≡ Some m.0.phase)
+phase-reached says w l = reached w (leads_to l) (effect says w l)

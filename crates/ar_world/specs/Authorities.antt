@@ -11,7 +11,7 @@ use Rattle.authority_core.specs.State.{Answer}
 use Rattle.authority_core.specs.declared.entries.Asked.{Asked}
 use Rattle.lms_tree.specs.Key.{public_of}
 use Rattle.lms_tree.specs.KeyParts.{KeyParts}
-use Rattle.owner_check.specs.Answers.{ask_number, outcome_of}
+use Rattle.owner_check.specs.Answers.{outcome_of}
 use Rattle.owner_check.specs.declared.answer.Outcome as said
 use Rattle.owner_check.specs.declared.answer.Outcome.TheVariants.{No}
 use Rattle.party_keys.specs.Seen.{authority_party}
@@ -24,20 +24,15 @@ use Rattle.ar_world.specs.State.{Moved, World, with_authority}
 
 -- ---- what checks answer
 
--- what checks say that tell nothing of themselves: that of the authority with this number, to the ask with this number, from 1
-abbrev pub Saying : Type 0
-Saying = ℕ → ℕ → said.Outcome
-
--- what a check answers: by its book and failing numbers, where it tells them
-abbrev pub check_says : (ℕ → said.Outcome) → CheckParts → Asked → said.Outcome
-check_says saying check asked =
-    unwrap_or (option_map (λ told. outcome_of told check.answers asked.name asked.key) check.told) (saying (ask_number check.answers))
+-- what a check answers: by its book and failing numbers, where it tells them, and else what it says
+abbrev pub check_says : said.Outcome → CheckParts → Asked → said.Outcome
+check_says says check asked = unwrap_or (option_map (λ told. outcome_of told check.answers asked.name asked.key) check.told) says
 
 -- what is answered to a message that asks the check; of one that does not, the row does not look at it
-abbrev pub says_to : (ℕ → said.Outcome) → Option CheckParts → Option Asked → said.Outcome
-says_to saying (Some check) (Some asked) = check_says saying check asked
-says_to saying (Some check) None = No
-says_to saying None asked = No
+abbrev pub says_to : said.Outcome → Option CheckParts → Option Asked → said.Outcome
+says_to says (Some check) (Some asked) = check_says says check asked
+says_to says (Some check) None = No
+says_to says None asked = No
 
 -- a check behind a step that came to this answer
 abbrev pub check_behind : Option Asked → Answer → CheckParts → CheckParts
@@ -52,18 +47,17 @@ authority_answers w number node what (Ok answer) =
 authority_answers w number node what (Err refusal) = refuses (with_authority w number node) (authority_party number) what (authority_code refusal)
 
 -- an authority's answer to a message, by what its check answers
-abbrev pub authority_reply : Saying → ℕ → AuthorityNode → Result Message ℕ → Answer
-authority_reply saying number node message =
-    row node.state (is_none node.check) message (says_to (saying number) node.check (asked_in message))
+abbrev pub authority_reply : said.Outcome → AuthorityNode → Result Message ℕ → Answer
+authority_reply says node message = row node.state (is_none node.check) message (says_to says node.check (asked_in message))
 
 -- an authority with its check behind an answer to a message
 abbrev pub node_behind : AuthorityNode → Result Message ℕ → Answer → AuthorityNode
 node_behind node message answer = record node { check = option_map (check_behind (asked_in message) answer) node.check }
 
--- an authority takes a message
-unfoldable pub authority_takes : Saying → World → ℕ → AuthorityNode → What → List ℕ → Moved
-authority_takes saying w number node what bytes =
-    let answer = authority_reply saying number node (message_in bytes)
+-- an authority takes a message; a check that tells nothing of itself says this
+unfoldable pub authority_takes : said.Outcome → World → ℕ → AuthorityNode → What → List ℕ → Moved
+authority_takes says w number node what bytes =
+    let answer = authority_reply says node (message_in bytes)
     in authority_answers w number (node_behind node (message_in bytes) answer) what answer
 
 -- an authority goes on to its next key, which it has from then on

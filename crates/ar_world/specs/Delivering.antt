@@ -8,13 +8,14 @@ use Rattle.ar_statement.specs.declared.party.Party.{Party}
 use Rattle.ar_statement.specs.declared.party.Role.{Role}
 use Rattle.ar_statement.specs.declared.party.Role.TheVariants as role
 use Rattle.log_core.specs.State.{takes}
+use Rattle.owner_check.specs.declared.answer.Outcome.{Outcome}
 use Rattle.owner_core.specs.Rows.{step_row}
 use Rattle.owner_core.specs.State.{Owner}
 use Rattle.party_keys.specs.Seen.{log_party}
 use Rattle.report_text.specs.declared.happening.Target.{Target}
 use Rattle.report_text.specs.declared.happening.Target.TheVariants.{Logs, Nobody, One}
 use Rattle.report_text.specs.declared.happening.What.TheVariants.{Take}
-use Rattle.ar_world.specs.Authorities.{Saying, authority_takes}
+use Rattle.ar_world.specs.Authorities.{authority_takes}
 use Rattle.ar_world.specs.Finding.{Effect, authority_at, log_at, message_at, named, owner_at, room}
 use Rattle.ar_world.specs.Logs.{log_steps}
 use Rattle.ar_world.specs.Parties.{AuthorityNode, LogNode}
@@ -52,11 +53,11 @@ delivered_to who p = if list_any (is_party who) p.delivered then p else record p
 abbrev pub noted : World → ℕ → Pooled → Party → World
 noted w message p who = record w { pool = set_numbered w.pool message (delivered_to who p) }
 
--- the party's step
-abbrev pub delivery : Saying → World → ℕ → List ℕ → ℕ → Taker → Moved
-delivery saying w message bytes number (a_log node) = log_steps w number node (Take message) (events.Take message) (takes bytes)
-delivery saying w message bytes number (an_authority node) = authority_takes saying w number node (Take message) bytes
-delivery saying w message bytes number (an_owner me) = owner_answers w number (Take message) (step_row me bytes)
+-- the party's step; a check that tells nothing of itself says this
+abbrev pub delivery : Outcome → World → ℕ → List ℕ → ℕ → Taker → Moved
+delivery says w message bytes number (a_log node) = log_steps w number node (Take message) (events.Take message) (takes bytes)
+delivery says w message bytes number (an_authority node) = authority_takes says w number node (Take message) bytes
+delivery says w message bytes number (an_owner me) = owner_answers w number (Take message) (step_row me bytes)
 
 -- word 1 names a message, and word 2 a party that takes deliveries; and there is room for what it may send
 abbrev pub can_deliver : World → ℕ → Party → Result (Pooled × Taker) WorldFault
@@ -66,11 +67,17 @@ can_deliver w message who = do
   free ← room w
   Ok (p, taker)
 
--- the message goes to the party, whoever it is addressed to, and however often it was delivered
-abbrev pub deliver_line : Saying → World → ℕ → Party → Effect
-deliver_line saying w message who = do
+-- whether the line is taken, or why it is refused
+abbrev pub deliverable : World → ℕ → Party → Result (Unit {0}) WorldFault
+deliverable w message who = do
   found ← can_deliver w message who
-  Ok (delivery saying (noted w message found.0 who) message found.0.bytes who.number found.1)
+  Ok tt
+
+-- the message goes to the party, whoever it is addressed to, and however often it was delivered
+abbrev pub deliver_line : Outcome → World → ℕ → Party → Effect
+deliver_line says w message who = do
+  found ← can_deliver w message who
+  Ok (delivery says (noted w message found.0 who) message found.0.bytes who.number found.1)
 
 -- ---- what is due
 

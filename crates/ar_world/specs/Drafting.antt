@@ -1,21 +1,36 @@
 -- The lines that make drafts of certificates: `register`, `update` and `revoke`.
-use Rattle.std.specs.Prelude.{ℕ, ◌+◌, nat_lt, Bool, true, false, List, [], ◌∷◌, ◌++◌, length, replicate, Ok, Err}
+use Rattle.std.specs.Prelude.{ℕ, ◌+◌, nat_le, nat_lt, Bool, true, false, ◌&&◌, if◌then◌else◌, List, [], ◌∷◌, ◌++◌, length, map, replicate, Option, Some, None, Result, Ok, Err}
 use Rattle.ar_base.specs.Chaining.{◌>>=◌}
-use Rattle.ar_cert.specs.Certificate.{Certificate, digest_of}
+use Rattle.ar_cert.specs.Certificate.{Certificate, digest_of, is_wait}
+use Rattle.ar_message.specs.declared.address.Address.TheVariants.{One}
+use Rattle.ar_message.specs.declared.message.Message.TheVariants.{EndorseAsk}
 use Rattle.ar_message.specs.declared.sent.Sent.{Sent}
 use Rattle.cert_policy.specs.Terms.{PolicyTerms}
 use Rattle.lms_tree.specs.Key.{public_of}
-use Rattle.owner_core.specs.Rows.{Row, begin_row}
+use Rattle.owner_core.specs.Rows.{Row, begin_row, letter}
 use Rattle.owner_core.specs.State.{Owner}
+use Rattle.party_keys.specs.Seen.{authority_party}
 use Rattle.report_text.specs.declared.happening.Happening.TheVariants.{Draft}
 use Rattle.script_text.specs.declared.line.PolicyWords.{PolicyWords}
 use Rattle.ar_world.specs.Finding.{Effect, draft_at, known_asks, most_drafts, named, need, owner_at, room, with_owner}
 use Rattle.ar_world.specs.Owning.{owner_party}
+use Rattle.ar_world.specs.Pool.{Pooled, pooled_from}
 use Rattle.ar_world.specs.Sending.{posted}
 use Rattle.ar_world.specs.State.{Moved, World, printing, silent}
+use Rattle.ar_world.specs.declared.fault.WorldFault.{WorldFault}
 use Rattle.ar_world.specs.declared.fault.WorldFault.TheVariants.{Limit}
 
--- the policy that words say
+-- numbers of authorities that ascend strictly, none of which is below `least`
+unfoldable pub ascend : ℕ → List ℕ → Bool
+ascend least [] = true
+ascend least (number ∷ more) = nat_le least number && nat_lt number 65536 && ascend (number + 1) more
+
+-- a wait is one, where there is any
+abbrev pub may_wait : Option ℕ → Bool
+may_wait None = true
+may_wait (Some wait) = is_wait wait
+
+-- the terms that words say
 abbrev pub terms_of : PolicyWords → PolicyTerms
 terms_of words = record {
   threshold = words.threshold;
@@ -25,6 +40,10 @@ terms_of words = record {
   trusted = words.trusted;
   wait = words.wait;
 }
+
+-- the policy that words say, where its authorities ascend and its wait is one
+abbrev pub policy_of : PolicyWords → Option PolicyTerms
+policy_of words = if ascend 0 words.trusted && may_wait words.wait then Some (terms_of words) else None
 
 -- ---- certificates
 
@@ -52,6 +71,11 @@ next_certificate owner old policy revoked = record {
 
 -- ---- a new draft
 
+-- what an owner sends that asks these authorities to endorse a certificate
+abbrev pub asked : Owner → Certificate → List ℕ → List Pooled
+asked owner cert asks =
+    map (pooled_from (owner_party owner.number)) (map (λ authority. letter (One (authority_party authority)) (EndorseAsk owner.number cert)) asks)
+
 -- the owner asks authorities to endorse it
 abbrev pub begun : World → ℕ → Row Sent → Moved
 begun w number (Ok made) = posted (with_owner w made.1) (owner_party number) made.0
@@ -63,29 +87,36 @@ drafted w owner cert asks =
     printing (Draft (length w.drafts + 1) (digest_of cert) ∷ [])
     (begun (record w { drafts = w.drafts ++ record { owner = owner.number; cert = cert } ∷ [] }) owner.number (begin_row owner cert asks))
 
--- the same, where there is room for a draft and for messages
+-- there is room for a draft and for messages
+abbrev pub draft_room : World → Result (Unit {0}) WorldFault
+draft_room w = do
+  few ← need (nat_lt (length w.drafts) most_drafts) Limit
+  room w
+
+-- the draft, where there is room
 abbrev pub draft_if : World → Owner → Certificate → List ℕ → Effect
 draft_if w owner cert asks = do
-  few ← need (nat_lt (length w.drafts) most_drafts) Limit
-  free ← room w
+  free ← draft_room w
   Ok (drafted w owner cert asks)
 
 -- ---- lines
 
--- word 1 names an owner, and word 8 authorities
+-- word 1 names an owner, the words from 3 on say a policy, and word 8 names authorities
 abbrev pub register_line : World → ℕ → List ℕ → PolicyWords → List ℕ → Effect
 register_line w number name policy asks = do
   owner ← named 1 (owner_at w number)
+  terms ← named 3 (policy_of policy)
   known ← known_asks w 8 asks
-  draft_if w owner (first_certificate owner name (terms_of policy)) asks
+  draft_if w owner (first_certificate owner name terms) asks
 
--- word 1 names an owner, word 2 a draft, and word 8 authorities
+-- word 1 names an owner, word 2 a draft, the words from 3 on say a policy, and word 8 names authorities
 abbrev pub update_line : World → ℕ → ℕ → PolicyWords → List ℕ → Effect
 update_line w number draft policy asks = do
   owner ← named 1 (owner_at w number)
   old ← named 2 (draft_at w draft)
+  terms ← named 3 (policy_of policy)
   known ← known_asks w 8 asks
-  draft_if w owner (next_certificate owner old.cert (terms_of policy) false) asks
+  draft_if w owner (next_certificate owner old.cert terms false) asks
 
 -- word 1 names an owner, word 2 a draft, and word 3 authorities
 abbrev pub revoke_line : World → ℕ → ℕ → List ℕ → Effect

@@ -69,9 +69,13 @@ is_there w Client number = true
 abbrev pub existing : World → ℕ → Role → ℕ → Result (Unit {0}) WorldFault
 existing w word role number = need (is_there w role number) (Absent word)
 
+-- there is an authority with this number, which has two bytes
+abbrev pub is_authority : World → ℕ → Bool
+is_authority w number = nat_lt number 65536 && is_there w Authority number
+
 -- the word with this number names authorities alone
 abbrev pub known_asks : World → ℕ → List ℕ → Result (Unit {0}) WorldFault
-known_asks w word asks = need (list_all (is_there w Authority) asks) (Absent word)
+known_asks w word asks = need (list_all (is_authority w) asks) (Absent word)
 
 -- ---- drafts and messages
 

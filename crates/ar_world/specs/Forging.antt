@@ -12,10 +12,10 @@ use Rattle.report_text.specs.declared.happening.Happening.TheVariants.{SignRefus
 use Rattle.report_text.specs.declared.happening.Target.{Target}
 use Rattle.report_text.specs.declared.happening.Target.TheVariants.{Logs, Nobody, One}
 use Rattle.script_text.specs.Forms.{parts_of}
-use Rattle.ar_world.specs.Finding.{Effect, existing, forger_at, message_at, named, need, room, with_forger}
+use Rattle.ar_world.specs.Finding.{Effect, existing, forger_at, named, need, room, with_forger}
 use Rattle.ar_world.specs.Founding.{leaves_of}
 use Rattle.ar_world.specs.Parties.{Forger}
-use Rattle.ar_world.specs.Pool.{raw}
+use Rattle.ar_world.specs.Pool.{Pooled, numbered, raw}
 use Rattle.ar_world.specs.State.{Moved, World, with_messages}
 use Rattle.ar_world.specs.declared.fault.WorldFault.{WorldFault}
 use Rattle.ar_world.specs.declared.fault.WorldFault.TheVariants.{Limit}
@@ -27,8 +27,8 @@ abbrev pub cut_from : List ℕ → ℕ → ℕ → Option (List ℕ)
 cut_from bytes from to = if nat_le from to && nat_le to (length bytes) then Some (take (to - from) (drop from bytes)) else None
 
 -- the bytes of a message between two places
-abbrev pub cut_of : World → ℕ → ℕ → ℕ → Option (List ℕ)
-cut_of w message from to = option_and_then (λ p. cut_from p.bytes from to) (message_at w message)
+abbrev pub cut_of : List Pooled → ℕ → ℕ → ℕ → Option (List ℕ)
+cut_of pool message from to = option_and_then (λ p. cut_from p.bytes from to) (numbered pool message)
 
 -- the three numbers of a slice
 abbrev pub numbers_of : List (List ℕ) → Option (ℕ × ℕ × ℕ)
@@ -36,26 +36,35 @@ numbers_of (message ∷ from ∷ to ∷ []) =
     option_and_then (λ m. option_and_then (λ a. option_map (λ b. (m, a, b)) (number_of to)) (number_of from)) (number_of message)
 numbers_of words = None
 
+-- the bytes of a slice
+abbrev pub slice_of : List Pooled → List ℕ → Option (List ℕ)
+slice_of pool word = option_and_then (λ n. cut_of pool n.0 n.1 n.2) (numbers_of (parts_of 58 word))
+
 -- the bytes of a piece: behind `x` stands their hex, and behind `m` the number of a message with two places in it
-abbrev pub piece_of : World → List ℕ → Option (List ℕ)
-piece_of w [] = None
-piece_of w (mark ∷ word) =
-    if mark == 120 then bytes_of_hex word
-    else option_and_then (λ n. cut_of w n.0 n.1 n.2) (numbers_of (parts_of 58 word))
+abbrev pub piece_of : List Pooled → List ℕ → Option (List ℕ)
+piece_of pool [] = None
+piece_of pool (mark ∷ word) = if mark == 120 then bytes_of_hex word else slice_of pool word
 
 -- the bytes of pieces, the first of which is the word with this number, one behind the other
-abbrev pub composed_from : World → ℕ → List (List ℕ) → Result (List ℕ) WorldFault
-composed_from w word [] = Ok []
-composed_from w word (piece ∷ more) = do
-  bytes ← named word (piece_of w piece)
-  rest ← composed_from w (word + 1) more
+abbrev pub composed_from : List Pooled → ℕ → List (List ℕ) → Result (List ℕ) WorldFault
+composed_from pool word [] = Ok []
+composed_from pool word (piece ∷ more) = do
+  bytes ← named word (piece_of pool piece)
+  rest ← composed_from pool (word + 1) more
   Ok (bytes ++ rest)
 
 -- the composed bytes: each piece is there, and they are no more than a message may have
-abbrev pub composed : World → List (List ℕ) → Result (List ℕ) WorldFault
-composed w pieces = do
-  bytes ← composed_from w 2 pieces
+abbrev pub composed : List Pooled → List (List ℕ) → Result (List ℕ) WorldFault
+composed pool pieces = do
+  bytes ← composed_from pool 2 pieces
   fits ← need (nat_le (length bytes) longest) Limit
+  Ok bytes
+
+-- the same of a line, where there is room for a message
+abbrev pub composed_in : World → List (List ℕ) → Result (List ℕ) WorldFault
+composed_in w pieces = do
+  bytes ← composed w.pool pieces
+  free ← room w
   Ok bytes
 
 -- ---- `sign`
@@ -77,8 +86,7 @@ signing w forger text = signing_if (nat_lt forger.next (leaves_of forger.key)) w
 abbrev pub sign_line : World → Party → List (List ℕ) → Effect
 sign_line w who pieces = do
   forger ← named 1 (forger_at w who)
-  text ← composed w pieces
-  free ← room w
+  text ← composed_in w pieces
   Ok (signing w forger text)
 
 -- ---- `inject`
@@ -94,6 +102,5 @@ receiver_in w (Some who) = do
 abbrev pub inject_line : World → Option Party → List (List ℕ) → Effect
 inject_line w who pieces = do
   to ← receiver_in w who
-  bytes ← composed w pieces
-  free ← room w
+  bytes ← composed_in w pieces
   Ok (with_messages w (raw None to bytes ∷ []))

@@ -1,6 +1,7 @@
 -- The lines of the setup: the secret, the types of keys, the logs, the authorities, and who is dishonest.
-use Rattle.std.specs.Prelude.{◌++◌, ℕ, ◌^◌, ◌==◌, nat_le, nat_lt, Bool, List, [], ◌∷◌, map, slice_get, slice_set, Option, Some, None, option_and_then, unwrap_or, Ok}
+use Rattle.std.specs.Prelude.{◌++◌, ℕ, ◌^◌, ◌==◌, nat_le, nat_lt, Bool, List, [], ◌∷◌, map, slice_get, slice_set, Option, Some, None, option_and_then, Ok}
 use Rattle.std.specs.List.{range_with_len}
+use Rattle.std.specs.Result.{result_ok}
 use Rattle.sha2.specs.Sha256.{sha256}
 use Rattle.ar_base.specs.Chaining.{◌>>=◌}
 use Rattle.ar_base.specs.Ranges.{is_from_to}
@@ -10,6 +11,7 @@ use Rattle.ar_statement.specs.declared.party.Party.{Party}
 use Rattle.ar_statement.specs.declared.party.Role.{Role}
 use Rattle.ar_statement.specs.declared.party.Role.TheVariants.{LogServer, Authority, Owner, Client}
 use Rattle.authority_core.specs.Calls.{fresh_authority}
+use Rattle.authority_core.specs.State.{AuthorityState}
 use Rattle.epoch_log.specs.Calls.{fresh}
 use Rattle.key_roll.specs.Ring.{ring_signature_len}
 use Rattle.lm_ots.specs.OtsKind.{type_of_number}
@@ -17,13 +19,14 @@ use Rattle.lms_tree.specs.Key.{public_of, type_to_make}
 use Rattle.lms_tree.specs.KeyParts.{KeyParts}
 use Rattle.lms_tree.specs.LmsKind.{height_of}
 use Rattle.lms_tree.specs.PublicKey.{key_text}
-use Rattle.party_keys.specs.Directory.{Directory, directory_with}
+use Rattle.log_core.specs.State.{CoreState}
+use Rattle.party_keys.specs.Directory.{Directory, directory_of, is_party_count, is_quorum}
 use Rattle.report_text.specs.declared.happening.Happening.{Happening}
 use Rattle.report_text.specs.declared.happening.Happening.TheVariants.{Dishonest, Made}
 use Rattle.ar_world.specs.Finding.{Effect, authority_at, log_at, named, need}
 use Rattle.ar_world.specs.Parties.{AuthorityNode, CheckParts, LogNode}
 use Rattle.ar_world.specs.State.{Moved, Setup, World, key_for, keys_for, silent}
-use Rattle.ar_world.specs.declared.fault.WorldFault.TheVariants.{Order}
+use Rattle.ar_world.specs.declared.fault.WorldFault.TheVariants.{Absent, Order}
 use Rattle.ar_world.specs.declared.phase.Phase.{Phase}
 use Rattle.ar_world.specs.declared.phase.Phase.TheVariants as phase
 
@@ -48,12 +51,17 @@ may_come now phase.DishonestTold = is_from_to 4 5 (place_of now)
 may_come now phase.Running = nat_le 4 (place_of now)
 may_come now next = nat_lt (place_of now) (place_of next)
 
--- what a line makes that leads to a phase, where it may come
+-- what a line makes that leads to a phase
+abbrev pub led_to : Phase → Effect → Effect
+led_to next effect = do
+  made ← effect
+  Ok (record made.0 { phase = next }, made.1)
+
+-- the same, where it may come
 abbrev pub in_order : World → Phase → Effect → Effect
 in_order w next effect = do
   comes ← need (may_come w.phase next) Order
-  made ← effect
-  Ok (record made.0 { phase = next }, made.1)
+  led_to next effect
 
 -- ---- what is printed of keys
 
@@ -71,42 +79,49 @@ keys_made setup role count = map (λ number. key_made (party role number) (key_f
 abbrev pub secret_line : World → List ℕ → Moved
 secret_line w secret = silent (record w { setup = record w.setup { secret = secret } })
 
--- the keys of logs and authorities have the types with these numbers
-abbrev pub keys_line : World → ℕ → ℕ → Moved
-keys_line w lms ots =
-    silent (record w { setup = record w.setup { lms = unwrap_or (type_to_make lms) w.setup.lms; ots = unwrap_or (type_of_number ots) w.setup.ots } })
+-- words 1 and 2 are the numbers of types of keys, which those of logs and authorities have
+abbrev pub keys_line : World → ℕ → ℕ → Effect
+keys_line w lms ots = do
+  tree ← named 1 (type_to_make lms)
+  one_time ← named 2 (type_of_number ots)
+  Ok (silent (record w { setup = record w.setup { lms = tree; ots = one_time } }))
 
--- so many logs, of which so many are a quorum; their keys are made
-abbrev pub logs_line : World → ℕ → ℕ → Moved
-logs_line w count quorum =
-    (record w { setup = record w.setup { logs = count; quorum = quorum } }, keys_made w.setup LogServer count)
+-- word 1 says how many logs there are, and word 2 how many of them are a quorum; their keys are made
+abbrev pub logs_line : World → ℕ → ℕ → Effect
+logs_line w count quorum = do
+  counted ← need (is_party_count count) (Absent 1)
+  bound ← need (is_quorum quorum count) (Absent 2)
+  Ok (record w { setup = record w.setup { logs = count; quorum = quorum } }, keys_made w.setup LogServer count)
 
 -- ---- `authorities`
 
--- the directory of the first keys, with so many authorities
-abbrev pub genesis_of : Setup → ℕ → Directory
+-- the directory of the first keys, with so many authorities, where there may be so many
+abbrev pub genesis_of : Setup → ℕ → Option Directory
 genesis_of setup count =
-    directory_with (map public_of (keys_for setup LogServer setup.logs)) (map public_of (keys_for setup Authority count)) setup.quorum
+    result_ok (directory_of (map public_of (keys_for setup LogServer setup.logs)) (map public_of (keys_for setup Authority count)) setup.quorum)
 
 -- how many leaves a key has
 abbrev pub leaves_of : KeyParts → ℕ
 leaves_of key = 2 ^ height_of key.lms
 
 -- a log that has done nothing yet
-abbrev pub fresh_log : Directory → ℕ → KeyParts → LogNode
-fresh_log genesis number key = record {
-  core = record { log = fresh number (council_of genesis) (leaves_of key); keys = genesis; queue = []; signature_len = ring_signature_len key };
-  keys = key ∷ [];
-  taken = [];
+abbrev pub fresh_core : Directory → ℕ → KeyParts → CoreState
+fresh_core genesis number key = record {
+  log = fresh number (council_of genesis) (leaves_of key);
+  keys = genesis;
+  queue = [];
+  signature_len = ring_signature_len key;
 }
 
+abbrev pub fresh_log : Directory → ℕ → KeyParts → LogNode
+fresh_log genesis number key = record { core = fresh_core genesis number key; keys = key ∷ []; taken = [] }
+
 -- an authority that has done nothing yet, with its check
+abbrev pub fresh_state : Directory → ℕ → KeyParts → AuthorityState
+fresh_state genesis number key = record { me = number; keys = genesis; signature_len = ring_signature_len key; past = fresh_authority (leaves_of key) }
+
 abbrev pub new_authority : Directory → ℕ → KeyParts → Option CheckParts → AuthorityNode
-new_authority genesis number key check = record {
-  state = record { me = number; keys = genesis; signature_len = ring_signature_len key; past = fresh_authority (leaves_of key) };
-  keys = key ∷ [];
-  check = check;
-}
+new_authority genesis number key check = record { state = fresh_state genesis number key; keys = key ∷ []; check = check }
 
 -- all logs, and so many authorities, which take the checks in order
 abbrev pub fresh_logs : Setup → Directory → List (Option LogNode)
@@ -116,14 +131,25 @@ abbrev pub new_authorities : Setup → Directory → List CheckParts → ℕ →
 new_authorities setup genesis checks count =
     map (λ number. Some (new_authority genesis number (key_for setup Authority number) (slice_get checks number))) (range_with_len 0 count)
 
--- the logs and so many authorities are there, all honest, and know the first keys; so do the clients
-abbrev pub authorities_line : World → ℕ → Moved
-authorities_line w count =
-    let genesis = genesis_of w.setup count
-    in (
-      record w { logs = fresh_logs w.setup genesis; authorities = new_authorities w.setup genesis w.checks count; genesis = genesis; clients = genesis },
-      keys_made w.setup Authority count,
-    )
+-- the logs and so many authorities are there, all honest, and know the first keys, as the clients do; checks that no authority
+-- takes are dropped
+abbrev pub peopled : World → ℕ → Directory → Moved
+peopled w count genesis = (
+  record w {
+    checks = [];
+    logs = fresh_logs w.setup genesis;
+    authorities = new_authorities w.setup genesis w.checks count;
+    genesis = genesis;
+    clients = genesis;
+  },
+  keys_made w.setup Authority count,
+)
+
+-- word 1 says how many authorities there are
+abbrev pub authorities_line : World → ℕ → Effect
+authorities_line w count = do
+  genesis ← named 1 (genesis_of w.setup count)
+  Ok (peopled w count genesis)
 
 -- ---- `dishonest`
 

@@ -7,6 +7,7 @@ use Rattle.ar_statement.specs.declared.party.Role.TheVariants as role
 use Rattle.client_rule.specs.Rule.{judgement}
 use Rattle.client_rule.specs.declared.judgement.Judgement.{Judgement}
 use Rattle.client_rule.specs.declared.judgement.Judgement.TheVariants as judgement
+use Rattle.party_keys.specs.Directory.{Directory}
 use Rattle.report_text.specs.declared.happening.Happening.TheVariants.{Judged}
 use Rattle.report_text.specs.declared.happening.Said.{Said}
 use Rattle.report_text.specs.declared.happening.Said.TheVariants as said
@@ -54,19 +55,27 @@ said_of name (judgement.Accepted certificate digest epoch root) = said.Accepted 
 said_of name (judgement.Absent epoch root) = said.Absent name epoch root
 said_of name (judgement.Refused check) = said.Refused check
 
+-- the client acts on it: there is a certificate, or it is shown that there is none
+abbrev pub is_accepted : Judgement → Bool
+is_accepted (judgement.Accepted certificate digest epoch root) = true
+is_accepted (judgement.Absent epoch root) = true
+is_accepted (judgement.Refused check) = false
+
 -- what was accepted so far, with this where it is
 abbrev pub accepted_with : List Taken → Taken → Judgement → List Taken
-accepted_with judged t (judgement.Accepted certificate digest epoch root) = judged ++ t ∷ []
-accepted_with judged t (judgement.Absent epoch root) = judged ++ t ∷ []
-accepted_with judged t (judgement.Refused check) = judged
+accepted_with judged t verdict = if is_accepted verdict then judged ++ t ∷ [] else judged
 
 -- a client says this of a message
 abbrev pub judging : World → ℕ → Taken → Judgement → Moved
 judging w message t verdict = (record w { judged = accepted_with w.judged t verdict }, Judged message (said_of t.name verdict) ∷ [])
 
--- the client's rule, by the directory that all clients share
+-- the client's rule, by a directory
+abbrev pub verdict_on : Directory → Taken → Judgement
+verdict_on keys t = judgement keys t.name t.bytes t.now t.age
+
+-- by the one that all clients share
 abbrev pub judged_by_rule : World → ℕ → Taken → Moved
-judged_by_rule w message t = judging w message t (judgement w.clients t.name t.bytes t.now t.age)
+judged_by_rule w message t = judging w message t (verdict_on w.clients t)
 
 -- word 1 names a message, or there is one to a client
 abbrev pub judge_line : World → Option ℕ → List ℕ → ℕ → ℕ → Effect

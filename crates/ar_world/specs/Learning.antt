@@ -1,5 +1,5 @@
 -- The line `learn`: the clients' directory takes a message.
-use Rattle.std.specs.Prelude.{ℕ, [], ◌∷◌, Option, Some, None, Result, Ok, Err}
+use Rattle.std.specs.Prelude.{ℕ, List, [], ◌∷◌, Option, Some, None, Result, Ok, Err}
 use Rattle.key_roll.specs.Entry.{roll_text}
 use Rattle.ar_base.specs.Chaining.{◌>>=◌}
 use Rattle.ar_council.specs.Seen.{with_seen}
@@ -8,6 +8,7 @@ use Rattle.ar_message.specs.declared.message.Message.{Message}
 use Rattle.ar_message.specs.declared.message.Message.TheVariants.{RollNote}
 use Rattle.ar_statement.specs.declared.text.SeenText.{SeenText}
 use Rattle.party_keys.specs.Learning.{Announced, after_learning, learned}
+use Rattle.party_keys.specs.Directory.{Directory}
 use Rattle.party_keys.specs.declared.fault.LearnFault.{LearnFault}
 use Rattle.party_keys.specs.declared.fault.LearnFault.TheVariants as fault
 use Rattle.party_keys.specs.declared.learning.Learned.{Learned}
@@ -33,16 +34,37 @@ unlearnt_of (fault.Bad condition) = unlearnt.Bad condition
 unlearnt_of fault.Other = unlearnt.Other
 unlearnt_of fault.Memory = unlearnt.Form
 
--- the key is learnt, now or before, and the Roll is among those that were; or it is not, and all is as it was
-abbrev pub learnt_by : World → ℕ → Announced → Result Learned LearnFault → Moved
-learnt_by w message a (Ok how) =
-    (record w { clients = after_learning w.clients a; learned = with_seen w.learned (roll_seen a) }, Learnt message None ∷ [])
-learnt_by w message a (Err why) = (w, Learnt message (Some (unlearnt_of why)) ∷ [])
+-- ---- what becomes of a note; a message that is none is not learnt
 
--- what becomes of a note; a message that is none is not learnt
+-- the directory behind it
+abbrev pub knows_by : Directory → Option Announced → Directory
+knows_by keys None = keys
+knows_by keys (Some a) = after_learning keys a
+
+-- the Rolls that were learnt, with this one where its key is learnt, now or before
+abbrev pub rolls_with : List SeenText → SeenText → Result Learned LearnFault → List SeenText
+rolls_with rolls roll (Ok how) = with_seen rolls roll
+rolls_with rolls roll (Err why) = rolls
+
+abbrev pub rolls_by : Directory → List SeenText → Option Announced → List SeenText
+rolls_by keys rolls None = rolls
+rolls_by keys rolls (Some a) = rolls_with rolls (roll_seen a) (learned keys a)
+
+-- why it is not learnt, where it is not
+abbrev pub why_not : Result Learned LearnFault → Option Unlearnt
+why_not (Ok how) = None
+why_not (Err why) = Some (unlearnt_of why)
+
+abbrev pub refused_by : Directory → Option Announced → Option Unlearnt
+refused_by keys None = Some unlearnt.Form
+refused_by keys (Some a) = why_not (learned keys a)
+
+-- all of it
 abbrev pub learning : World → ℕ → Option Announced → Moved
-learning w message None = (w, Learnt message (Some unlearnt.Form) ∷ [])
-learning w message (Some a) = learnt_by w message a (learned w.clients a)
+learning w message note = (
+  record w { clients = knows_by w.clients note; learned = rolls_by w.clients w.learned note },
+  Learnt message (refused_by w.clients note) ∷ [],
+)
 
 -- word 1 names a message
 abbrev pub learn_line : World → ℕ → Effect

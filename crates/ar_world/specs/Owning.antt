@@ -1,5 +1,5 @@
 -- The lines on owners, and on what authorities know of them: `owner`, `teach`, `forget` and `retire`.
-use Rattle.std.specs.Prelude.{Some, ℕ, List, [], ◌∷◌, ◌++◌, is_none, None, Ok}
+use Rattle.std.specs.Prelude.{ℕ, List, [], ◌∷◌, ◌++◌, slice_get, Option, Some, None, option_and_then, is_none, Ok}
 use Rattle.std.specs.Option.{option_map}
 use Rattle.ar_base.specs.Chaining.{◌>>=◌}
 use Rattle.ar_statement.specs.Claims.{party}
@@ -16,7 +16,7 @@ use Rattle.owner_core.specs.State.{Owner}
 use Rattle.party_keys.specs.Seeds.{seed_of}
 use Rattle.report_text.specs.declared.happening.Happening.{Happening}
 use Rattle.report_text.specs.declared.happening.Happening.TheVariants.{Forgot, Retired, Taught}
-use Rattle.ar_world.specs.Finding.{Effect, checking_at, named, need, owner_at}
+use Rattle.ar_world.specs.Finding.{Effect, checking_at, named, need, owner_at, with_check}
 use Rattle.ar_world.specs.Founding.{key_made, leaves_of}
 use Rattle.ar_world.specs.Parties.{AuthorityNode, CheckParts}
 use Rattle.ar_world.specs.State.{World, with_authority}
@@ -46,9 +46,17 @@ owner_line w number = do
 
 -- ---- `teach` and `forget`
 
--- an authority whose check tells this of itself from here on, where it told something
+-- a check that tells this of itself from here on, where it told something
+abbrev pub retelling : (Told → Told) → CheckParts → CheckParts
+retelling tells check = record check { told = option_map tells check.told }
+
+-- an authority with such a check
 abbrev pub retold : (Told → Told) → AuthorityNode × CheckParts → AuthorityNode
-retold tells found = record found.0 { check = Some (record found.1 { told = option_map tells found.1.told }) }
+retold tells found = record found.0 { check = Some (retelling tells found.1) }
+
+-- of these authorities, the honest one with this number, where it has not retired
+abbrev pub checking_in : List (Option AuthorityNode) → ℕ → Option (AuthorityNode × CheckParts)
+checking_in authorities number = option_and_then with_check (option_and_then (λ node. node) (slice_get authorities number))
 
 -- the key by which checks know an owner
 abbrev pub known_key : Owner → List ℕ

@@ -6,6 +6,7 @@ use Rattle.lms_tree.specs.KeyParts.{KeyParts}
 use Rattle.log_core.specs.State.{CoreState}
 use Rattle.owner_check.specs.Answers.{Told}
 use Rattle.owner_check.specs.declared.answer.Answer.{Answer}
+use Rattle.ar_world.specs.Pool.{Pooled}
 use Rattle.ar_world.specs.declared.event.LogEvent.{LogEvent}
 
 -- an honest log: where it stands, its key of each generation, and what it did without refusing, in order
@@ -30,3 +31,8 @@ pub record Forger : Type 0 where
   pub party : Party
   pub key : KeyParts
   pub next : ℕ
+
+-- the messages of a pool, and for how many more there is room in memory
+pub record PoolParts : Type 0 where
+  pub messages : List Pooled
+  pub room : ℕ

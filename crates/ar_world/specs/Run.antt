@@ -7,26 +7,28 @@ use Rattle.ar_lines.specs.Refusals.{reason_text}
 use Rattle.ar_lines.specs.declared.refusal.Reason.{Reason}
 use Rattle.ar_lines.specs.declared.refusal.Reason.TheVariants as reason
 use Rattle.ar_statement.specs.declared.party.Party.{Party}
+use Rattle.owner_check.specs.declared.answer.Outcome.{Outcome}
 use Rattle.report_text.specs.Lines.{line_of}
 use Rattle.report_text.specs.declared.happening.Happening.{Happening}
 use Rattle.script_text.specs.Rows.{read_of}
 use Rattle.script_text.specs.declared.line.Line.{Line}
 use Rattle.script_text.specs.declared.line.Line.TheVariants as line
-use Rattle.ar_world.specs.Authorities.{Saying}
 use Rattle.ar_world.specs.Delivering.{deliver_line, next_due}
 use Rattle.ar_world.specs.Finding.{Effect, most_messages}
 use Rattle.ar_world.specs.Parties.{CheckParts}
 use Rattle.ar_world.specs.State.{World, first_world}
 use Rattle.ar_world.specs.Step.{step}
+use Rattle.ar_world.specs.declared.cause.Cause.{Cause}
+use Rattle.ar_world.specs.declared.cause.Cause.TheVariants.{Unread, Untaken}
 use Rattle.ar_world.specs.declared.fault.WorldFault.{WorldFault}
 use Rattle.ar_world.specs.declared.fault.WorldFault.TheVariants as fault
 
--- ---- what lines come to
+-- What checks say that tell nothing of themselves: in the line with this number, in its delivery with this number, from 0. A
+-- line that is no `flush` has one delivery at most, and each asks one check, at most once.
+abbrev pub Saying : Type 0
+Saying = ℕ → ℕ → Outcome
 
--- why a line is refused: it cannot be read, or the world does not take it
-pub data Cause : Type 0 where
-  unread : (why : Reason) → Cause
-  untaken : (why : WorldFault) → Cause
+-- ---- what lines come to
 
 -- the world behind some lines, what was printed, and why the last was refused, if it was
 pub record Progress : Type 0 where
@@ -45,7 +47,7 @@ refusing w cause = record { world = w; said = []; refused = Some cause }
 -- what a line came to
 abbrev pub progress_of : World → Effect → Progress
 progress_of w (Ok made) = record { world = made.0; said = made.1; refused = None }
-progress_of w (Err why) = refusing w (untaken why)
+progress_of w (Err why) = refusing w (Untaken why)
 
 -- what was printed before
 abbrev pub behind : List Happening → Progress → Progress
@@ -62,14 +64,15 @@ then_on p next = then_if p.refused p next
 -- ---- `flush`
 
 -- the delivery that is due, where one is, and what follows
-abbrev pub delivering : Saying → World → Option (ℕ × Party) → (World → Progress) → Progress
-delivering saying w None next = unmoved w
-delivering saying w (Some due) next = then_on (progress_of w (deliver_line saying w due.0 due.1)) next
+abbrev pub delivering : Outcome → World → Option (ℕ × Party) → (World → Progress) → Progress
+delivering says w None next = unmoved w
+delivering says w (Some due) next = then_on (progress_of w (deliver_line says w due.0 due.1)) next
 
--- all deliveries that are due, one after the other, and those that come to be due by them; at most so many
-unfoldable pub flushed : ℕ → Saying → World → Progress
-flushed zero saying w = unmoved w
-flushed (suc more) saying w = delivering saying w (next_due w) (flushed more saying)
+-- all deliveries that are due, one after the other, and those that come to be due by them; at most so many, the first of which
+-- has this number
+unfoldable pub flushed : ℕ → (ℕ → Outcome) → ℕ → World → Progress
+flushed zero says number w = unmoved w
+flushed (suc more) says number w = delivering (says number) w (next_due w) (flushed more says (number + 1))
 
 -- More deliveries than there can be: each message is due to at most 16 parties once, and no step that begins with room in the
 -- pool sends so many as are added here.
@@ -77,30 +80,30 @@ abbrev pub most_deliveries : ℕ
 most_deliveries = 16 * (most_messages + 64)
 
 -- what follows a line: behind a `flush` the deliveries
-abbrev pub follows : Saying → Line → World → Progress
-follows saying line.Flush w = flushed most_deliveries saying w
-follows saying _ w = unmoved w
+abbrev pub follows : (ℕ → Outcome) → Line → World → Progress
+follows says line.Flush w = flushed most_deliveries says 0 w
+follows says _ w = unmoved w
 
 -- ---- lines
 
 -- a line, with what follows it
-abbrev pub taken : Saying → World → Line → Progress
-taken saying w l = then_on (progress_of w (step saying w l)) (follows saying l)
+abbrev pub taken : (ℕ → Outcome) → World → Line → Progress
+taken says w l = then_on (progress_of w (step (says 0) w l)) (follows says l)
 
 -- what a line is read as; one that is skipped does nothing
-abbrev pub taken_as : Saying → World → Result (Option Line) Reason → Progress
-taken_as saying w (Ok (Some l)) = taken saying w l
-taken_as saying w (Ok None) = unmoved w
-taken_as saying w (Err why) = refusing w (unread why)
+abbrev pub taken_as : (ℕ → Outcome) → World → Result (Option Line) Reason → Progress
+taken_as says w (Ok (Some l)) = taken says w l
+taken_as says w (Ok None) = unmoved w
+taken_as says w (Err why) = refusing w (Unread why)
 
 -- the most lines of a script
 abbrev pub most_lines : ℕ
 most_lines = 20000
 
 -- the line with this number
-unfoldable pub line_taken : Saying → ℕ → World → List ℕ → Progress
-line_taken saying number w text =
-    if nat_lt most_lines number then refusing w (unread reason.Limit) else taken_as saying w (read_of text)
+unfoldable pub line_taken : (ℕ → Outcome) → ℕ → World → List ℕ → Progress
+line_taken says number w text =
+    if nat_lt most_lines number then refusing w (Unread reason.Limit) else taken_as says w (read_of text)
 
 -- ---- a script
 
@@ -128,7 +131,7 @@ run_behind number p (Some cause) rest = record { world = p.world; said = p.said;
 unfoldable pub run_from : Saying → ℕ → World → List (List ℕ) → Run
 run_from saying number w [] = record { world = w; said = []; refused = None }
 run_from saying number w (text ∷ texts) =
-    let p = line_taken saying number w text
+    let p = line_taken (saying number) number w text
     in run_behind number p p.refused (λ later. run_from saying (number + 1) later texts)
 
 -- the run of an input, with these checks of owners
@@ -145,8 +148,8 @@ fault_text fault.Limit = codes "limit"
 fault_text fault.Memory = []
 
 abbrev pub cause_text : Cause → List ℕ
-cause_text (unread why) = reason_text why
-cause_text (untaken why) = fault_text why
+cause_text (Unread why) = reason_text why
+cause_text (Untaken why) = fault_text why
 
 -- the line that tells which line is refused, and why
 abbrev pub refused_text : Refused → List ℕ

@@ -1,10 +1,10 @@
 -- What a line of a script makes of a world, and what is printed of it; or why the line is refused.
 use Rattle.std.specs.Prelude.{◌≡◌, ◌⊎◌, List, Option, Some, None, Result, Ok, Err}
+use Rattle.owner_check.specs.declared.answer.Outcome.{Outcome}
 use Rattle.report_text.specs.declared.happening.Happening.{Happening}
 use Rattle.script_text.specs.declared.line.Line.{Line}
 use Rattle.script_text.specs.declared.line.Line.TheVariants as line
 use Rattle.ar_world.specs.Asking.{ask_line}
-use Rattle.ar_world.specs.Authorities.{Saying}
 use Rattle.ar_world.specs.Delivering.{deliver_line}
 use Rattle.ar_world.specs.Drafting.{register_line, revoke_line, update_line}
 use Rattle.ar_world.specs.Finding.{Effect}
@@ -33,35 +33,35 @@ leads_to line.End = None
 leads_to _ = Some phase.Running
 
 -- What each line does where it may come. A `flush` itself does nothing: the deliveries that are due follow it. The lines of a
--- burst are not taken.
-unfoldable pub effect : Saying → World → Line → Effect
-effect saying w (line.Secret secret) = Ok (secret_line w secret)
-effect saying w (line.Keys lms ots) = Ok (keys_line w lms ots)
-effect saying w (line.Logs n q) = Ok (logs_line w n q)
-effect saying w (line.Authorities m) = Ok (authorities_line w m)
-effect saying w (line.Dishonest party) = dishonest_line w party
-effect saying w (line.Owner owner) = owner_line w owner
-effect saying w (line.Teach authority name owner) = teach_line w authority name owner
-effect saying w (line.Forget authority name owner) = forget_line w authority name owner
-effect saying w (line.Retire authority) = retire_line w authority
-effect saying w (line.Register owner name policy asks) = register_line w owner name policy asks
-effect saying w (line.Update owner draft policy asks) = update_line w owner draft policy asks
-effect saying w (line.Revoke owner draft asks) = revoke_line w owner draft asks
-effect saying w (line.Handover owner draft) = handover_line w owner draft
-effect saying w (line.Object owner draft) = object_line w owner draft
-effect saying w (line.Submit draft) = submit_line w draft
-effect saying w (line.Propose log) = propose_line w log
-effect saying w (line.Pass log) = pass_line w log
-effect saying w (line.Roll party) = roll_line w party
-effect saying w (line.Learn message) = learn_line w message
-effect saying w (line.Ask log name first second client) = ask_line w log name first second client
-effect saying w (line.Deliver message party) = deliver_line saying w message party
-effect saying w line.Flush = Ok (silent w)
-effect saying w (line.Judge message name now age) = judge_line w message name now age
-effect saying w (line.Sign party pieces) = sign_line w party pieces
-effect saying w (line.Inject to pieces) = inject_line w to pieces
-effect saying w line.Burst = Err Order
-effect saying w line.End = Err Order
+-- burst are not taken. A check that tells nothing of itself says this, where it is asked.
+unfoldable pub effect : Outcome → World → Line → Effect
+effect says w (line.Secret secret) = Ok (secret_line w secret)
+effect says w (line.Keys lms ots) = keys_line w lms ots
+effect says w (line.Logs n q) = logs_line w n q
+effect says w (line.Authorities m) = authorities_line w m
+effect says w (line.Dishonest party) = dishonest_line w party
+effect says w (line.Owner owner) = owner_line w owner
+effect says w (line.Teach authority name owner) = teach_line w authority name owner
+effect says w (line.Forget authority name owner) = forget_line w authority name owner
+effect says w (line.Retire authority) = retire_line w authority
+effect says w (line.Register owner name policy asks) = register_line w owner name policy asks
+effect says w (line.Update owner draft policy asks) = update_line w owner draft policy asks
+effect says w (line.Revoke owner draft asks) = revoke_line w owner draft asks
+effect says w (line.Handover owner draft) = handover_line w owner draft
+effect says w (line.Object owner draft) = object_line w owner draft
+effect says w (line.Submit draft) = submit_line w draft
+effect says w (line.Propose log) = propose_line w log
+effect says w (line.Pass log) = pass_line w log
+effect says w (line.Roll party) = roll_line w party
+effect says w (line.Learn message) = learn_line w message
+effect says w (line.Ask log name first second client) = ask_line w log name first second client
+effect says w (line.Deliver message party) = deliver_line says w message party
+effect says w line.Flush = Ok (silent w)
+effect says w (line.Judge message name now age) = judge_line w message name now age
+effect says w (line.Sign party pieces) = sign_line w party pieces
+effect says w (line.Inject to pieces) = inject_line w to pieces
+effect says w line.Burst = Err Order
+effect says w line.End = Err Order
 
 -- an effect where its line may come
 abbrev pub stepped : World → Option Phase → Effect → Effect
@@ -69,11 +69,16 @@ stepped w None made = Err Order
 stepped w (Some next) made = in_order w next made
 
 -- the step of a line
-abbrev pub step : Saying → World → Line → Effect
-step saying w l = stepped w (leads_to l) (effect saying w l)
+abbrev pub step : Outcome → World → Line → Effect
+step says w l = stepped w (leads_to l) (effect says w l)
 
 -- A call made of the world what the effect says, and answered what is printed. Or it answered the effect's refusal, or want of
 -- memory, and left the world as it was.
 abbrev pub StepsBy : Result (List Happening) WorldFault → World → World → Effect → Type 0
 StepsBy (Ok said) old new effect = effect ≡ Ok (new, said)
 StepsBy (Err fault) old new effect = (new ≡ old) × ((fault ≡ Memory) ⊎ (effect ≡ Err fault))
+
+-- A call did so for something that a check says which tells nothing of itself.
+pub record StepsBySome (result : Result (List Happening) WorldFault) (old new : World) (effect : Outcome → Effect) : Type 0 where
+  pub says : Outcome
+  pub steps : StepsBy result old new (effect says)

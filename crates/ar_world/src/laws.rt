@@ -1,7 +1,7 @@
 //! Laws on the definitions of `specs/`: each is the contract of a function with an empty body.
 ghost use Rattle.std.specs.Prelude.{◌≡◌, ◌≢◌, ℕ, List, [], nat_lt, true, Some, Err, IfOk};
+ghost use Rattle.owner_check.specs.declared.answer.Outcome.{Outcome};
 ghost use Rattle.script_text.specs.declared.line.Line.{Line};
-ghost use Rattle.ar_world.specs.Authorities.{Saying};
 ghost use Rattle.ar_world.specs.Examples.{no_logs, told_twice, too_early, unread};
 ghost use Rattle.ar_world.specs.Finding.{log_at, message_at};
 ghost use Rattle.ar_world.specs.Founding.{place_of};
@@ -9,7 +9,7 @@ ghost use Rattle.ar_world.specs.Parties.{CheckParts, LogNode};
 ghost use Rattle.ar_world.specs.Pool.{Pooled, entries_from};
 ghost use Rattle.ar_world.specs.Printed.{Tells, entries_in};
 ghost use Rattle.ar_world.specs.Records.{bytes_at, held_of, taken_at};
-ghost use Rattle.ar_world.specs.Run.{lines_of_run, run};
+ghost use Rattle.ar_world.specs.Run.{Saying, lines_of_run, run};
 ghost use Rattle.ar_world.specs.State.{World, first_world, no_directory};
 ghost use Rattle.ar_world.specs.Step.{leads_to, step};
 ghost use Rattle.ar_world.specs.declared.fault.WorldFault.TheVariants.{Order};
@@ -19,15 +19,15 @@ ghost use Rattle.ar_world.specs.declared.phase.Phase.TheVariants.{Running};
 /// Lines of the setup come before all others, and the others behind the authorities. A line that is taken leads to its
 /// phase.
 pub fn the_setup_comes_first()
-    ensures setup { (saying : Saying) (w : World) (l : Line) (next : Phase) → w.phase ≡ Running → leads_to l ≡ Some next → next ≢ Running → step saying w l ≡ Err Order }
-    ensures others { (saying : Saying) (w : World) (l : Line) → nat_lt (place_of w.phase) 4 ≡ true → leads_to l ≡ Some Running → step saying w l ≡ Err Order }
-    ensures reached { (saying : Saying) (w : World) (l : Line) → IfOk (step saying w l) (λ made. leads_to l ≡ Some made.0.phase) }
+    ensures setup { (says : Outcome) (w : World) (l : Line) (next : Phase) → w.phase ≡ Running → leads_to l ≡ Some next → next ≢ Running → step says w l ≡ Err Order }
+    ensures others { (says : Outcome) (w : World) (l : Line) → nat_lt (place_of w.phase) 4 ≡ true → leads_to l ≡ Some Running → step says w l ≡ Err Order }
+    ensures reached { (says : Outcome) (w : World) (l : Line) → IfOk (step says w l) (λ made. leads_to l ≡ Some made.0.phase) }
 {}
 
 /// The pool only grows, and each message is printed once, with its number, where it enters: by each line, and of a whole
 /// script, whose printed messages are those of its pool, numbered from 1.
 pub fn the_printed_messages_are_the_pool()
-    ensures line { (saying : Saying) (w : World) (l : Line) → IfOk (step saying w l) (Tells w.pool) }
+    ensures line { (says : Outcome) (w : World) (l : Line) → IfOk (step says w l) (Tells w.pool) }
     ensures script { (saying : Saying) (checks : List CheckParts) (input : List ℕ) → entries_in (run saying checks input).said ≡ entries_from 1 (run saying checks input).world.pool }
 {}
 

@@ -1,5 +1,7 @@
-//! A world: all parties, the pool of messages, and what a line of a script makes of them. There are definitions and laws;
-//! the code is not there yet.
+//! A world: all parties, the pool of messages, and what a line of a script makes of them.
+//!
+//! `World::step` takes a line, and answers what happens; `World::next_due` and `World::deliver` are the deliveries of a
+//! `flush`. All memory of a step is taken before its first change, so that a line which is refused changes nothing.
 //!
 //! `specs/State.antt` has the world between two lines, as plain data, with the parties (`Parties`) and the pool (`Pool`).
 //! Each group of lines has a file of its own, with what a line makes of the world, what is printed of it, and why it is
@@ -11,11 +13,45 @@
 //! script with all that is written of it.
 #![tactic(auto)]
 
+mod asking;
+mod authorities;
+mod cause;
+mod codes;
+mod composing;
+mod delivering;
+mod drafted;
+mod drafting;
 mod event;
 mod fault;
+mod finding;
+mod first_keys;
+mod forging;
+mod founded;
+mod founding;
+mod joined;
+mod judging;
+mod kinds;
 pub mod laws;
+mod learning;
+mod logs;
+mod named;
+mod order;
+mod ordering;
+mod owning;
+mod parties;
 mod phase;
+mod policies;
+mod pool;
+mod replying;
+mod sending;
+mod setup;
+mod step;
+mod submitting;
+mod world;
 
+pub use cause::Cause;
+pub use drafted::Judged;
 pub use event::LogEvent;
 pub use fault::WorldFault;
 pub use phase::Phase;
+pub use world::World;

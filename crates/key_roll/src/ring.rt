@@ -89,6 +89,16 @@ impl KeyRing {
         }
     }
 
+    /// The key of generation 0; the others are dropped. It takes no memory.
+    pub fn into_first(self) -> LmsKey
+        ensures { slice_get self.keys 0 ≡ Some result }
+    {
+        match self.keys.into_iter().next() {
+            Some(key) => key,
+            None => unreachable!(),
+        }
+    }
+
     /// How many bytes a signature by one of the ring's keys has, with u32 generation in front. All keys have
     /// the same types, so it is the same for each.
     pub fn signature_len(&self) -> usize

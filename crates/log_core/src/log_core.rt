@@ -72,7 +72,7 @@ fn noted(
 impl LogCore {
     /// The log with this number that has done nothing yet, whose keys have so many leaves each and signatures of so many
     /// bytes. It takes no memory.
-    pub(crate) fn new(
+    pub fn new(
         alloc: Global,
         number: u16,
         directory: Directory,

@@ -58,6 +58,13 @@ impl Owner {
         })
     }
 
+    /// The number of the owner.
+    pub fn number(&self) -> u16
+        ensures { result ≡ self.now.number }
+    {
+        self.number
+    }
+
     /// The public key, which is the subject key of the owner's certificates.
     pub fn public(&self) -> LmsPublic
         ensures { result ≡ public_of self.now.key }

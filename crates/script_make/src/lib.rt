@@ -4,7 +4,7 @@
 //! `specs/Script.antt` says what the script is.
 #![tactic(auto)]
 
-pub use making::make;
+pub use making::{last_epoch, make};
 
 mod making;
 mod rows;

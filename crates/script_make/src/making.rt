@@ -24,6 +24,15 @@ fn updates_of(domains: u32) -> u32
     domains.div_ceil(4)
 }
 
+/// The last epoch of the script for so many domains, at most 400: each batch of registrations ends one, and each batch of
+/// updates.
+pub fn last_epoch(domains: u32) -> u32
+    requires { domains ≤ 400 }
+    ensures { result ≡ last_epoch domains }
+{
+    batches_of(domains) + batches_of(updates_of(domains))
+}
+
 /// The lines that end epoch e.
 fn put_ending(alloc: Global, out: &mut Vec<u8>, epoch: u32) -> Result<(), AllocError>
     ensures { Appends (ending epoch) out.old out.new result }
@@ -111,7 +120,7 @@ fn put_questions(alloc: Global, out: &mut Vec<u8>, domains: u32) -> Result<(), A
     requires { domains ≤ 400 }
     ensures { Appends (questions domains) out.old out.new result }
 {
-    let last = batches_of(domains) + batches_of(updates_of(domains));
+    let last = last_epoch(domains);
     let all = Span {
         first: 0,
         count: domains,

@@ -16,7 +16,7 @@ fn first_mark(word: &[u8], mark: u8) -> Option<usize>
 /// The first part of a word, which is cut at these bytes, and what stands behind the byte that ends it, where
 /// there is one.
 #[tactic(auto, using(crate::proofs::Parts::first_part_laws))]
-pub(crate) fn first_part(word: &[u8], mark: u8) -> (&[u8], Option<&[u8]>)
+pub fn first_part(word: &[u8], mark: u8) -> (&[u8], Option<&[u8]>)
     ensures { parts_of mark word.now ≡ result.0.now ∷ parts_behind mark (option_copied result.1) }
 {
     match first_mark(word, mark) {

@@ -1,0 +1,256 @@
+-- A line that is none of the setup leaves the phase as it is; that it came is noted by the step.
+use Rattle.std.proofs.Common.{◌≡◌, ℕ, List, [], ◌∷◌, ◌++◌, refl, sym, ap, ◌∙◌, subst, true, Bool, false, nat_le, Option, Some, None, IfOk}
+use Rattle.std.specs.Prelude.{is_none, Result, Ok, Err, nat_lt, length}
+use Rattle.ar_cert.specs.Certificate.{Certificate, digest_of}
+use Rattle.ar_message.specs.Filling.{filled}
+use Rattle.ar_message.specs.Messages.{message_in}
+use Rattle.ar_message.specs.declared.sent.Sent.{Sent}
+use Rattle.ar_statement.specs.declared.party.Party.{Party}
+use Rattle.ar_statement.specs.declared.party.Role.{Role}
+use Rattle.ar_statement.specs.declared.party.Role.TheVariants as role
+use Rattle.authority_core.specs.RollRows.{roll_row}
+use Rattle.authority_core.specs.State as authority_state
+use Rattle.lms_tree.specs.Key.{public_of}
+use Rattle.lms_tree.specs.KeyParts.{KeyParts}
+use Rattle.log_core.specs.Row.{row}
+use Rattle.log_core.specs.State as log_input
+use Rattle.owner_check.specs.Answers.{Told, forgotten, learnt}
+use Rattle.owner_check.specs.declared.answer.Outcome.{Outcome}
+use Rattle.owner_core.specs.Rows.{Row, attach_row, begin_row, handover_row, object_row, step_row, submit_row}
+use Rattle.owner_core.specs.State.{Owner}
+use Rattle.owner_core.specs.declared.refusal.OwnerRefusal.{OwnerRefusal}
+use Rattle.report_text.specs.declared.happening.Happening.{Happening}
+use Rattle.report_text.specs.declared.happening.Happening.TheVariants.{Forgot, Taught}
+use Rattle.report_text.specs.declared.happening.What.{What}
+use Rattle.report_text.specs.declared.happening.What.TheVariants as whats
+use Rattle.script_text.specs.declared.line.Line.{Line}
+use Rattle.script_text.specs.declared.line.Line.TheVariants as line
+use Rattle.script_text.specs.declared.line.PolicyWords.{PolicyWords}
+use Rattle.ar_world.specs.Asking.{ask_line}
+use Rattle.ar_world.specs.Authorities.{authority_answers, authority_reply, authority_rolled, authority_rolls, authority_takes, node_behind}
+use Rattle.ar_world.specs.Delivering.{Taker, a_log, an_authority, an_owner, can_deliver, deliver_line, delivery, noted}
+use Rattle.ar_world.specs.Drafting.{begun, draft_if, draft_room, drafted, first_certificate, next_certificate, policy_of, register_line, revoke_line, update_line}
+use Rattle.ar_world.specs.Finding.{authority_at, checking_at, draft_at, existing, forger_at, known_asks, log_at, message_at, named, need, owner_at, room, with_owner}
+use Rattle.ar_world.specs.Forging.{composed_in, inject_line, receiver_in, sign_line, signing, signing_if}
+use Rattle.ar_world.specs.Founding.{leaves_of, place_of}
+use Rattle.ar_world.specs.Judging.{judge_line, judged_number}
+use Rattle.ar_world.specs.Learning.{learn_line}
+use Rattle.ar_world.specs.Logs.{log_answers, log_rolls, log_steps, next_of}
+use Rattle.ar_world.specs.Ordering.{log_order, roll_line, roll_of}
+use Rattle.ar_world.specs.Owning.{check_line, owner_line, retire_line}
+use Rattle.ar_world.specs.Parties.{AuthorityNode, Forger, LogNode}
+use Rattle.ar_world.specs.State.{Drafted, Moved, World}
+use Rattle.ar_world.specs.Step.{effect, leads_to}
+use Rattle.ar_world.specs.Submitting.{attached, attached_by, handed, handover_line, object_line, owner_answers, submit_line, submitted}
+use Rattle.ar_world.specs.declared.event.LogEvent.{LogEvent}
+use Rattle.ar_world.specs.declared.event.LogEvent.TheVariants as events
+use Rattle.ar_world.specs.declared.fault.WorldFault.TheVariants.{Absent, Limit}
+use Rattle.ar_world.specs.declared.phase.Phase.TheVariants as phase
+use Rattle.ar_world.proofs.Effects.{if-chained}
+
+-- the phase is the same behind it
+abbrev Stays : World → Moved → Type 0
+Stays w made = made.0.phase ≡ w.phase
+
+-- ---- parties
+
+log-stays : (w : World) (number : ℕ) (node : LogNode) (keys : List KeyParts) (what : What) (event : LogEvent) (a : log_input.Answer)
+    → Stays w (log_answers w number node keys what event a)
+log-stays w number node keys what event (Ok reply) = refl
+log-stays w number node keys what event (Err refusal) = refl
+
+steps-stay : (w : World) (number : ℕ) (node : LogNode) (what : What) (event : LogEvent) (input : log_input.Input)
+    → Stays w (log_steps w number node what event input)
+unfolding log_steps
+steps-stay w number node what event input = log-stays w number node node.keys what event (row node.core input)
+
+rolls-stay : (w : World) (number : ℕ) (node : LogNode) (next : KeyParts) → Stays w (log_rolls w number node next)
+unfolding log_rolls
+rolls-stay w number node next =
+    log-stays w number node (node.keys ++ next ∷ []) whats.Roll events.Roll (row node.core (log_input.rolls (public_of next)))
+
+authority-stays : (w : World) (number : ℕ) (node : AuthorityNode) (what : What) (a : authority_state.Answer) → Stays w (authority_answers w number node what a)
+authority-stays w number node what (Ok answer) = refl
+authority-stays w number node what (Err refusal) = refl
+
+takes-stay : (says : Outcome) (w : World) (number : ℕ) (node : AuthorityNode) (what : What) (bytes : List ℕ)
+    → Stays w (authority_takes says w number node what bytes)
+unfolding authority_takes
+takes-stay says w number node what bytes =
+    let a = authority_reply says node (message_in bytes)
+    in authority-stays w number (node_behind node (message_in bytes) a) what a
+
+rolled-stays : (w : World) (number : ℕ) (node : AuthorityNode) (next : KeyParts) (a : authority_state.Answer) → Stays w (authority_rolled w number node next a)
+rolled-stays w number node next (Ok answer) = refl
+rolled-stays w number node next (Err refusal) = refl
+
+authority-rolls-stay : (w : World) (number : ℕ) (node : AuthorityNode) (next : KeyParts) → Stays w (authority_rolls w number node next)
+unfolding authority_rolls
+authority-rolls-stay w number node next = rolled-stays w number node next (roll_row node.state (public_of next))
+
+owner-stays : (w : World) (number : ℕ) (what : What) (r : Row Sent) → Stays w (owner_answers w number what r)
+owner-stays w number what (Ok made) = refl
+owner-stays w number what (Err refusal) = refl
+
+submitted-stays : (w : World) (number : ℕ) (what : What) (r : Result Sent OwnerRefusal) → Stays w (submitted w number what r)
+submitted-stays w number what (Ok sent) = refl
+submitted-stays w number what (Err refusal) = refl
+
+attached-stays : (w : World) (r : Row (Unit {0})) → (attached w r).phase ≡ w.phase
+attached-stays w (Ok made) = refl
+attached-stays w (Err refusal) = refl
+
+attached-by-stays : (w : World) (o : Option Owner) (digest handover : List ℕ) → (attached_by w o digest handover).phase ≡ w.phase
+attached-by-stays w None digest handover = refl
+attached-by-stays w (Some owner) digest handover = attached-stays w (attach_row owner digest handover)
+
+handed-stays : (w : World) (number draft : ℕ) (found : Drafted) (r : Row (List ℕ)) → Stays w (handed w number draft found r)
+handed-stays w number draft found (Ok made) =
+    let signed = with_owner w made.1
+    in attached-by-stays signed (owner_at signed found.owner) (digest_of found.cert) made.0
+handed-stays w number draft found (Err refusal) = refl
+
+begun-stays : (w : World) (number : ℕ) (r : Row Sent) → Stays w (begun w number r)
+begun-stays w number (Ok made) = refl
+begun-stays w number (Err refusal) = refl
+
+signing-stays : (b : Bool) (w : World) (forger : Forger) (text : List ℕ) → Stays w (signing_if b w forger text)
+signing-stays true w forger text = refl
+signing-stays false w forger text = refl
+
+delivery-stays : (says : Outcome) (w : World) (message : ℕ) (bytes : List ℕ) (number : ℕ) (taker : Taker) → Stays w (delivery says w message bytes number taker)
+delivery-stays says w message bytes number (a_log node) = steps-stay w number node (whats.Take message) (events.Take message) (log_input.takes bytes)
+delivery-stays says w message bytes number (an_authority node) = takes-stay says w number node (whats.Take message) bytes
+delivery-stays says w message bytes number (an_owner me) = owner-stays w number (whats.Take message) (step_row me bytes)
+
+-- ---- lines
+
+draft-stays : (w : World) (owner : Owner) (cert : Certificate) (asks : List ℕ) → IfOk (draft_if w owner cert asks) (Stays w)
+draft-stays w owner cert asks =
+    if-chained (draft_room w) _ (Stays w) (λ free same.
+    begun-stays (record w { drafts = w.drafts ++ record { owner = owner.number; cert = cert } ∷ [] }) owner.number (begin_row owner cert asks))
+
+register-stays : (w : World) (number : ℕ) (name : List ℕ) (policy : PolicyWords) (asks : List ℕ) → IfOk (register_line w number name policy asks) (Stays w)
+register-stays w number name policy asks =
+    if-chained (named 1 (owner_at w number)) _ (Stays w) (λ owner same.
+    if-chained (named 3 (policy_of policy)) _ (Stays w) (λ terms said.
+    if-chained (known_asks w 8 asks) _ (Stays w) (λ known there.
+    draft-stays w owner (first_certificate owner name terms) asks)))
+
+update-stays : (w : World) (number draft : ℕ) (policy : PolicyWords) (asks : List ℕ) → IfOk (update_line w number draft policy asks) (Stays w)
+update-stays w number draft policy asks =
+    if-chained (named 1 (owner_at w number)) _ (Stays w) (λ owner same.
+    if-chained (named 2 (draft_at w draft)) _ (Stays w) (λ old there.
+    if-chained (named 3 (policy_of policy)) _ (Stays w) (λ terms said.
+    if-chained (known_asks w 8 asks) _ (Stays w) (λ known all.
+    draft-stays w owner (next_certificate owner old.cert terms false) asks))))
+
+revoke-stays : (w : World) (number draft : ℕ) (asks : List ℕ) → IfOk (revoke_line w number draft asks) (Stays w)
+revoke-stays w number draft asks =
+    if-chained (named 1 (owner_at w number)) _ (Stays w) (λ owner same.
+    if-chained (named 2 (draft_at w draft)) _ (Stays w) (λ old there.
+    if-chained (known_asks w 3 asks) _ (Stays w) (λ known all.
+    draft-stays w owner (next_certificate owner old.cert old.cert.policy true) asks)))
+
+handover-stays : (w : World) (number draft : ℕ) → IfOk (handover_line w number draft) (Stays w)
+handover-stays w number draft =
+    if-chained (named 1 (owner_at w number)) _ (Stays w) (λ owner same.
+    if-chained (named 2 (draft_at w draft)) _ (Stays w) (λ found there.
+    handed-stays w number draft found (handover_row owner (digest_of found.cert))))
+
+object-stays : (w : World) (number draft : ℕ) → IfOk (object_line w number draft) (Stays w)
+object-stays w number draft =
+    if-chained (named 1 (owner_at w number)) _ (Stays w) (λ owner same.
+    if-chained (named 2 (draft_at w draft)) _ (Stays w) (λ found there.
+    if-chained (room w) _ (Stays w) (λ free more. owner-stays w number (whats.Object draft) (object_row owner found.cert))))
+
+submit-stays : (w : World) (draft : ℕ) → IfOk (submit_line w draft) (Stays w)
+submit-stays w draft =
+    if-chained (named 1 (draft_at w draft)) _ (Stays w) (λ found same.
+    if-chained (named 1 (owner_at w found.owner)) _ (Stays w) (λ owner there.
+    if-chained (room w) _ (Stays w) (λ free more. submitted-stays w found.owner (whats.Submit draft) (submit_row owner (digest_of found.cert)))))
+
+check-stays : (w : World) (authority owner : ℕ) (tells : List ℕ → Told → Told) (said : Happening) → IfOk (check_line w authority owner tells said) (Stays w)
+check-stays w authority owner tells said =
+    if-chained (named 1 (checking_at w authority)) _ (Stays w) (λ found same.
+    if-chained (named 3 (owner_at w owner)) _ (Stays w) (λ holder there. refl))
+
+order-stays : (w : World) (number : ℕ) (what : What) (event : LogEvent) (input : log_input.Input) → IfOk (log_order w number what event input) (Stays w)
+order-stays w number what event input =
+    if-chained (named 1 (log_at w number)) _ (Stays w) (λ node same.
+    if-chained (room w) _ (Stays w) (λ free there. steps-stay w number node what event input))
+
+roll-stays : (w : World) (r : Role) (number : ℕ) → IfOk (roll_of w r number) (Stays w)
+roll-stays w role.LogServer number =
+    if-chained (named 1 (log_at w number)) _ (Stays w) (λ node same.
+    if-chained (named 1 (next_of node.keys)) _ (Stays w) (λ next there.
+    if-chained (room w) _ (Stays w) (λ free more. rolls-stay w number node next)))
+roll-stays w role.Authority number =
+    if-chained (named 1 (authority_at w number)) _ (Stays w) (λ node same.
+    if-chained (named 1 (next_of node.keys)) _ (Stays w) (λ next there.
+    if-chained (room w) _ (Stays w) (λ free more. authority-rolls-stay w number node next)))
+roll-stays w role.Owner number = tt
+roll-stays w role.Client number = tt
+
+ask-stays : (w : World) (log : ℕ) (name : List ℕ) (first second client : ℕ) → IfOk (ask_line w log name first second client) (Stays w)
+ask-stays w log name first second client =
+    if-chained (existing w 1 role.LogServer log) _ (Stays w) (λ asked same.
+    if-chained (existing w 3 role.Authority first) _ (Stays w) (λ one there.
+    if-chained (existing w 4 role.Authority second) _ (Stays w) (λ other too.
+    if-chained (room w) _ (Stays w) (λ free more. refl))))
+
+judge-stays : (w : World) (which : Option ℕ) (name : List ℕ) (now age : ℕ) → IfOk (judge_line w which name now age) (Stays w)
+judge-stays w which name now age =
+    if-chained (named 1 (judged_number w which)) _ (Stays w) (λ message same.
+    if-chained (named 1 (message_at w message)) _ (Stays w) (λ p there. refl))
+
+sign-stays : (w : World) (who : Party) (pieces : List (List ℕ)) → IfOk (sign_line w who pieces) (Stays w)
+sign-stays w who pieces =
+    if-chained (named 1 (forger_at w who)) _ (Stays w) (λ forger same.
+    if-chained (composed_in w pieces) _ (Stays w) (λ text there. signing-stays (nat_lt forger.next (leaves_of forger.key)) w forger text))
+
+inject-stays : (w : World) (who : Option Party) (pieces : List (List ℕ)) → IfOk (inject_line w who pieces) (Stays w)
+inject-stays w who pieces =
+    if-chained (receiver_in w who) _ (Stays w) (λ to same.
+    if-chained (composed_in w pieces) _ (Stays w) (λ bytes there. refl))
+
+effect-stays : (says : Outcome) (w : World) (l : Line) → leads_to l ≡ Some phase.Running → IfOk (effect says w l) (Stays w)
+unfolding effect
+effect-stays says w (line.Secret secret) leads = absurd cc
+effect-stays says w (line.Keys lms ots) leads = absurd cc
+effect-stays says w (line.Logs n q) leads = absurd cc
+effect-stays says w (line.Authorities m) leads = absurd cc
+effect-stays says w (line.Dishonest party) leads = absurd cc
+effect-stays says w (line.Owner owner) leads = if-chained (need (is_none (owner_at w owner)) (Absent 1)) _ (Stays w) (λ free same. refl)
+effect-stays says w (line.Teach authority name owner) leads = check-stays w authority owner (learnt name) (Taught authority)
+effect-stays says w (line.Forget authority name owner) leads = check-stays w authority owner (forgotten name) (Forgot authority)
+effect-stays says w (line.Retire authority) leads = if-chained (named 1 (checking_at w authority)) _ (Stays w) (λ found same. refl)
+effect-stays says w (line.Register owner name policy asks) leads = register-stays w owner name policy asks
+effect-stays says w (line.Update owner draft policy asks) leads = update-stays w owner draft policy asks
+effect-stays says w (line.Revoke owner draft asks) leads = revoke-stays w owner draft asks
+effect-stays says w (line.Handover owner draft) leads = handover-stays w owner draft
+effect-stays says w (line.Object owner draft) leads = object-stays w owner draft
+effect-stays says w (line.Submit draft) leads = submit-stays w draft
+effect-stays says w (line.Propose log) leads = order-stays w log whats.Propose events.Propose log_input.proposes
+effect-stays says w (line.Pass log) leads = order-stays w log whats.Pass events.Pass log_input.passes
+effect-stays says w (line.Roll party) leads = roll-stays w party.role party.number
+effect-stays says w (line.Learn message) leads = if-chained (named 1 (message_at w message)) _ (Stays w) (λ p same. refl)
+effect-stays says w (line.Ask log name first second client) leads = ask-stays w log name first second client
+effect-stays says w (line.Deliver message party) leads =
+    if-chained (can_deliver w message party) _ (Stays w) (λ found same.
+    delivery-stays says (noted w message found.0 party) message found.0.bytes party.number found.1)
+effect-stays says w line.Flush leads = refl
+effect-stays says w (line.Judge message name now age) leads = judge-stays w message name now age
+effect-stays says w (line.Sign party pieces) leads = sign-stays w party pieces
+effect-stays says w (line.Inject to pieces) leads = inject-stays w to pieces
+effect-stays says w line.Burst leads = tt
+effect-stays says w line.End leads = tt
+
+-- authorities that are there stay there
+pub peopled-still : (says : Outcome) (w v : World) (said : List Happening) (l : Line) → leads_to l ≡ Some phase.Running
+    → effect says w l ≡ Ok (v, said) → nat_le 4 (place_of w.phase) ≡ true → nat_le 4 (place_of v.phase) ≡ true
+peopled-still says w v said l leads is there =
+    let same : v.phase ≡ w.phase = subst (λ e. IfOk e (Stays w)) is (effect-stays says w l leads)
+    in ap (λ p. nat_le 4 (place_of p)) same ∙ there
+
+pub ruleset still_peopled = (peopled-still)

@@ -1,0 +1,15 @@
+use Rattle.std.proofs.Common.{sym, ap, subst}
+use Rattle.std.specs.Prelude.{Ok}
+use Rattle.ar_world.specs.Step.{StepsBySome, effect}
+use Rattle.ar_world.proofs.Stepping.{deliver-some, flush-some}
+use Rattle.ar_world.proofs.world.World.later_line.Goals as goal
+
+pub returns-in-Deliver : goal.returns-in-Deliver
+returns-in-Deliver g c =
+    deliver-some c.deliver_line.result c.args.self.now c.deliver_line.new.self c.args.line.now c.in-Deliver.message c.in-Deliver.party c.in-Deliver.is
+    c.deliver_line.ensures
+
+pub returns-in-Flush : goal.returns-in-Flush
+returns-in-Flush g c =
+    subst (λ l. StepsBySome (Ok c.new.result) c.args.self.now c.args.self.now (λ says. effect says c.args.self.now l)) (sym c.in-Flush.is)
+    (flush-some (Ok c.new.result) c.args.self.now (ap Ok c.new.ensures))

@@ -1,0 +1,11 @@
+use crate::fault::WorldFault;
+use ar_lines::Reason;
+
+/// Why a line of a script is refused.
+#[derive(Clone, Copy, Debug, PartialEq, Eq)]
+pub enum Cause {
+    /// It cannot be read.
+    Unread(Reason),
+    /// The world does not take it.
+    Untaken(WorldFault),
+}

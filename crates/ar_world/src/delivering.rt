@@ -1,0 +1,394 @@
+//! Deliveries: the line `deliver`, and which delivery is the next of a `flush`.
+
+ghost use Rattle.std.specs.Prelude.{◌≡◌, ◌&&◌, not, true, is_some, length, find, IfOk, OnOk, Err};
+ghost use Rattle.ar_statement.specs.declared.party.Role.TheVariants as roles;
+ghost use Rattle.owner_core.specs.Rows.{step_row};
+ghost use Rattle.party_keys.specs.Seen.{authority_party, log_party};
+ghost use Rattle.report_text.specs.declared.happening.Target.TheVariants as target;
+ghost use Rattle.ar_world.specs.Acting.{ActsBy, ActsBySome, ChangesAt, ChangesThere, RepliesBy, authority_delivered, honest_in, log_delivered, owner_delivered, owner_does};
+ghost use Rattle.ar_world.specs.Delivering.{addressed, deliver_line, deliverable, due_from, due_to, is_due, is_sender, next_due, taker_at};
+ghost use Rattle.ar_world.specs.Owning.{owner_party};
+ghost use Rattle.ar_world.specs.Step.{StepsBySome};
+
+use crate::codes::owner_code;
+use crate::event::LogEvent;
+use crate::fault::WorldFault;
+use crate::finding::has_owner;
+use crate::parties::{HonestAuthority, HonestLog};
+use crate::pool::{Pool, Pooled, has_party, is_party};
+use crate::replying::{MOST_SENT, Reply, tell};
+use crate::sending::reserve;
+use crate::world::World;
+use ar_base::Items;
+use ar_statement::{Party, Role};
+use log_core::LogInput;
+use owner_check::OwnerCheck;
+use owner_core::laws::so_many_are_sent;
+use owner_core::{Owner, OwnerRefusal};
+use report_text::{Happening, Target, What};
+use std::alloc::Global;
+
+// ---- what parties make of a message
+
+/// An owner takes a message. It sends nothing.
+fn owner_replies(alloc: Global, owner: &mut Owner, bytes: &[u8]) -> Result<Reply, WorldFault>
+    ensures row { RepliesBy result owner.old owner.new (owner_does owner.old (step_row owner.old bytes.now)) }
+    ensures few { IfOk result (λ reply. IfOk reply (λ sent. length sent.messages ≡ 0)) }
+{
+    so_many_are_sent();
+    match owner.step(alloc, bytes) {
+        Ok(sent) => Ok(Ok(sent)),
+        Err(OwnerRefusal::Memory) => Err(WorldFault::Memory),
+        Err(refusal) => Ok(Err(owner_code(refusal))),
+    }
+}
+
+/// A log takes a message of the pool.
+#[tactic(auto, unfolding(crate::specs::Acting::log_delivered))]
+fn log_takes(
+    alloc: Global,
+    pool: &mut Pool,
+    node: &mut HonestLog,
+    message: u64,
+    number: u16,
+) -> Result<Items<Happening>, WorldFault>
+    ensures { ActsBy result node.old node.new pool.old.messages pool.new.messages (log_delivered pool.old.messages message number node.old) }
+{
+    let who = Role::LogServer.party(number);
+    let said = reserve(alloc, pool, MOST_SENT)?;
+    let delivered = pool.delivered_by(alloc, message, who)?;
+    let input = LogInput::Take(pool.bytes(message));
+    let reply = node.step(alloc, LogEvent::Take(message), &input)?;
+    pool.note_delivered(message, delivered);
+    Ok(tell(alloc, pool, said, who, What::Take(message), reply))
+}
+
+/// An authority takes a message of the pool.
+#[tactic(auto, unfolding(crate::specs::Acting::authority_delivered))]
+fn authority_takes<C: OwnerCheck>(
+    alloc: Global,
+    pool: &mut Pool,
+    node: &mut HonestAuthority<C>,
+    message: u64,
+    number: u16,
+) -> Result<Items<Happening>, WorldFault>
+    ensures { ActsBySome result node.old node.new pool.old.messages pool.new.messages
+        (λ says. authority_delivered says pool.old.messages message number node.old) }
+{
+    let who = Role::Authority.party(number);
+    let said = reserve(alloc, pool, MOST_SENT)?;
+    let delivered = pool.delivered_by(alloc, message, who)?;
+    let reply = node.take(alloc, pool.bytes(message))?;
+    pool.note_delivered(message, delivered);
+    Ok(tell(alloc, pool, said, who, What::Take(message), reply))
+}
+
+/// An owner takes a message of the pool.
+#[tactic(auto, unfolding(crate::specs::Acting::owner_delivered))]
+fn owner_takes(
+    alloc: Global,
+    pool: &mut Pool,
+    owner: &mut Owner,
+    message: u64,
+    number: u16,
+) -> Result<Items<Happening>, WorldFault>
+    ensures { ActsBy result owner.old owner.new pool.old.messages pool.new.messages (owner_delivered pool.old.messages message number owner.old) }
+{
+    let who = Role::Owner.party(number);
+    let said = reserve(alloc, pool, MOST_SENT)?;
+    let delivered = pool.delivered_by(alloc, message, who)?;
+    let reply = owner_replies(alloc, owner, pool.bytes(message))?;
+    pool.note_delivered(message, delivered);
+    Ok(tell(alloc, pool, said, who, What::Take(message), reply))
+}
+
+// ---- parties in their places
+
+/// A log that is honest takes a message of the pool.
+fn log_there_takes(
+    alloc: Global,
+    pool: &mut Pool,
+    slot: &mut Option<HonestLog>,
+    message: u64,
+    number: u16,
+) -> Result<Items<Happening>, WorldFault>
+    requires { is_some slot.old ≡ true }
+    ensures { ChangesThere slot.old slot.new (λ was is. ActsBy result was is pool.old.messages pool.new.messages
+        (log_delivered pool.old.messages message number was)) }
+{
+    match slot {
+        Some(node) => log_takes(alloc, pool, node, message, number),
+        None => unreachable!(),
+    }
+}
+
+/// The log with a number, which is honest, takes a message of the pool.
+#[tactic(auto, using(crate::proofs::Seats::seats))]
+fn logs_take(
+    alloc: Global,
+    pool: &mut Pool,
+    logs: &mut Vec<Option<HonestLog>>,
+    message: u64,
+    number: u16,
+) -> Result<Items<Happening>, WorldFault>
+    requires { is_some (honest_in logs.old.items number) ≡ true }
+    ensures { ChangesAt logs.old.items logs.new.items number (λ was is. ActsBy result was is pool.old.messages pool.new.messages
+        (log_delivered pool.old.messages message number was)) }
+{
+    log_there_takes(alloc, pool, &mut logs[number as usize], message, number)
+}
+
+/// An authority that is honest takes a message of the pool.
+fn authority_there_takes<C: OwnerCheck>(
+    alloc: Global,
+    pool: &mut Pool,
+    slot: &mut Option<HonestAuthority<C>>,
+    message: u64,
+    number: u16,
+) -> Result<Items<Happening>, WorldFault>
+    requires { is_some slot.old ≡ true }
+    ensures { ChangesThere slot.old slot.new (λ was is. ActsBySome result was is pool.old.messages pool.new.messages
+        (λ says. authority_delivered says pool.old.messages message number was)) }
+{
+    match slot {
+        Some(node) => authority_takes(alloc, pool, node, message, number),
+        None => unreachable!(),
+    }
+}
+
+/// The authority with a number, which is honest, takes a message of the pool.
+#[tactic(auto, using(crate::proofs::Seats::seats))]
+fn authorities_take<C: OwnerCheck>(
+    alloc: Global,
+    pool: &mut Pool,
+    authorities: &mut Vec<Option<HonestAuthority<C>>>,
+    message: u64,
+    number: u16,
+) -> Result<Items<Happening>, WorldFault>
+    requires { is_some (honest_in authorities.old.items number) ≡ true }
+    ensures { ChangesAt authorities.old.items authorities.new.items number (λ was is. ActsBySome result was is pool.old.messages pool.new.messages
+        (λ says. authority_delivered says pool.old.messages message number was)) }
+{
+    authority_there_takes(
+        alloc,
+        pool,
+        &mut authorities[number as usize],
+        message,
+        number,
+    )
+}
+
+/// Whether the party sent the message.
+fn is_sender(from: Option<Party>, who: Party) -> bool
+    ensures { result ≡ is_sender from who }
+{
+    match from {
+        Some(sender) => is_party(&sender, &who),
+        None => false,
+    }
+}
+
+impl<C: OwnerCheck> World<C> {
+    // ---- the line
+
+    /// Whether the party takes deliveries: an honest log, an honest authority or an owner.
+    fn takes(&self, who: Party) -> bool
+        ensures { result ≡ is_some (taker_at self.now who) }
+    {
+        match who.role {
+            Role::LogServer => matches!(self.logs.get(who.number as usize), Some(Some(_))),
+            Role::Authority => matches!(self.authorities.get(who.number as usize), Some(Some(_))),
+            Role::Owner => has_owner(&self.owners, who.number),
+            Role::Client => false,
+        }
+    }
+
+    /// Whether the line `deliver` is taken, or why it is refused: `Absent(1)` where there is no message with this number,
+    /// `Absent(2)` where the party takes no deliveries, and `Limit` where the pool is full.
+    #[tactic(auto, using(crate::proofs::Deliveries::can), unfolding(crate::specs::Finding::has_room))]
+    pub fn can_deliver(&self, message: u64, party: Party) -> Result<(), WorldFault>
+        ensures { result ≡ deliverable self.now message party }
+    {
+        if !self.pool.has(message) {
+            return Err(WorldFault::Absent(1));
+        }
+        if !self.takes(party) {
+            return Err(WorldFault::Absent(2));
+        }
+        if !self.pool.has_room() {
+            return Err(WorldFault::Limit);
+        }
+        Ok(())
+    }
+
+    /// Whether the line `deliver` is taken, which names a log. Then the log is there.
+    #[tactic(auto, using(crate::proofs::Deliveries::log_there))]
+    fn can_deliver_to_log(&self, message: u64, number: u16) -> Result<(), WorldFault>
+        ensures can { result ≡ deliverable self.now message (log_party number) }
+        ensures there { OnOk result (is_some (honest_in self.now.logs number) ≡ true) }
+    {
+        self.can_deliver(message, Role::LogServer.party(number))
+    }
+
+    /// Whether the line `deliver` is taken, which names an authority. Then the authority is there.
+    #[tactic(auto, using(crate::proofs::Deliveries::authority_there))]
+    fn can_deliver_to_authority(&self, message: u64, number: u16) -> Result<(), WorldFault>
+        ensures can { result ≡ deliverable self.now message (authority_party number) }
+        ensures there { OnOk result (is_some (honest_in self.now.authorities number) ≡ true) }
+    {
+        self.can_deliver(message, Role::Authority.party(number))
+    }
+
+    /// A message goes to a log.
+    #[tactic(auto, using(crate::proofs::Deliveries::not_delivered))]
+    fn deliver_to_log(
+        &mut self,
+        alloc: Global,
+        message: u64,
+        number: u16,
+    ) -> Result<Items<Happening>, WorldFault>
+        ensures { StepsBySome result self.old self.new (λ says. deliver_line says self.old message (log_party number)) }
+    {
+        self.can_deliver_to_log(message, number)?;
+        logs_take(alloc, &mut self.pool, &mut self.logs, message, number)
+    }
+
+    /// A message goes to an authority.
+    #[tactic(auto, using(crate::proofs::Deliveries::not_delivered))]
+    fn deliver_to_authority(
+        &mut self,
+        alloc: Global,
+        message: u64,
+        number: u16,
+    ) -> Result<Items<Happening>, WorldFault>
+        ensures { StepsBySome result self.old self.new (λ says. deliver_line says self.old message (authority_party number)) }
+    {
+        self.can_deliver_to_authority(message, number)?;
+        authorities_take(
+            alloc,
+            &mut self.pool,
+            &mut self.authorities,
+            message,
+            number,
+        )
+    }
+
+    /// A message goes to an owner.
+    #[tactic(auto, using(crate::proofs::Deliveries::to_owner))]
+    fn deliver_to_owner(
+        &mut self,
+        alloc: Global,
+        message: u64,
+        number: u16,
+    ) -> Result<Items<Happening>, WorldFault>
+        ensures { StepsBySome result self.old self.new (λ says. deliver_line says self.old message (owner_party number)) }
+    {
+        if !self.pool.has(message) {
+            return Err(WorldFault::Absent(1));
+        }
+        let place = self.owner_named(2, number)?;
+        self.need_room()?;
+        let owner = &mut self.owners[place];
+        owner_takes(alloc, &mut self.pool, owner, message, number)
+    }
+
+    /// Why a message does not go to a client.
+    #[tactic(auto, using(crate::proofs::Deliveries::clients))]
+    fn client_refusal(&self, message: u64, who: Party) -> WorldFault
+        requires { who.role ≡ roles.Client }
+        ensures { deliverable self.now message who ≡ Err result }
+    {
+        if !self.pool.has(message) {
+            return WorldFault::Absent(1);
+        }
+        WorldFault::Absent(2)
+    }
+
+    /// The line `deliver`: the message goes to the party, whoever it is addressed to, and however often it was delivered.
+    #[tactic(auto, using(crate::proofs::Deliveries::roles))]
+    pub(crate) fn deliver_line(
+        &mut self,
+        alloc: Global,
+        message: u64,
+        who: Party,
+    ) -> Result<Items<Happening>, WorldFault>
+        ensures { StepsBySome result self.old self.new (λ says. deliver_line says self.old message who) }
+    {
+        match who.role {
+            Role::LogServer => self.deliver_to_log(alloc, message, who.number),
+            Role::Authority => self.deliver_to_authority(alloc, message, who.number),
+            Role::Owner => self.deliver_to_owner(alloc, message, who.number),
+            Role::Client => Err(self.client_refusal(message, who)),
+        }
+    }
+
+    // ---- what is due
+
+    /// Whether the party takes deliveries, and the message was never delivered to it.
+    fn is_due(&self, message: &Pooled, who: Party) -> bool
+        ensures { result ≡ is_due self.now message.now who }
+    {
+        self.takes(who) && !has_party(&message.delivered, who)
+    }
+
+    /// Whether a message that goes to all logs is due to this one: it is not addressed to its sender.
+    fn is_due_other(&self, message: &Pooled, who: Party) -> bool
+        ensures { result ≡ (not (is_sender message.now.from who) && is_due self.now message.now who) }
+    {
+        !is_sender(message.from, who) && self.is_due(message, who)
+    }
+
+    /// How many logs there are, honest or not.
+    fn log_count(&self) -> u16
+        ensures { result ≡ length self.now.logs }
+    {
+        self.logs.len() as u16
+    }
+
+    /// The first of so many logs to which a message is due that goes to all logs.
+    #[tactic(auto, using(crate::proofs::Due::due_to_logs))]
+    fn due_log(&self, message: &Pooled, count: u16) -> Option<Party>
+        ensures { result ≡ find (is_due self.now message.now) (addressed count message.now.from target.Logs) }
+    {
+        for number in 0..count {
+            let who = Role::LogServer.party(number);
+            if self.is_due_other(message, who) {
+                return Some(who);
+            }
+        }
+        None
+    }
+
+    /// The first party to which a message is due.
+    fn due_to(&self, message: &Pooled) -> Option<Party>
+        ensures { result ≡ due_to self.now message.now }
+    {
+        match message.to {
+            Target::Nobody => None,
+            Target::Logs => self.due_log(message, self.log_count()),
+            Target::One(who) if self.is_due(message, who) => Some(who),
+            Target::One(_) => None,
+        }
+    }
+
+    /// The first delivery that is due of these messages, of which the first has the number 1.
+    #[tactic(auto, using(crate::proofs::Due::due_messages))]
+    fn due_in(&self, messages: &[Pooled]) -> Option<(u64, Party)>
+        ensures { result ≡ due_from self.now 1 messages.now }
+    {
+        for (place, message) in messages.iter().enumerate() {
+            if let Some(who) = self.due_to(message) {
+                return Some((place as u64 + 1, who));
+            }
+        }
+        None
+    }
+
+    /// The next delivery of a `flush`: of the first message that is due to a party which it is addressed to, to the first
+    /// such. A message that goes to all logs is addressed to all but its sender, ascending.
+    pub fn next_due(&self) -> Option<(u64, Party)>
+        ensures { result ≡ next_due self.now }
+    {
+        self.due_in(self.pool.as_slice())
+    }
+}

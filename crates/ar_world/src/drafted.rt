@@ -1,0 +1,40 @@
+//! Drafts of a script, and what clients accepted.
+
+use ar_cert::Cert;
+use ar_names::Name;
+use std::marker::Model;
+
+/// A draft: the number of its owner, and the certificate.
+#[derive(Drop)]
+pub(crate) struct Drafted {
+    pub(crate) owner: u16,
+    pub(crate) cert: Cert,
+}
+
+// Clauses see both.
+impl Model for Drafted {
+    ghost use Rattle.ar_world.specs.State.{Drafted as Parts};
+
+    ghost Value = { Parts };
+
+    ghost view = { λ d. record { owner = d.owner; cert = d.cert } };
+}
+
+/// A message that a client accepted, or by which it holds that a name has no certificate: the name, the epoch in which it
+/// was judged, how old it might be, and its bytes.
+#[derive(Debug, Drop)]
+pub struct Judged {
+    pub name: Name,
+    pub now: u64,
+    pub age: u64,
+    pub bytes: Vec<u8>,
+}
+
+// Clauses see the bytes, however much room they keep.
+impl Model for Judged {
+    ghost use Rattle.ar_safety.specs.Held.{Taken};
+
+    ghost Value = { Taken };
+
+    ghost view = { λ j. record { name = j.name; now = j.now; age = j.age; bytes = j.bytes.items } };
+}

@@ -1,0 +1,194 @@
+//! The line `learn`.
+
+ghost use Rattle.std.specs.Prelude.{◌≡◌, ◌<◌, ◌≤◌, ◌+◌, ◌&&◌, ◌∷◌, [], nat_le, true, is_some, vec_len, vec_capacity, IfOk, OnOk, OnErr, Ok};
+ghost use Rattle.std.specs.List.{list_any};
+ghost use Rattle.std.specs.Str.{bytes_eq};
+ghost use Rattle.key_roll.specs.Entry.{roll_text};
+ghost use Rattle.ar_council.specs.Seen.{with_seen};
+ghost use Rattle.ar_message.specs.Messages.{message_in};
+ghost use Rattle.ar_statement.specs.Claims.{is_party};
+ghost use Rattle.report_text.specs.declared.happening.Happening.TheVariants.{Learnt};
+ghost use Rattle.ar_world.specs.Founding.{place_of};
+ghost use Rattle.ar_world.specs.Kept.{clients_in, genesis_in};
+ghost use Rattle.ar_world.specs.Learning.{knows_by, learn_line, note_of, refused_by, rolls_by, unlearnt_of};
+ghost use Rattle.ar_world.specs.Step.{StepsBy};
+
+use crate::fault::WorldFault;
+use crate::pool::is_party;
+use crate::sending::say;
+use crate::world::{Directories, World};
+use ar_base::Items;
+use ar_message::{Message, MessageFault};
+use ar_statement::{Party, SeenText, Statement, Text};
+use lms_tree::LmsPublic;
+use owner_check::OwnerCheck;
+use party_keys::{Directory, LearnFault};
+use report_text::{Happening, Unlearnt};
+use std::alloc::{AllocError, Global};
+
+// ---- the Rolls that were learnt
+
+/// A party's Roll, by which it announces its key behind this generation.
+fn roll_seen(party: Party, generation: u32, key: &LmsPublic) -> SeenText
+    ensures { result ≡ record { party = party; text = roll_text party generation key.now } }
+{
+    SeenText {
+        party,
+        text: Text::of(&Statement::Roll {
+            signer: party,
+            generation,
+            key: key.bytes(),
+        }),
+    }
+}
+
+/// Whether a party's text is among these.
+fn is_among(rolls: &[SeenText], roll: &SeenText) -> bool
+    ensures { result ≡ list_any (λ s. is_party s.party roll.now.party && bytes_eq s.text roll.now.text) rolls.now }
+{
+    rolls.iter().any(|s| is_party(&s.party, &roll.party)
+        && s.text.as_bytes() == roll.text.as_bytes())
+}
+
+/// Puts a Roll behind the others, unless it is there. There is room for it.
+fn keep(rolls: &mut Vec<SeenText>, roll: SeenText)
+    requires { vec_len rolls.old < vec_capacity rolls.old }
+    ensures { rolls.new.items ≡ with_seen rolls.old.items roll }
+{
+    if !is_among(rolls, &roll) {
+        rolls.push_reserved(roll);
+    }
+}
+
+// ---- what becomes of a message
+
+/// Why a key is not learnt, as it is printed.
+fn unlearnt_of(fault: LearnFault) -> Unlearnt
+    ensures { result ≡ unlearnt_of fault }
+{
+    match fault {
+        LearnFault::Unknown => Unlearnt::Unknown,
+        LearnFault::Bad(condition) => Unlearnt::Bad(condition),
+        LearnFault::Other => Unlearnt::Other,
+        LearnFault::Memory => Unlearnt::Form,
+    }
+}
+
+/// The clients' directory takes a message: why it does not learn it, or `None` where it does, and then the Roll is among
+/// those that were learnt. There is room for it.
+fn learn_note(
+    alloc: Global,
+    clients: &mut Directory,
+    rolls: &mut Vec<SeenText>,
+    message: &Message,
+) -> Result<Option<Unlearnt>, AllocError>
+    requires { vec_len rolls.old < vec_capacity rolls.old }
+    ensures refused { IfOk result (λ why. why ≡ refused_by clients.old (note_of (Ok message.now))) }
+    ensures clients { OnOk result (clients.new ≡ knows_by clients.old (note_of (Ok message.now))) }
+    ensures rolls { OnOk result (rolls.new.items ≡ rolls_by clients.old rolls.old.items (note_of (Ok message.now))) }
+    ensures err { OnErr result ((clients.new ≡ clients.old) × (rolls.new.items ≡ rolls.old.items)) }
+{
+    let Message::RollNote {
+        party,
+        generation,
+        key,
+        signature,
+    } = message
+    else {
+        return Ok(Some(Unlearnt::Form));
+    };
+    match clients.learn(alloc, *party, *generation, *key, signature.as_slice()) {
+        Ok(_) => {
+            keep(rolls, roll_seen(*party, *generation, key));
+            Ok(None)
+        }
+        Err(LearnFault::Memory) => Err(AllocError),
+        Err(why) => Ok(Some(unlearnt_of(why))),
+    }
+}
+
+/// The same of the text of a message; what is none is not learnt.
+fn learn_text(
+    alloc: Global,
+    clients: &mut Directory,
+    rolls: &mut Vec<SeenText>,
+    bytes: &[u8],
+) -> Result<Option<Unlearnt>, AllocError>
+    requires { vec_len rolls.old < vec_capacity rolls.old }
+    ensures refused { IfOk result (λ why. why ≡ refused_by clients.old (note_of (message_in bytes.now))) }
+    ensures clients { OnOk result (clients.new ≡ knows_by clients.old (note_of (message_in bytes.now))) }
+    ensures rolls { OnOk result (rolls.new.items ≡ rolls_by clients.old rolls.old.items (note_of (message_in bytes.now))) }
+    ensures err { OnErr result ((clients.new ≡ clients.old) × (rolls.new.items ≡ rolls.old.items)) }
+{
+    match Message::read(alloc, bytes) {
+        Ok(message) => learn_note(alloc, clients, rolls, &message),
+        Err(MessageFault::Form(_)) => Ok(Some(Unlearnt::Form)),
+        Err(MessageFault::Memory) => Err(AllocError),
+    }
+}
+
+/// The same of the message with a number, and what is told of it.
+fn learn(
+    alloc: Global,
+    clients: &mut Directory,
+    rolls: &mut Vec<SeenText>,
+    number: u64,
+    bytes: &[u8],
+) -> Result<Items<Happening>, AllocError>
+    ensures said { IfOk result (λ said. said ≡ Learnt number (refused_by clients.old (note_of (message_in bytes.now))) ∷ []) }
+    ensures clients { OnOk result (clients.new ≡ knows_by clients.old (note_of (message_in bytes.now))) }
+    ensures rolls { OnOk result (rolls.new.items ≡ rolls_by clients.old rolls.old.items (note_of (message_in bytes.now))) }
+    ensures err { OnErr result ((clients.new ≡ clients.old) × (rolls.new.items ≡ rolls.old.items)) }
+{
+    rolls.reserve(1)?;
+    let mut said = Vec::with_capacity(alloc, 1)?;
+    let refused = learn_text(alloc, clients, rolls, bytes)?;
+    let learnt = Happening::Learnt {
+        message: number,
+        refused,
+    };
+    say(&mut said, learnt);
+    Ok(Items::from_vec(said))
+}
+
+/// The same by the clients' directory of those that are there.
+fn learn_there(
+    alloc: Global,
+    known: &mut Option<Directories>,
+    rolls: &mut Vec<SeenText>,
+    number: u64,
+    bytes: &[u8],
+) -> Result<Items<Happening>, AllocError>
+    requires { is_some known.old ≡ true }
+    ensures said { IfOk result (λ said. said ≡ Learnt number (refused_by (clients_in known.old) (note_of (message_in bytes.now))) ∷ []) }
+    ensures there { is_some known.new ≡ true }
+    ensures genesis { genesis_in known.new ≡ genesis_in known.old }
+    ensures clients { OnOk result (clients_in known.new ≡ knows_by (clients_in known.old) (note_of (message_in bytes.now))) }
+    ensures rolls { OnOk result (rolls.new.items ≡ rolls_by (clients_in known.old) rolls.old.items (note_of (message_in bytes.now))) }
+    ensures err { OnErr result ((clients_in known.new ≡ clients_in known.old) × (rolls.new.items ≡ rolls.old.items)) }
+{
+    match known {
+        Some(known) => learn(alloc, &mut known.clients, rolls, number, bytes),
+        None => unreachable!(),
+    }
+}
+
+impl<C: OwnerCheck> World<C> {
+    /// The line `learn`: the clients' directory takes the message with a number.
+    pub(crate) fn learn_line(
+        &mut self,
+        alloc: Global,
+        message: u64,
+    ) -> Result<Items<Happening>, WorldFault>
+        requires { nat_le 4 (place_of self.old.phase) ≡ true }
+        ensures { StepsBy result self.old self.new (learn_line self.old message) }
+    {
+        let Some(pooled) = self.pool.get(message) else {
+            return Err(WorldFault::Absent(1));
+        };
+        let bytes = pooled.bytes.as_slice();
+        let rolls = &mut self.learned;
+        let said = learn_there(alloc, &mut self.directories, rolls, message, bytes)?;
+        Ok(said)
+    }
+}

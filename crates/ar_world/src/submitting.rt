@@ -1,0 +1,274 @@
+//! The lines on what becomes of drafts.
+
+ghost use Rattle.std.specs.Prelude.{◌≡◌, ◌≢◌, ◌≤◌, ◌<◌, ◌+◌, ◌^◌, ◌∷◌, [], length, position, slice_index_or, vec_capacity, IfOk, IfErr, OnOk, Ok, Err, Some, None};
+ghost use Rattle.ar_cert.specs.Certificate.{digest_of};
+ghost use Rattle.owner_core.specs.Rows.{handover_row, object_row, submit_row};
+ghost use Rattle.owner_core.specs.State.{Owner as OwnerState};
+ghost use Rattle.owner_core.specs.declared.refusal.OwnerRefusal.TheVariants as refusals;
+ghost use Rattle.report_text.specs.declared.happening.Happening.TheVariants.{Step};
+ghost use Rattle.report_text.specs.declared.happening.What.TheVariants.{Object, Submit};
+ghost use Rattle.ar_world.specs.Codes.{owner_code};
+ghost use Rattle.ar_world.specs.Finding.{is_owner, owner_at, room};
+ghost use Rattle.ar_world.specs.State.{Drafted as DraftParts};
+ghost use Rattle.ar_world.specs.Step.{StepsBy};
+ghost use Rattle.ar_world.specs.Submitting.{AnswersBy, IsTold, attached_by, handed, handover_line, object_line, submit_line};
+ghost use Rattle.ar_world.specs.declared.fault.WorldFault.TheVariants.{Memory};
+
+use crate::codes::owner_code;
+use crate::fault::WorldFault;
+use crate::pool::Pool;
+use crate::sending::{does, refuses, reserve, say};
+use crate::world::World;
+use ar_base::Items;
+use ar_cert::Cert;
+use ar_message::Sent;
+use ar_statement::{Party, Role};
+use owner_check::OwnerCheck;
+use owner_core::{Owner, OwnerRefusal};
+use report_text::{Happening, What};
+use std::alloc::Global;
+
+// ---- an owner's answer
+
+/// That an owner refused is told, unless memory was wanting.
+fn refused(
+    said: Vec<Happening>,
+    owner: Party,
+    what: What,
+    refusal: OwnerRefusal,
+) -> Result<Items<Happening>, WorldFault>
+    requires none { said.items ≡ [] }
+    requires one { 0 < vec_capacity said }
+    ensures ok { IfOk result (λ told. (told ≡ Step owner what (Some (owner_code refusal)) ∷ []) × (refusal ≢ refusals.Memory)) }
+    ensures err { IfErr result (λ fault. (fault ≡ Memory) × (refusal ≡ refusals.Memory)) }
+{
+    let mut said = said;
+    match refusal {
+        OwnerRefusal::Memory => Err(WorldFault::Memory),
+        _ => {
+            refuses(&mut said, owner, what, owner_code(refusal));
+            Ok(Items::from_vec(said))
+        }
+    }
+}
+
+/// An owner's answer is told: what it sends enters the pool, and that it did this or refused it is printed. Want of memory
+/// is told of by an error.
+pub(crate) fn owner_answers(
+    alloc: Global,
+    pool: &mut Pool,
+    said: Vec<Happening>,
+    number: u16,
+    what: What,
+    answer: Result<Sent, OwnerRefusal>,
+) -> Result<Items<Happening>, WorldFault>
+    requires none { said.items ≡ [] }
+    requires one { 0 < vec_capacity said }
+    requires all { IfOk answer (λ sent. 2 + length sent.messages ≤ vec_capacity said) }
+    requires pool { IfOk answer (λ sent. length sent.messages ≤ pool.old.room) }
+    ensures ok { IfOk result (λ told. IsTold pool.old.messages pool.new.messages told number what answer) }
+    ensures err { IfErr result (λ fault. (fault ≡ Memory) × (answer ≡ Err refusals.Memory) × (pool.new.messages ≡ pool.old.messages)) }
+{
+    let owner = Role::Owner.party(number);
+    match answer {
+        Ok(sent) => {
+            let mut said = said;
+            does(alloc, pool, &mut said, owner, what, sent);
+            Ok(Items::from_vec(said))
+        }
+        Err(refusal) => refused(said, owner, what, refusal),
+    }
+}
+
+/// That an owner did something is told.
+fn took(said: Vec<Happening>, owner: Party, what: What) -> Items<Happening>
+    requires none { said.items ≡ [] }
+    requires one { 0 < vec_capacity said }
+    ensures { result ≡ Step owner what None ∷ [] }
+{
+    let mut said = said;
+    let step = Happening::Step {
+        party: owner,
+        what,
+        refused: None,
+    };
+    say(&mut said, step);
+    Items::from_vec(said)
+}
+
+// ---- what an owner does
+
+/// An owner objects to a certificate, and this is told.
+#[tactic(auto, using(crate::proofs::Answered::rows))]
+fn objected(
+    alloc: Global,
+    owner: &mut Owner,
+    pool: &mut Pool,
+    draft: u64,
+    cert: &Cert,
+) -> Result<Items<Happening>, WorldFault>
+    ensures { AnswersBy result owner.old owner.new pool.old.messages pool.new.messages (Object draft) (object_row owner.old cert.now) }
+{
+    let said = reserve(alloc, pool, 1)?;
+    let number = owner.number();
+    let answer = owner.object(alloc, cert);
+    owner_answers(alloc, pool, said, number, What::Object(draft), answer)
+}
+
+/// An owner submits its draft with this certificate, and this is told.
+#[tactic(auto, using(crate::proofs::Answered::rows))]
+fn submitted(
+    alloc: Global,
+    owner: &Owner,
+    pool: &mut Pool,
+    number: u16,
+    draft: u64,
+    cert: &Cert,
+) -> Result<Items<Happening>, WorldFault>
+    ensures ok { IfOk result (λ said. IsTold pool.old.messages pool.new.messages said number (Submit draft) (submit_row owner.now (digest_of cert.now))) }
+    ensures err { IfErr result (λ fault. (fault ≡ Memory) × (pool.new.messages ≡ pool.old.messages)) }
+{
+    let said = reserve(alloc, pool, 1)?;
+    let answer = owner.submit(alloc, &cert.digest());
+    owner_answers(alloc, pool, said, number, What::Submit(draft), answer)
+}
+
+impl<C: OwnerCheck> World<C> {
+    // ---- `object`
+
+    /// The places of the owner that objects and of the draft, where the line is not refused.
+    #[tactic(auto, using(crate::proofs::Refused::object_refusals))]
+    fn may_object(&self, owner: u16, draft: u64) -> Result<(usize, usize), WorldFault>
+        ensures place { IfOk result (λ places. position (is_owner owner) self.now.owners ≡ Some places.0) }
+        ensures within { IfOk result (λ places. places.0 < length self.now.owners) }
+        ensures draft { IfOk result (λ places. draft ≡ places.1 + 1) }
+        ensures found { IfOk result (λ places. places.1 < length self.now.drafts) }
+        ensures room { OnOk result (room self.now ≡ Ok tt) }
+        ensures err { IfErr result (λ fault. object_line self.now owner draft ≡ Err fault) }
+    {
+        let place = self.owner_named(1, owner)?;
+        let found = self.draft_named(2, draft)?;
+        self.need_room()?;
+        Ok((place, found))
+    }
+
+    /// An owner objects to a draft, of whichever owner.
+    pub(crate) fn object_line(
+        &mut self,
+        alloc: Global,
+        owner: u16,
+        draft: u64,
+    ) -> Result<Items<Happening>, WorldFault>
+        ensures { StepsBy result self.old self.new (object_line self.old owner draft) }
+    {
+        let (place, found) = self.may_object(owner, draft)?;
+        let cert = &self.drafts[found].cert;
+        objected(alloc, &mut self.owners[place], &mut self.pool, draft, cert)
+    }
+
+    // ---- `submit`
+
+    /// The owner of a draft submits it.
+    #[tactic(auto, using(crate::proofs::Refused::submit_refusals, crate::proofs::Answered::submits))]
+    pub(crate) fn submit_line(
+        &mut self,
+        alloc: Global,
+        draft: u64,
+    ) -> Result<Items<Happening>, WorldFault>
+        ensures { StepsBy result self.old self.new (submit_line self.old draft) }
+    {
+        let spot = self.draft_named(1, draft)?;
+        let number = self.drafts[spot].owner;
+        let place = self.owner_named(1, number)?;
+        self.need_room()?;
+        let (owner, cert) = (&self.owners[place], &self.drafts[spot].cert);
+        submitted(alloc, owner, &mut self.pool, number, draft, cert)
+    }
+
+    // ---- `handover`
+
+    /// The owner at its place puts a handover to its draft with this digest, where there is one.
+    #[tactic(auto, using(crate::proofs::Answered::attaches))]
+    fn attach_at(
+        &mut self,
+        place: usize,
+        number: u16,
+        digest: &[u8; 32],
+        handover: Vec<u8>,
+    ) -> Result<(), OwnerRefusal>
+        requires place { position (is_owner number) self.old.owners ≡ Some place }
+        requires within { place < length self.old.owners }
+        requires fits { length handover.items < 2 ^ 16 }
+        ensures { self.new ≡ attached_by self.old (owner_at self.old number) digest.now handover.items }
+    {
+        self.owners[place].attach(digest, handover)?;
+        Ok(())
+    }
+
+    /// The owner with this number puts a handover to its draft with this digest, where there are both.
+    #[tactic(auto, using(crate::proofs::Answered::attached_nowhere))]
+    fn attach(&mut self, holder: u16, digest: &[u8; 32], handover: Vec<u8>)
+        requires { length handover.items < 2 ^ 16 }
+        ensures { self.new ≡ attached_by self.old (owner_at self.old holder) digest.now handover.items }
+    {
+        if let Some(place) = self.place_of_owner(holder) {
+            let _ = self.attach_at(place, holder, digest, handover);
+        }
+    }
+
+    /// The owner at its place signs the handover to a draft, and the draft's owner puts it to the draft.
+    fn hand_over(
+        &mut self,
+        alloc: Global,
+        place: usize,
+        number: u16,
+        draft: u64,
+        holder: u16,
+        digest: &[u8; 32],
+    ) -> Result<Items<Happening>, WorldFault>
+        requires { place < length self.old.owners }
+        ensures { (me : OwnerState) (found : DraftParts) → me ≡ slice_index_or self.old.owners place me → position (is_owner number) self.old.owners ≡ Some place
+            → found.owner ≡ holder → digest_of found.cert ≡ digest.now
+            → StepsBy result self.old self.new (Ok (handed self.old number draft found (handover_row me digest.now))) }
+    {
+        let said = Vec::with_capacity(alloc, 1)?;
+        let owner = Role::Owner.party(number);
+        let what = What::Handover(draft);
+        match self.owners[place].handover(alloc, digest) {
+            Ok(signature) => {
+                self.attach(holder, digest, signature);
+                Ok(took(said, owner, what))
+            }
+            Err(refusal) => refused(said, owner, what, refusal),
+        }
+    }
+
+    /// The places of the owner that signs and of the draft, where the line is not refused.
+    #[tactic(auto, using(crate::proofs::Refused::handover_refusals))]
+    fn may_hand_over(&self, owner: u16, draft: u64) -> Result<(usize, usize), WorldFault>
+        ensures place { IfOk result (λ places. position (is_owner owner) self.now.owners ≡ Some places.0) }
+        ensures within { IfOk result (λ places. places.0 < length self.now.owners) }
+        ensures draft { IfOk result (λ places. draft ≡ places.1 + 1) }
+        ensures found { IfOk result (λ places. places.1 < length self.now.drafts) }
+        ensures err { IfErr result (λ fault. handover_line self.now owner draft ≡ Err fault) }
+    {
+        let place = self.owner_named(1, owner)?;
+        let found = self.draft_named(2, draft)?;
+        Ok((place, found))
+    }
+
+    /// An owner signs the handover to a draft, of whichever owner, who puts it to the draft.
+    pub(crate) fn handover_line(
+        &mut self,
+        alloc: Global,
+        owner: u16,
+        draft: u64,
+    ) -> Result<Items<Happening>, WorldFault>
+        ensures { StepsBy result self.old self.new (handover_line self.old owner draft) }
+    {
+        let (place, found) = self.may_hand_over(owner, draft)?;
+        let found = &self.drafts[found];
+        let (holder, digest) = (found.owner, found.cert.digest());
+        self.hand_over(alloc, place, owner, draft, holder, &digest)
+    }
+}

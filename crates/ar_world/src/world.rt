@@ -1,0 +1,128 @@
+//! A world between two lines.
+
+ghost use Rattle.std.specs.Prelude.{◌≡◌, [], length, map};
+ghost use Rattle.std.specs.Option.{option_copied, option_map};
+ghost use Rattle.ar_world.specs.Records.{bytes_at, taken_at};
+ghost use Rattle.ar_world.specs.State.{first_world};
+
+use crate::drafted::{Drafted, Judged};
+use crate::event::LogEvent;
+use crate::first_keys::FirstKeys;
+use crate::parties::{Forger, HonestAuthority, HonestLog};
+use crate::phase::Phase;
+use crate::pool::Pool;
+use crate::setup::Setup;
+use ar_statement::SeenText;
+use owner_check::OwnerCheck;
+use owner_core::Owner;
+use party_keys::Directory;
+use std::alloc::Global;
+use std::marker::Model;
+
+/// What parties know of the keys of logs and authorities.
+#[derive(Drop)]
+pub(crate) struct Directories {
+    /// The first keys, with which each party begins.
+    pub(crate) genesis: Directory,
+    /// The clients' own, which all clients share.
+    pub(crate) clients: Directory,
+}
+
+/// All parties and the pool of messages, which the lines of a script move.
+///
+/// The checks are those of the authorities, in their order; an authority that is there owns its check.
+#[derive(Drop)]
+pub struct World<C: OwnerCheck> {
+    pub(crate) phase: Phase,
+    pub(crate) setup: Setup,
+    /// The keys of the logs, until these are there.
+    pub(crate) log_keys: FirstKeys,
+    pub(crate) checks: Vec<C>,
+    /// Each log by its number, none where it is dishonest.
+    pub(crate) logs: Vec<Option<HonestLog>>,
+    /// Each authority by its number, none where it is dishonest.
+    pub(crate) authorities: Vec<Option<HonestAuthority<C>>>,
+    pub(crate) forgers: Vec<Forger>,
+    pub(crate) owners: Vec<Owner>,
+    /// None until the authorities are there.
+    pub(crate) directories: Option<Directories>,
+    /// The Rolls that the clients' directory learnt.
+    pub(crate) learned: Vec<SeenText>,
+    pub(crate) judged: Vec<Judged>,
+    pub(crate) drafts: Vec<Drafted>,
+    pub(crate) pool: Pool,
+}
+
+// Clauses see the world as plain data.
+impl<C: OwnerCheck> Model for World<C> {
+    ghost use Rattle.std.specs.Prelude.{map};
+    ghost use Rattle.ar_world.specs.Kept.{IsKeptWorld, clients_in, genesis_in};
+    ghost use Rattle.ar_world.specs.State.{World as State};
+
+    ghost Value = { State };
+
+    ghost view = { λ w. record {
+      phase = w.phase;
+      setup = w.setup;
+      checks = map (λ check. record { told = C.told check; answers = C.answers check }) w.checks.items;
+      logs = w.logs.items;
+      authorities = w.authorities.items;
+      forgers = w.forgers.items;
+      owners = w.owners.items;
+      genesis = genesis_in w.directories;
+      clients = clients_in w.directories;
+      learned = w.learned.items;
+      judged = w.judged.items;
+      drafts = w.drafts.items;
+      pool = w.pool.messages;
+    } };
+
+    ghost invariant = { λ w. IsKeptWorld w.phase w.setup w.log_keys w.directories w.drafts.items w.logs.items };
+}
+
+impl<C: OwnerCheck> World<C> {
+    /// The world before the first line, with these checks of owners, of which the authority with the number 0 takes the
+    /// first. It takes no memory.
+    pub fn new(alloc: Global, checks: Vec<C>) -> World<C>
+        ensures { result ≡ first_world (map (λ check. record { told = C.told check; answers = C.answers check }) checks.items) }
+    {
+        World {
+            phase: Phase::Beginning,
+            setup: Setup::plain(),
+            log_keys: FirstKeys::none(alloc),
+            checks,
+            logs: Vec::new(alloc),
+            authorities: Vec::new(alloc),
+            forgers: Vec::new(alloc),
+            owners: Vec::new(alloc),
+            directories: None,
+            learned: Vec::new(alloc),
+            judged: Vec::new(alloc),
+            drafts: Vec::new(alloc),
+            pool: Pool::new(alloc),
+        }
+    }
+
+    /// How many messages there are.
+    pub fn messages(&self) -> u64
+        ensures { result ≡ length self.now.pool }
+    {
+        self.pool.len() as u64
+    }
+
+    /// The bytes of a message of the pool, of which the first has the number 1; `None` where there is no such message.
+    pub fn message(&self, number: u64) -> Option<&[u8]>
+        ensures { option_map (λ bytes. bytes.now) result ≡ bytes_at self.now number }
+    {
+        let message = self.pool.get(number)?;
+        Some(message.bytes.as_slice())
+    }
+
+    /// What a log did without refusing, in order; `None` where there is no honest log with this number.
+    pub fn taken(&self, log: u16) -> Option<&[LogEvent]>
+        ensures { option_map (λ taken. taken.now) result ≡ taken_at self.now log }
+    {
+        let node = self.logs.get(log as usize)?.as_ref()?;
+        Some(node.taken.as_slice())
+    }
+}

@@ -1,0 +1,5 @@
+pub mod Deliveries
+pub mod Parts
+pub mod Runs
+pub mod Taking
+pub mod Written

@@ -1,0 +1,136 @@
+-- A line that is taken, and what follows it.
+use Rattle.std.proofs.Common.{◌≡◌, ℕ, ◌<◌, ◌≤◌, List, refl, sym, ap, ◌∙◌, subst, arith, Bool, true, false, nat_lt, Option, Some, None, Result, Ok, Err}
+use Rattle.std.specs.Prelude.{if◌then◌else◌}
+use Rattle.std.proofs.lemmas.Bool.Decides.{nat_tests}
+use Rattle.ar_lines.specs.declared.refusal.Reason.{Reason}
+use Rattle.ar_lines.specs.declared.refusal.Reason.TheVariants as reason
+use Rattle.ar_run.specs.declared.fault.Fault.{Fault}
+use Rattle.owner_check.specs.declared.answer.Outcome.{Outcome}
+use Rattle.owner_check.specs.declared.answer.Outcome.TheVariants.{Failed}
+use Rattle.script_text.specs.Rows.{read_of}
+use Rattle.script_text.specs.declared.line.Line.{Line}
+use Rattle.script_text.specs.declared.line.Line.TheVariants as line
+use Rattle.ar_world.specs.Run.{Progress, follows, line_taken, most_lines, progress_of, refusing, taken, taken_as, unmoved}
+use Rattle.ar_world.specs.State.{World}
+use Rattle.ar_world.specs.Step.{effect, step}
+use Rattle.ar_world.specs.declared.cause.Cause.{Cause}
+use Rattle.ar_world.specs.declared.cause.Cause.TheVariants.{Unread}
+use Rattle.script_play.specs.Counts.{counted_from}
+use Rattle.script_play.specs.Playing.{PlaysPart, PlaysSome, Stand}
+use Rattle.script_play.proofs.Parts.{plays-nothing, then-broken, then-plays, then-refused}
+use Rattle.script_play.proofs.Written.{wrote-nothing}
+
+-- ---- what follows a line
+
+abbrev pub Follows : {K : Type 0} → (K → ℕ) → (K → List ℕ → Type 0) → K → K → Stand → Stand → Line → Result (Option Cause) Fault → Type 0
+Follows faults wrote a b s t l result = PlaysSome faults wrote a b s t (λ (says : ℕ → Outcome). follows says l s.world) result
+
+-- nothing follows
+pub follow-none : {K : Type 0} (faults : K → ℕ) (wrote : K → List ℕ → Type 0) (a : K) (s : Stand) (l : Line) → ((says : ℕ → Outcome) (w : World) → follows says l w ≡ unmoved w)
+    → Follows faults wrote a a s s l (Ok None)
+follow-none faults wrote a s l none = record {
+  says = λ _. Failed;
+  plays = subst (λ (p : Progress). PlaysPart faults wrote a a s s p (Ok None)) (sym (none (λ _. Failed) s.world)) (plays-nothing faults wrote a s);
+}
+
+pub follows-none : (l : Line) → (l ≡ line.Flush → ⊥) → (says : ℕ → Outcome) (w : World) → follows says l w ≡ unmoved w
+follows-none line.Flush other says w = absurd (other refl)
+follows-none _ other says w = refl
+
+-- ---- a line, with what follows it
+
+-- what checks say in a line alone, and in what follows it; only one of the two asks any
+record Says (says : Outcome) (later : ℕ → Outcome) (l : Line) : Type 0 where
+  all : ℕ → Outcome
+  alone : (w : World) → step says w l ≡ step (all 0) w l
+  behind : (w : World) → follows later l w ≡ follows all l w
+
+says-both : (says : Outcome) (later : ℕ → Outcome) (l : Line) → Says says later l
+unfolding effect
+says-both says later line.Flush = record { all = later; alone = λ w. refl; behind = λ w. refl }
+says-both says later _ = record { all = λ _. says; alone = λ w. refl; behind = λ w. refl }
+
+abbrev pub Alone : {K : Type 0} → (K → ℕ) → (K → List ℕ → Type 0) → K → K → Stand → Stand → Line → Result (Option Cause) Fault → Type 0
+Alone faults wrote a b s t l result = PlaysSome faults wrote a b s t (λ (says : Outcome). progress_of s.world (step says s.world l)) result
+
+abbrev pub Takes : {K : Type 0} → (K → ℕ) → (K → List ℕ → Type 0) → K → K → Stand → Stand → Line → Result (Option Cause) Fault → Type 0
+Takes faults wrote a b s t l result = PlaysSome faults wrote a b s t (λ (says : ℕ → Outcome). taken says s.world l) result
+
+pub take-followed : {K : Type 0} (faults : K → ℕ) (wrote : K → List ℕ → Type 0) (a b c : K) (s t u : Stand) (l : Line) (result : Result (Option Cause) Fault)
+    → Alone faults wrote a b s t l (Ok None) → Follows faults wrote b c t u l result → Takes faults wrote a c s u l result
+take-followed faults wrote a b c s t u l result first later =
+    let both = says-both first.says later.says l in
+    let made = progress_of s.world (step (both.all 0) s.world l) in
+    record {
+      says = both.all;
+      plays = then-plays faults wrote a b c s t u made (follows both.all l) result
+          (subst (λ (e : Progress). PlaysPart faults wrote a b s t e (Ok None)) (ap (progress_of s.world) (both.alone s.world)) first.plays)
+          (subst (λ (p : Progress). PlaysPart faults wrote b c t u p result) (both.behind t.world) later.plays);
+    }
+
+pub take-refused : {K : Type 0} (faults : K → ℕ) (wrote : K → List ℕ → Type 0) (a b : K) (s t : Stand) (l : Line) (cause : Cause)
+    → Alone faults wrote a b s t l (Ok (Some cause)) → Takes faults wrote a b s t l (Ok (Some cause))
+take-refused faults wrote a b s t l cause first =
+    let says : ℕ → Outcome = λ _. first.says in
+    record {
+      says = says;
+      plays = then-refused faults wrote a b s t (progress_of s.world (step first.says s.world l)) (follows says l) cause first.plays;
+    }
+
+pub take-broken : {K : Type 0} (faults : K → ℕ) (wrote : K → List ℕ → Type 0) (a b : K) (s t : Stand) (l : Line) (f : Fault)
+    → Alone faults wrote a b s t l (Err f) → Takes faults wrote a b s t l (Err f)
+take-broken faults wrote a b s t l f first =
+    let says : ℕ → Outcome = λ _. first.says in
+    record {
+      says = says;
+      plays = then-broken faults wrote a b s t (progress_of s.world (step first.says s.world l)) (follows says l) f first.plays;
+    }
+
+-- ---- the text of a line
+
+abbrev pub TakesText : {K : Type 0} → (K → ℕ) → (K → List ℕ → Type 0) → K → K → Stand → Stand → ℕ → List ℕ → Result (Option Cause) Fault → Type 0
+TakesText faults wrote a b s t number text result = PlaysSome faults wrote a b s t (λ (says : ℕ → Outcome). line_taken says number s.world text) result
+
+plays-unread : {K : Type 0} (faults : K → ℕ) (wrote : K → List ℕ → Type 0) (a : K) (s : Stand) (why : Reason) → PlaysPart faults wrote a a s s (refusing s.world (Unread why)) (Ok (Some (Unread why)))
+unfolding counted_from
+plays-unread faults wrote a s why = record { refused = refl; stands = refl; written = wrote-nothing faults wrote a (Some (Unread why)) }
+
+-- a line past the last that there may be
+pub text-past : {K : Type 0} (faults : K → ℕ) (wrote : K → List ℕ → Type 0) (a : K) (s : Stand) (number : ℕ) (text : List ℕ) → most_lines < number → TakesText faults wrote a a s s number text (Ok (Some (Unread reason.Limit)))
+unfolding line_taken
+text-past faults wrote a s number text past =
+    let so : nat_lt most_lines number ≡ true = grind (arith, nat_tests) in
+    record {
+      says = λ _. Failed;
+      plays = subst (λ (b : Bool). PlaysPart faults wrote a a s s (if b then refusing s.world (Unread reason.Limit) else taken_as (λ _. Failed) s.world (read_of text)) (Ok (Some (Unread reason.Limit))))
+          (sym so) (plays-unread faults wrote a s reason.Limit);
+    }
+
+taken-text : (says : ℕ → Outcome) (number : ℕ) (w : World) (text : List ℕ) (read : Result (Option Line) Reason) → number ≤ most_lines → read_of text ≡ read → line_taken says number w text ≡ taken_as says w read
+unfolding line_taken
+taken-text says number w text read few is =
+    let so : nat_lt most_lines number ≡ false = grind (arith, nat_tests) in
+    ap (λ (b : Bool). if b then refusing w (Unread reason.Limit) else taken_as says w (read_of text)) so ∙ ap (taken_as says w) is
+
+-- one that is skipped
+pub text-skipped : {K : Type 0} (faults : K → ℕ) (wrote : K → List ℕ → Type 0) (a : K) (s : Stand) (number : ℕ) (text : List ℕ) → number ≤ most_lines → read_of text ≡ Ok None → TakesText faults wrote a a s s number text (Ok None)
+text-skipped faults wrote a s number text few is = record {
+  says = λ _. Failed;
+  plays = subst (λ (p : Progress). PlaysPart faults wrote a a s s p (Ok None)) (sym (taken-text (λ _. Failed) number s.world text (Ok None) few is)) (plays-nothing faults wrote a s);
+}
+
+-- one that cannot be read
+pub text-unread : {K : Type 0} (faults : K → ℕ) (wrote : K → List ℕ → Type 0) (a : K) (s : Stand) (number : ℕ) (text : List ℕ) (why : Reason) → number ≤ most_lines → read_of text ≡ Err why
+    → TakesText faults wrote a a s s number text (Ok (Some (Unread why)))
+text-unread faults wrote a s number text why few is = record {
+  says = λ _. Failed;
+  plays = subst (λ (p : Progress). PlaysPart faults wrote a a s s p (Ok (Some (Unread why)))) (sym (taken-text (λ _. Failed) number s.world text (Err why) few is)) (plays-unread faults wrote a s why);
+}
+
+-- one that is read
+pub text-read : {K : Type 0} (faults : K → ℕ) (wrote : K → List ℕ → Type 0) (a b : K) (s t : Stand) (number : ℕ) (text : List ℕ) (l : Line) (result : Result (Option Cause) Fault) → number ≤ most_lines → read_of text ≡ Ok (Some l)
+    → Takes faults wrote a b s t l result → TakesText faults wrote a b s t number text result
+text-read faults wrote a b s t number text l result few is takes = record {
+  says = takes.says;
+  plays = subst (λ (p : Progress). PlaysPart faults wrote a b s t p result) (sym (taken-text takes.says number s.world text (Ok (Some l)) few is)) takes.plays;
+}

@@ -1,0 +1,20 @@
+-- A line, and what follows it where it is not refused.
+use Rattle.std.proofs.Common.{rules, Option, Ok, subst}
+use Rattle.ar_world.specs.declared.cause.Cause.{Cause}
+use Rattle.script_play.proofs.Taking.{Alone, take-broken, take-followed, take-refused}
+use Rattle.script_play.proofs.stage.Stage.take.Goals as goal
+
+pub returns-in_err-cause : goal.returns-in_err-cause
+returns-in_err-cause g c =
+    let so = take-broken g.K.Sink.faults g.K.Sink.wrote c.args.sink.now c.take_alone.new.sink c.args.self.now c.take_alone.new.self c.args.line.now _ c.in_err-cause.ensures in
+    search (rules, so)
+
+pub returns-in-Some : goal.returns-in-Some
+returns-in-Some g c =
+    let Taken = λ (cause : Option Cause). Alone g.K.Sink.faults g.K.Sink.wrote c.args.sink.now c.take_alone.new.sink c.args.self.now c.take_alone.new.self c.args.line.now (Ok cause) in
+    take-refused g.K.Sink.faults g.K.Sink.wrote c.args.sink.now c.take_alone.new.sink c.args.self.now c.take_alone.new.self c.args.line.now c.in-Some.cause (subst Taken c.in-Some.is c.in_ok-cause.ensures)
+
+pub returns-in-None : goal.returns-in-None
+returns-in-None g c =
+    let Taken = λ (cause : Option Cause). Alone g.K.Sink.faults g.K.Sink.wrote c.args.sink.now c.take_alone.new.sink c.args.self.now c.take_alone.new.self c.args.line.now (Ok cause) in
+    take-followed g.K.Sink.faults g.K.Sink.wrote c.args.sink.now c.take_alone.new.sink c.follow.new.sink c.args.self.now c.take_alone.new.self c.follow.new.self c.args.line.now c.follow.result (subst Taken c.in-None.is c.in_ok-cause.ensures) c.follow.ensures

@@ -1,0 +1,124 @@
+-- What it is to play a script: its lines are taken by a world, one after the other, and what happens is written at once.
+use Rattle.std.specs.Prelude.{◌≡◌, ◌≢◌, ◌≤◌, ℕ, List, ◌++◌, map, Option, Some, None, Result, IfOk, OnErr, OnOk, Ok, Err}
+use Rattle.std.specs.List.{flat_map}
+use Rattle.ar_base.specs.Faults.{HasRisen}
+use Rattle.ar_io.specs.Wrote.{Appended}
+use Rattle.ar_run.specs.declared.fault.Fault.{Fault}
+use Rattle.ar_run.specs.declared.fault.Fault.TheVariants as fault
+use Rattle.report_text.specs.Lines.{line_of}
+use Rattle.report_text.specs.declared.happening.Happening.{Happening}
+use Rattle.ar_world.specs.Parties.{CheckParts}
+use Rattle.ar_world.specs.Run.{Progress, Refused, Run, Saying, lines_of_run, refused_lines, run}
+use Rattle.ar_world.specs.State.{World}
+use Rattle.ar_world.specs.declared.cause.Cause.{Cause}
+use Rattle.ar_world.specs.declared.cause.Cause.TheVariants.{Untaken}
+use Rattle.ar_world.specs.declared.fault.WorldFault.{WorldFault}
+use Rattle.ar_world.specs.declared.fault.WorldFault.TheVariants as world_fault
+use Rattle.script_play.specs.Counts.{counted_from, no_counts}
+use Rattle.script_play.specs.declared.counts.Counts.{Counts}
+
+-- ---- what is written
+
+-- the bytes that are written of what happens, a line each
+abbrev pub told : List Happening → List ℕ
+told said = flat_map (λ line. line) (map line_of said)
+
+-- the bytes that are written of a run
+abbrev pub written_of : Run → List ℕ
+written_of r = flat_map (λ line. line) (lines_of_run r)
+
+-- the sink wrote a front of these bytes, all of them or fewer
+pub record AppendedUpTo {K : Type 0} (wrote : K → List ℕ → Type 0) (old new : K) (bytes : List ℕ) : Type 0 where
+  pub front : List ℕ
+  pub rest : List ℕ
+  pub cut : bytes ≡ front ++ rest
+  pub wrote_front : Appended wrote old new front
+
+-- a call that writes tells of no read; it tells of a write that failed only where the count of faults rose, and hides none
+pub record Blames {K T : Type 0} (faults : K → ℕ) (old new : K) (result : Result T Fault) : Type 0 where
+  pub sink : result ≡ Err fault.Sink → HasRisen (faults old) (faults new)
+  pub source : result ≢ Err fault.Source
+  pub uncounted : result ≢ Err fault.Sink → faults new ≡ faults old
+  pub rises : faults old ≤ faults new
+
+-- A call wrote these bytes; or memory ran out, or a write failed, and a front was written.
+pub record WritesUpTo {K T : Type 0} (faults : K → ℕ) (wrote : K → List ℕ → Type 0) (old new : K) (bytes : List ℕ) (result : Result T Fault) : Type 0 where
+  pub whole : OnOk result (Appended wrote old new bytes)
+  pub broken : OnErr result (AppendedUpTo wrote old new bytes)
+  pub blames : Blames faults old new result
+
+-- ---- parts of a script
+
+-- where a script stands: the world, and what was counted so far
+pub record Stand : Type 0 where
+  pub world : World
+  pub counts : Counts
+
+-- A part of a script was played: the world is the one behind it, its judgements are counted, all that happened was written, and
+-- the answer is why a line was refused, if one was. Or memory ran out, or a write failed, and a front was written.
+pub record PlaysPart {K : Type 0} (faults : K → ℕ) (wrote : K → List ℕ → Type 0) (old new : K) (before after : Stand) (p : Progress) (result : Result (Option Cause) Fault) : Type 0 where
+  pub refused : IfOk result (λ cause. cause ≡ p.refused)
+  pub stands : OnOk result (after ≡ record { world = p.world; counts = counted_from before.counts p.said })
+  pub written : WritesUpTo faults wrote old new (told p.said) result
+
+-- the same of what follows from what checks say that tell nothing of themselves, for some of it
+pub record PlaysSome {K S : Type 0} (faults : K → ℕ) (wrote : K → List ℕ → Type 0) (old new : K) (before after : Stand) (p : S → Progress) (result : Result (Option Cause) Fault) : Type 0 where
+  pub says : S
+  pub plays : PlaysPart faults wrote old new before after (p says) result
+
+-- what is answered where a world does not take what it is told: want of memory is none of its refusals
+abbrev pub refused_by : WorldFault → Result (Option Cause) Fault
+refused_by world_fault.Memory = Err fault.Memory
+refused_by why = Ok (Some (Untaken why))
+
+-- ---- lines
+
+-- the line that was refused, and why
+abbrev pub refused_of : Option (ℕ × Cause) → Option Refused
+refused_of None = None
+refused_of (Some refusal) = Some (record { line = refusal.0; cause = refusal.1 })
+
+-- the same line and cause, of a run
+abbrev pub refusal_of : Option Refused → Option (ℕ × Cause)
+refusal_of None = None
+refusal_of (Some refused) = Some (refused.line, refused.cause)
+
+-- the bytes that are written of it
+abbrev pub refusal_told : Option (ℕ × Cause) → List ℕ
+refusal_told refusal = flat_map (λ line. line) (refused_lines (refused_of refusal))
+
+-- Lines were played: to their end, or to the first that is refused, which is answered, and all that happened was written. Or memory
+-- ran out, or a write failed, and a front was written. The run is that of some answers of the checks that tell nothing of
+-- themselves.
+pub record PlaysLines {K : Type 0} (faults : K → ℕ) (wrote : K → List ℕ → Type 0) (old new : K) (before after : Stand) (run : Saying → Run) (result : Result (Option (ℕ × Cause)) Fault) : Type 0 where
+  pub saying : Saying
+  pub refused : IfOk result (λ refusal. (run saying).refused ≡ refused_of refusal)
+  pub stands : OnOk result (after ≡ record { world = (run saying).world; counts = counted_from before.counts (run saying).said })
+  pub written : WritesUpTo faults wrote old new (told (run saying).said) result
+
+-- The same, and the line that was refused was told too.
+pub record PlaysAll {K : Type 0} (faults : K → ℕ) (wrote : K → List ℕ → Type 0) (old new : K) (before after : Stand) (run : Saying → Run) (result : Result (Option (ℕ × Cause)) Fault) : Type 0 where
+  pub saying : Saying
+  pub refused : IfOk result (λ refusal. refusal ≡ refusal_of (run saying).refused)
+  pub stands : OnOk result (after ≡ record { world = (run saying).world; counts = counted_from before.counts (run saying).said })
+  pub written : WritesUpTo faults wrote old new (written_of (run saying)) result
+
+-- ---- a script
+
+-- what a script came to: the world behind it, what was counted, and which line was refused and why, if one was
+pub record Played : Type 0 where
+  pub world : World
+  pub counts : Counts
+  pub refused : Option (ℕ × Cause)
+
+-- what a run comes to
+abbrev pub played_of : Run → Played
+played_of r = record { world = r.world; counts = counted_from no_counts r.said; refused = refusal_of r.refused }
+
+-- A script was played to its end, or to the first line that is refused, and all of its run was written; or memory ran out, or a
+-- write failed, and a front of that was written. The run is that of some answers of the checks that tell nothing of
+-- themselves.
+pub record Plays {K : Type 0} (faults : K → ℕ) (wrote : K → List ℕ → Type 0) (old new : K) (checks : List CheckParts) (input : List ℕ) (result : Result Played Fault) : Type 0 where
+  pub saying : Saying
+  pub played : IfOk result (λ p. p ≡ played_of (run saying checks input))
+  pub written : WritesUpTo faults wrote old new (written_of (run saying checks input)) result
