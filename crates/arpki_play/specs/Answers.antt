@@ -63,6 +63,10 @@ found inquiry =
 abbrev pub refused_line : Refusal → Answer
 refused_line refusal = one_line (refusal_text refusal) 3
 
+-- the input is too long
+abbrev pub too_long : Refusal
+too_long = record { line = 0; reason = Limit }
+
 -- the words are of no form: the usage line
 abbrev pub usage : Answer
 usage = one_line (codes "usage: arpki play | check | sig | make <number> [run] | restart <log> <k> | audit | follow") 2
@@ -80,5 +84,5 @@ answer_of Check input = unless_refused found (inquiry_at (start_of_lines input))
 -- the answer of a command to an input
 abbrev pub answer_to : Command → List ℕ → Answer
 answer_to command input =
-    if nat_lt most_bytes (length input) then refused_line (record { line = 0; reason = Limit })
+    if nat_lt most_bytes (length input) then refused_line too_long
     else answer_of command input

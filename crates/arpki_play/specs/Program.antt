@@ -1,24 +1,72 @@
 -- What a run of the program takes of its source, and what it writes to its sink.
-use Rattle.std.specs.Prelude.{◌≡◌, ℕ, List, Option, Some, None}
-use Rattle.ar_io.specs.Wrote.{Appended, AppendedFront}
-use Rattle.ar_run.specs.Answers.{written_of}
+use Rattle.std.specs.Prelude.{◌≡◌, ◌<◌, ◌≤◌, ◌⊎◌, ℕ, List, length, Option, Some, None, Result, IfOk, Vec}
+use Rattle.std.specs.declared.alloc.Global.{Global}
+use Rattle.ar_io.specs.Wrote.{Appended, AppendedFront, Unchanged}
+use Rattle.ar_run.specs.Answers.{Answer, written_of}
 use Rattle.ar_run.specs.Runs as runs
+use Rattle.ar_run.specs.declared.fault.Fault.{Fault}
+use Rattle.ar_world.specs.Parties.{CheckParts}
+use Rattle.ar_world.specs.Run.{Saying}
 use Rattle.script_make.specs.Script.{script}
+use Rattle.script_play.specs.Playing.{AppendedUpTo, WritesUpTo}
 use Rattle.arpki_play.specs.Answers.{answer_to, usage}
+use Rattle.arpki_play.specs.Plays.{made_answer, play_answer}
 use Rattle.arpki_play.specs.declared.request.Request.{Request}
-use Rattle.arpki_play.specs.declared.request.Request.TheVariants.{Answer, Make}
+use Rattle.arpki_play.specs.declared.request.Request.TheVariants as requests
 
--- A command took its input, its answer to it was written whole, and the status is the answer's. A script
--- and the usage line take no input: the script was written whole, with status 0, and the usage line where the
--- words are of no form.
-abbrev pub Answers : {K : Type 0} → Option Request → Option (List ℕ) → Option (List ℕ) → (K → List ℕ → Type 0) → K → K → ℕ → Type 0
-Answers (Some (Answer command)) old new wrote sink written status = runs.Answers (answer_to command) old new wrote sink written status
-Answers (Some (Make domains)) old new wrote sink written status = (status ≡ 0) × Appended wrote sink written (script domains)
-Answers None old new wrote sink written status = (status ≡ usage.status) × Appended wrote sink written (written_of usage)
+-- This answer was written whole, and the status is its own.
+abbrev pub IsAnswered : {K : Type 0} → Answer → (K → List ℕ → Type 0) → K → K → ℕ → Type 0
+IsAnswered answer wrote sink written status = (status ≡ answer.status) × Appended wrote sink written (written_of answer)
 
--- A command took its input, and of its answer to it, of the script or of the usage line a front was written,
--- and not all.
-abbrev pub BreaksOff : {K : Type 0} → Option Request → Option (List ℕ) → Option (List ℕ) → (K → List ℕ → Type 0) → K → K → Type 0
-BreaksOff (Some (Answer command)) old new wrote sink written = runs.BreaksOff (answer_to command) old new wrote sink written
-BreaksOff (Some (Make domains)) old new wrote sink written = AppendedFront wrote sink written (script domains)
-BreaksOff None old new wrote sink written = AppendedFront wrote sink written (written_of usage)
+-- A command took its input, its answer to it was written whole, and the status is the answer's; so did `play`, by some answers of
+-- the checks that tell nothing of themselves. A script, its summary and the usage line take no input: the script was written whole,
+-- with status 0, and the usage line where the words are of no form.
+abbrev pub Answers : {K : Type 0} → List CheckParts → Option Request → Option (List ℕ) → Option (List ℕ) → (K → List ℕ → Type 0) → K → K → ℕ → Type 0
+Answers checks (Some (requests.Answer command)) old new wrote sink written status = runs.Answers (answer_to command) old new wrote sink written status
+Answers checks (Some (requests.Make domains)) old new wrote sink written status = (status ≡ 0) × Appended wrote sink written (script domains)
+Answers checks (Some requests.Play) old new wrote sink written status =
+    (saying : Saying) × runs.Answers (play_answer saying checks) old new wrote sink written status
+Answers checks (Some (requests.Run domains)) old new wrote sink written status =
+    (saying : Saying) × IsAnswered (made_answer saying checks domains) wrote sink written status
+Answers checks None old new wrote sink written status = IsAnswered usage wrote sink written status
+
+-- what is played of an input: it, unless it is too long
+abbrev pub IsScript : Option (Vec ℕ Global) → List ℕ → Type 0
+IsScript (Some script) input = (script.items ≡ input) × (length input ≤ runs.most_bytes)
+IsScript None input = runs.most_bytes < length input
+
+-- an input was taken, and this is to be played of it
+abbrev pub ReadsScript : Option (List ℕ) → Option (List ℕ) → Option (Vec ℕ Global) → Type 0
+ReadsScript old new script = (input : List ℕ) × runs.TakesAll old new input × IsScript script input
+
+-- An input was played: its answer was written whole, by some answers of the checks that tell nothing of themselves, and the status
+-- is the answer's. Or memory ran out, or a write failed, and a front of the answer was written.
+pub record IsPlayed {K : Type 0} (faults : K → ℕ) (wrote : K → List ℕ → Type 0) (old new : K) (checks : List CheckParts) (input : List ℕ) (result : Result ℕ Fault) : Type 0 where
+  pub saying : Saying
+  pub status : IfOk result (λ status. status ≡ (play_answer saying checks input).status)
+  pub written : WritesUpTo faults wrote old new (written_of (play_answer saying checks input)) result
+
+-- `play` took its input, and of its answer to it a front was written.
+pub record PlaysFront {K : Type 0} (checks : List CheckParts) (old new : Option (List ℕ)) (wrote : K → List ℕ → Type 0) (sink written : K) : Type 0 where
+  pub saying : Saying
+  pub input : List ℕ
+  pub taken : runs.TakesAll old new input
+  pub front : AppendedUpTo wrote sink written (written_of (play_answer saying checks input))
+
+-- A command took its input, and of its answer to it, of the script, its summary or the usage line a front was written, and not
+-- all. Of what `play` answers a front was written, or all.
+abbrev pub BreaksOff : {K : Type 0} → List CheckParts → Option Request → Option (List ℕ) → Option (List ℕ) → (K → List ℕ → Type 0) → K → K → Type 0
+BreaksOff checks (Some (requests.Answer command)) old new wrote sink written = runs.BreaksOff (answer_to command) old new wrote sink written
+BreaksOff checks (Some (requests.Make domains)) old new wrote sink written = AppendedFront wrote sink written (script domains)
+BreaksOff checks (Some requests.Play) old new wrote sink written = PlaysFront checks old new wrote sink written
+BreaksOff checks (Some (requests.Run domains)) old new wrote sink written =
+    (saying : Saying) × AppendedFront wrote sink written (written_of (made_answer saying checks domains))
+BreaksOff checks None old new wrote sink written = AppendedFront wrote sink written (written_of usage)
+
+-- Memory ran out: nothing was written, but of what `play` answers a front.
+abbrev pub Stops : {K : Type 0} → List CheckParts → Option Request → Option (List ℕ) → Option (List ℕ) → (K → List ℕ → Type 0) → K → K → Type 0
+Stops checks (Some (requests.Answer command)) old new wrote sink written = Unchanged wrote sink written
+Stops checks (Some (requests.Make domains)) old new wrote sink written = Unchanged wrote sink written
+Stops checks (Some requests.Play) old new wrote sink written = Unchanged wrote sink written ⊎ PlaysFront checks old new wrote sink written
+Stops checks (Some (requests.Run domains)) old new wrote sink written = Unchanged wrote sink written
+Stops checks None old new wrote sink written = Unchanged wrote sink written

@@ -6,7 +6,7 @@ use Rattle.ar_lines.specs.Forms.{number_of, passing}
 use Rattle.arpki_play.specs.declared.command.Command.{Command}
 use Rattle.arpki_play.specs.declared.command.Command.TheVariants.{Sig, Check}
 use Rattle.arpki_play.specs.declared.request.Request.{Request}
-use Rattle.arpki_play.specs.declared.request.Request.TheVariants.{Answer, Make}
+use Rattle.arpki_play.specs.declared.request.Request.TheVariants.{Answer, Make, Play, Run}
 
 -- the bytes of each word
 abbrev pub texts : List (String Global) → List (List ℕ)
@@ -21,9 +21,16 @@ command_named word =
 unfoldable pub domains_of : List ℕ → Option ℕ
 domains_of word = passing (λ n. nat_le 1 n && nat_le n 400) (number_of word)
 
--- what the words ask for, where they are of a form: the answer of a command, or `make` and a number of domains
+-- what one word asks for: to play, or the answer of a command
+abbrev pub request_named : List ℕ → Option Request
+request_named word = if bytes_eq word (codes "play") then Some Play else option_map Answer (command_named word)
+
+-- what the words ask for, where they are of a form: `play`, the answer of a command, or `make` with a number of domains, and with
+-- the word `run` behind it
 abbrev pub request_of : List (List ℕ) → Option Request
 request_of [] = None
-request_of (name ∷ []) = option_map Answer (command_named name)
+request_of (name ∷ []) = request_named name
 request_of (name ∷ number ∷ []) = if bytes_eq name (codes "make") then option_map Make (domains_of number) else None
-request_of (name ∷ number ∷ next ∷ more) = None
+request_of (name ∷ number ∷ last ∷ []) =
+    if bytes_eq name (codes "make") && bytes_eq last (codes "run") then option_map Run (domains_of number) else None
+request_of (name ∷ number ∷ last ∷ next ∷ more) = None

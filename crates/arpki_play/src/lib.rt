@@ -1,8 +1,8 @@
 //! The top call of the program `arpki`: from the bytes of its input to the bytes of its output.
 //!
 //! `specs/` says what is answered: `Words` which words are of a form, `Questions` and `Inquiries` what
-//! `sig` and `check` read, `Answers` what is written and with which status, and `Program` what a run takes
-//! and writes. `Written` says how a question and an inquiry are written, and `laws` that they are read so.
+//! `sig` and `check` read, `Answers` what is written and with which status, `Plays` the same where a script is played, and
+//! `Program` what a run takes and writes. `Written` says how a question and an inquiry are written, and `laws` that they are read so.
 #![tactic(auto)]
 
 pub use program::arpki_main;
@@ -13,6 +13,7 @@ mod judgements;
 pub mod laws;
 #[cfg(test)]
 mod make_tests;
+mod plays;
 mod program;
 mod question;
 mod request;

@@ -1,7 +1,13 @@
 use crate::arpki_main;
 use ar_io::{MemSink, MemSource, QuietSink, QuietSource};
+use owner_check::BookCheck;
 use std::alloc::{AllocError, Global};
 use std::test::Fail;
+
+// No checks of owners: no script is played.
+fn no_checks(alloc: Global) -> Vec<BookCheck> {
+    Vec::new(alloc)
+}
 
 // The words of a run.
 fn words_of(alloc: Global, words: &[&str]) -> Result<Vec<String>, AllocError> {
@@ -17,7 +23,7 @@ fn quiet_run(alloc: Global, words: &[&str]) -> Result<(u8, u64, String), AllocEr
     let words = words_of(alloc, words)?;
     let mut source = QuietSource::new(Vec::new(alloc));
     let mut sink = QuietSink::new();
-    let status = arpki_main(alloc, &words, &mut source, &mut sink);
+    let status = arpki_main(alloc, &words, &mut source, &mut sink, no_checks(alloc));
     let len = sink.len();
     let digest = sink.into_digest();
     Ok((status, len, hex::encode(alloc, digest.as_slice())?))
@@ -61,6 +67,36 @@ fn scripts_are_those_of_another_program(rt: HostRuntime) -> Result<(), Fail> {
     Ok(())
 }
 
+// A check with an empty book for each authority of a script.
+fn empty_books(alloc: Global) -> Result<Vec<BookCheck>, AllocError> {
+    let mut checks = Vec::new(alloc);
+    for _ in 0..16 {
+        checks.push(BookCheck::new(alloc))?;
+    }
+    Ok(checks)
+}
+
+// The status of a run, and what it wrote.
+fn played_run(alloc: Global, words: &[&str]) -> Result<(u8, MemSink), AllocError> {
+    let words = words_of(alloc, words)?;
+    let mut source = QuietSource::new(Vec::new(alloc));
+    let mut sink = MemSink::new(alloc, Vec::new(alloc));
+    sink.reserve(alloc, 200)?;
+    let status = arpki_main(alloc, &words, &mut source, &mut sink, empty_books(alloc)?);
+    Ok((status, sink))
+}
+
+#[test]
+fn a_script_is_played_as_by_another_program(rt: HostRuntime) -> Result<(), Fail> {
+    let (status, sink) = played_run(rt.alloc(), &["make", "8", "run"])?;
+    assert_eq!(rt; status, 0);
+    assert_eq!(rt;
+        sink.written(),
+        b"domains 8 messages 118 epochs 2 accepted 8 absent 1 refused 0 output 4fd268b34e03290627c465e2a9725c91a9bbf631b961f26794c255ce2855375f\n".as_slice()
+    );
+    Ok(())
+}
+
 #[test]
 fn other_numbers_of_domains_are_words_of_no_form(rt: HostRuntime) -> Result<(), Fail> {
     for number in ["0", "401", "08", "+8", "", "8 ", "x"] {
@@ -81,7 +117,16 @@ fn each_line_of_a_script_is_one_piece(rt: HostRuntime) -> Result<(), Fail> {
     let mut source = MemSource::new(Vec::new(rt.alloc()), 1, [1].to_vec(rt.alloc())?);
     let mut sink = MemSink::new(rt.alloc(), [3].to_vec(rt.alloc())?);
     sink.reserve(rt.alloc(), 500)?;
-    assert_eq!(rt; arpki_main(rt.alloc(), &words, &mut source, &mut sink), 5);
+    assert_eq!(rt;
+        arpki_main(
+            rt.alloc(),
+            &words,
+            &mut source,
+            &mut sink,
+            no_checks(rt.alloc())
+        ),
+        5
+    );
     assert_eq!(rt; sink.written(), b"keys 6 3\nlogs 5 4\n".as_slice());
     Ok(())
 }

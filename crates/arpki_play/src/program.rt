@@ -5,14 +5,17 @@ ghost use Rattle.ar_run.specs.Answers.{written_of};
 ghost use Rattle.ar_run.specs.Runs.{TakesAtMost, most_bytes};
 ghost use Rattle.ar_run.specs.Writing.{Writes};
 ghost use Rattle.arpki_play.specs.Answers.{usage};
-ghost use Rattle.arpki_play.specs.Program.{Answers, BreaksOff};
+ghost use Rattle.arpki_play.specs.Plays.{checks_told};
+ghost use Rattle.arpki_play.specs.Program.{Answers, BreaksOff, Stops};
 ghost use Rattle.script_make.specs.Script.{script};
-ghost use Rattle.arpki_play.specs.declared.request.Request.TheVariants.{Make};
+ghost use Rattle.arpki_play.specs.declared.request.Request.TheVariants.{Make, Run};
 ghost use Rattle.arpki_play.specs.Words.{request_of, texts};
 
+use crate::plays::{play_input, run_made};
 use crate::request::{Domains, Request};
 use ar_io::{Sink, Source};
 use ar_run::{Fault, run, status, write_line, write_text};
+use owner_check::OwnerCheck;
 use std::alloc::Global;
 
 /// The usage line.
@@ -24,42 +27,49 @@ const USAGE: &[u8] =
 ///
 /// | status | comes |
 /// |---|---|
-/// | 0 | `sig` finds the signature valid, `check` accepts the confirmation, of a certificate or of none; `make` |
+/// | 0 | `sig` finds the signature valid, `check` accepts the confirmation, of a certificate or of none, `play` and `make <number> run` take each line of the script, `make <number>` writes it |
 /// | 1 | `sig` finds the signature not valid, `check` refuses the confirmation |
 /// | 2 | the words are of no form: the usage line |
-/// | 3 | a line of the input is refused, or the input is too long |
+/// | 3 | a line of the input, or of the script that is played, is refused, or the input is too long |
 /// | 4 | a read failed |
 /// | 5 | a write failed |
 /// | 6 | memory ran out |
 ///
 /// Each of 1 to 3 comes exactly where its row says, unless one of 4 to 6 comes first.
-pub fn arpki_main<S: Source, K: Sink>(
+///
+/// Where a script is played, the authority with the number 0 has the first of the checks, and so on; the others are dropped.
+pub fn arpki_main<C: OwnerCheck, S: Source, K: Sink>(
     alloc: Global,
     words: &[String],
     source: &mut S,
     sink: &mut K,
+    checks: Vec<C>,
 ) -> u8
     ensures statuses { result ≤ 6 }
 
     // At 0 to 3 the whole answer to the input was written, and the status is the answer's.
-    ensures answered { result < 4 → Answers (request_of (texts words.now)) (S.left source.old) (S.left source.new)
-        K.wrote sink.old sink.new result }
+    ensures answered { result < 4 → Answers (checks_told C.told C.answers checks.items) (request_of (texts words.now))
+        (S.left source.old) (S.left source.new) K.wrote sink.old sink.new result }
 
     // Words of no form are answered by the usage line, and nothing is read.
     ensures usage { result ≡ 2 → request_of (texts words.now) ≡ None }
     ensures no_form { request_of (texts words.now) ≡ None → (source.new ≡ source.old) × ((result ≡ 2) ⊎ (result ≡ 5)) }
 
-    // A script is made without an input: nothing is read.
+    // A script is made, or made and played, without an input: nothing is read.
     ensures make { (domains : ℕ) → request_of (texts words.now) ≡ Some (Make domains)
         → (source.new ≡ source.old) × ((result ≡ 0) ⊎ (result ≡ 5) ⊎ (result ≡ 6)) }
+    ensures run { (domains : ℕ) → request_of (texts words.now) ≡ Some (Run domains)
+        → (source.new ≡ source.old) × ((result ≡ 0) ⊎ (result ≡ 3) ⊎ (result ≡ 5) ⊎ (result ≡ 6)) }
 
     // A fault has its cause in a count of faults, and none is hidden: at each other status the count stays.
-    // Before a fault no more than a front of the answer was written.
+    // Before a fault no more than a front of the answer was written; of what `play` answers, perhaps all.
     ensures source_fault { result ≡ 4 → HasRisen (S.faults source.old) (S.faults source.new)
         × Unchanged K.wrote sink.old sink.new }
     ensures sink_fault { result ≡ 5 → HasRisen (K.faults sink.old) (K.faults sink.new)
-        × BreaksOff (request_of (texts words.now)) (S.left source.old) (S.left source.new) K.wrote sink.old sink.new }
-    ensures memory { result ≡ 6 → Unchanged K.wrote sink.old sink.new }
+        × BreaksOff (checks_told C.told C.answers checks.items) (request_of (texts words.now))
+        (S.left source.old) (S.left source.new) K.wrote sink.old sink.new }
+    ensures memory { result ≡ 6 → Stops (checks_told C.told C.answers checks.items) (request_of (texts words.now))
+        (S.left source.old) (S.left source.new) K.wrote sink.old sink.new }
 
     // What was taken before a fault: no more than an input may have, and than one byte more for want of memory.
     ensures source_taken { result ≡ 4 → TakesAtMost most_bytes (S.left source.old) (S.left source.new) }
@@ -75,6 +85,8 @@ pub fn arpki_main<S: Source, K: Sink>(
     match Request::read(words) {
         Some(Request::Answer(command)) => status(run(alloc, &command, source, sink)),
         Some(Request::Make(domains)) => status(show_script(alloc, &domains, sink)),
+        Some(Request::Play) => status(play_input(alloc, checks, source, sink)),
+        Some(Request::Run(domains)) => status(run_made(alloc, &domains, checks, sink)),
         None => status(show_usage(sink)),
     }
 }

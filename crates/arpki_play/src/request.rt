@@ -40,6 +40,14 @@ impl Domains {
         })
     }
 
+    /// The number.
+    pub fn number(&self) -> u32
+        ensures value { result ≡ self.now }
+        ensures few { (1 ≤ result) × (result ≤ 400) }
+    {
+        self.number
+    }
+
     /// The script.
     pub fn script(&self, alloc: Global) -> Result<Vec<u8>, AllocError>
         ensures { IfOk result (λ text. text.items ≡ script self.now) }
@@ -57,6 +65,10 @@ pub enum Request {
     Answer(Command),
     /// `make <number>`: the script for so many domains. No input is read.
     Make(Domains),
+    /// `play`: what happens where the input is played as a script.
+    Play,
+    /// `make <number> run`: that script played, and a summary of it. No input is read.
+    Run(Domains),
 }
 
 impl Request {
@@ -65,9 +77,13 @@ impl Request {
         ensures { result ≡ request_of (texts words.now) }
     {
         match words {
+            [name] if name.as_str() == "play" => Some(Request::Play),
             [name] => Command::of(name.as_str()).map(Request::Answer),
             [name, number] if name.as_str() == "make" => {
                 Domains::of(number.as_bytes()).map(Request::Make)
+            }
+            [name, number, last] if name.as_str() == "make" && last.as_str() == "run" => {
+                Domains::of(number.as_bytes()).map(Request::Run)
             }
             _ => None,
         }

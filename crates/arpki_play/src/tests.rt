@@ -2,8 +2,14 @@ ghost use Rattle.std.specs.Prelude.{◌≡◌, ◌<◌, ◌≤◌, ◌⊎◌, If
 
 use crate::arpki_main;
 use ar_io::{MemSink, MemSource, QuietSink, QuietSource};
+use owner_check::BookCheck;
 use std::alloc::{AllocError, Global};
 use std::test::Fail;
+
+// No checks of owners: no script is played.
+fn no_checks(alloc: Global) -> Vec<BookCheck> {
+    Vec::new(alloc)
+}
 
 // A key made to fit: with the types 5 and 3 and with I, C, all elements and the path zero, the
 // signature of the empty message at leaf 0 leads to this root.
@@ -105,7 +111,7 @@ fn run(
     let mut source = MemSource::new(bytes, chunk, Vec::from_slice(alloc, reads)?);
     let mut sink = MemSink::new(alloc, Vec::from_slice(alloc, writes)?);
     sink.reserve(alloc, room)?;
-    let status = arpki_main(alloc, &words, &mut source, &mut sink);
+    let status = arpki_main(alloc, &words, &mut source, &mut sink, no_checks(alloc));
     Ok((status, sink))
 }
 
@@ -117,7 +123,7 @@ fn quiet_run(alloc: Global, command: &str, input: &str) -> Result<(u8, u64), All
     let words = vec![in alloc; String::from_str(alloc, command)?]?;
     let mut source = QuietSource::new(Vec::from_slice(alloc, input.as_bytes())?);
     let mut sink = QuietSink::new();
-    let status = arpki_main(alloc, &words, &mut source, &mut sink);
+    let status = arpki_main(alloc, &words, &mut source, &mut sink, no_checks(alloc));
     Ok((status, sink.len()))
 }
 
@@ -169,7 +175,16 @@ fn each_write_that_fails_is_a_fault_of_the_sink(rt: HostRuntime) -> Result<(), F
     let mut source = MemSource::new(Vec::new(rt.alloc()), 1, Vec::new(rt.alloc()));
     let mut sink = MemSink::new(rt.alloc(), Vec::new(rt.alloc()));
     sink.reserve(rt.alloc(), 6)?;
-    assert_eq!(rt; arpki_main(rt.alloc(), &words, &mut source, &mut sink), 5);
+    assert_eq!(rt;
+        arpki_main(
+            rt.alloc(),
+            &words,
+            &mut source,
+            &mut sink,
+            no_checks(rt.alloc())
+        ),
+        5
+    );
     assert_eq!(rt; sink.written(), b"usage:".as_slice());
     Ok(())
 }

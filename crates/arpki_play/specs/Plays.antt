@@ -1,0 +1,65 @@
+-- What `play` and `make <number> run` write, and with which status.
+use Rattle.std.specs.Prelude.{ℕ, nat_lt, if◌then◌else◌, List, [], ◌∷◌, ◌++◌, codes, length, map, Option, Some, None}
+use Rattle.std.specs.Fmt.{decimal}
+use Rattle.hex.specs.Hex.{encode_lower}
+use Rattle.sha2.specs.Sha256.{sha256}
+use Rattle.owner_check.specs.Answers.{Told}
+use Rattle.owner_check.specs.declared.answer.Answer.{Answer as Answered}
+use Rattle.ar_run.specs.Answers.{Answer}
+use Rattle.ar_run.specs.Runs.{most_bytes}
+use Rattle.ar_world.specs.Parties.{CheckParts}
+use Rattle.ar_world.specs.Run as world
+use Rattle.script_make.specs.Script.{last_epoch, script}
+use Rattle.ar_world.specs.declared.cause.Cause.{Cause}
+use Rattle.script_play.specs.Playing.{Played, played_of, refusal_of, written_of}
+use Rattle.script_play.specs.declared.counts.Counts.{Counts}
+use Rattle.arpki_play.specs.Answers.{refused_line, too_long}
+
+-- what checks tell of themselves, and have answered
+abbrev pub checks_told : {C : Type 0} → (C → Option Told) → (C → List Answered) → List C → List CheckParts
+checks_told told answers checks = map (λ check. record { told = told check; answers = answers check }) checks
+
+-- ---- `play`
+
+-- the status of a run: 3 where a line is refused
+abbrev pub run_status : Option (ℕ × Cause) → ℕ
+run_status None = 0
+run_status (Some refusal) = 3
+
+-- all lines that are written of a run
+abbrev pub run_answer : world.Run → Answer
+run_answer r = record { lines = world.lines_of_run r; status = run_status (refusal_of r.refused) }
+
+-- what is answered where an input is played
+abbrev pub play_answer : world.Saying → List CheckParts → List ℕ → Answer
+play_answer saying checks input =
+    if nat_lt most_bytes (length input) then refused_line too_long else run_answer (world.run saying checks input)
+
+-- ---- `make <number> run`
+
+-- how many domains, messages and epochs there are, how many judgements accept, hold that there is no certificate, and refuse, and
+-- the digest of all that is written where the script is played; a line with its newline
+abbrev pub summary_line : ℕ → ℕ → Counts → List ℕ → List ℕ
+summary_line domains messages n output =
+    codes "domains " ++ (decimal domains ++ (codes " messages " ++ (decimal messages ++ (codes " epochs "
+    ++ (decimal (last_epoch domains) ++ (codes " accepted " ++ (decimal n.accepted ++ (codes " absent " ++ (decimal n.absent
+    ++ (codes " refused " ++ (decimal n.refused ++ (codes " output " ++ (encode_lower output ++ codes "\n")))))))))))))
+
+-- the line of a refusal
+abbrev pub refusal_text : ℕ × Cause → List ℕ
+refusal_text refusal = world.refused_text (record { line = refusal.0; cause = refusal.1 })
+
+-- the summary of what a script came to, where this is the digest of what is written of it, or the line that is refused
+abbrev pub summed : ℕ → Played → List ℕ → Option (ℕ × Cause) → Answer
+summed domains p output None = record { lines = summary_line domains (length p.world.pool) p.counts output ∷ []; status = 0 }
+summed domains p output (Some refusal) = record { lines = refusal_text refusal ∷ []; status = 3 }
+
+-- what is answered where this script for so many domains is played
+abbrev pub made_of : world.Saying → List CheckParts → ℕ → List ℕ → Answer
+made_of saying checks domains text =
+    let r = world.run saying checks text
+    in summed domains (played_of r) (sha256 (written_of r)) (refusal_of r.refused)
+
+-- what is answered where the script for so many domains is made and played
+abbrev pub made_answer : world.Saying → List CheckParts → ℕ → Answer
+made_answer saying checks domains = made_of saying checks domains (script domains)

@@ -1,0 +1,250 @@
+//! The commands that play a script.
+
+ghost use Rattle.std.specs.Prelude.{◌≡◌, ◌≢◌, ◌<◌, ◌≤◌, ◌+◌, [], ◌∷◌, ℕ, List, Err, Some, IfOk, IfErr, length};
+ghost use Rattle.ar_base.specs.Faults.{HasRisen};
+ghost use Rattle.ar_io.specs.Wrote.{AppendedFront, Unchanged};
+ghost use Rattle.ar_run.specs.Answers.{written_of};
+ghost use Rattle.ar_run.specs.Runs.{TakesAtMost, most_bytes};
+ghost use Rattle.ar_world.specs.Parties.{CheckParts};
+ghost use Rattle.ar_world.specs.Run.{Saying};
+ghost use Rattle.arpki_play.specs.Plays.{checks_told, made_answer, made_of, run_status, summary_line, summed};
+ghost use Rattle.arpki_play.specs.Program.{Answers, IsAnswered, IsPlayed, IsScript, PlaysFront, ReadsScript, Stops};
+ghost use Rattle.arpki_play.specs.declared.request.Request.TheVariants.{Play};
+
+use crate::request::Domains;
+use crate::verdicts::refuse;
+use ar_io::{QuietSink, ReadFault, Sink, Source, read_all};
+use ar_lines::{Reason, Refusal};
+use ar_run::{Fault, write_answer, write_line};
+use ar_text::{Part, append};
+use owner_check::OwnerCheck;
+use script_make::last_epoch;
+use script_play::{Counts, Played, play, refused_line};
+use std::alloc::{AllocError, Global};
+
+/// The bytes of the longest script.
+const MOST_BYTES: usize = 1_048_576;
+
+/// The refusal of a script that is too long.
+const TOO_LONG: Refusal = Refusal {
+    line: 0,
+    reason: Reason::Limit,
+};
+
+/// All that the source has left; `None` where it is too long.
+fn read_script<S: Source>(alloc: Global, source: &mut S) -> Result<Option<Vec<u8>>, Fault>
+    ensures ok { IfOk result (λ script. ReadsScript (S.left source.old) (S.left source.new) script) }
+    ensures source { result ≡ Err Fault.Source → HasRisen (S.faults source.old) (S.faults source.new) }
+    ensures sink { result ≢ Err Fault.Sink }
+    ensures taken { IfErr result (λ fault. TakesAtMost most_bytes (S.left source.old) (S.left source.new)) }
+    ensures uncounted { result ≢ Err Fault.Source → S.faults source.new ≡ S.faults source.old }
+    ensures faults { S.faults source.old ≤ S.faults source.new }
+{
+    match read_all(alloc, source, MOST_BYTES) {
+        Ok(script) => Ok(Some(script)),
+        Err(ReadFault::Long) => Ok(None),
+        Err(ReadFault::Fault) => Err(Fault::Source),
+        Err(ReadFault::Memory) => Err(Fault::Memory),
+    }
+}
+
+/// The status where a script came to this.
+fn status_of<C: OwnerCheck>(played: Played<C>) -> u8
+    ensures status { result ≡ run_status played.refused }
+    ensures bound { result < 4 }
+{
+    match played.refused {
+        Some(_) => 3,
+        None => 0,
+    }
+}
+
+/// Plays a script that is not too long, and writes what happens.
+#[tactic(auto, using(crate::proofs::Played::short_laws))]
+fn play_short<C: OwnerCheck, K: Sink>(
+    alloc: Global,
+    checks: Vec<C>,
+    script: &[u8],
+    sink: &mut K,
+) -> Result<u8, Fault>
+    ensures played { length script.now ≤ most_bytes
+        → IsPlayed K.faults K.wrote sink.old sink.new (checks_told C.told C.answers checks.items) script.now result }
+    ensures bound { IfOk result (λ status. status < 4) }
+{
+    match play(alloc, checks, script, sink) {
+        Ok(played) => Ok(status_of(played)),
+        Err(fault) => Err(fault),
+    }
+}
+
+/// Writes that a script is too long.
+#[tactic(auto, using(crate::proofs::Played::long_laws))]
+fn refuse_long<K: Sink>(alloc: Global, sink: &mut K) -> Result<u8, Fault>
+    ensures played { (checks : List CheckParts) (input : List ℕ) → most_bytes < length input
+        → IsPlayed K.faults K.wrote sink.old sink.new checks input result }
+    ensures bound { IfOk result (λ status. status < 4) }
+{
+    let answer = refuse(alloc, TOO_LONG)?;
+    write_answer(sink, &answer)?;
+    Ok(3)
+}
+
+/// Plays a script, and writes what happens.
+#[tactic(auto, using(crate::proofs::Played::script_laws))]
+fn play_script<C: OwnerCheck, K: Sink>(
+    alloc: Global,
+    checks: Vec<C>,
+    script: Option<Vec<u8>>,
+    sink: &mut K,
+) -> Result<u8, Fault>
+    ensures played { (input : List ℕ) → IsScript script input
+        → IsPlayed K.faults K.wrote sink.old sink.new (checks_told C.told C.answers checks.items) input result }
+    ensures bound { IfOk result (λ status. status < 4) }
+{
+    match script {
+        Some(script) => play_short(alloc, checks, &script, sink),
+        None => refuse_long(alloc, sink),
+    }
+}
+
+/// Plays the input, and writes what happens.
+#[tactic(auto, using(crate::proofs::Played::input_laws))]
+pub(crate) fn play_input<C: OwnerCheck, S: Source, K: Sink>(
+    alloc: Global,
+    checks: Vec<C>,
+    source: &mut S,
+    sink: &mut K,
+) -> Result<u8, Fault>
+    ensures ok { IfOk result (λ status. Answers (checks_told C.told C.answers checks.items) (Some Play) (S.left source.old) (S.left source.new)
+        K.wrote sink.old sink.new status) }
+    ensures bound { IfOk result (λ status. status < 4) }
+    ensures source { result ≡ Err Fault.Source → HasRisen (S.faults source.old) (S.faults source.new)
+        × Unchanged K.wrote sink.old sink.new }
+    ensures sink { result ≡ Err Fault.Sink → HasRisen (K.faults sink.old) (K.faults sink.new)
+        × PlaysFront (checks_told C.told C.answers checks.items) (S.left source.old) (S.left source.new) K.wrote sink.old sink.new }
+    ensures memory { result ≡ Err Fault.Memory → Stops (checks_told C.told C.answers checks.items) (Some Play)
+        (S.left source.old) (S.left source.new) K.wrote sink.old sink.new }
+    ensures source_uncounted { result ≢ Err Fault.Source → S.faults source.new ≡ S.faults source.old }
+    ensures sink_uncounted { result ≢ Err Fault.Sink → K.faults sink.new ≡ K.faults sink.old }
+    ensures source_taken { result ≡ Err Fault.Source → TakesAtMost most_bytes (S.left source.old) (S.left source.new) }
+    ensures memory_taken { result ≡ Err Fault.Memory → TakesAtMost (most_bytes + 1) (S.left source.old) (S.left source.new) }
+    ensures source_faults { S.faults source.old ≤ S.faults source.new }
+    ensures sink_faults { K.faults sink.old ≤ K.faults sink.new }
+{
+    match read_script(alloc, source) {
+        Ok(script) => play_script(alloc, checks, script, sink),
+        Err(fault) => Err(fault),
+    }
+}
+
+/// The summary of a script for so many domains that was played to its end: how many messages there are, the judgements, and the
+/// digest of all that was written of it.
+fn summary_line(
+    alloc: Global,
+    domains: &Domains,
+    messages: u64,
+    counts: &Counts,
+    output: &[u8; 32],
+) -> Result<Vec<u8>, AllocError>
+    ensures { IfOk result (λ line. line.items ≡ summary_line domains.now messages counts.now output.now) }
+{
+    let number = domains.number();
+    let parts = [
+        Part::Bytes(b"domains "),
+        Part::Number(u64::from(number)),
+        Part::Bytes(b" messages "),
+        Part::Number(messages),
+        Part::Bytes(b" epochs "),
+        Part::Number(u64::from(last_epoch(number))),
+        Part::Bytes(b" accepted "),
+        Part::Number(counts.accepted),
+        Part::Bytes(b" absent "),
+        Part::Number(counts.absent),
+        Part::Bytes(b" refused "),
+        Part::Number(counts.refused),
+        Part::Bytes(b" output "),
+        Part::Digest(output),
+        Part::Bytes(b"\n"),
+    ];
+    let mut line = Vec::new(alloc);
+    append(alloc, &mut line, &parts)?;
+    Ok(line)
+}
+
+/// The line that is written of a script for so many domains that was played, with the digest of all that was written of it,
+/// and the status.
+fn sum_up<C: OwnerCheck>(
+    alloc: Global,
+    domains: &Domains,
+    played: &Played<C>,
+    output: &[u8; 32],
+) -> Result<(Vec<u8>, u8), AllocError>
+    ensures told { IfOk result (λ told. summed domains.now played.now output.now played.now.refused
+        ≡ record { lines = told.0.items ∷ []; status = told.1 }) }
+    ensures bound { IfOk result (λ told. told.1 < 4) }
+{
+    match played.refused {
+        Some((number, cause)) => Ok((refused_line(alloc, number, cause)?, 3)),
+        None => {
+            let messages = played.world.messages();
+            let line = summary_line(alloc, domains, messages, &played.counts, output)?;
+            Ok((line, 0))
+        }
+    }
+}
+
+/// Plays a script for so many domains: the line that is written of it, and the status.
+fn play_quietly<C: OwnerCheck>(
+    alloc: Global,
+    domains: &Domains,
+    checks: Vec<C>,
+    text: &[u8],
+) -> Result<(Vec<u8>, u8), AllocError>
+    ensures told { IfOk result (λ told. (saying : Saying)
+        × (made_of saying (checks_told C.told C.answers checks.items) domains.now text.now ≡ record { lines = told.0.items ∷ []; status = told.1 })) }
+    ensures bound { IfOk result (λ told. told.1 < 4) }
+{
+    let mut quiet = QuietSink::new();
+    match play(alloc, checks, text, &mut quiet) {
+        Ok(played) => sum_up(alloc, domains, &played, &quiet.into_digest()),
+        // No write to the sink failed.
+        Err(_) => Err(AllocError),
+    }
+}
+
+/// Plays the script for so many domains: the line that is written of it, and the status.
+fn make_and_play<C: OwnerCheck>(
+    alloc: Global,
+    domains: &Domains,
+    checks: Vec<C>,
+) -> Result<(Vec<u8>, u8), AllocError>
+    ensures told { IfOk result (λ told. (saying : Saying)
+        × (made_answer saying (checks_told C.told C.answers checks.items) domains.now ≡ record { lines = told.0.items ∷ []; status = told.1 })) }
+    ensures bound { IfOk result (λ told. told.1 < 4) }
+{
+    let text = domains.script(alloc)?;
+    play_quietly(alloc, domains, checks, &text)
+}
+
+/// Plays the script for so many domains, and writes a summary.
+#[tactic(auto, using(crate::proofs::Played::made_laws))]
+pub(crate) fn run_made<C: OwnerCheck, K: Sink>(
+    alloc: Global,
+    domains: &Domains,
+    checks: Vec<C>,
+    sink: &mut K,
+) -> Result<u8, Fault>
+    ensures ok { IfOk result (λ status. (saying : Saying)
+        × IsAnswered (made_answer saying (checks_told C.told C.answers checks.items) domains.now) K.wrote sink.old sink.new status) }
+    ensures bound { IfOk result (λ status. status < 4) }
+    ensures sink { result ≡ Err Fault.Sink → HasRisen (K.faults sink.old) (K.faults sink.new)
+        × ((saying : Saying) × AppendedFront K.wrote sink.old sink.new (written_of (made_answer saying (checks_told C.told C.answers checks.items) domains.now))) }
+    ensures memory { result ≡ Err Fault.Memory → Unchanged K.wrote sink.old sink.new }
+    ensures no_source { result ≢ Err Fault.Source }
+    ensures uncounted { result ≢ Err Fault.Sink → K.faults sink.new ≡ K.faults sink.old }
+    ensures faults { K.faults sink.old ≤ K.faults sink.new }
+{
+    let (line, status) = make_and_play(alloc, domains, checks)?;
+    write_line(sink, &line)?;
+    Ok(status)
+}
