@@ -1,7 +1,7 @@
 ghost use Rattle.std.specs.Prelude.{◌≡◌, ◌+◌, ◌*◌, ◌<◌, ◌≤◌, length, slice_get, Ok, alloc_error};
 ghost use Rattle.std.specs.Option.{option_copied};
 ghost use Rattle.ar_base.specs.Gives.{GivesUnless};
-ghost use Rattle.party_keys.specs.Directory.{directory_of, is_party_count, is_quorum, keys_of};
+ghost use Rattle.party_keys.specs.Directory.{IsDirectory, directory_of, is_party_count, is_quorum, keys_of};
 
 use crate::fault::DirectoryFault;
 use crate::role_keys::RoleKeys;
@@ -110,6 +110,13 @@ impl Directory {
         ensures most { result ≤ length self.now.logs }
     {
         self.quorum
+    }
+
+    /// Tells a proof the bounds that each directory keeps. It does nothing.
+    pub fn told(&self)
+        ensures { IsDirectory self.now }
+    {
+        let _logs = &self.logs;
     }
 
     /// The key of a generation of a party.
