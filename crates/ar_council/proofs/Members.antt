@@ -1,5 +1,5 @@
 -- The parties that a directory knows are of its council, and what is learnt leaves the council as it is.
-use Rattle.std.proofs.Common.{◌≡◌, ℕ, ◌+◌, ◌<◌, ◌≤◌, ◌⊎◌, inl, inr, List, [], ◌∷◌, length, get_or, slice_get, nat_lt, Bool, true, false, cond, Some, None, Result, Ok, Err, refl, ap}
+use Rattle.std.proofs.Common.{◌≡◌, ℕ, ◌+◌, ◌<◌, ◌≤◌, ◌⊎◌, inl, inr, List, [], ◌∷◌, length, get_or, slice_get, nat_lt, Bool, true, false, cond, Some, None, Result, Ok, Err, refl, ap, ◌∙◌}
 use Rattle.std.specs.Prelude.{All, is_some}
 use Rattle.std.proofs.Math.ListN.{length-set}
 use Rattle.std.proofs.lemmas.List.{get_or_past}
@@ -12,7 +12,7 @@ use Rattle.ar_statement.specs.declared.party.Role.{Role}
 use Rattle.ar_statement.specs.declared.party.Role.TheVariants.{Authority, Client, LogServer, Owner}
 use Rattle.lms_tree.specs.declared.public_key.LmsPublic.{LmsPublic}
 use Rattle.party_keys.specs.Directory.{Directory, keys_at, keys_of, role_keys}
-use Rattle.party_keys.specs.Learning.{Announced, after_adopting, after_learning, learned, learned_if, learning, with_next_of}
+use Rattle.party_keys.specs.Learning.{Announced, after_adopting, after_all, after_learning, learned, learned_if, learning, with_next_of}
 use Rattle.party_keys.specs.Signatures.{answer_under, verified}
 use Rattle.party_keys.specs.Signers.{all_known, is_known}
 use Rattle.party_keys.specs.declared.fault.LearnFault.{LearnFault}
@@ -77,6 +77,10 @@ council-learning keys a = by (learned keys a)
     by (Ok New) = council-next a.party.role keys a.party.number a.generation a.key
     by (Ok Again) = refl
     by (Err fault) = refl
+
+pub council-all : (keys : Directory) (announced : List Announced) → council_of (after_all keys announced) ≡ council_of keys
+council-all keys [] = refl
+council-all keys (a ∷ more) = council-all (after_learning keys a) more ∙ council-learning keys a
 
 pub council-adopting : (keys : Directory) (p : Party) (generation : ℕ) (key : LmsPublic) → council_of (after_adopting keys p generation key) ≡ council_of keys
 council-adopting keys p generation key = by (nat_lt generation (length (keys_of keys p)))

@@ -2,6 +2,7 @@
 
 ghost use Rattle.std.specs.Prelude.{◌≡◌, ◌↔◌, ◌≤◌, List, ℕ};
 ghost use Rattle.ar_cert.specs.Certificate.{Certificate};
+ghost use Rattle.party_keys.specs.Learning.{Announced, after_all};
 ghost use Rattle.client_rule.specs.Meaning.{Asked, Accepts, AcceptsNone, Refuses};
 ghost use Rattle.client_rule.specs.Rule.{judgement};
 ghost use Rattle.client_rule.specs.declared.judgement.Judgement.TheVariants.{Absent, Accepted, Refused};
@@ -33,4 +34,14 @@ pub fn what_is_accepted_was_accepted_before()
         → judgement asked.keys asked.name bytes asked.epoch asked.age ≡ Absent epoch root
         → epoch ≤ now → now ≤ asked.epoch
         → judgement asked.keys asked.name bytes now asked.age ≡ Absent epoch root }
+{}
+
+/// What is accepted by a directory, a certificate or that there is none, is accepted so when the directory has learnt more.
+pub fn what_is_accepted_stays_so()
+    ensures accepted { (asked : Asked) (announced : List Announced) (bytes : List ℕ) (certificate : Certificate) (digest : List ℕ) (epoch : ℕ) (root : List ℕ)
+        → judgement asked.keys asked.name bytes asked.epoch asked.age ≡ Accepted certificate digest epoch root
+        → judgement (after_all asked.keys announced) asked.name bytes asked.epoch asked.age ≡ Accepted certificate digest epoch root }
+    ensures absent { (asked : Asked) (announced : List Announced) (bytes : List ℕ) (epoch : ℕ) (root : List ℕ)
+        → judgement asked.keys asked.name bytes asked.epoch asked.age ≡ Absent epoch root
+        → judgement (after_all asked.keys announced) asked.name bytes asked.epoch asked.age ≡ Absent epoch root }
 {}
