@@ -6,3 +6,4 @@ pub mod Read
 pub mod Rows
 pub mod Sending
 pub mod Signing
+pub mod Standing

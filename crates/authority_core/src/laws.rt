@@ -16,7 +16,7 @@ ghost use Rattle.owner_check.specs.declared.answer.Outcome.TheVariants.{Yes};
 ghost use Rattle.key_roll.specs.Book.{texts_of};
 ghost use Rattle.key_roll.specs.Entry.{MayRoll};
 ghost use Rattle.party_keys.specs.Seen.{authority_party};
-ghost use Rattle.ar_council.specs.Council.{Council, IsMember};
+ghost use Rattle.ar_council.specs.Council.{Council, IsMember, council_of};
 ghost use Rattle.ar_council.specs.Room.{HasRoom};
 ghost use Rattle.ar_council.specs.Values.{confirmation_by};
 ghost use Rattle.authority_core.specs.Calls.{MayConfirm, after_endorse, after_half_confirmed, after_learn, after_log_confirmed, after_roll, fresh_authority, kept_claim};
@@ -110,4 +110,12 @@ pub fn each_step_sends_few()
         → row s retired m said ≡ Ok (later, sent) → length sent.sent.messages ≤ most_sent }
     ensures roll { (s : AuthorityState) (next : LmsPublic) (later : AuthorityState) (sent : Unsigned) → roll_row s next ≡ Ok (later, sent)
         → length sent.sent.messages ≤ most_sent }
+{}
+
+/// Whatever an authority is asked, it stays the authority with its number, and its directory's council the same.
+pub fn each_step_keeps_number_and_council()
+    ensures step { (s : AuthorityState) (retired : Bool) (m : Result Message ℕ) (said : Outcome) (later : AuthorityState) (sent : Unsigned)
+        → row s retired m said ≡ Ok (later, sent) → (later.me ≡ s.me) × (council_of later.keys ≡ council_of s.keys) }
+    ensures roll { (s : AuthorityState) (next : LmsPublic) (later : AuthorityState) (sent : Unsigned) → roll_row s next ≡ Ok (later, sent)
+        → (later.me ≡ s.me) × (council_of later.keys ≡ council_of s.keys) }
 {}
