@@ -21,6 +21,7 @@ pub mod Sealing
 pub mod Sees
 pub mod Sendable
 pub mod Skips
+pub mod Standing
 pub mod Statuses
 pub mod Stepping
 pub mod Submitted

@@ -109,3 +109,9 @@ pub fn each_step_sends_few()
     ensures step { (s : CoreState) (input : Input) (reply : Reply) → row s input ≡ Ok reply → length reply.unsigned.sent.messages ≤ most_sent }
     ensures roll { (s : CoreState) (key : LmsPublic) (reply : Reply) → rolling_row s key ≡ Ok reply → length reply.unsigned.sent.messages ≤ most_sent }
 {}
+
+/// Whatever a log is asked, it stays the log with its number, of the same council.
+pub fn each_row_keeps_number_and_council()
+    ensures { (s : CoreState) (input : Input) (reply : Reply) → row s input ≡ Ok reply
+        → (reply.after.log.me ≡ s.log.me) × (reply.after.log.council ≡ s.log.council) }
+{}

@@ -1,6 +1,7 @@
 ghost use Rattle.std.specs.Prelude.{◌≡◌, ◌≤◌, ◌<◌, ◌++◌, ◌∷◌, ◌^◌, [], length, IfOk, OnOk, OnErr};
 ghost use Rattle.ar_council.specs.Council.{council_of};
 ghost use Rattle.epoch_log.specs.Calls.{fresh};
+ghost use Rattle.epoch_log.specs.Honest.{HonestLog};
 ghost use Rattle.epoch_log.specs.Log.{record_of};
 ghost use Rattle.epoch_log.specs.State.{epoch_of};
 ghost use Rattle.key_roll.specs.Ring.{IsNext, ring_signature_len};
@@ -146,9 +147,10 @@ impl Log {
         self.core.queued()
     }
 
-    /// What the log remembers.
+    /// What the log remembers, which is what an honest log does.
     pub fn record(&self) -> &Record
-        ensures { record_of result.now ≡ self.now.core.log.past }
+        ensures value { record_of result.now ≡ self.now.core.log.past }
+        ensures honest { HonestLog self.now.core.log.council self.now.core.log.me self.now.core.log.past }
     {
         self.core.record()
     }

@@ -1,6 +1,7 @@
 ghost use Rattle.std.specs.Prelude.{◌≡◌, ◌<◌, ◌^◌, [], length};
 ghost use Rattle.ar_council.specs.Council.{council_of};
 ghost use Rattle.epoch_log.specs.Calls.{fresh};
+ghost use Rattle.epoch_log.specs.Honest.{HonestLog};
 ghost use Rattle.epoch_log.specs.Log.{record_of};
 ghost use Rattle.epoch_log.specs.State.{epoch_of};
 ghost use Rattle.log_core.specs.Kept.{IsKeptCore};
@@ -112,9 +113,10 @@ impl LogCore {
         self.queue.len()
     }
 
-    /// What the log remembers.
+    /// What the log remembers, which is what an honest log does.
     pub fn record(&self) -> &Record
-        ensures { record_of result.now ≡ self.now.log.past }
+        ensures value { record_of result.now ≡ self.now.log.past }
+        ensures honest { HonestLog self.now.log.council self.now.log.me self.now.log.past }
     {
         self.log.record()
     }
