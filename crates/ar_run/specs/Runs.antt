@@ -1,5 +1,6 @@
 -- What a run takes of its source, and what it leaves in its sink.
-use Rattle.std.specs.Prelude.{◌≡◌, ◌+◌, ◌≤◌, ℕ, List, length, Option}
+use Rattle.std.specs.Prelude.{◌≡◌, ◌+◌, ◌<◌, ◌≤◌, ℕ, List, length, Option, Some, None, Vec}
+use Rattle.std.specs.declared.alloc.Global.{Global}
 use Rattle.std.specs.Io.KnownBytes.{Consumes, IsAtEnd}
 use Rattle.ar_io.specs.Wrote.{Appended, AppendedFront}
 use Rattle.ar_run.specs.Answers.{Answer, written_of}
@@ -20,6 +21,15 @@ pub record TakesAll (old new : Option (List ℕ)) (input : List ℕ) : Type 0 wh
 -- some bytes were taken of a source, at most so many
 abbrev pub TakesAtMost : ℕ → Option (List ℕ) → Option (List ℕ) → Type 0
 TakesAtMost most old new = (bytes : List ℕ) × Consumes old new bytes × (length bytes ≤ most)
+
+-- what is there of an input that was read: all of it, unless it is too long
+abbrev pub IsInput : Option (Vec ℕ Global) → List ℕ → Type 0
+IsInput (Some all) input = (all.items ≡ input) × (length input ≤ most_bytes)
+IsInput None input = most_bytes < length input
+
+-- an input was taken, and this is there of it
+abbrev pub ReadsInput : Option (List ℕ) → Option (List ℕ) → Option (Vec ℕ Global) → Type 0
+ReadsInput old new all = (input : List ℕ) × TakesAll old new input × IsInput all input
 
 -- The input was taken, the answer to it was written whole, and the status is the answer's.
 abbrev pub Answers : {K : Type 0} → (List ℕ → Answer) → Option (List ℕ) → Option (List ℕ) → (K → List ℕ → Type 0) → K → K → ℕ → Type 0

@@ -5,12 +5,10 @@ ghost use Rattle.ar_run.specs.Answers.{written_of};
 ghost use Rattle.ar_run.specs.Runs.{Answers, BreaksOff, TakesAll, TakesAtMost, most_bytes};
 ghost use Rattle.ar_run.specs.Writing.{Writes};
 
+use crate::input::read_input;
 use crate::{Answer, Fault, Respond};
-use ar_io::{ReadFault, Sink, Source, read_all, write_all};
+use ar_io::{Sink, Source, write_all};
 use std::alloc::Global;
-
-/// The bytes of the longest input.
-const MOST_BYTES: usize = 1_048_576;
 
 /// The answer of a command to all that the source has left.
 pub fn answer_from<S: Source, C: Respond>(
@@ -27,11 +25,9 @@ pub fn answer_from<S: Source, C: Respond>(
     ensures uncounted { result ≢ Err Fault.Source → S.faults source.new ≡ S.faults source.old }
     ensures faults { S.faults source.old ≤ S.faults source.new }
 {
-    let answer = match read_all(alloc, source, MOST_BYTES) {
-        Ok(input) => command.answer(alloc, &input)?,
-        Err(ReadFault::Long) => command.refuse(alloc)?,
-        Err(ReadFault::Fault) => return Err(Fault::Source),
-        Err(ReadFault::Memory) => return Err(Fault::Memory),
+    let answer = match read_input(alloc, source)? {
+        Some(input) => command.answer(alloc, &input)?,
+        None => command.refuse(alloc)?,
     };
     Ok(answer)
 }

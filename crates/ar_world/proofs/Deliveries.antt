@@ -1,16 +1,14 @@
 -- What a delivery makes of a world, by what it makes of the party and the pool.
-use Rattle.std.proofs.Common.{◌≡◌, inl, inr, ℕ, Bool, true, false, if◌then◌else◌, List, [], ◌∷◌, ◌++◌, length, get_or, Option, Some, None, is_some, Result, Ok, Err, IfOk, OnOk, refl, sym, ap, ◌∙◌, subst}
-use Rattle.std.specs.Prelude.{find, position, slice_get, slice_set}
+use Rattle.std.proofs.Common.{◌≡◌, inr, ℕ, Bool, true, false, if◌then◌else◌, List, [], ◌∷◌, ◌++◌, get_or, Option, Some, None, is_some, Result, Ok, Err, IfOk, OnOk, refl, sym, ap, ◌∙◌, subst}
+use Rattle.std.specs.Prelude.{position, slice_set}
 use Rattle.std.specs.List.{list_any}
 use Rattle.std.specs.Option.{option_map}
 use Rattle.std.specs.Result.{is_ok}
-use Rattle.std.proofs.lemmas.Option.{slice_get_read}
 use Rattle.ar_base.specs.Chaining.{◌>>=◌}
 use Rattle.ar_base.specs.Gives.{with_error}
 use Rattle.ar_message.specs.Messages.{message_in}
 use Rattle.ar_message.specs.declared.message.Message.{Message}
 use Rattle.ar_message.specs.declared.message.Message.TheVariants.{EndorseAsk, Endorsed, Submit, Propose, Ballot, StatusNote, Decision, SkipNote, ConfirmAsk, LogConfirmed, HalfConfirmed, Confirmation, RollNote}
-use Rattle.ar_message.specs.declared.sent.Sent.{Sent}
 use Rattle.ar_statement.specs.Claims.{endorse, is_party, party, text_of}
 use Rattle.ar_statement.specs.declared.party.Party.{Party}
 use Rattle.ar_statement.specs.declared.party.Role.{Role}
@@ -22,7 +20,7 @@ use Rattle.log_core.specs.State.{takes}
 use Rattle.owner_check.specs.declared.answer.Outcome.{Outcome}
 use Rattle.owner_check.specs.declared.answer.Outcome.TheVariants.{No}
 use Rattle.owner_core.specs.Drafts.{changed_draft, endorsed}
-use Rattle.owner_core.specs.Rows.{Row, is_own, message_row, roll_refusal, step_row, verified_as}
+use Rattle.owner_core.specs.Rows.{is_own, message_row, roll_refusal, step_row, verified_as}
 use Rattle.owner_core.specs.State.{Owner}
 use Rattle.owner_core.specs.declared.refusal.OwnerRefusal.TheVariants.{Form}
 use Rattle.party_keys.specs.Learning.{learned}
@@ -31,24 +29,23 @@ use Rattle.party_keys.specs.Signatures.{verified}
 use Rattle.report_text.specs.declared.happening.Happening.{Happening}
 use Rattle.report_text.specs.declared.happening.What.{What}
 use Rattle.report_text.specs.declared.happening.What.TheVariants as whats
-use Rattle.ar_world.specs.Acting.{ActsBy, ActsBySome, ChangesAt, acted, authority_delivered, authority_does, authority_took, bytes_of, delivered_by, honest_in, log_delivered, log_does, noted_in, owner_delivered, owner_does, with_delivered}
+use Rattle.ar_world.specs.Acting.{ActsBy, ActsBySome, ChangesAt, acted, authority_delivered, authority_does, authority_took, bytes_of, delivered_by, log_delivered, log_does, noted_in, owner_delivered, owner_does, with_delivered}
 use Rattle.ar_world.specs.Authorities.{authority_answers, authority_reply, authority_takes, node_behind}
 use Rattle.ar_world.specs.Delivering.{Taker, a_log, an_authority, an_owner, can_deliver, deliver_line, deliverable, delivered_to, delivery, noted, taker_at, taker_in}
-use Rattle.ar_world.specs.Finding.{Effect, authority_at, has_room, is_owner, log_at, message_at, named, need, owner_at, room, set_if}
+use Rattle.ar_world.specs.Finding.{authority_at, has_room, honest_in, is_owner, log_at, message_at, named, need, owner_at, room}
 use Rattle.ar_world.specs.Logs.{log_steps}
 use Rattle.ar_world.specs.Owning.{owner_party}
 use Rattle.ar_world.specs.Parties.{AuthorityNode, LogNode}
 use Rattle.ar_world.specs.Pool.{Pooled, numbered, set_numbered}
-use Rattle.ar_world.specs.State.{Moved, World, with_authority, with_log}
-use Rattle.ar_world.specs.Step.{StepsBy, StepsBySome}
-use Rattle.ar_world.specs.Submitting.{owner_answers}
+use Rattle.ar_world.specs.State.{World, with_authority, with_log}
+use Rattle.ar_world.specs.Step.{StepsBySome}
 use Rattle.ar_world.specs.declared.event.LogEvent.TheVariants as events
 use Rattle.ar_world.specs.declared.fault.WorldFault.{WorldFault}
 use Rattle.ar_world.specs.declared.fault.WorldFault.TheVariants.{Absent, Limit}
-use Rattle.ar_world.proofs.Drafts.{owner_number, owner_within}
+use Rattle.ar_world.proofs.Drafts.{owner_is_at}
 use Rattle.ar_world.proofs.Effects.{if-chained}
-use Rattle.ar_world.proofs.Found.{owner_there}
-use Rattle.ar_world.proofs.Orders.{authority-steps, authority_made, log-answers, log-steps, log_made, same-there}
+use Rattle.ar_world.proofs.Orders.{authority-steps, authority_made, log-answers, log-steps, log_made, room-free}
+use Rattle.ar_world.proofs.OwnerReplies.{owner-answers, owner-steps, owner_made}
 
 -- ---- whether a message can be delivered
 
@@ -331,27 +328,6 @@ row-number me (Confirmation client epoch name root body log log_signature first 
 step-number : (me : Owner) (bytes : List ℕ) → IfOk (step_row me bytes) (λ made. made.1.number ≡ me.number)
 step-number me bytes = if-chained (with_error Form (message_in bytes)) (message_row me) (λ made. made.1.number ≡ me.number) (λ m e. row-number me m)
 
--- the owner at its place
-there : (owners : List Owner) (number place : ℕ) (me : Owner) → position (is_owner number) owners ≡ Some place → me ≡ get_or owners place me
-    → (find (is_owner number) owners ≡ Some me) × (me.number ≡ number)
-there owners number place me here is = (owner_there owners number place me here (sym is), owner_number owners number place me here is)
-
-abbrev pub owner_made : World → ℕ → Owner × (List Pooled × List Happening) → Moved
-owner_made w place made = (record w { owners = slice_set w.owners place made.0; pool = made.1.0 }, made.1.1)
-
--- an owner's answer
-owner-answers : (v : World) (number place : ℕ) (me : Owner) (what : What) (r : Row Sent) → position (is_owner number) v.owners ≡ Some place → slice_get v.owners place ≡ Some me → me.number ≡ number
-    → IfOk r (λ made. made.1.number ≡ me.number)
-    → owner_answers v number what r ≡ owner_made v place (acted v.pool (owner_party number) what (owner_does me r))
-owner-answers v number place me what (Ok made) here is own same =
-    let at : position (is_owner made.1.number) v.owners ≡ Some place = ap (λ n. position (is_owner n) v.owners) (same ∙ own) ∙ here
-    in ap (λ (o : Option ℕ). (record v { owners = set_if v.owners o made.1; pool = (acted v.pool (owner_party number) what (owner_does me (Ok made))).1.0 }, (acted v.pool (owner_party number) what (owner_does me (Ok made))).1.1)) at
-owner-answers v number place me what (Err refusal) here is own same =
-    ap (λ (owners : List Owner). (record v { owners = owners }, (acted v.pool (owner_party number) what (owner_does me (Err refusal))).1.1)) (sym (same-there v.owners place me is))
-
-owner-stands : (w : World) (number place : ℕ) (me : Owner) → position (is_owner number) w.owners ≡ Some place → me ≡ get_or w.owners place me → slice_get w.owners place ≡ Some me
-owner-stands w number place me here is = slice_get_read w.owners (length w.owners) place me refl (owner_within w.owners number place here) is
-
 owner-line : (says : Outcome) (w : World) (message number place : ℕ) (me : Owner) (p : Option Pooled) → message_at w message ≡ p → is_some p ≡ true
     → position (is_owner number) w.owners ≡ Some place → me ≡ get_or w.owners place me → has_room w ≡ true
     → deliver_line says w message (owner_party number)
@@ -360,22 +336,11 @@ unfolding owner_delivered
 owner-line says w message number place me None e some here is free = absurd cc
 owner-line says w message number place me (Some p) e some here is free =
     let who : Party = owner_party number
-    in let found : (find (is_owner number) w.owners ≡ Some me) × (me.number ≡ number) = there w.owners number place me here is
     in ap (λ (c : Result (Pooled × Taker) WorldFault). c >>= (λ found. Ok (delivery says (noted w message found.0 who) message found.0.bytes number found.1)))
-    (can-is w message who (Some p) (Some (an_owner me)) true e (ap (option_map an_owner) found.0) free)
-    ∙ ap (λ m. Ok m) (owner-answers (noted w message p who) number place me (whats.Take message) (step_row me p.bytes) here (owner-stands w number place me here is) found.1 (step-number me p.bytes))
+    (can-is w message who (Some p) (Some (an_owner me)) true e (ap (option_map an_owner) (owner_is_at w number place me here is)) free)
+    ∙ ap (λ m. Ok m) (owner-answers (noted w message p who) number place me (whats.Take message) (step_row me p.bytes) here is (step-number me p.bytes))
     ∙ ap (λ (pool : List Pooled). Ok (owner_made w place (acted pool who (whats.Take message) (owner_does me (step_row me p.bytes))))) (sym (noted-is w.pool message who p e))
     ∙ ap (λ (o : Option Pooled). Ok (owner_made w place (acted (noted_in w.pool message who) who (whats.Take message) (owner_does me (step_row me (bytes_of o)))))) (sym e)
-
-owner-steps : (w : World) (place : ℕ) (me : Owner) (result : Result (List Happening) WorldFault) (me' : Owner) (pool' : List Pooled)
-    (made : Owner × (List Pooled × List Happening)) (effect : Effect) → slice_get w.owners place ≡ Some me → ActsBy result me me' w.pool pool' made
-    → effect ≡ Ok (owner_made w place made) → StepsBy result w (record w { owners = slice_set w.owners place me'; pool = pool' }) effect
-owner-steps w place me (Ok said) me' pool' made effect e acts is = is ∙ ap (λ t. Ok (owner_made w place t)) acts
-owner-steps w place me (Err fault) me' pool' made effect e acts is = (
-  ap (λ (t : Owner). (owner_made w place (t, (pool', []))).0) acts.1.0 ∙ ap (λ (pool : List Pooled). record w { owners = slice_set w.owners place me; pool = pool }) acts.1.1
-      ∙ ap (λ (owners : List Owner). record w { owners = owners }) (same-there w.owners place me e),
-  inl acts.0,
-)
 
 owner-stepped : (w : World) (message number place : ℕ) (me : Owner) (result : Result (List Happening) WorldFault) (me' : Owner) (pool' : List Pooled)
     → is_some (message_at w message) ≡ true → position (is_owner number) w.owners ≡ Some place → me ≡ get_or w.owners place me → has_room w ≡ true
@@ -383,20 +348,16 @@ owner-stepped : (w : World) (message number place : ℕ) (me : Owner) (result : 
     → StepsBySome result w (record w { owners = slice_set w.owners place me'; pool = pool' }) (λ says. deliver_line says w message (owner_party number))
 owner-stepped w message number place me result me' pool' some here is free acts = record {
   says = No;
-  steps = owner-steps w place me result me' pool' (owner_delivered w.pool message number me) (deliver_line No w message (owner_party number)) (owner-stands w number place me here is) acts
+  steps = owner-steps w number place me result me' pool' (owner_delivered w.pool message number me) (deliver_line No w message (owner_party number)) here is acts
       (owner-line No w message number place me (message_at w message) refl some here is free);
 }
-
-room-free : (free : Bool) → need free Limit ≡ Ok tt → free ≡ true
-room-free true e = refl
-room-free false e = absurd cc
 
 owner-changed : (w : World) (message number place : ℕ) (me : Owner) (result : Result (List Happening) WorldFault) (me' : Owner) (pool' : List Pooled)
     → is_some (message_at w message) ≡ true → position (is_owner number) w.owners ≡ Some place → me ≡ get_or w.owners place me → room w ≡ Ok tt
     → ActsBy result me me' w.pool pool' (owner_delivered w.pool message number me)
     → StepsBySome result w (record w { owners = slice_set w.owners place me'; pool = pool' }) (λ says. deliver_line says w message (owner_party number))
 owner-changed w message number place me result me' pool' some here is free acts =
-    owner-stepped w message number place me result me' pool' some here is (room-free (has_room w) free) acts
+    owner-stepped w message number place me result me' pool' some here is (room-free w free) acts
 
 pub delivered_to_owner : (v w : World) (message number place : ℕ) (me : Owner) (result : Result (List Happening) WorldFault) (me' : Owner) (pool' : List Pooled) → v ≡ w
     → is_some (numbered v.pool message) ≡ true → position (is_owner number) w.owners ≡ Some place → me ≡ get_or v.owners place me → room w ≡ Ok tt

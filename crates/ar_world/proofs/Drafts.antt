@@ -3,7 +3,6 @@ use Rattle.std.proofs.Common.{◌≡◌, ℕ, zero, suc, ◌+◌, ◌<◌, ◌�
 use Rattle.std.specs.Prelude.{All, IfOk, position, slice_set}
 use Rattle.std.specs.List.{list_all, position_or_len}
 use Rattle.std.proofs.lemmas.Bool.{and_parts, eqb-true, ltb-true}
-use Rattle.std.proofs.lemmas.List.{set-get_or}
 use Rattle.std.proofs.lemmas.List.Elements.{All-cons, All-nil, All-push, All-weaker}
 use Rattle.std.proofs.lemmas.List.Quantifiers.{position-Some}
 use Rattle.std.proofs.lemmas.Option.{cond_some, same_Some, slice_get_past, slice_get_read}
@@ -27,7 +26,7 @@ use Rattle.ar_world.specs.declared.fault.WorldFault.{WorldFault}
 use Rattle.ar_world.specs.declared.fault.WorldFault.TheVariants.{Absent, Limit, Memory}
 use Rattle.ar_world.specs.declared.phase.Phase.{Phase}
 use Rattle.ar_world.specs.declared.world.Directories.{Directories}
-use Rattle.ar_world.proofs.Found.{owner_there}
+use Rattle.ar_world.proofs.Found.{item_kept, owner_there}
 
 -- ---- an owner at its place
 
@@ -51,10 +50,6 @@ pub owner_put : (w : World) (number place : ℕ) (new : Owner) → position (is_
 owner_put w number place new here same =
     let there : position (is_owner new.number) w.owners ≡ Some place = ap (λ n. position (is_owner n) w.owners) same ∙ here in
     rw there refl
-
--- the same owner changes nothing
-pub owner_kept : (owners : List Owner) (place : ℕ) (me new : Owner) → me ≡ get_or owners place me → new ≡ me → slice_set owners place new ≡ owners
-owner_kept owners place me new is same = ap (slice_set owners place) (same ∙ is) ∙ set-get_or owners place me
 
 -- ---- a draft at its place
 
@@ -120,7 +115,7 @@ drafted_there w place me new cert asks drafts pool said here is-new is-drafts is
 pub undrafted : (w : World) (place : ℕ) (me new : Owner) (drafts : List Drafted) (pool : List Pooled) → me ≡ get_or w.owners place me → new ≡ me → drafts ≡ w.drafts → pool ≡ w.pool
     → record w { owners = slice_set w.owners place new; drafts = drafts; pool = pool } ≡ w
 undrafted w place me new drafts pool is is-new is-drafts is-pool =
-    ap (λ (o : List Owner). record w { owners = o; drafts = drafts; pool = pool }) (owner_kept w.owners place me new is is-new)
+    ap (λ (o : List Owner). record w { owners = o; drafts = drafts; pool = pool }) (item_kept w.owners place me new is is-new)
     ∙ ap (λ (d : List Drafted). record w { drafts = d; pool = pool }) is-drafts ∙ ap (λ (p : List Pooled). record w { pool = p }) is-pool
 
 -- two names of the item at one place

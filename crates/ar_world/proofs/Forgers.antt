@@ -3,7 +3,6 @@ use Rattle.std.proofs.Common.{◌≡◌, ℕ, zero, suc, ◌+◌, ◌<◌, ◌�
 use Rattle.std.specs.Prelude.{IfOk, find, nat_lt, position, slice_get, slice_set}
 use Rattle.std.specs.List.{position_or_len}
 use Rattle.std.proofs.lemmas.Bool.{and_parts, eqb-true, ltb-false, ltb-true}
-use Rattle.std.proofs.lemmas.List.{set-get_or}
 use Rattle.std.proofs.lemmas.List.Folds.{find_at}
 use Rattle.std.proofs.lemmas.List.Quantifiers.{position-Some}
 use Rattle.std.proofs.lemmas.Option.{slice_get_cases, slice_get_read}
@@ -25,6 +24,7 @@ use Rattle.ar_world.specs.State.{World, with_messages}
 use Rattle.ar_world.specs.Step.{StepsBy}
 use Rattle.ar_world.specs.declared.fault.WorldFault.{WorldFault}
 use Rattle.ar_world.specs.declared.fault.WorldFault.TheVariants.{Absent, Memory}
+use Rattle.ar_world.proofs.Found.{item_kept}
 
 -- ---- leaves
 
@@ -79,10 +79,6 @@ forger-is-at who fs place me here is =
 own-place : (who : Party) (fs : List Forger) (place : ℕ) (me : Forger) → position (is_forger who) fs ≡ Some place → me ≡ get_or fs place me
     → position (is_forger me.party) fs ≡ Some place
 own-place who fs place me here is = same-place who fs me (ap (is_forger who) is ∙ (position-Some (is_forger who) fs place me here).1) ∙ here
-
--- the same party changes nothing
-forger-kept : (fs : List Forger) (place : ℕ) (me new : Forger) → me ≡ get_or fs place me → new ≡ me → slice_set fs place new ≡ fs
-forger-kept fs place me new is same = ap (slice_set fs place) (same ∙ is) ∙ set-get_or fs place me
 
 -- where none has a place, none is named
 pub absent : (who : Party) (fs : List Forger) → position (is_forger who) fs ≡ None → find (is_forger who) fs ≡ None
@@ -146,7 +142,7 @@ signed-world : (b : Bool) (w : World) (place : ℕ) (me new : Forger) (text : Li
 signed-world true w place me new text after said e there is left none = let t = left e in rw (e, there, t.0, t.1, t.2) refl
 signed-world false w place me new text after said e there is left none =
     let t = none e in
-    rw (e, forger-kept w.forgers place me new is t.0, t.1, t.2) refl
+    rw (e, item_kept w.forgers place me new is t.0, t.1, t.2) refl
 
 pub sign_there : (result : Result (List Happening) WorldFault) (w : World) (who : Party) (place : ℕ) (pieces : List (List ℕ)) (text : List ℕ) (me new : Forger) (after : List Pooled)
     → position (is_forger who) w.forgers ≡ Some place → me ≡ get_or w.forgers place me → composed_in w pieces ≡ Ok text
@@ -160,7 +156,7 @@ sign_there (Ok said) w who place pieces text me new after here is there left non
     ap (sign-by w pieces) at ∙ ap (sign-with w me) there
     ∙ ap Ok (signed-world (nat_lt me.next (leaves_of me.key)) w place me new text after said refl (own-place who w.forgers place me here is) is left none)
 sign_there (Err fault) w who place pieces text me new after here is there left none err =
-    (rw (forger-kept w.forgers place me new is err.1, err.2) refl, inl err.0)
+    (rw (item_kept w.forgers place me new is err.1, err.2) refl, inl err.0)
 
 -- the same of a world and of bytes that have two names
 pub sign_seen : (result : Result (List Happening) WorldFault) (w now : World) (who : Party) (place : ℕ) (pieces : List (List ℕ)) (bytes text : List ℕ) (me new : Forger) (after : List Pooled)

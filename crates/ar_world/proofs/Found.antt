@@ -1,7 +1,9 @@
 -- What stands at the place where a search stops.
 use Rattle.std.proofs.Common.{◌≡◌, ◌≤◌, ℕ, Bool, List, length, get_or, Some, None, cond, is_some, nat_lt, refl, sym, ap, ◌∙◌, arith}
 use Rattle.std.specs.List.{find, position, position_or_len, slice_get}
+use Rattle.std.specs.Prelude.{slice_set}
 use Rattle.std.proofs.lemmas.Bool.Decides.{nat_tests}
+use Rattle.std.proofs.lemmas.List.{set-get_or}
 use Rattle.std.proofs.lemmas.List.Folds.{find_at}
 use Rattle.std.proofs.lemmas.List.Quantifiers.{position-Some}
 use Rattle.std.proofs.lemmas.Option.{cond_some, slice_get_cases, slice_get_past, slice_get_read}
@@ -26,6 +28,10 @@ some-at xs i = grind (arith, nat_tests, slice_get_cases xs i)
 
 found-known : {X : Type 0} (p : X → Bool) (xs : List X) → is_some (position p xs) ≡ is_some (find p xs)
 found-known p xs = some-at xs (position_or_len p xs) ∙ sym (ap is_some (find_at p xs))
+
+-- the same item changes nothing
+pub item_kept : {X : Type 0} (xs : List X) (place : ℕ) (me new : X) → me ≡ get_or xs place me → new ≡ me → slice_set xs place new ≡ xs
+item_kept xs place me new is same = ap (slice_set xs place) (same ∙ is) ∙ set-get_or xs place me
 
 -- ---- owners
 

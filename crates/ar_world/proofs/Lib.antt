@@ -12,10 +12,12 @@ pub mod Newest
 pub mod Nodes
 pub mod Ordered
 pub mod Orders
+pub mod OwnerReplies
 pub mod Phases
 pub mod Pieces
 pub mod Pools
 pub mod Refused
+pub mod Remembered
 pub mod Retold
 pub mod Runs
 pub mod Seats

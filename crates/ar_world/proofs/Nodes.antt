@@ -1,5 +1,5 @@
 -- What logs and authorities are behind their answers, and what they reply.
-use Rattle.std.proofs.Common.{◌≡◌, ◌≢◌, ◌⊎◌, inl, inr, ℕ, ◌+◌, ◌-◌, ◌<◌, true, false, List, [], ◌∷◌, ◌++◌, length, get_or, is_none, Option, Some, None, Result, Ok, Err, IfSome, refl, sym, ap, ◌∙◌, subst, arith, length-append}
+use Rattle.std.proofs.Common.{◌≡◌, ◌≢◌, inl, inr, ℕ, ◌+◌, ◌-◌, ◌<◌, true, false, List, [], ◌∷◌, ◌++◌, length, get_or, is_none, Option, Some, None, Result, Ok, Err, IfSome, refl, sym, ap, ◌∙◌, subst, arith, length-append}
 use Rattle.std.specs.Prelude.{slice_get, unwrap_or}
 use Rattle.std.specs.Option.{option_map}
 use Rattle.std.proofs.lemmas.Option.{slice_get-get_or}
@@ -34,7 +34,7 @@ use Rattle.ar_world.specs.Acting.{RepliesBySome, Reply, authority_does, authorit
 use Rattle.ar_world.specs.Authorities.{authority_reply, check_behind, check_says, node_behind, says_to}
 use Rattle.ar_world.specs.Codes.{authority_code, log_code}
 use Rattle.ar_world.specs.Logs.{next_of}
-use Rattle.ar_world.specs.Parties.{AuthorityNode, CheckParts, LogNode}
+use Rattle.ar_world.specs.Parties.{AuthorityNode, CheckParts, LogNode, check_told}
 use Rattle.ar_world.specs.declared.event.LogEvent.{LogEvent}
 use Rattle.ar_world.specs.declared.event.LogEvent.TheVariants as events
 use Rattle.ar_world.specs.declared.fault.WorldFault.TheVariants as faults
@@ -227,15 +227,11 @@ pub record ChecksBy {C : Type 0} (told : C → Option Told) (answers : C → Lis
 abbrev check-of : Option Told → List check.Answer → CheckParts
 check-of told answers = record { told = told; answers = answers }
 
--- what clauses see of a check
-abbrev pub parts_of : {C : Type 0} → (C → Option Told) → (C → List check.Answer) → C → CheckParts
-parts_of told answers c = record { told = told c; answers = answers c }
-
 -- the check behind
 check-behind : {C : Type 0} (told : C → Option Told) (answers : C → List check.Answer) (old new : Option C) (asked : Option Asked) (keys : List KeyParts) (answer : authority.Answer)
     (result : Result Sent AuthorityRefusal) (s s' : authority.AuthorityState) → ChecksBy told answers old new asked result → result ≢ Err refusals.Memory
     → authority_keyed.SendsBy keys result s s' answer
-    → option_map (check_behind asked answer) (option_map (parts_of told answers) old) ≡ option_map (parts_of told answers) new
+    → option_map (check_behind asked answer) (option_map (check_told told answers) old) ≡ option_map (check_told told answers) new
 check-behind told answers None None asked keys answer result s s' by some h = refl
 check-behind told answers None (Some n) asked keys answer result s s' by some h = clash (sym by.retired)
 check-behind told answers (Some o) None asked keys answer result s s' by some h = clash by.retired
@@ -264,7 +260,7 @@ told-so told xs a (Err refusals.LastGeneration) some h = h
 
 as-told : {C : Type 0} (told : C → Option Told) (answers : C → List check.Answer) (old : Option C) (asked : Option Asked) (result : Result Sent AuthorityRefusal)
     → result ≢ Err refusals.Memory → IfSome old (λ o. IfSome asked (λ a. SaysAsTold (told o) (answers o) a result))
-    → AsTold (outcome_by result) (option_map (parts_of told answers) old) asked
+    → AsTold (outcome_by result) (option_map (check_told told answers) old) asked
 as-told told answers None asked result some h = tt
 as-told told answers (Some o) None result some h = tt
 as-told told answers (Some o) (Some a) result some h = told-so (told o) (answers o) a result some h
@@ -277,14 +273,14 @@ none-mapped f (Some x) = refl
 pub authority_did : {C : Type 0} (told : C → Option Told) (answers : C → List check.Answer) (old new : Option C) (s s' : authority.AuthorityState) (keys : List KeyParts) (bytes : List ℕ)
     (result : Result Sent AuthorityRefusal) → ChecksBy told answers old new (asked_in (message_in bytes)) result → result ≢ Err refusals.Memory
     → authority_keyed.SendsBy keys result s s' (row s (is_none old) (message_in bytes) (outcome_by result))
-    → authority_took (outcome_by result) (record { state = s; keys = keys; check = option_map (parts_of told answers) old }) bytes
-    ≡ (record { state = s'; keys = keys; check = option_map (parts_of told answers) new }, reply_of result)
+    → authority_took (outcome_by result) (record { state = s; keys = keys; check = option_map (check_told told answers) old }) bytes
+    ≡ (record { state = s'; keys = keys; check = option_map (check_told told answers) new }, reply_of result)
 authority_did told answers old new s s' keys bytes result by some h =
     let asked : Option Asked = asked_in (message_in bytes)
     in let says : Outcome = outcome_by result
-    in let node : AuthorityNode = record { state = s; keys = keys; check = option_map (parts_of told answers) old }
+    in let node : AuthorityNode = record { state = s; keys = keys; check = option_map (check_told told answers) old }
     in let is : row s (is_none old) (message_in bytes) says ≡ authority_reply says node (message_in bytes) =
-    ap (λ b. row s b (message_in bytes) says) (sym (none-mapped (parts_of told answers) old))
+    ap (λ b. row s b (message_in bytes) says) (sym (none-mapped (check_told told answers) old))
     ∙ said-row s node.check (message_in bytes) says (as-told told answers old asked result some by.by)
     in let h' : authority_keyed.SendsBy keys result s s' (authority_reply says node (message_in bytes)) = subst (authority_keyed.SendsBy keys result s s') is h
     in authority-did (node_behind node (message_in bytes) (authority_reply says node (message_in bytes))) (authority_reply says node (message_in bytes)) result s' some h'
@@ -345,7 +341,7 @@ refused_some result refusal is other = λ e. other cc
 
 -- an authority with what clauses see of its check
 abbrev pub authority-with : {C : Type 0} → (C → Option Told) → (C → List check.Answer) → authority.AuthorityState → List KeyParts → Option C → AuthorityNode
-authority-with told answers state keys check = authority-of state keys (option_map (parts_of told answers) check)
+authority-with told answers state keys check = authority-of state keys (option_map (check_told told answers) check)
 
 pub took_so : {C : Type 0} (told : C → Option Told) (answers : C → List check.Answer) (old new : Option C) (s s' : authority.AuthorityState) (keys keys' : List KeyParts) (bytes : List ℕ)
     (result : Result Sent AuthorityRefusal) (reply : Reply) → ChecksBy told answers old new (asked_in (message_in bytes)) result → result ≢ Err refusals.Memory
@@ -359,7 +355,7 @@ took_so told answers old new s s' keys keys' bytes result reply by some h kept i
 }
 
 check-waits : {C : Type 0} (told : C → Option Told) (answers : C → List check.Answer) (old new : Option C) (asked : Option Asked) → ChecksBy told answers old new asked (Err refusals.Memory)
-    → option_map (parts_of told answers) new ≡ option_map (parts_of told answers) old
+    → option_map (check_told told answers) new ≡ option_map (check_told told answers) old
 check-waits told answers None None asked by = refl
 check-waits told answers None (Some n) asked by = clash (sym by.retired)
 check-waits told answers (Some o) None asked by = clash by.retired

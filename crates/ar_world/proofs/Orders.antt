@@ -1,14 +1,11 @@
 -- What orders to logs and authorities make of a world, by what they make of the party and the pool.
-use Rattle.std.proofs.Common.{◌≡◌, ◌⊎◌, inl, inr, ℕ, zero, suc, ◌-◌, ◌<◌, Bool, true, false, List, [], ◌∷◌, ◌++◌, length, get_or, is_some, Option, Some, None, IfSome, Result, Ok, Err, refl, sym, ap, subst, ◌∙◌, arith}
+use Rattle.std.proofs.Common.{◌≡◌, inl, ℕ, zero, suc, ◌<◌, Bool, true, false, List, [], ◌∷◌, ◌++◌, length, get_or, is_some, Option, Some, None, IfSome, Result, Ok, Err, refl, sym, ap, subst, ◌∙◌}
 use Rattle.std.specs.Prelude.{slice_get, slice_set, option_and_then}
-use Rattle.std.specs.Option.{option_map}
-use Rattle.std.proofs.lemmas.Option.{same_Some, slice_get-get_or}
+use Rattle.std.proofs.lemmas.Option.{same_Some}
 use Rattle.ar_base.specs.Chaining.{◌>>=◌}
-use Rattle.ar_statement.specs.declared.party.Party.{Party}
 use Rattle.ar_statement.specs.declared.party.Role.TheVariants.{LogServer, Authority}
 use Rattle.authority_core.specs.RollRows.{roll_row}
 use Rattle.authority_core.specs.State as authority
-use Rattle.key_roll.specs.Ring.{next_key}
 use Rattle.lms_tree.specs.Key.{public_of}
 use Rattle.lms_tree.specs.KeyParts.{KeyParts}
 use Rattle.log_core.specs.Row.{row}
@@ -17,9 +14,9 @@ use Rattle.party_keys.specs.Seen.{authority_party, log_party}
 use Rattle.report_text.specs.declared.happening.Happening.{Happening}
 use Rattle.report_text.specs.declared.happening.What.{What}
 use Rattle.report_text.specs.declared.happening.What.TheVariants as whats
-use Rattle.ar_world.specs.Acting.{ActsBy, AuthorityChanges, ChangesThere, Reply, acted, authority_turned, log_does}
+use Rattle.ar_world.specs.Acting.{ActsBy, ChangesThere, acted, authority_turned, log_does}
 use Rattle.ar_world.specs.Authorities.{authority_rolled, authority_rolls}
-use Rattle.ar_world.specs.Finding.{Effect, authority_at, has_room, log_at, named, need, room}
+use Rattle.ar_world.specs.Finding.{Effect, authority_at, has_room, honest_in, log_at, named, need, room}
 use Rattle.ar_world.specs.Logs.{log_answers, log_rolls, log_steps, next_of}
 use Rattle.ar_world.specs.Ordering.{log_order, roll_of}
 use Rattle.ar_world.specs.Parties.{AuthorityNode, LogNode}
@@ -29,7 +26,7 @@ use Rattle.ar_world.specs.Step.{StepsBy}
 use Rattle.ar_world.specs.declared.event.LogEvent.{LogEvent}
 use Rattle.ar_world.specs.declared.event.LogEvent.TheVariants as events
 use Rattle.ar_world.specs.declared.fault.WorldFault.{WorldFault}
-use Rattle.ar_world.specs.declared.fault.WorldFault.TheVariants.{Absent, Limit, Memory}
+use Rattle.ar_world.specs.declared.fault.WorldFault.TheVariants.{Absent, Limit}
 use Rattle.ar_world.proofs.Nodes.{next-there}
 use Rattle.ar_world.proofs.Spots.{honest_spot}
 
@@ -41,7 +38,7 @@ same-there (y ∷ xs) zero x e = ap (λ z. z ∷ xs) (sym (same_Some y x e))
 same-there (y ∷ xs) (suc i) x e = ap (λ ys. y ∷ ys) (same-there xs i x e)
 
 -- what is there, and is not dishonest
-pub honest-there : {X : Type 0} (xs : List (Option X)) (i : ℕ) (x : X) → option_and_then (λ node. node) (slice_get xs i) ≡ Some x → slice_get xs i ≡ Some (Some x)
+pub honest-there : {X : Type 0} (xs : List (Option X)) (i : ℕ) (x : X) → honest_in xs i ≡ Some x → slice_get xs i ≡ Some (Some x)
 honest-there {X = X} xs i x e = at (slice_get xs i) e where
   at : (o : Option (Option X)) → option_and_then (λ node. node) o ≡ Some x → o ≡ Some (Some x)
   at None e = absurd cc
@@ -81,7 +78,7 @@ same-fault : (one fault : WorldFault) → need false one ≡ Err fault → one �
 same-fault one fault e = cc
 
 -- there is room where the test says so
-room-free : (w : World) → room w ≡ Ok tt → has_room w ≡ true
+pub room-free : (w : World) → room w ≡ Ok tt → has_room w ≡ true
 room-free w e = at (has_room w) e where
   at : (b : Bool) → need b Limit ≡ Ok tt → b ≡ true
   at true h = refl
@@ -89,20 +86,24 @@ room-free w e = at (has_room w) e where
 
 -- ---- what a call made
 
--- a call that made this of the party and the pool made the effect of the world
+-- A call that made this of the party and the pool made the effect of the world, into which both are put.
+pub acts-steps : {X : Type 0} (w : World) (put : X → List Pooled → World) (node node' : X) (result : Result (List Happening) WorldFault) (pool' : List Pooled)
+    (made : X × (List Pooled × List Happening)) (effect : Effect) → put node w.pool ≡ w → ActsBy result node node' w.pool pool' made
+    → effect ≡ Ok (put made.0 made.1.0, made.1.1) → StepsBy result w (put node' pool') effect
+acts-steps w put node node' (Ok said) pool' made effect same acts is = is ∙ ap (λ t. Ok (put t.0 t.1.0, t.1.1)) acts
+acts-steps w put node node' (Err fault) pool' made effect same acts is = (ap (λ t. put t pool') acts.1.0 ∙ ap (put node) acts.1.1 ∙ same, inl acts.0)
+
 pub log-steps : (w : World) (number : ℕ) (node : LogNode) (result : Result (List Happening) WorldFault) (node' : LogNode) (pool' : List Pooled)
     (made : LogNode × (List Pooled × List Happening)) (effect : Effect) → log_at w number ≡ Some node → ActsBy result node node' w.pool pool' made
     → effect ≡ Ok (log_made w number made) → StepsBy result w (record (with_log w number node') { pool = pool' }) effect
-log-steps w number node (Ok said) node' pool' made effect e acts is = is ∙ ap (λ t. Ok (log_made w number t)) acts
-log-steps w number node (Err fault) node' pool' made effect e acts is =
-    (ap (λ (t : LogNode). (log_made w number (t, (pool', []))).0) acts.1.0 ∙ ap (λ (pool : List Pooled). record (with_log w number node) { pool = pool }) acts.1.1 ∙ log-same w number node e, inl acts.0)
+log-steps w number node result node' pool' made effect e acts is =
+    acts-steps w (λ n pool. record (with_log w number n) { pool = pool }) node node' result pool' made effect (log-same w number node e) acts is
 
 pub authority-steps : (w : World) (number : ℕ) (node : AuthorityNode) (result : Result (List Happening) WorldFault) (node' : AuthorityNode) (pool' : List Pooled)
     (made : AuthorityNode × (List Pooled × List Happening)) (effect : Effect) → authority_at w number ≡ Some node → ActsBy result node node' w.pool pool' made
     → effect ≡ Ok (authority_made w number made) → StepsBy result w (record (with_authority w number node') { pool = pool' }) effect
-authority-steps w number node (Ok said) node' pool' made effect e acts is = is ∙ ap (λ t. Ok (authority_made w number t)) acts
-authority-steps w number node (Err fault) node' pool' made effect e acts is =
-    (ap (λ (t : AuthorityNode). (authority_made w number (t, (pool', []))).0) acts.1.0 ∙ ap (λ (pool : List Pooled). record (with_authority w number node) { pool = pool }) acts.1.1 ∙ authority-same w number node e, inl acts.0)
+authority-steps w number node result node' pool' made effect e acts is =
+    acts-steps w (λ n pool. record (with_authority w number n) { pool = pool }) node node' result pool' made effect (authority-same w number node e) acts is
 
 -- ---- `propose` and `pass`
 
@@ -158,12 +159,24 @@ order_full w number what event input fault e full = at (log_at w number) e where
 
 -- ---- `roll`
 
--- the order to a log that has a next key
-abbrev roll-by : World → ℕ → Option LogNode → Effect
-roll-by w number o = named 1 o >>= (λ node. named 1 (next_of node.keys) >>= (λ next. room w >>= (λ u. Ok (log_rolls w number node next))))
+-- the order to go on to the next key, by what its word names and the keys that this has
+abbrev roll-by : {X : Type 0} → World → (X → List KeyParts) → (X → KeyParts → Moved) → Option X → Effect
+roll-by w keys turned o = named 1 o >>= (λ node. named 1 (next_of (keys node)) >>= (λ next. room w >>= (λ u. Ok (turned node next))))
 
-abbrev roll-with : World → ℕ → LogNode → Option KeyParts → Effect
-roll-with w number node o = named 1 o >>= (λ next. room w >>= (λ u. Ok (log_rolls w number node next)))
+abbrev roll-with : {X : Type 0} → World → (X → KeyParts → Moved) → X → Option KeyParts → Effect
+roll-with w turned node o = named 1 o >>= (λ next. room w >>= (λ u. Ok (turned node next)))
+
+roll-absent : {X : Type 0} (w : World) (keys : X → List KeyParts) (turned : X → KeyParts → Moved) (o : Option X) (fault : WorldFault)
+    → need (is_some o) (Absent 1) ≡ Err fault → roll-by w keys turned o ≡ Err fault
+roll-absent w keys turned None fault h = ap (λ f. Err f) (same-fault (Absent 1) fault h)
+roll-absent w keys turned (Some node) fault h = absurd cc
+
+roll-full : {X : Type 0} (w : World) (keys : X → List KeyParts) (turned : X → KeyParts → Moved) (o : Option X) (fault : WorldFault)
+    → need (is_some o) (Absent 1) ≡ Ok tt → IfSome o (λ node. 0 < length (keys node)) → room w ≡ Err fault → roll-by w keys turned o ≡ Err fault
+roll-full w keys turned None fault h some full = absurd cc
+roll-full w keys turned (Some node) fault h some full =
+    let n : (next : KeyParts) × (next_of (keys node) ≡ Some next) = next-there (keys node) some
+    in ap (roll-with w turned node) n.1 ∙ ap (λ (r : Result (Unit {0}) WorldFault). r >>= (λ u. Ok (turned node n.0))) full
 
 pub log_rolled : (w : World) (number : ℕ) (node : LogNode) (result : Result (List Happening) WorldFault) (node' : LogNode) (pool' : List Pooled)
     → log_at w number ≡ Some node → 0 < length node.keys → has_room w ≡ true
@@ -175,7 +188,7 @@ log_rolled w number node result node' pool' there some free acts =
     let n : (next : KeyParts) × (next_of node.keys ≡ Some next) = next-there node.keys some
     in log-steps w number node result node' pool' (acted w.pool (log_party number) whats.Roll (log_does node (node.keys ++ n.0 ∷ []) events.Roll (row node.core (rolls (public_of n.0)))))
     (roll_of w LogServer number) there (acts n.0 n.1)
-    (ap (roll-by w number) there ∙ ap (roll-with w number node) n.1 ∙ ap (λ b. need b Limit >>= (λ u. Ok (log_rolls w number node n.0))) free
+    (ap (roll-by w (λ (l : LogNode). l.keys) (log_rolls w number)) there ∙ ap (roll-with w (log_rolls w number) node) n.1 ∙ ap (λ b. need b Limit >>= (λ u. Ok (log_rolls w number node n.0))) free
     ∙ ap (λ m. Ok m) (log-answers w number node (node.keys ++ n.0 ∷ []) whats.Roll events.Roll (row node.core (rolls (public_of n.0))) there))
 
 -- the same by what stands in the log's place, of a world as the program has it
@@ -199,30 +212,17 @@ log_rolled_there v w number slot slot' other result pool' same there keyed free 
       at None o' e acts = absurd acts
 
 pub log_roll_absent : (w : World) (number : ℕ) (fault : WorldFault) → need (is_some (log_at w number)) (Absent 1) ≡ Err fault → roll_of w LogServer number ≡ Err fault
-log_roll_absent w number fault e = at (log_at w number) e where
-  at : (o : Option LogNode) → need (is_some o) (Absent 1) ≡ Err fault → roll-by w number o ≡ Err fault
-  at None h = ap (λ f. Err f) (same-fault (Absent 1) fault h)
-  at (Some node) h = absurd cc
+log_roll_absent w number fault e = roll-absent w (λ (l : LogNode). l.keys) (log_rolls w number) (log_at w number) fault e
 
 pub log_roll_full : (w : World) (number : ℕ) (fault : WorldFault) → need (is_some (log_at w number)) (Absent 1) ≡ Ok tt → IfSome (log_at w number) (λ node. 0 < length node.keys)
     → room w ≡ Err fault → roll_of w LogServer number ≡ Err fault
-log_roll_full w number fault e keyed full = at (log_at w number) e keyed where
-  at : (o : Option LogNode) → need (is_some o) (Absent 1) ≡ Ok tt → IfSome o (λ node. 0 < length node.keys) → roll-by w number o ≡ Err fault
-  at None h some = absurd cc
-  at (Some node) h some =
-      let n : (next : KeyParts) × (next_of node.keys ≡ Some next) = next-there node.keys some
-      in ap (roll-with w number node) n.1 ∙ ap (λ (r : Result (Unit {0}) WorldFault). r >>= (λ u. Ok (log_rolls w number node n.0))) full
+log_roll_full w number fault e keyed full = roll-full w (λ (l : LogNode). l.keys) (log_rolls w number) (log_at w number) fault e keyed full
 
 pub ruleset log_orders = (order_absent, order_full)
 
 pub ruleset log_turns = (log_roll_absent, log_roll_full)
 
--- the order to an authority
-abbrev turn-by : World → ℕ → Option AuthorityNode → Effect
-turn-by w number o = named 1 o >>= (λ node. named 1 (next_of node.keys) >>= (λ next. room w >>= (λ u. Ok (authority_rolls w number node next))))
-
-abbrev turn-with : World → ℕ → AuthorityNode → Option KeyParts → Effect
-turn-with w number node o = named 1 o >>= (λ next. room w >>= (λ u. Ok (authority_rolls w number node next)))
+-- ---- `roll` of an authority
 
 pub authority_rolled_so : (w : World) (number : ℕ) (node : AuthorityNode) (result : Result (List Happening) WorldFault) (node' : AuthorityNode) (pool' : List Pooled)
     → authority_at w number ≡ Some node → 0 < length node.keys → has_room w ≡ true
@@ -234,20 +234,20 @@ authority_rolled_so w number node result node' pool' there some free acts =
     let n : (next : KeyParts) × (next_of node.keys ≡ Some next) = next-there node.keys some
     in authority-steps w number node result node' pool' (acted w.pool (authority_party number) whats.Roll (authority_turned node n.0 (roll_row node.state (public_of n.0))))
     (roll_of w Authority number) there (acts n.0 n.1)
-    (ap (turn-by w number) there ∙ ap (turn-with w number node) n.1 ∙ ap (λ b. need b Limit >>= (λ u. Ok (authority_rolls w number node n.0))) free
+    (ap (roll-by w (λ (a : AuthorityNode). a.keys) (authority_rolls w number)) there ∙ ap (roll-with w (authority_rolls w number) node) n.1 ∙ ap (λ b. need b Limit >>= (λ u. Ok (authority_rolls w number node n.0))) free
     ∙ ap (λ m. Ok m) (authority-answers w number node n.0 (roll_row node.state (public_of n.0))))
 
 -- the same by what stands in the authority's place, of a world as the program has it
 pub authority_rolled_there : (v w : World) (number : ℕ) (slot slot' other : Option AuthorityNode) (result : Result (List Happening) WorldFault) (pool' : List Pooled)
     → v ≡ w → is_some (authority_at w number) ≡ true → IfSome (authority_at w number) (λ node. 0 < length node.keys) → room w ≡ Ok tt → slot ≡ get_or v.authorities number other
-    → AuthorityChanges slot slot' (λ was is. (next : KeyParts) → next_of was.keys ≡ Some next
+    → ChangesThere slot slot' (λ was is. (next : KeyParts) → next_of was.keys ≡ Some next
     → ActsBy result was is v.pool pool' (acted v.pool (authority_party number) whats.Roll (authority_turned was next (roll_row was.state (public_of next)))))
     → StepsBy result w (record v { authorities = slice_set v.authorities number slot'; pool = pool' }) (roll_of w Authority number)
 authority_rolled_there v w number slot slot' other result pool' same there keyed free here so =
     subst (λ (u : World). StepsBy result u (record v { authorities = slice_set v.authorities number slot'; pool = pool' }) (roll_of u Authority number)) same
     (at slot slot' (honest_spot v.authorities number slot other (subst (λ (u : World). is_some (authority_at u number) ≡ true) (sym same) there) here) so) where
       at : (o o' : Option AuthorityNode) → authority_at v number ≡ o
-          → AuthorityChanges o o' (λ was is. (next : KeyParts) → next_of was.keys ≡ Some next
+          → ChangesThere o o' (λ was is. (next : KeyParts) → next_of was.keys ≡ Some next
           → ActsBy result was is v.pool pool' (acted v.pool (authority_party number) whats.Roll (authority_turned was next (roll_row was.state (public_of next)))))
           → StepsBy result v (record v { authorities = slice_set v.authorities number o'; pool = pool' }) (roll_of v Authority number)
       at (Some was) (Some is) e acts =
@@ -258,18 +258,10 @@ authority_rolled_there v w number slot slot' other result pool' same there keyed
       at None o' e acts = absurd acts
 
 pub authority_roll_absent : (w : World) (number : ℕ) (fault : WorldFault) → need (is_some (authority_at w number)) (Absent 1) ≡ Err fault → roll_of w Authority number ≡ Err fault
-authority_roll_absent w number fault e = at (authority_at w number) e where
-  at : (o : Option AuthorityNode) → need (is_some o) (Absent 1) ≡ Err fault → turn-by w number o ≡ Err fault
-  at None h = ap (λ f. Err f) (same-fault (Absent 1) fault h)
-  at (Some node) h = absurd cc
+authority_roll_absent w number fault e = roll-absent w (λ (a : AuthorityNode). a.keys) (authority_rolls w number) (authority_at w number) fault e
 
 pub authority_roll_full : (w : World) (number : ℕ) (fault : WorldFault) → need (is_some (authority_at w number)) (Absent 1) ≡ Ok tt → IfSome (authority_at w number) (λ node. 0 < length node.keys)
     → room w ≡ Err fault → roll_of w Authority number ≡ Err fault
-authority_roll_full w number fault e keyed full = at (authority_at w number) e keyed where
-  at : (o : Option AuthorityNode) → need (is_some o) (Absent 1) ≡ Ok tt → IfSome o (λ node. 0 < length node.keys) → turn-by w number o ≡ Err fault
-  at None h some = absurd cc
-  at (Some node) h some =
-      let n : (next : KeyParts) × (next_of node.keys ≡ Some next) = next-there node.keys some
-      in ap (turn-with w number node) n.1 ∙ ap (λ (r : Result (Unit {0}) WorldFault). r >>= (λ u. Ok (authority_rolls w number node n.0))) full
+authority_roll_full w number fault e keyed full = roll-full w (λ (a : AuthorityNode). a.keys) (authority_rolls w number) (authority_at w number) fault e keyed full
 
 pub ruleset authority_turns = (authority_roll_absent, authority_roll_full)

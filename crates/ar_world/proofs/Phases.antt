@@ -1,8 +1,7 @@
 -- A line that is none of the setup leaves the phase as it is; that it came is noted by the step.
-use Rattle.std.proofs.Common.{◌≡◌, ℕ, List, [], ◌∷◌, ◌++◌, refl, sym, ap, ◌∙◌, subst, true, Bool, false, nat_le, Option, Some, None, IfOk}
-use Rattle.std.specs.Prelude.{is_none, Result, Ok, Err, nat_lt, length}
+use Rattle.std.proofs.Common.{◌≡◌, ℕ, List, [], ◌∷◌, ◌++◌, refl, ap, ◌∙◌, subst, true, Bool, false, nat_le, Option, Some, None, IfOk}
+use Rattle.std.specs.Prelude.{is_none, Result, Ok, Err, nat_lt}
 use Rattle.ar_cert.specs.Certificate.{Certificate, digest_of}
-use Rattle.ar_message.specs.Filling.{filled}
 use Rattle.ar_message.specs.Messages.{message_in}
 use Rattle.ar_message.specs.declared.sent.Sent.{Sent}
 use Rattle.ar_statement.specs.declared.party.Party.{Party}
@@ -28,23 +27,22 @@ use Rattle.script_text.specs.declared.line.Line.TheVariants as line
 use Rattle.script_text.specs.declared.line.PolicyWords.{PolicyWords}
 use Rattle.ar_world.specs.Asking.{ask_line}
 use Rattle.ar_world.specs.Authorities.{authority_answers, authority_reply, authority_rolled, authority_rolls, authority_takes, node_behind}
-use Rattle.ar_world.specs.Delivering.{Taker, a_log, an_authority, an_owner, can_deliver, deliver_line, delivery, noted}
-use Rattle.ar_world.specs.Drafting.{begun, draft_if, draft_room, drafted, first_certificate, next_certificate, policy_of, register_line, revoke_line, update_line}
+use Rattle.ar_world.specs.Delivering.{Taker, a_log, an_authority, an_owner, can_deliver, delivery, noted}
+use Rattle.ar_world.specs.Drafting.{begun, draft_if, draft_room, first_certificate, next_certificate, policy_of, register_line, revoke_line, update_line}
 use Rattle.ar_world.specs.Finding.{authority_at, checking_at, draft_at, existing, forger_at, known_asks, log_at, message_at, named, need, owner_at, room, with_owner}
-use Rattle.ar_world.specs.Forging.{composed_in, inject_line, receiver_in, sign_line, signing, signing_if}
+use Rattle.ar_world.specs.Forging.{composed_in, inject_line, receiver_in, sign_line, signing_if}
 use Rattle.ar_world.specs.Founding.{leaves_of, place_of}
 use Rattle.ar_world.specs.Judging.{judge_line, judged_number}
-use Rattle.ar_world.specs.Learning.{learn_line}
 use Rattle.ar_world.specs.Logs.{log_answers, log_rolls, log_steps, next_of}
-use Rattle.ar_world.specs.Ordering.{log_order, roll_line, roll_of}
-use Rattle.ar_world.specs.Owning.{check_line, owner_line, retire_line}
+use Rattle.ar_world.specs.Ordering.{log_order, roll_of}
+use Rattle.ar_world.specs.Owning.{check_line}
 use Rattle.ar_world.specs.Parties.{AuthorityNode, Forger, LogNode}
 use Rattle.ar_world.specs.State.{Drafted, Moved, World}
 use Rattle.ar_world.specs.Step.{effect, leads_to}
 use Rattle.ar_world.specs.Submitting.{attached, attached_by, handed, handover_line, object_line, owner_answers, submit_line, submitted}
 use Rattle.ar_world.specs.declared.event.LogEvent.{LogEvent}
 use Rattle.ar_world.specs.declared.event.LogEvent.TheVariants as events
-use Rattle.ar_world.specs.declared.fault.WorldFault.TheVariants.{Absent, Limit}
+use Rattle.ar_world.specs.declared.fault.WorldFault.TheVariants.{Absent}
 use Rattle.ar_world.specs.declared.phase.Phase.TheVariants as phase
 use Rattle.ar_world.proofs.Effects.{if-chained}
 

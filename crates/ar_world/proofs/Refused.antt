@@ -1,13 +1,12 @@
 -- Why lines are refused: what fails behind words that name something.
-use Rattle.std.proofs.Common.{◌≡◌, ℕ, zero, suc, ◌+◌, ◌<◌, ◌≤◌, ltb, Bool, true, false, List, [], ◌∷◌, length, Option, Some, None, Result, Ok, Err, refl, sym, ap, ◌∙◌, add-one, arith}
+use Rattle.std.proofs.Common.{◌≡◌, ℕ, zero, suc, ◌+◌, ◌<◌, ◌≤◌, ltb, true, List, [], ◌∷◌, length, Option, Some, None, Result, Ok, Err, refl, ap, ◌∙◌, add-one, arith}
 use Rattle.std.specs.Prelude.{is_some, position, slice_get}
-use Rattle.std.specs.List.{find, position_or_len}
+use Rattle.std.specs.List.{position_or_len}
 use Rattle.std.specs.Result.{is_ok}
 use Rattle.std.proofs.lemmas.Bool.{ltb-true}
 use Rattle.std.proofs.lemmas.List.Folds.{find_at}
 use Rattle.std.proofs.lemmas.Option.{cond_some}
 use Rattle.ar_base.specs.Chaining.{◌>>=◌}
-use Rattle.owner_core.specs.State.{Owner}
 use Rattle.script_text.specs.declared.line.PolicyWords.{PolicyWords}
 use Rattle.ar_world.specs.Drafting.{ascend, draft_room, may_wait, policy_of, register_line, revoke_line, update_line}
 use Rattle.ar_world.specs.Finding.{draft_at, is_owner, known_asks, named, owner_at, room}

@@ -4,27 +4,24 @@ use Rattle.std.specs.Prelude.{slice_set, option_and_then, IfOk}
 use Rattle.std.proofs.lemmas.Option.{same_Some}
 use Rattle.ar_base.specs.Chaining.{◌>>=◌}
 use Rattle.std.specs.Option.{option_map}
-use Rattle.owner_check.specs.Answers.{Told, forgotten, learnt}
+use Rattle.owner_check.specs.Answers.{Told}
 use Rattle.owner_check.specs.declared.answer.Answer.{Answer}
 use Rattle.owner_core.specs.State.{Owner}
 use Rattle.report_text.specs.declared.happening.Happening.{Happening}
-use Rattle.report_text.specs.declared.happening.Happening.TheVariants.{Forgot, Retired, Taught}
-use Rattle.ar_world.specs.Finding.{Effect, checking_at, named, owner_at, with_check}
-use Rattle.ar_world.specs.Owning.{check_line, checking_in, forget_line, known_key, retelling, retire_line, retold, teach_line}
-use Rattle.ar_world.specs.Parties.{AuthorityNode, CheckParts}
+use Rattle.report_text.specs.declared.happening.Happening.TheVariants.{Retired}
+use Rattle.ar_world.specs.Finding.{Effect, checking_at, checking_in, named, owner_at, with_check}
+use Rattle.ar_world.specs.Owning.{check_line, known_key, lesson_line, lesson_said, retelling, retire_line, retold, told_behind}
+use Rattle.ar_world.specs.Parties.{AuthorityNode, CheckParts, check_told}
 use Rattle.ar_world.specs.State.{World, with_authority}
 use Rattle.ar_world.specs.Step.{StepsBy}
 use Rattle.ar_world.specs.declared.fault.WorldFault.{WorldFault}
 use Rattle.ar_world.specs.declared.fault.WorldFault.TheVariants.{Absent, Memory}
-
--- what is told of a check
-abbrev parts : {X : Type 0} → (X → Option Told) → (X → List Answer) → X → CheckParts
-parts told answers x = record { told = told x; answers = answers x }
+use Rattle.ar_world.specs.declared.lesson.Lesson.{Lesson}
 
 -- the check that tells this
 pub check_retold : {X : Type 0} (told : X → Option Told) (answers : X → List Answer) (tells : Told → Told) (old new : Option X) → is_none new ≡ is_none old
     → IfSome old (λ o. IfSome new (λ n. told n ≡ option_map tells (told o))) → IfSome old (λ o. IfSome new (λ n. answers n ≡ answers o))
-    → option_map (parts told answers) new ≡ option_map (retelling tells) (option_map (parts told answers) old)
+    → option_map (check_told told answers) new ≡ option_map (retelling tells) (option_map (check_told told answers) old)
 check_retold told answers tells (Some o) (Some n) there says keeps = ap (λ t. Some (record { told = t; answers = answers n })) says
     ∙ ap (λ a. Some (record { told = option_map tells (told o); answers = a })) keeps
 check_retold told answers tells (Some o) None there says keeps = absurd (cc)
@@ -34,7 +31,7 @@ check_retold told answers tells None None there says keeps = refl
 -- the check that tells what it told
 pub check_kept : {X : Type 0} (told : X → Option Told) (answers : X → List Answer) (old new : Option X) → is_none new ≡ is_none old
     → IfSome old (λ o. IfSome new (λ n. told n ≡ told o)) → IfSome old (λ o. IfSome new (λ n. answers n ≡ answers o))
-    → option_map (parts told answers) new ≡ option_map (parts told answers) old
+    → option_map (check_told told answers) new ≡ option_map (check_told told answers) old
 check_kept told answers (Some o) (Some n) there says keeps = ap (λ t. Some (record { told = t; answers = answers n })) says
     ∙ ap (λ a. Some (record { told = told o; answers = a })) keeps
 check_kept told answers (Some o) None there says keeps = absurd (cc)
@@ -95,21 +92,35 @@ told-steps (Ok said) w number owner tells told key before after later same back 
 told-steps (Err fault) w number owner tells told key before after later same back there known ok err =
     (ap (λ xs. record w { authorities = xs }) (back ∙ err.1 ∙ same), inl err.0)
 
-pub teach_steps : (result : Result (List Happening) WorldFault) (w : World) (number owner : ℕ) (name key : List ℕ) (before after later : List (Option AuthorityNode))
+pub lesson_steps : (result : Result (List Happening) WorldFault) (w : World) (lesson : Lesson) (number owner : ℕ) (name key : List ℕ) (before after later : List (Option AuthorityNode))
     → before ≡ w.authorities → later ≡ after → is_some (checking_in before number) ≡ true → Some key ≡ option_map known_key (owner_at w owner)
-    → IfOk result (λ said. (said ≡ Taught number ∷ []) × IfSome (checking_in before number) (λ found. after ≡ slice_set before number (Some (retold (learnt name key) found))))
+    → IfOk result (λ said. (said ≡ lesson_said lesson number ∷ []) × IfSome (checking_in before number) (λ found. after ≡ slice_set before number (Some (retold (told_behind lesson name key) found))))
     → IfErr result (λ fault. (fault ≡ Memory) × (after ≡ before))
-    → StepsBy result w (record w { authorities = later }) (teach_line w number name owner)
-teach_steps result w number owner name key before after later same back there known ok err =
-    told-steps result w number owner (learnt name) (Taught number) key before after later same back there known ok err
+    → StepsBy result w (record w { authorities = later }) (lesson_line w lesson number name owner)
+lesson_steps result w lesson number owner name key before after later same back there known ok err =
+    told-steps result w number owner (told_behind lesson name) (lesson_said lesson number) key before after later same back there known ok err
 
-pub forget_steps : (result : Result (List Happening) WorldFault) (w : World) (number owner : ℕ) (name key : List ℕ) (before after later : List (Option AuthorityNode))
-    → before ≡ w.authorities → later ≡ after → is_some (checking_in before number) ≡ true → Some key ≡ option_map known_key (owner_at w owner)
-    → IfOk result (λ said. (said ≡ Forgot number ∷ []) × IfSome (checking_in before number) (λ found. after ≡ slice_set before number (Some (retold (forgotten name key) found))))
-    → IfErr result (λ fault. (fault ≡ Memory) × (after ≡ before))
-    → StepsBy result w (record w { authorities = later }) (forget_line w number name owner)
-forget_steps result w number owner name key before after later same back there known ok err =
-    told-steps result w number owner (forgotten name) (Forgot number) key before after later same back there known ok err
+-- no authority that checks has the number
+unchecked-by : (w : World) (number : ℕ) (tells : List ℕ → Told → Told) (said : Happening) (checking : Option (AuthorityNode × CheckParts)) (holder : Option Owner)
+    → is_some checking ≡ false → line_by w number tells said checking holder ≡ Err (Absent 1)
+unchecked-by w number tells said (Some found) holder none = absurd (cc)
+unchecked-by w number tells said None holder none = refl
+
+-- or no owner has the other
+unknown-by : (w : World) (number : ℕ) (tells : List ℕ → Told → Told) (said : Happening) (checking : Option (AuthorityNode × CheckParts)) (holder : Option Owner)
+    → is_some checking ≡ true → None ≡ option_map known_key holder → line_by w number tells said checking holder ≡ Err (Absent 3)
+unknown-by w number tells said (Some found) (Some owner) there none = absurd (cc)
+unknown-by w number tells said (Some found) None there none = refl
+unknown-by w number tells said None holder there none = absurd (cc)
+
+pub lesson_unchecked : (w : World) (lesson : Lesson) (number : ℕ) (name : List ℕ) (owner : ℕ) → is_some (checking_at w number) ≡ false → lesson_line w lesson number name owner ≡ Err (Absent 1)
+lesson_unchecked w lesson number name owner none = unchecked-by w number (told_behind lesson name) (lesson_said lesson number) (checking_at w number) (owner_at w owner) none
+
+pub lesson_unknown : (w : World) (lesson : Lesson) (number : ℕ) (name : List ℕ) (owner : ℕ) → is_some (checking_at w number) ≡ true → None ≡ option_map known_key (owner_at w owner)
+    → lesson_line w lesson number name owner ≡ Err (Absent 3)
+lesson_unknown w lesson number name owner there none = unknown-by w number (told_behind lesson name) (lesson_said lesson number) (checking_at w number) (owner_at w owner) there none
+
+pub ruleset lesson_refusals = (lesson_unchecked, lesson_unknown)
 
 -- ---- `retire`
 

@@ -1,8 +1,9 @@
 -- Honest parties that changed in their places, and worlds in which one of them did.
 use Rattle.std.proofs.Common.{◌≡◌, ℕ, true, List, get_or, Option, Some, None, is_some, refl, sym, subst}
 use Rattle.std.specs.Prelude.{slice_set}
+use Rattle.ar_world.specs.Finding.{honest_in}
 use Rattle.ar_world.specs.FirstKeys.{FirstKeys}
-use Rattle.ar_world.specs.Acting.{ChangesAt, ChangesThere, honest_in}
+use Rattle.ar_world.specs.Acting.{ChangesAt, ChangesThere}
 use Rattle.ar_world.specs.Kept.{IsKeptWorld}
 use Rattle.ar_world.specs.Parties.{LogNode}
 use Rattle.ar_world.specs.State.{Drafted, Setup}

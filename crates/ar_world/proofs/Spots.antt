@@ -1,10 +1,10 @@
 -- Honest parties in their places, and worlds in which one of them changed.
-use Rattle.std.proofs.Common.{◌≡◌, ◌∙◌, ◌<◌, ◌^◌, ℕ, zero, suc, true, List, [], ◌∷◌, length, get_or, Option, Some, None, is_some, refl, sym, ap, subst, arith}
-use Rattle.std.specs.Prelude.{slice_get, slice_set, option_and_then}
+use Rattle.std.proofs.Common.{◌≡◌, ◌∙◌, ◌<◌, ◌^◌, ℕ, zero, suc, true, List, [], ◌∷◌, length, get_or, Option, is_some, refl, sym, ap, subst, arith}
+use Rattle.std.specs.Prelude.{slice_set}
+use Rattle.ar_world.specs.Finding.{honest_in}
 use Rattle.ar_world.specs.FirstKeys.{FirstKeys}
-use Rattle.ar_world.specs.Acting.{authority_stands, honest_in}
 use Rattle.ar_world.specs.Kept.{IsKeptWorld}
-use Rattle.ar_world.specs.Parties.{AuthorityNode, LogNode}
+use Rattle.ar_world.specs.Parties.{LogNode}
 use Rattle.ar_world.specs.State.{Drafted, Setup}
 use Rattle.ar_world.specs.declared.phase.Phase.{Phase}
 use Rattle.ar_world.specs.declared.world.Directories.{Directories}
@@ -30,14 +30,6 @@ pub honest_slot : {X : Type 0} (parties : List (Option X)) (number : ℕ) (slot 
 honest_slot parties number slot there is = ap is_some (sym (honest_spot parties number slot slot there (sym is))) ∙ there
 
 pub ruleset spots = (honest_within, honest_slot)
-
--- the same of authorities
-pub authority_within : (parties : List (Option AuthorityNode)) (number : ℕ) → is_some (honest_in parties number) ≡ true → number < length parties
-authority_within = honest_within
-
-pub authority_slot : (parties : List (Option AuthorityNode)) (number : ℕ) (slot other : Option AuthorityNode) → is_some (honest_in parties number) ≡ true → slot ≡ get_or parties number other
-    → authority_stands slot ≡ true
-authority_slot parties number slot other there is = ap is_some (sym (honest_spot parties number slot other there is)) ∙ there
 
 -- ---- worlds
 

@@ -1,14 +1,11 @@
 -- What a party makes of an input: the party as it is then, and its reply. And what the reply makes of the pool, and what is
 -- printed of it. The steps of a world have the same, with the party and the pool in their places.
-use Rattle.std.specs.Prelude.{◌≡◌, ℕ, ◌+◌, List, [], ◌∷◌, ◌++◌, is_none, is_some, Bool, length, map, slice_get, slice_set, Option, None, Some, option_and_then, Result, Ok, Err}
-use Rattle.std.specs.Option.{option_map}
+use Rattle.std.specs.Prelude.{◌≡◌, ℕ, ◌+◌, List, [], ◌∷◌, ◌++◌, length, map, slice_set, Option, None, Some, Result, Ok, Err}
 use Rattle.ar_message.specs.Filling.{filled}
 use Rattle.ar_message.specs.Messages.{message_in}
 use Rattle.ar_message.specs.declared.sent.Sent.{Sent}
 use Rattle.ar_statement.specs.declared.party.Party.{Party}
-use Rattle.authority_core.specs.RollRows.{roll_row}
 use Rattle.authority_core.specs.State as authority
-use Rattle.lms_tree.specs.Key.{public_of}
 use Rattle.lms_tree.specs.KeyParts.{KeyParts}
 use Rattle.log_core.specs.Row.{row}
 use Rattle.log_core.specs.State as log
@@ -24,6 +21,7 @@ use Rattle.report_text.specs.declared.happening.What.TheVariants.{Take}
 use Rattle.ar_world.specs.Authorities.{authority_reply, node_behind}
 use Rattle.ar_world.specs.Codes.{authority_code, log_code, owner_code}
 use Rattle.ar_world.specs.Delivering.{delivered_to}
+use Rattle.ar_world.specs.Finding.{honest_in}
 use Rattle.ar_world.specs.Owning.{owner_party}
 use Rattle.ar_world.specs.Parties.{AuthorityNode, LogNode}
 use Rattle.ar_world.specs.Pool.{Pooled, entries_from, numbered, pooled_from, set_numbered}
@@ -66,22 +64,11 @@ ActsBy (Err fault) old new before behind made = (fault ≡ Memory) × ((new ≡ 
 
 -- ---- parties in their places
 
--- the honest party with this number
-abbrev pub honest_in : {X : Type 0} → List (Option X) → ℕ → Option X
-honest_in parties number = option_and_then (λ node. node) (slice_get parties number)
-
 -- An honest party became one that is honest too, and so it changed.
 abbrev pub ChangesThere : {X : Type 0} → Option X → Option X → (X → X → Type 0) → Type 0
 ChangesThere (Some was) (Some is) changes = changes was is
 ChangesThere (Some was) None changes = ⊥
 ChangesThere None new changes = ⊥
-
--- the same of authorities
-abbrev pub authority_stands : Option AuthorityNode → Bool
-authority_stands slot = is_some slot
-
-abbrev pub AuthorityChanges : Option AuthorityNode → Option AuthorityNode → (AuthorityNode → AuthorityNode → Type 0) → Type 0
-AuthorityChanges old new changes = ChangesThere old new changes
 
 -- The honest party with this number changed so, and is honest. All others are as they were.
 pub record ChangesAt {X : Type 0} (old new : List (Option X)) (number : ℕ) (changes : X → X → Type 0) : Type 0 where

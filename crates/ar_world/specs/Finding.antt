@@ -27,21 +27,29 @@ named word found = ok_or found (Absent word)
 
 -- ---- parties
 
+-- of logs or authorities, the honest one with this number
+abbrev pub honest_in : {X : Type 0} → List (Option X) → ℕ → Option X
+honest_in parties number = option_and_then (λ node. node) (slice_get parties number)
+
 -- the honest log with this number
 abbrev pub log_at : World → ℕ → Option LogNode
-log_at w number = option_and_then (λ node. node) (slice_get w.logs number)
+log_at w number = honest_in w.logs number
 
 -- the honest authority with this number
 abbrev pub authority_at : World → ℕ → Option AuthorityNode
-authority_at w number = option_and_then (λ node. node) (slice_get w.authorities number)
+authority_at w number = honest_in w.authorities number
 
 -- an honest authority with the check that it has
 abbrev pub with_check : AuthorityNode → Option (AuthorityNode × CheckParts)
 with_check node = option_map (λ check. (node, check)) node.check
 
--- the honest authority with this number, where it has not retired
+-- of these authorities, the honest one with this number, where it has not retired
+abbrev pub checking_in : List (Option AuthorityNode) → ℕ → Option (AuthorityNode × CheckParts)
+checking_in authorities number = option_and_then with_check (honest_in authorities number)
+
+-- the same of a world
 abbrev pub checking_at : World → ℕ → Option (AuthorityNode × CheckParts)
-checking_at w number = option_and_then with_check (authority_at w number)
+checking_at w number = checking_in w.authorities number
 
 -- the owner with this number
 abbrev pub is_owner : ℕ → owners.Owner → Bool

@@ -1,6 +1,6 @@
 -- What the program's world keeps beside what its lines speak of: the keys of the logs before these are there, and that each
 -- directory is there in time.
-use Rattle.std.specs.Prelude.{◌≡◌, ℕ, ◌≤◌, ◌<◌, ◌^◌, nat_le, true, List, length, All, Option, Some, None, is_some}
+use Rattle.std.specs.Prelude.{◌≡◌, ◌<◌, ◌^◌, nat_le, true, List, length, All, Option, Some, None, is_some}
 use Rattle.ar_statement.specs.declared.party.Role.TheVariants.{LogServer}
 use Rattle.party_keys.specs.Directory.{Directory}
 use Rattle.ar_world.specs.FirstKeys.{FirstKeys, first_of}

@@ -1,5 +1,5 @@
 -- The lines on owners, and on what authorities know of them: `owner`, `teach`, `forget` and `retire`.
-use Rattle.std.specs.Prelude.{ℕ, List, [], ◌∷◌, ◌++◌, slice_get, Option, Some, None, option_and_then, is_none, Ok}
+use Rattle.std.specs.Prelude.{ℕ, List, [], ◌∷◌, ◌++◌, Some, None, is_none, Ok}
 use Rattle.std.specs.Option.{option_map}
 use Rattle.ar_base.specs.Chaining.{◌>>=◌}
 use Rattle.ar_statement.specs.Claims.{party}
@@ -16,11 +16,13 @@ use Rattle.owner_core.specs.State.{Owner}
 use Rattle.party_keys.specs.Seeds.{seed_of}
 use Rattle.report_text.specs.declared.happening.Happening.{Happening}
 use Rattle.report_text.specs.declared.happening.Happening.TheVariants.{Forgot, Retired, Taught}
-use Rattle.ar_world.specs.Finding.{Effect, checking_at, named, need, owner_at, with_check}
+use Rattle.ar_world.specs.Finding.{Effect, checking_at, named, need, owner_at}
 use Rattle.ar_world.specs.Founding.{key_made, leaves_of}
 use Rattle.ar_world.specs.Parties.{AuthorityNode, CheckParts}
 use Rattle.ar_world.specs.State.{World, with_authority}
 use Rattle.ar_world.specs.declared.fault.WorldFault.TheVariants.{Absent}
+use Rattle.ar_world.specs.declared.lesson.Lesson.{Lesson}
+use Rattle.ar_world.specs.declared.lesson.Lesson.TheVariants as lesson
 
 -- the owner with this number, as a party
 abbrev pub owner_party : ℕ → Party
@@ -54,10 +56,6 @@ retelling tells check = record check { told = option_map tells check.told }
 abbrev pub retold : (Told → Told) → AuthorityNode × CheckParts → AuthorityNode
 retold tells found = record found.0 { check = Some (retelling tells found.1) }
 
--- of these authorities, the honest one with this number, where it has not retired
-abbrev pub checking_in : List (Option AuthorityNode) → ℕ → Option (AuthorityNode × CheckParts)
-checking_in authorities number = option_and_then with_check (option_and_then (λ node. node) (slice_get authorities number))
-
 -- the key by which checks know an owner
 abbrev pub known_key : Owner → List ℕ
 known_key owner = key_text (public_of owner.key)
@@ -68,6 +66,20 @@ check_line w authority owner tells said = do
   found ← named 1 (checking_at w authority)
   holder ← named 3 (owner_at w owner)
   Ok (with_authority w authority (retold (tells (known_key holder)) found), said ∷ [])
+
+-- what a check tells of itself behind a lesson on a name and a key
+abbrev pub told_behind : Lesson → List ℕ → List ℕ → Told → Told
+told_behind lesson.Learn name = learnt name
+told_behind lesson.Forget name = forgotten name
+
+-- what is printed of the lesson
+abbrev pub lesson_said : Lesson → ℕ → Happening
+lesson_said lesson.Learn authority = Taught authority
+lesson_said lesson.Forget authority = Forgot authority
+
+-- the check takes a lesson on the name
+abbrev pub lesson_line : World → Lesson → ℕ → List ℕ → ℕ → Effect
+lesson_line w l authority name owner = check_line w authority owner (told_behind l name) (lesson_said l authority)
 
 -- the check learns that the name is the owner's
 abbrev pub teach_line : World → ℕ → List ℕ → ℕ → Effect

@@ -1,5 +1,5 @@
 -- The parties of a world, as plain data.
-use Rattle.std.specs.Prelude.{ℕ, List, Option}
+use Rattle.std.specs.Prelude.{ℕ, List, map, Option}
 use Rattle.ar_statement.specs.declared.party.Party.{Party}
 use Rattle.authority_core.specs.State.{AuthorityState}
 use Rattle.lms_tree.specs.KeyParts.{KeyParts}
@@ -19,6 +19,14 @@ pub record LogNode : Type 0 where
 pub record CheckParts : Type 0 where
   pub told : Option Told
   pub answers : List Answer
+
+-- a check that tells this of itself, and has answered this
+abbrev pub check_told : {C : Type 0} → (C → Option Told) → (C → List Answer) → C → CheckParts
+check_told told answers = λ check. record { told = told check; answers = answers check }
+
+-- the same of checks
+abbrev pub checks_told : {C : Type 0} → (C → Option Told) → (C → List Answer) → List C → List CheckParts
+checks_told told answers checks = map (check_told told answers) checks
 
 -- an honest authority: where it stands, its key of each generation, and its check, until it retires
 pub record AuthorityNode : Type 0 where

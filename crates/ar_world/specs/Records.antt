@@ -1,9 +1,16 @@
 -- What honest parties and clients of a world hold, of which the theorem speaks; and which messages and steps are told of it.
-use Rattle.std.specs.Prelude.{ℕ, List, map, Option}
+use Rattle.std.specs.Prelude.{◌≡◌, ℕ, List, All, map, nat_le, true, Option, Some}
 use Rattle.std.specs.List.{filter_map}
 use Rattle.std.specs.Option.{option_map}
+use Rattle.ar_base.specs.Bytes.{AreBytes}
+use Rattle.ar_council.specs.Council.{council_of}
 use Rattle.ar_safety.specs.Held.{Held}
-use Rattle.ar_world.specs.Finding.{log_at, message_at}
+use Rattle.authority_core.specs.Honest.{HonestAuthority}
+use Rattle.epoch_log.specs.Honest.{HonestLog}
+use Rattle.party_keys.specs.Directory.{IsDirectory}
+use Rattle.ar_world.specs.Finding.{authority_at, log_at, message_at}
+use Rattle.ar_world.specs.Founding.{place_of}
+use Rattle.ar_world.specs.Parties.{AuthorityNode, LogNode}
 use Rattle.ar_world.specs.State.{World}
 use Rattle.ar_world.specs.declared.event.LogEvent.{LogEvent}
 
@@ -18,6 +25,26 @@ held_of w = record {
   judged = w.judged;
   learned = w.learned;
 }
+
+-- the logs and authorities are there
+abbrev pub HasParties : World → Type 0
+HasParties w = nat_le 4 (place_of w.phase) ≡ true
+
+-- an honest log's record is that of one with its number, by its council
+abbrev pub LogKeepsRecord : LogNode → Type 0
+LogKeepsRecord node = HonestLog node.core.log.council node.core.log.me node.core.log.past
+
+-- the same of an honest authority, by the council of its directory
+abbrev pub AuthorityKeepsRecord : AuthorityNode → Type 0
+AuthorityKeepsRecord node = HonestAuthority (council_of node.state.keys) node.state.me node.state.past
+
+-- What each party keeps of itself: the clients' directory is one; the record of each honest log and authority is an honest
+-- one's; and what clients accepted are bytes.
+pub record KeepsRecords (w : World) : Type 0 where
+  pub directory : IsDirectory w.clients
+  pub logs : (number : ℕ) (node : LogNode) → log_at w number ≡ Some node → LogKeepsRecord node
+  pub authorities : (number : ℕ) (node : AuthorityNode) → authority_at w number ≡ Some node → AuthorityKeepsRecord node
+  pub bytes : All (λ taken. AreBytes taken.bytes) w.judged
 
 -- the bytes of a message of the pool
 abbrev pub bytes_at : World → ℕ → Option (List ℕ)

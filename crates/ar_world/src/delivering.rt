@@ -2,18 +2,18 @@
 
 ghost use Rattle.std.specs.Prelude.{◌≡◌, ◌&&◌, not, true, is_some, length, find, IfOk, OnOk, Err};
 ghost use Rattle.ar_statement.specs.declared.party.Role.TheVariants as roles;
-ghost use Rattle.owner_core.specs.Rows.{step_row};
 ghost use Rattle.party_keys.specs.Seen.{authority_party, log_party};
 ghost use Rattle.report_text.specs.declared.happening.Target.TheVariants as target;
-ghost use Rattle.ar_world.specs.Acting.{ActsBy, ActsBySome, ChangesAt, ChangesThere, RepliesBy, authority_delivered, honest_in, log_delivered, owner_delivered, owner_does};
+ghost use Rattle.ar_world.specs.Acting.{ActsBy, ActsBySome, ChangesAt, ChangesThere, authority_delivered, log_delivered, owner_delivered};
 ghost use Rattle.ar_world.specs.Delivering.{addressed, deliver_line, deliverable, due_from, due_to, is_due, is_sender, next_due, taker_at};
+ghost use Rattle.ar_world.specs.Finding.{honest_in};
 ghost use Rattle.ar_world.specs.Owning.{owner_party};
 ghost use Rattle.ar_world.specs.Step.{StepsBySome};
 
-use crate::codes::owner_code;
 use crate::event::LogEvent;
 use crate::fault::WorldFault;
 use crate::finding::has_owner;
+use crate::owners;
 use crate::parties::{HonestAuthority, HonestLog};
 use crate::pool::{Pool, Pooled, has_party, is_party};
 use crate::replying::{MOST_SENT, Reply, tell};
@@ -23,25 +23,11 @@ use ar_base::Items;
 use ar_statement::{Party, Role};
 use log_core::LogInput;
 use owner_check::OwnerCheck;
-use owner_core::laws::so_many_are_sent;
-use owner_core::{Owner, OwnerRefusal};
+use owner_core::Owner;
 use report_text::{Happening, Target, What};
 use std::alloc::Global;
 
 // ---- what parties make of a message
-
-/// An owner takes a message. It sends nothing.
-fn owner_replies(alloc: Global, owner: &mut Owner, bytes: &[u8]) -> Result<Reply, WorldFault>
-    ensures row { RepliesBy result owner.old owner.new (owner_does owner.old (step_row owner.old bytes.now)) }
-    ensures few { IfOk result (λ reply. IfOk reply (λ sent. length sent.messages ≡ 0)) }
-{
-    so_many_are_sent();
-    match owner.step(alloc, bytes) {
-        Ok(sent) => Ok(Ok(sent)),
-        Err(OwnerRefusal::Memory) => Err(WorldFault::Memory),
-        Err(refusal) => Ok(Err(owner_code(refusal))),
-    }
-}
 
 /// A log takes a message of the pool.
 #[tactic(auto, unfolding(crate::specs::Acting::log_delivered))]
@@ -97,7 +83,7 @@ fn owner_takes(
     let who = Role::Owner.party(number);
     let said = reserve(alloc, pool, MOST_SENT)?;
     let delivered = pool.delivered_by(alloc, message, who)?;
-    let reply = owner_replies(alloc, owner, pool.bytes(message))?;
+    let reply = owners::take(alloc, owner, pool.bytes(message))?;
     pool.note_delivered(message, delivered);
     Ok(tell(alloc, pool, said, who, What::Take(message), reply))
 }

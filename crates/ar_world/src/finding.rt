@@ -7,6 +7,7 @@ ghost use Rattle.ar_world.specs.Finding.{draft_at, existing, is_owner, is_there,
 
 use crate::drafted::Drafted;
 use crate::fault::WorldFault;
+use crate::pool::numbered;
 use crate::world::World;
 use ar_statement::Role;
 use owner_check::OwnerCheck;
@@ -73,11 +74,7 @@ impl<C: OwnerCheck> World<C> {
     pub(crate) fn draft(&self, number: u64) -> Option<&Drafted>
         ensures { option_copied result ≡ draft_at self.now number }
     {
-        if number == 0 {
-            return None;
-        }
-        let place = usize::try_from(number - 1).ok()?;
-        self.drafts.get(place)
+        numbered(&self.drafts, number)
     }
 
     /// Refuses a line that may send where the pool is full.

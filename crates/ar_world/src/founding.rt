@@ -1,10 +1,11 @@
 //! The lines of the setup.
 
-ghost use Rattle.std.specs.Prelude.{◌≡◌, ◌≤◌, ◌<◌, [], ◌∷◌, ◌++◌, length, slice_get, slice_set, true, vec_len, vec_capacity, Ok, None, Some, IfSome, MatchOption, option_and_then};
+ghost use Rattle.std.specs.Prelude.{◌≡◌, ◌≤◌, ◌<◌, [], ◌∷◌, ◌++◌, length, slice_set, true, vec_len, vec_capacity, Ok, None, Some, IfSome, MatchOption, option_and_then};
 ghost use Rattle.ar_statement.specs.declared.party.Role.TheVariants.{Authority, LogServer};
 ghost use Rattle.lms_tree.specs.Key.{type_to_make};
 ghost use Rattle.lms_tree.specs.LmsKind as lms_kind;
 ghost use Rattle.report_text.specs.declared.happening.Happening.TheVariants.{Dishonest};
+ghost use Rattle.ar_world.specs.Finding.{honest_in};
 ghost use Rattle.ar_world.specs.Founded.{AreOwn, with_parties};
 ghost use Rattle.ar_world.specs.Founding.{authorities_line, dishonest_line, first_key, keys_line, led_to, logs_line, may_come, secret_line};
 ghost use Rattle.ar_world.specs.Step.{StepsBy};
@@ -158,7 +159,7 @@ impl<C: OwnerCheck> World<C> {
 
 /// Takes the log with a number away: its first key.
 fn take_log(logs: &mut Vec<Option<HonestLog>>, number: u16) -> Option<LmsKey>
-    ensures key { result ≡ option_and_then (λ node. first_key node.keys) (option_and_then (λ node. node) (slice_get logs.old.items number)) }
+    ensures key { result ≡ option_and_then (λ node. first_key node.keys) (honest_in logs.old.items number) }
     ensures items { MatchOption result (logs.new.items ≡ logs.old.items) (λ _. logs.new.items ≡ slice_set logs.old.items number None) }
     ensures len { length logs.new.items ≡ length logs.old.items }
 {
@@ -172,7 +173,7 @@ fn take_authority<C: OwnerCheck>(
     authorities: &mut Vec<Option<HonestAuthority<C>>>,
     number: u16,
 ) -> Option<LmsKey>
-    ensures key { result ≡ option_and_then (λ node. first_key node.keys) (option_and_then (λ node. node) (slice_get authorities.old.items number)) }
+    ensures key { result ≡ option_and_then (λ node. first_key node.keys) (honest_in authorities.old.items number) }
     ensures items { MatchOption result (authorities.new.items ≡ authorities.old.items) (λ _. authorities.new.items ≡ slice_set authorities.old.items number None) }
 {
     let node = authorities.get_mut(number as usize)?.take()?;

@@ -1,10 +1,11 @@
 //! Logs and authorities of where they begin and their rings, without memory.
 
-ghost use Rattle.std.specs.Prelude.{◌≡◌, ◌≤◌, ◌<◌, ◌+◌, ◌++◌, ◌∷◌, [], length, map, vec_len, vec_capacity, Some, drop, slice_get};
+ghost use Rattle.std.specs.Prelude.{◌≡◌, ◌≤◌, ◌<◌, ◌+◌, ◌++◌, ◌∷◌, [], length, vec_len, vec_capacity, Some, drop, slice_get};
 ghost use Rattle.std.specs.Option.{option_map};
 ghost use Rattle.log_core.specs.Keyed as log;
 ghost use Rattle.authority_core.specs.Keyed as authority;
 ghost use Rattle.ar_world.specs.Founded.{AreRingsOf, HaveRings, authorities_of, authority_node, log_node, logs_of};
+ghost use Rattle.ar_world.specs.Parties.{check_told, checks_told};
 
 use crate::parties::{HonestAuthority, HonestLog};
 use authority_core::{Authority, AuthorityCore, AuthorityState};
@@ -62,7 +63,7 @@ fn authority_node<C: OwnerCheck>(
     check: Option<C>,
 ) -> HonestAuthority<C>
     requires own { authority.IsRingOf state ring.keys }
-    ensures { result ≡ authority_node state ring (option_map (λ check. record { told = C.told check; answers = C.answers check }) check) }
+    ensures { result ≡ authority_node state ring (option_map (check_told C.told C.answers) check) }
 {
     HonestAuthority {
         authority: Authority::of(AuthorityCore { state, check }, ring),
@@ -118,7 +119,7 @@ pub(crate) fn join_authorities<C: OwnerCheck>(
     requires own { HaveRings states.items rings.items }
     requires room { vec_len authorities.old + length states.items ≤ vec_capacity authorities.old }
     ensures { authorities.new.items ≡ authorities.old.items ++ authorities_of states.items rings.items
-        (map (λ check. record { told = C.told check; answers = C.answers check }) checks.items) }
+        (checks_told C.told C.answers checks.items) }
 {
     let count = states.len();
     let mut state_queue = VecDeque::from_vec(states);
@@ -144,8 +145,8 @@ fn join_authority<C: OwnerCheck>(
     requires some { 0 < length states.old.items }
     requires own { HaveRings states.old.items rings.old.items }
     requires room { vec_len authorities.old + length states.old.items ≤ vec_capacity authorities.old }
-    ensures same { authorities.new.items ++ authorities_of states.new.items rings.new.items (map (λ check. record { told = C.told check; answers = C.answers check }) checks.new.items)
-        ≡ authorities.old.items ++ authorities_of states.old.items rings.old.items (map (λ check. record { told = C.told check; answers = C.answers check }) checks.old.items) }
+    ensures same { authorities.new.items ++ authorities_of states.new.items rings.new.items (checks_told C.told C.answers checks.new.items)
+        ≡ authorities.old.items ++ authorities_of states.old.items rings.old.items (checks_told C.told C.answers checks.old.items) }
     ensures left { length states.new.items + 1 ≡ length states.old.items }
     ensures own { HaveRings states.new.items rings.new.items }
     ensures room { vec_len authorities.new + length states.new.items ≤ vec_capacity authorities.new }

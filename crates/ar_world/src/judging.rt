@@ -50,9 +50,9 @@ fn newest(messages: &[Pooled]) -> Option<u64>
 
 // ---- what is said
 
-/// What is said of a name, as it is printed. The only error is want of memory.
-fn said_of(alloc: Global, name: &Name, verdict: &Judgement<'_>) -> Result<Said, AllocError>
-    ensures { IfOk result (λ said. said ≡ said_of name.now verdict.now) }
+/// What a client says that came to this verdict on a name, as it is printed.
+pub fn said_of(name: Name, verdict: &Judgement<'_>) -> Said
+    ensures { result ≡ said_of name verdict.now }
 {
     match verdict {
         Judgement::Accepted {
@@ -60,19 +60,19 @@ fn said_of(alloc: Global, name: &Name, verdict: &Judgement<'_>) -> Result<Said, 
             digest,
             epoch,
             root,
-        } => Ok(Said::Accepted {
-            name: name.view().to_name(alloc)?,
+        } => Said::Accepted {
+            name,
             serial: certificate.serial(),
             epoch: *epoch,
             root: *root,
             certificate: *digest,
-        }),
-        Judgement::Absent { epoch, root } => Ok(Said::Absent {
-            name: name.view().to_name(alloc)?,
+        },
+        Judgement::Absent { epoch, root } => Said::Absent {
+            name,
             epoch: *epoch,
             root: *root,
-        }),
-        Judgement::Refused(check) => Ok(Said::Refused(*check)),
+        },
+        Judgement::Refused(check) => Said::Refused(*check),
     }
 }
 
@@ -114,11 +114,11 @@ fn judge(
     ensures said { IfOk result (λ made. made.0 ≡ happening.Judged number (said_of t.entry.now.name (verdict_on clients.now t.entry.now)) ∷ []) }
     ensures accepted { IfOk result (λ made. made.1 ≡ is_accepted (verdict_on clients.now t.entry.now)) }
 {
+    let name = t.name.view().to_name(alloc)?;
     let verdict = client_rule::judge(clients, t.name.text(), &t.bytes, t.now, t.age);
-    let said = said_of(alloc, &t.name, &verdict)?;
     let judged = Happening::Judged {
         message: number,
-        said,
+        said: said_of(name, &verdict),
     };
     Ok((tell(alloc, judged)?, is_accepted(&verdict)))
 }

@@ -1,26 +1,24 @@
 //! The line `learn`.
 
-ghost use Rattle.std.specs.Prelude.{◌≡◌, ◌<◌, ◌≤◌, ◌+◌, ◌&&◌, ◌∷◌, [], nat_le, true, is_some, vec_len, vec_capacity, IfOk, OnOk, OnErr, Ok};
+ghost use Rattle.std.specs.Prelude.{◌≡◌, ◌<◌, ◌≤◌, ◌+◌, ◌&&◌, ◌∷◌, [], nat_le, true, is_some, vec_len, vec_capacity, IfOk, OnOk, OnErr, Some};
 ghost use Rattle.std.specs.List.{list_any};
 ghost use Rattle.std.specs.Str.{bytes_eq};
-ghost use Rattle.key_roll.specs.Entry.{roll_text};
 ghost use Rattle.ar_council.specs.Seen.{with_seen};
 ghost use Rattle.ar_message.specs.Messages.{message_in};
 ghost use Rattle.ar_statement.specs.Claims.{is_party};
 ghost use Rattle.report_text.specs.declared.happening.Happening.TheVariants.{Learnt};
 ghost use Rattle.ar_world.specs.Founding.{place_of};
 ghost use Rattle.ar_world.specs.Kept.{clients_in, genesis_in};
-ghost use Rattle.ar_world.specs.Learning.{knows_by, learn_line, note_of, refused_by, rolls_by, unlearnt_of};
+ghost use Rattle.ar_world.specs.Learning.{knows_by, learn_line, note_of, refused_by, roll_seen, rolls_by, unlearnt_of};
 ghost use Rattle.ar_world.specs.Step.{StepsBy};
 
 use crate::fault::WorldFault;
+use crate::note::RollNote;
 use crate::pool::is_party;
 use crate::sending::say;
 use crate::world::{Directories, World};
 use ar_base::Items;
-use ar_message::{Message, MessageFault};
-use ar_statement::{Party, SeenText, Statement, Text};
-use lms_tree::LmsPublic;
+use ar_statement::{SeenText, Statement, Text};
 use owner_check::OwnerCheck;
 use party_keys::{Directory, LearnFault};
 use report_text::{Happening, Unlearnt};
@@ -28,16 +26,16 @@ use std::alloc::{AllocError, Global};
 
 // ---- the Rolls that were learnt
 
-/// A party's Roll, by which it announces its key behind this generation.
-fn roll_seen(party: Party, generation: u32, key: &LmsPublic) -> SeenText
-    ensures { result ≡ record { party = party; text = roll_text party generation key.now } }
+/// The Roll of which a note tells, with its party.
+fn roll_seen(note: &RollNote) -> SeenText
+    ensures { result ≡ roll_seen note.now }
 {
     SeenText {
-        party,
+        party: note.party,
         text: Text::of(&Statement::Roll {
-            signer: party,
-            generation,
-            key: key.bytes(),
+            signer: note.party,
+            generation: note.generation,
+            key: note.key.bytes(),
         }),
     }
 }
@@ -74,32 +72,23 @@ fn unlearnt_of(fault: LearnFault) -> Unlearnt
     }
 }
 
-/// The clients' directory takes a message: why it does not learn it, or `None` where it does, and then the Roll is among
-/// those that were learnt. There is room for it.
+/// The clients' directory takes a note: why it does not learn it, or `None` where it does, and then the Roll is among those
+/// that were learnt. There is room for it.
 fn learn_note(
     alloc: Global,
     clients: &mut Directory,
     rolls: &mut Vec<SeenText>,
-    message: &Message,
+    note: &RollNote,
 ) -> Result<Option<Unlearnt>, AllocError>
     requires { vec_len rolls.old < vec_capacity rolls.old }
-    ensures refused { IfOk result (λ why. why ≡ refused_by clients.old (note_of (Ok message.now))) }
-    ensures clients { OnOk result (clients.new ≡ knows_by clients.old (note_of (Ok message.now))) }
-    ensures rolls { OnOk result (rolls.new.items ≡ rolls_by clients.old rolls.old.items (note_of (Ok message.now))) }
+    ensures refused { IfOk result (λ why. why ≡ refused_by clients.old (Some note.now)) }
+    ensures clients { OnOk result (clients.new ≡ knows_by clients.old (Some note.now)) }
+    ensures rolls { OnOk result (rolls.new.items ≡ rolls_by clients.old rolls.old.items (Some note.now)) }
     ensures err { OnErr result ((clients.new ≡ clients.old) × (rolls.new.items ≡ rolls.old.items)) }
 {
-    let Message::RollNote {
-        party,
-        generation,
-        key,
-        signature,
-    } = message
-    else {
-        return Ok(Some(Unlearnt::Form));
-    };
-    match clients.learn(alloc, *party, *generation, *key, signature.as_slice()) {
+    match note.teach(alloc, clients) {
         Ok(_) => {
-            keep(rolls, roll_seen(*party, *generation, key));
+            keep(rolls, roll_seen(note));
             Ok(None)
         }
         Err(LearnFault::Memory) => Err(AllocError),
@@ -107,7 +96,7 @@ fn learn_note(
     }
 }
 
-/// The same of the text of a message; what is none is not learnt.
+/// The same of the text of a message; what is no note is not learnt.
 fn learn_text(
     alloc: Global,
     clients: &mut Directory,
@@ -120,10 +109,9 @@ fn learn_text(
     ensures rolls { OnOk result (rolls.new.items ≡ rolls_by clients.old rolls.old.items (note_of (message_in bytes.now))) }
     ensures err { OnErr result ((clients.new ≡ clients.old) × (rolls.new.items ≡ rolls.old.items)) }
 {
-    match Message::read(alloc, bytes) {
-        Ok(message) => learn_note(alloc, clients, rolls, &message),
-        Err(MessageFault::Form(_)) => Ok(Some(Unlearnt::Form)),
-        Err(MessageFault::Memory) => Err(AllocError),
+    match RollNote::read(alloc, bytes)? {
+        Some(note) => learn_note(alloc, clients, rolls, &note),
+        None => Ok(Some(Unlearnt::Form)),
     }
 }
 

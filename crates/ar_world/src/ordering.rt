@@ -10,7 +10,7 @@ ghost use Rattle.log_core.specs.Row.{row};
 ghost use Rattle.log_core.specs.State.{rolls};
 ghost use Rattle.party_keys.specs.Seen.{authority_party, log_party};
 ghost use Rattle.report_text.specs.declared.happening.What.TheVariants as whats;
-ghost use Rattle.ar_world.specs.Acting.{ActsBy, AuthorityChanges, ChangesThere, acted, authority_stands, authority_turned, log_does};
+ghost use Rattle.ar_world.specs.Acting.{ActsBy, ChangesThere, acted, authority_turned, log_does};
 ghost use Rattle.ar_world.specs.Finding.{authority_at, log_at, need};
 ghost use Rattle.ar_world.specs.Logs.{next_of};
 ghost use Rattle.ar_world.specs.Ordering.{log_order, pass_line, propose_line, roll_line, roll_of};
@@ -130,8 +130,8 @@ fn authority_rolls_there<C: OwnerCheck>(
     slot: &mut Option<HonestAuthority<C>>,
     number: u16,
 ) -> Result<Items<Happening>, WorldFault>
-    requires { authority_stands slot.old ≡ true }
-    ensures { AuthorityChanges slot.old slot.new (λ was is. (next : KeyParts) → next_of was.keys ≡ Some next → ActsBy result was is pool.old.messages pool.new.messages
+    requires { is_some slot.old ≡ true }
+    ensures { ChangesThere slot.old slot.new (λ was is. (next : KeyParts) → next_of was.keys ≡ Some next → ActsBy result was is pool.old.messages pool.new.messages
         (acted pool.old.messages (authority_party number) whats.Roll (authority_turned was next (roll_row was.state (public_of next))))) }
 {
     match slot {
@@ -237,7 +237,7 @@ impl<C: OwnerCheck> World<C> {
     }
 
     /// An honest authority goes on to its next key.
-    #[tactic(auto, using(crate::proofs::Orders::authority_turns, crate::proofs::Spots::authority_within))]
+    #[tactic(auto, using(crate::proofs::Orders::authority_turns, crate::proofs::Spots::spots))]
     fn roll_authority(&mut self, alloc: Global, number: u16) -> Result<Items<Happening>, WorldFault>
         ensures { StepsBy result self.old self.new (roll_of self.old roles.Authority number) }
     {

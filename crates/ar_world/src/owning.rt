@@ -5,16 +5,17 @@ ghost use Rattle.std.specs.Option.{option_map};
 ghost use Rattle.owner_check.specs.Answers.{forgotten, learnt};
 ghost use Rattle.owner_core.specs.Rows.{first_owner};
 ghost use Rattle.lms_tree.specs.PublicKey.{key_text};
-ghost use Rattle.report_text.specs.declared.happening.Happening.TheVariants.{Forgot, Made, Retired, Taught};
+ghost use Rattle.report_text.specs.declared.happening.Happening.TheVariants.{Made, Retired};
 ghost use Rattle.sha2.specs.Sha256.{sha256};
-ghost use Rattle.ar_world.specs.Finding.{is_owner, with_check};
+ghost use Rattle.ar_world.specs.Finding.{checking_in, is_owner, with_check};
 ghost use Rattle.ar_world.specs.Founding.{key_made, leaves_of, place_of};
-ghost use Rattle.ar_world.specs.Owning.{checking_in, forget_line, known_key, owner_key, owner_line, owner_party, retelling, retire_line, retold, teach_line};
+ghost use Rattle.ar_world.specs.Owning.{forget_line, known_key, lesson_line, lesson_said, owner_key, owner_line, owner_party, retelling, retire_line, retold, teach_line, told_behind};
 ghost use Rattle.ar_world.specs.Step.{StepsBy};
 ghost use Rattle.ar_world.specs.declared.fault.WorldFault.TheVariants.{Memory};
 
 use crate::fault::WorldFault;
 use crate::finding::{has_owner, owner_place};
+use crate::lesson::Lesson;
 use crate::parties::HonestAuthority;
 use crate::sending::tell;
 use crate::world::World;
@@ -135,6 +136,27 @@ fn forget<C: OwnerCheck>(node: &mut HonestAuthority<C>, name: &[u8], key: &[u8; 
     node.authority.forget(name, key);
 }
 
+/// The check of an authority takes a lesson on the name and the key. After an error it is as before.
+fn instruct<C: OwnerCheck>(
+    alloc: Global,
+    node: &mut HonestAuthority<C>,
+    lesson: Lesson,
+    name: &[u8],
+    key: &[u8; 56],
+) -> Result<(), AllocError>
+    requires { is_some node.old.check ≡ true }
+    ensures ok { OnOk result (node.new ≡ record node.old { check = option_map (retelling (told_behind lesson name.now key.now)) node.old.check }) }
+    ensures err { OnErr result (node.new ≡ node.old) }
+{
+    match lesson {
+        Lesson::Learn => teach(alloc, node, name, key),
+        Lesson::Forget => {
+            forget(node, name, key);
+            Ok(())
+        }
+    }
+}
+
 /// An authority drops its check.
 fn retire<C: OwnerCheck>(node: &mut HonestAuthority<C>)
     ensures { node.new ≡ record node.old { check = None } }
@@ -142,30 +164,20 @@ fn retire<C: OwnerCheck>(node: &mut HonestAuthority<C>)
     node.authority.retire();
 }
 
-/// The check of an authority that is there learns that the name has the key. After an error it is as before.
-fn teach_there<C: OwnerCheck>(
+/// The check of an authority that is there takes a lesson on the name and the key. After an error it is as before.
+fn instruct_there<C: OwnerCheck>(
     alloc: Global,
     slot: &mut Option<HonestAuthority<C>>,
+    lesson: Lesson,
     name: &[u8],
     key: &[u8; 56],
 ) -> Result<(), AllocError>
     requires { is_some (option_and_then with_check slot.old) ≡ true }
-    ensures ok { OnOk result (IfSome (option_and_then with_check slot.old) (λ found. slot.new ≡ Some (retold (learnt name.now key.now) found))) }
+    ensures ok { OnOk result (IfSome (option_and_then with_check slot.old) (λ found. slot.new ≡ Some (retold (told_behind lesson name.now key.now) found))) }
     ensures err { OnErr result (slot.new ≡ slot.old) }
 {
     match slot {
-        Some(node) => teach(alloc, node, name, key),
-        None => unreachable!(),
-    }
-}
-
-/// The check of an authority that is there forgets that the name has the key.
-fn forget_there<C: OwnerCheck>(slot: &mut Option<HonestAuthority<C>>, name: &[u8], key: &[u8; 56])
-    requires { is_some (option_and_then with_check slot.old) ≡ true }
-    ensures { IfSome (option_and_then with_check slot.old) (λ found. slot.new ≡ Some (retold (forgotten name.now key.now) found)) }
-{
-    match slot {
-        Some(node) => forget(node, name, key),
+        Some(node) => instruct(alloc, node, lesson, name, key),
         None => unreachable!(),
     }
 }
@@ -181,38 +193,23 @@ fn retire_there<C: OwnerCheck>(slot: &mut Option<HonestAuthority<C>>)
     }
 }
 
-/// The check of the authority with a number learns that the name has the key. After an error it is as before.
+/// The check of the authority with a number takes a lesson on the name and the key. After an error it is as before.
 #[tactic(auto, using(crate::proofs::Retold::checking_spots))]
-fn teach_at<C: OwnerCheck>(
+fn instruct_at<C: OwnerCheck>(
     alloc: Global,
     authorities: &mut [Option<HonestAuthority<C>>],
     number: u16,
+    lesson: Lesson,
     name: &[u8],
     key: &[u8; 56],
 ) -> Result<(), AllocError>
     requires { is_some (checking_in authorities.old number) ≡ true }
     ensures ok { OnOk result (IfSome (checking_in authorities.old number) (λ found. authorities.new
-        ≡ slice_set authorities.old number (Some (retold (learnt name.now key.now) found)))) }
+        ≡ slice_set authorities.old number (Some (retold (told_behind lesson name.now key.now) found)))) }
     ensures err { OnErr result (authorities.new ≡ authorities.old) }
     ensures len { length authorities.new ≡ length authorities.old }
 {
-    teach_there(alloc, &mut authorities[number as usize], name, key)
-}
-
-/// The check of the authority with a number forgets that the name has the key.
-#[tactic(auto, using(crate::proofs::Retold::checking_spots))]
-fn forget_at<C: OwnerCheck>(
-    authorities: &mut [Option<HonestAuthority<C>>],
-    number: u16,
-    name: &[u8],
-    key: &[u8; 56],
-)
-    requires { is_some (checking_in authorities.old number) ≡ true }
-    ensures set { IfSome (checking_in authorities.old number) (λ found. authorities.new
-        ≡ slice_set authorities.old number (Some (retold (forgotten name.now key.now) found))) }
-    ensures len { length authorities.new ≡ length authorities.old }
-{
-    forget_there(&mut authorities[number as usize], name, key);
+    instruct_there(alloc, &mut authorities[number as usize], lesson, name, key)
 }
 
 /// The authority with a number drops its check.
@@ -228,41 +225,33 @@ fn retire_at<C: OwnerCheck>(authorities: &mut [Option<HonestAuthority<C>>], numb
 
 // ---- what is told of it
 
-/// The check of the authority with a number learns that the name has the key, and this is told.
-fn taught<C: OwnerCheck>(
-    alloc: Global,
-    authorities: &mut [Option<HonestAuthority<C>>],
-    number: u16,
-    name: &NameView<'_>,
-    key: &[u8; 56],
-) -> Result<Items<Happening>, WorldFault>
-    requires { is_some (checking_in authorities.old number) ≡ true }
-    ensures ok { IfOk result (λ said. (said ≡ Taught number ∷ []) × IfSome (checking_in authorities.old number) (λ found. authorities.new
-        ≡ slice_set authorities.old number (Some (retold (learnt name.now key.now) found)))) }
-    ensures err { IfErr result (λ fault. (fault ≡ Memory) × (authorities.new ≡ authorities.old)) }
-    ensures len { length authorities.new ≡ length authorities.old }
+/// What is printed of a lesson.
+fn lesson_said(lesson: Lesson, authority: u16) -> Happening
+    ensures { result ≡ lesson_said lesson authority }
 {
-    let said = tell(alloc, Happening::Taught { authority: number })?;
-    teach_at(alloc, authorities, number, name.text(), key)?;
-    Ok(said)
+    match lesson {
+        Lesson::Learn => Happening::Taught { authority },
+        Lesson::Forget => Happening::Forgot { authority },
+    }
 }
 
-/// The check of the authority with a number forgets that the name has the key, and this is told.
-fn forgot<C: OwnerCheck>(
+/// The check of the authority with a number takes a lesson on the name and the key, and this is told.
+fn instructed<C: OwnerCheck>(
     alloc: Global,
     authorities: &mut [Option<HonestAuthority<C>>],
     number: u16,
+    lesson: Lesson,
     name: &NameView<'_>,
     key: &[u8; 56],
 ) -> Result<Items<Happening>, WorldFault>
     requires { is_some (checking_in authorities.old number) ≡ true }
-    ensures ok { IfOk result (λ said. (said ≡ Forgot number ∷ []) × IfSome (checking_in authorities.old number) (λ found. authorities.new
-        ≡ slice_set authorities.old number (Some (retold (forgotten name.now key.now) found)))) }
+    ensures ok { IfOk result (λ said. (said ≡ lesson_said lesson number ∷ []) × IfSome (checking_in authorities.old number) (λ found. authorities.new
+        ≡ slice_set authorities.old number (Some (retold (told_behind lesson name.now key.now) found)))) }
     ensures err { IfErr result (λ fault. (fault ≡ Memory) × (authorities.new ≡ authorities.old)) }
     ensures len { length authorities.new ≡ length authorities.old }
 {
-    let said = tell(alloc, Happening::Forgot { authority: number })?;
-    forget_at(authorities, number, name.text(), key);
+    let said = tell(alloc, lesson_said(lesson, number))?;
+    instruct_at(alloc, authorities, number, lesson, name.text(), key)?;
     Ok(said)
 }
 
@@ -304,8 +293,28 @@ impl<C: OwnerCheck> World<C> {
         Ok(said)
     }
 
+    /// The check of an authority takes a lesson on a name, and on the key of an owner.
+    #[tactic(auto, using(crate::proofs::Retold::lesson_refusals))]
+    fn lesson_line(
+        &mut self,
+        alloc: Global,
+        lesson: Lesson,
+        authority: u16,
+        name: &NameView<'_>,
+        owner: u16,
+    ) -> Result<Items<Happening>, WorldFault>
+        ensures { StepsBy result self.old self.new (lesson_line self.old lesson authority name.now owner) }
+    {
+        if !is_checking(&self.authorities, authority) {
+            return Err(WorldFault::Absent(1));
+        }
+        let Some(key) = known_key(&self.owners, owner) else {
+            return Err(WorldFault::Absent(3));
+        };
+        instructed(alloc, &mut self.authorities, authority, lesson, name, &key)
+    }
+
     /// The line `teach`: the check of an authority learns that a name is an owner's.
-    #[tactic(auto, using(crate::proofs::Retold::teach_steps))]
     pub(crate) fn teach_line(
         &mut self,
         alloc: Global,
@@ -315,17 +324,10 @@ impl<C: OwnerCheck> World<C> {
     ) -> Result<Items<Happening>, WorldFault>
         ensures { StepsBy result self.old self.new (teach_line self.old authority name.now owner) }
     {
-        if !is_checking(&self.authorities, authority) {
-            return Err(WorldFault::Absent(1));
-        }
-        let Some(key) = known_key(&self.owners, owner) else {
-            return Err(WorldFault::Absent(3));
-        };
-        taught(alloc, &mut self.authorities, authority, name, &key)
+        self.lesson_line(alloc, Lesson::Learn, authority, name, owner)
     }
 
     /// The line `forget`: the check of an authority forgets that a name is an owner's.
-    #[tactic(auto, using(crate::proofs::Retold::forget_steps))]
     pub(crate) fn forget_line(
         &mut self,
         alloc: Global,
@@ -335,13 +337,7 @@ impl<C: OwnerCheck> World<C> {
     ) -> Result<Items<Happening>, WorldFault>
         ensures { StepsBy result self.old self.new (forget_line self.old authority name.now owner) }
     {
-        if !is_checking(&self.authorities, authority) {
-            return Err(WorldFault::Absent(1));
-        }
-        let Some(key) = known_key(&self.owners, owner) else {
-            return Err(WorldFault::Absent(3));
-        };
-        forgot(alloc, &mut self.authorities, authority, name, &key)
+        self.lesson_line(alloc, Lesson::Forget, authority, name, owner)
     }
 
     /// The line `retire`: an authority drops its check.

@@ -37,14 +37,14 @@ pub(crate) struct HonestAuthority<C: OwnerCheck> {
 impl<C: OwnerCheck> Model for HonestAuthority<C> {
     ghost use Rattle.std.specs.Prelude.{◌<◌, length};
     ghost use Rattle.std.specs.Option.{option_map};
-    ghost use Rattle.ar_world.specs.Parties.{AuthorityNode};
+    ghost use Rattle.ar_world.specs.Parties.{AuthorityNode, check_told};
 
     ghost Value = { AuthorityNode };
 
     ghost view = { λ a. record {
       state = a.authority.state;
       keys = a.authority.ring.keys;
-      check = option_map (λ check. record { told = C.told check; answers = C.answers check }) a.authority.check;
+      check = option_map (check_told C.told C.answers) a.authority.check;
     } };
 
     ghost invariant = { λ a. 0 < length a.authority.ring.keys };

@@ -102,11 +102,7 @@ impl Pool {
     pub(crate) fn get(&self, number: u64) -> Option<&Pooled>
         ensures { option_copied result ≡ numbered self.now.messages number }
     {
-        if number == 0 {
-            return None;
-        }
-        let place = usize::try_from(number - 1).ok()?;
-        self.messages.get(place)
+        numbered(&self.messages, number)
     }
 
     /// Whether there is a message with this number.
@@ -188,6 +184,17 @@ impl Pool {
             message.delivered = delivered;
         }
     }
+}
+
+/// The item with a number, where the first has the number 1.
+pub(crate) fn numbered<T>(items: &[T], number: u64) -> Option<&T>
+    ensures { option_copied result ≡ numbered items.now number }
+{
+    if number == 0 {
+        return None;
+    }
+    let place = usize::try_from(number - 1).ok()?;
+    items.get(place)
 }
 
 /// Whether both are one party.

@@ -1,34 +1,38 @@
 //! The lines on what becomes of drafts.
 
-ghost use Rattle.std.specs.Prelude.{◌≡◌, ◌≢◌, ◌≤◌, ◌<◌, ◌+◌, ◌^◌, ◌∷◌, [], length, position, slice_index_or, vec_capacity, IfOk, IfErr, OnOk, Ok, Err, Some, None};
+ghost use Rattle.std.specs.Prelude.{◌≡◌, ◌≢◌, ◌<◌, ◌+◌, ◌^◌, ◌∷◌, [], length, position, slice_index_or, vec_capacity, IfOk, IfErr, OnOk, Ok, Err, Some, None};
+ghost use Rattle.ar_base.specs.Gives.{with_error};
 ghost use Rattle.ar_cert.specs.Certificate.{digest_of};
 ghost use Rattle.owner_core.specs.Rows.{handover_row, object_row, submit_row};
 ghost use Rattle.owner_core.specs.State.{Owner as OwnerState};
 ghost use Rattle.owner_core.specs.declared.refusal.OwnerRefusal.TheVariants as refusals;
 ghost use Rattle.report_text.specs.declared.happening.Happening.TheVariants.{Step};
 ghost use Rattle.report_text.specs.declared.happening.What.TheVariants.{Object, Submit};
+ghost use Rattle.ar_world.specs.Acting.{ActsBy, acted, owner_does};
 ghost use Rattle.ar_world.specs.Codes.{owner_code};
 ghost use Rattle.ar_world.specs.Finding.{is_owner, owner_at, room};
+ghost use Rattle.ar_world.specs.Owning.{owner_party};
 ghost use Rattle.ar_world.specs.State.{Drafted as DraftParts};
 ghost use Rattle.ar_world.specs.Step.{StepsBy};
-ghost use Rattle.ar_world.specs.Submitting.{AnswersBy, IsTold, attached_by, handed, handover_line, object_line, submit_line};
+ghost use Rattle.ar_world.specs.Submitting.{attached_by, handed, handover_line, object_line, submit_line};
 ghost use Rattle.ar_world.specs.declared.fault.WorldFault.TheVariants.{Memory};
 
 use crate::codes::owner_code;
 use crate::fault::WorldFault;
+use crate::owners;
 use crate::pool::Pool;
-use crate::sending::{does, refuses, reserve, say};
+use crate::replying::tell;
+use crate::sending::{refuses, reserve, say};
 use crate::world::World;
 use ar_base::Items;
 use ar_cert::Cert;
-use ar_message::Sent;
 use ar_statement::{Party, Role};
 use owner_check::OwnerCheck;
 use owner_core::{Owner, OwnerRefusal};
 use report_text::{Happening, What};
 use std::alloc::Global;
 
-// ---- an owner's answer
+// ---- what is told of an owner
 
 /// That an owner refused is told, unless memory was wanting.
 fn refused(
@@ -52,34 +56,6 @@ fn refused(
     }
 }
 
-/// An owner's answer is told: what it sends enters the pool, and that it did this or refused it is printed. Want of memory
-/// is told of by an error.
-pub(crate) fn owner_answers(
-    alloc: Global,
-    pool: &mut Pool,
-    said: Vec<Happening>,
-    number: u16,
-    what: What,
-    answer: Result<Sent, OwnerRefusal>,
-) -> Result<Items<Happening>, WorldFault>
-    requires none { said.items ≡ [] }
-    requires one { 0 < vec_capacity said }
-    requires all { IfOk answer (λ sent. 2 + length sent.messages ≤ vec_capacity said) }
-    requires pool { IfOk answer (λ sent. length sent.messages ≤ pool.old.room) }
-    ensures ok { IfOk result (λ told. IsTold pool.old.messages pool.new.messages told number what answer) }
-    ensures err { IfErr result (λ fault. (fault ≡ Memory) × (answer ≡ Err refusals.Memory) × (pool.new.messages ≡ pool.old.messages)) }
-{
-    let owner = Role::Owner.party(number);
-    match answer {
-        Ok(sent) => {
-            let mut said = said;
-            does(alloc, pool, &mut said, owner, what, sent);
-            Ok(Items::from_vec(said))
-        }
-        Err(refusal) => refused(said, owner, what, refusal),
-    }
-}
-
 /// That an owner did something is told.
 fn took(said: Vec<Happening>, owner: Party, what: What) -> Items<Happening>
     requires none { said.items ≡ [] }
@@ -99,24 +75,24 @@ fn took(said: Vec<Happening>, owner: Party, what: What) -> Items<Happening>
 // ---- what an owner does
 
 /// An owner objects to a certificate, and this is told.
-#[tactic(auto, using(crate::proofs::Answered::rows))]
 fn objected(
     alloc: Global,
     owner: &mut Owner,
     pool: &mut Pool,
+    number: u16,
     draft: u64,
     cert: &Cert,
 ) -> Result<Items<Happening>, WorldFault>
-    ensures { AnswersBy result owner.old owner.new pool.old.messages pool.new.messages (Object draft) (object_row owner.old cert.now) }
+    ensures { ActsBy result owner.old owner.new pool.old.messages pool.new.messages
+        (acted pool.old.messages (owner_party number) (Object draft) (owner_does owner.old (object_row owner.old cert.now))) }
 {
     let said = reserve(alloc, pool, 1)?;
-    let number = owner.number();
-    let answer = owner.object(alloc, cert);
-    owner_answers(alloc, pool, said, number, What::Object(draft), answer)
+    let reply = owners::object(alloc, owner, cert)?;
+    let party = Role::Owner.party(number);
+    Ok(tell(alloc, pool, said, party, What::Object(draft), reply))
 }
 
 /// An owner submits its draft with this certificate, and this is told.
-#[tactic(auto, using(crate::proofs::Answered::rows))]
 fn submitted(
     alloc: Global,
     owner: &Owner,
@@ -125,12 +101,13 @@ fn submitted(
     draft: u64,
     cert: &Cert,
 ) -> Result<Items<Happening>, WorldFault>
-    ensures ok { IfOk result (λ said. IsTold pool.old.messages pool.new.messages said number (Submit draft) (submit_row owner.now (digest_of cert.now))) }
-    ensures err { IfErr result (λ fault. (fault ≡ Memory) × (pool.new.messages ≡ pool.old.messages)) }
+    ensures { ActsBy result owner.now owner.now pool.old.messages pool.new.messages
+        (acted pool.old.messages (owner_party number) (Submit draft) (owner.now, with_error owner_code (submit_row owner.now (digest_of cert.now)))) }
 {
     let said = reserve(alloc, pool, 1)?;
-    let answer = owner.submit(alloc, &cert.digest());
-    owner_answers(alloc, pool, said, number, What::Submit(draft), answer)
+    let reply = owners::submit(alloc, owner, cert)?;
+    let party = Role::Owner.party(number);
+    Ok(tell(alloc, pool, said, party, What::Submit(draft), reply))
 }
 
 impl<C: OwnerCheck> World<C> {
@@ -163,7 +140,8 @@ impl<C: OwnerCheck> World<C> {
     {
         let (place, found) = self.may_object(owner, draft)?;
         let cert = &self.drafts[found].cert;
-        objected(alloc, &mut self.owners[place], &mut self.pool, draft, cert)
+        let owner_there = &mut self.owners[place];
+        objected(alloc, owner_there, &mut self.pool, owner, draft, cert)
     }
 
     // ---- `submit`

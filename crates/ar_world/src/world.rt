@@ -1,7 +1,8 @@
 //! A world between two lines.
 
-ghost use Rattle.std.specs.Prelude.{◌≡◌, [], length, map};
+ghost use Rattle.std.specs.Prelude.{◌≡◌, [], length};
 ghost use Rattle.std.specs.Option.{option_copied, option_map};
+ghost use Rattle.ar_world.specs.Parties.{checks_told};
 ghost use Rattle.ar_world.specs.Records.{bytes_at, taken_at};
 ghost use Rattle.ar_world.specs.State.{first_world};
 
@@ -55,8 +56,8 @@ pub struct World<C: OwnerCheck> {
 
 // Clauses see the world as plain data.
 impl<C: OwnerCheck> Model for World<C> {
-    ghost use Rattle.std.specs.Prelude.{map};
     ghost use Rattle.ar_world.specs.Kept.{IsKeptWorld, clients_in, genesis_in};
+    ghost use Rattle.ar_world.specs.Parties.{checks_told};
     ghost use Rattle.ar_world.specs.State.{World as State};
 
     ghost Value = { State };
@@ -64,7 +65,7 @@ impl<C: OwnerCheck> Model for World<C> {
     ghost view = { λ w. record {
       phase = w.phase;
       setup = w.setup;
-      checks = map (λ check. record { told = C.told check; answers = C.answers check }) w.checks.items;
+      checks = checks_told C.told C.answers w.checks.items;
       logs = w.logs.items;
       authorities = w.authorities.items;
       forgers = w.forgers.items;
@@ -84,7 +85,7 @@ impl<C: OwnerCheck> World<C> {
     /// The world before the first line, with these checks of owners, of which the authority with the number 0 takes the
     /// first. It takes no memory.
     pub fn new(alloc: Global, checks: Vec<C>) -> World<C>
-        ensures { result ≡ first_world (map (λ check. record { told = C.told check; answers = C.answers check }) checks.items) }
+        ensures { result ≡ first_world (checks_told C.told C.answers checks.items) }
     {
         World {
             phase: Phase::Beginning,

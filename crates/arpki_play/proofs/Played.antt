@@ -2,6 +2,7 @@
 use Rattle.std.proofs.Common.{◌≡◌, ℕ, ◌+◌, ◌≤◌, ◌<◌, inr, length, List, [], ◌∷◌, append-nil, refl, sym, ap, ◌∙◌, subst, arith, Bool, true, false, nat_lt, if◌then◌else◌, Option, Some, Result, Ok, Err, IfOk, Vec}
 use Rattle.std.specs.declared.alloc.AllocError.{AllocError}
 use Rattle.std.specs.declared.alloc.Global.{Global}
+use Rattle.std.specs.Prelude.{OnOk}
 use Rattle.sha2.specs.Sha256.{sha256}
 use Rattle.script_make.specs.Script.{script}
 use Rattle.std.proofs.lemmas.Bool.Decides.{nat_tests}
@@ -15,12 +16,13 @@ use Rattle.ar_run.specs.declared.fault.Fault.TheVariants as fault
 use Rattle.owner_check.specs.declared.answer.Outcome.TheVariants.{Failed}
 use Rattle.ar_world.specs.Parties.{CheckParts}
 use Rattle.ar_world.specs.Run.{Saying, run}
+use Rattle.run_safety.specs.Headline.{IsSafeRun}
 use Rattle.script_play.specs.Playing as playing
 use Rattle.script_play.specs.Playing.{Played, Plays, WritesUpTo}
 use Rattle.script_play.proofs.Written.{failing, line-written, wrote-no_more, written-answered, written-failed}
 use Rattle.arpki_play.specs.Answers.{refused_line, too_long}
-use Rattle.arpki_play.specs.Plays.{made_answer, made_of, play_answer, run_answer, run_status, summed}
-use Rattle.arpki_play.specs.Program.{Answers, IsPlayed, PlaysFront, Stops}
+use Rattle.arpki_play.specs.Plays.{made_answer, play_answer, run_answer, run_status, summed}
+use Rattle.arpki_play.specs.Program.{Answers, IsPlayed, PlaysFront, RunsWhole, Stops, Sums}
 use Rattle.arpki_play.specs.declared.request.Request.TheVariants.{Play}
 
 -- ---- the answer
@@ -45,6 +47,7 @@ short-done faults wrote a b checks input p status plays few is =
     record {
       saying = plays.saying;
       status = is ∙ ap (λ (q : Played). run_status q.refused) plays.played ∙ ap (λ (x : Answer). x.status) whole;
+      safe = λ _. plays.safe;
       written = subst (λ (x : Answer). WritesUpTo faults wrote a b (written_of x) (Ok status)) whole (written-answered faults wrote a b bytes p status plays.written);
     }
 
@@ -56,6 +59,7 @@ short-broken faults wrote a b checks input f plays few =
     record {
       saying = plays.saying;
       status = tt;
+      safe = tt;
       written = subst (λ (x : Answer). WritesUpTo faults wrote a b (written_of x) (failing ℕ f)) whole (written-failed faults wrote a b bytes f plays.written);
     }
 
@@ -66,6 +70,11 @@ pub ruleset short_laws = (short-done, short-broken)
 abbrev refused_bytes : List ℕ
 refused_bytes = written_of (refused_line too_long)
 
+-- of an input that is too long nothing is said
+too-long : (X : Type 0) (result : Result ℕ Fault) (input : List ℕ) → most_bytes < length input → OnOk result (length input ≤ most_bytes → X)
+too-long X (Ok status) input many = λ few. absurd (grind arith)
+too-long X (Err f) input many = tt
+
 long-by : {K : Type 0} (faults : K → ℕ) (wrote : K → List ℕ → Type 0) (a b : K) (checks : List CheckParts) (input : List ℕ) (result : Result ℕ Fault)
     → most_bytes < length input → IfOk result (λ status. status ≡ 3) → WritesUpTo faults wrote a b refused_bytes result → IsPlayed faults wrote a b checks input result
 long-by faults wrote a b checks input result many status written =
@@ -74,6 +83,7 @@ long-by faults wrote a b checks input result many status written =
     record {
       saying = saying;
       status = subst (λ (x : Answer). IfOk result (λ s. s ≡ x.status)) whole status;
+      safe = too-long (IsSafeRun (run saying checks input)) result input many;
       written = subst (λ (x : Answer). WritesUpTo faults wrote a b (written_of x) result) whole written;
     }
 
@@ -114,7 +124,7 @@ pub ruleset script_laws = (script-same)
 pub input-whole : {K : Type 0} (faults : K → ℕ) (wrote : K → List ℕ → Type 0) (a b : K) (checks : List CheckParts) (input : List ℕ) (old new : Option (List ℕ)) (result : Result ℕ Fault)
     → TakesAll old new input → IsPlayed faults wrote a b checks input result → IfOk result (λ status. Answers checks (Some Play) old new wrote a b status)
 input-whole faults wrote a b checks input old new (Ok status) takes plays =
-    (plays.saying, (input, takes, plays.status, plays.written.whole))
+    record { saying = plays.saying; input = input; taken = takes; answered = (plays.status, plays.written.whole); safe = plays.safe }
 input-whole faults wrote a b checks input old new (Err f) takes plays = tt
 
 pub input-front : {K : Type 0} (faults : K → ℕ) (wrote : K → List ℕ → Type 0) (a b : K) (checks : List CheckParts) (input : List ℕ) (old new : Option (List ℕ)) (result : Result ℕ Fault) (f : Fault)
@@ -140,36 +150,40 @@ pub ruleset input_laws = (input-whole, input-sink, input-memory, input-taken)
 
 -- ---- a script that was made
 
--- the line and the status are those of an answer
-abbrev IsSummed : Answer → Vec ℕ Global × ℕ → Type 0
-IsSummed answer told = answer ≡ record { lines = told.0.items ∷ []; status = told.1 }
-
 pub quiet-sums : {K : Type 0} (faults : K → ℕ) (wrote : K → List ℕ → Type 0) (a b : K) (checks : List CheckParts) (domains : ℕ) (text output : List ℕ) (p : Played) (result : Result (Vec ℕ Global × ℕ) AllocError)
     → wrote a [] → Plays faults wrote a b checks text (Ok p) → ((bytes : List ℕ) → wrote b bytes → output ≡ sha256 bytes)
-    → IfOk result (λ told. IsSummed (summed domains p output p.refused) told)
-    → IfOk result (λ told. (saying : Saying) × IsSummed (made_of saying checks domains text) told)
+    → IfOk result (λ told. summed domains p output p.refused ≡ record { lines = told.0.items ∷ []; status = told.1 })
+    → IfOk result (Sums checks domains text)
 quiet-sums faults wrote a b checks domains text output p (Ok told) none plays digest sums =
     let r = run plays.saying checks text in
     let bytes = playing.written_of r in
     let is = digest bytes (plays.written.whole [] none) in
-    (plays.saying, ap (λ (q : Played). summed domains q (sha256 bytes) q.refused) (sym plays.played) ∙ ap (λ (o : List ℕ). summed domains p o p.refused) (sym is) ∙ sums)
+    record {
+      saying = plays.saying;
+      is = ap (λ (q : Played). summed domains q (sha256 bytes) q.refused) (sym plays.played) ∙ ap (λ (o : List ℕ). summed domains p o p.refused) (sym is) ∙ sums;
+      safe = plays.safe;
+    }
 quiet-sums faults wrote a b checks domains text output p (Err e) none plays digest sums = tt
 
 pub made-same : (checks : List CheckParts) (domains : ℕ) (text : List ℕ) (result : Result (Vec ℕ Global × ℕ) AllocError) → text ≡ script domains
-    → IfOk result (λ told. (saying : Saying) × IsSummed (made_of saying checks domains text) told)
-    → IfOk result (λ told. (saying : Saying) × IsSummed (made_answer saying checks domains) told)
-made-same checks domains text result is made =
-    subst (λ (t : List ℕ). IfOk result (λ told. (saying : Saying) × IsSummed (made_of saying checks domains t) told)) is made
+    → IfOk result (Sums checks domains text) → IfOk result (Sums checks domains (script domains))
+made-same checks domains text result is made = subst (λ (t : List ℕ). IfOk result (Sums checks domains t)) is made
 
-pub made-done : {K : Type 0} (faults : K → ℕ) (wrote : K → List ℕ → Type 0) (a b : K) (answer : Answer) (line : List ℕ) (status : ℕ) → answer ≡ record { lines = line ∷ []; status = status }
-    → Appended wrote a b line → (status ≡ answer.status) × Appended wrote a b (written_of answer)
-made-done faults wrote a b answer line status is written =
+pub made-done : {K : Type 0} (wrote : K → List ℕ → Type 0) (a b : K) (checks : List CheckParts) (domains : ℕ) (line : Vec ℕ Global) (status : ℕ)
+    → Sums checks domains (script domains) (line, status) → Appended wrote a b line.items → RunsWhole checks domains wrote a b status
+made-done wrote a b checks domains line status sums written =
     let Whole = λ (x : Answer). (status ≡ x.status) × Appended wrote a b (written_of x) in
-    subst Whole (sym is) (refl, subst (λ (bytes : List ℕ). Appended wrote a b bytes) (sym (append-nil line)) written)
+    record {
+      saying = sums.saying;
+      answered = subst Whole (sym sums.is) (refl, subst (λ (bytes : List ℕ). Appended wrote a b bytes) (sym (append-nil line.items)) written);
+      safe = sums.safe;
+    }
 
-pub made-front : {K : Type 0} (wrote : K → List ℕ → Type 0) (a b : K) (answer : Answer) (line : List ℕ) (status : ℕ) → answer ≡ record { lines = line ∷ []; status = status }
-    → AppendedFront wrote a b line → AppendedFront wrote a b (written_of answer)
-made-front wrote a b answer line status is written =
-    subst (λ (x : Answer). AppendedFront wrote a b (written_of x)) (sym is) (subst (λ (bytes : List ℕ). AppendedFront wrote a b bytes) (sym (append-nil line)) written)
+pub made-front : {K : Type 0} (wrote : K → List ℕ → Type 0) (a b : K) (checks : List CheckParts) (domains : ℕ) (line : Vec ℕ Global) (status : ℕ)
+    → Sums checks domains (script domains) (line, status) → AppendedFront wrote a b line.items
+    → (saying : Saying) × AppendedFront wrote a b (written_of (made_answer saying checks domains))
+made-front wrote a b checks domains line status sums written =
+    let Front = λ (x : Answer). AppendedFront wrote a b (written_of x) in
+    (sums.saying, subst Front (sym sums.is) (subst (λ (bytes : List ℕ). AppendedFront wrote a b bytes) (sym (append-nil line.items)) written))
 
 pub ruleset made_laws = (made-done, made-front)

@@ -5,8 +5,6 @@ use Rattle.lms_tree.specs.declared.validity.Verdict.{Verdict}
 use Rattle.lms_tree.specs.declared.validity.Verdict.TheVariants as verdict
 use Rattle.lms_tree.specs.Validity.{verdict_of}
 use Rattle.client_rule.specs.Rule.{judgement}
-use Rattle.client_rule.specs.declared.judgement.Judgement.{Judgement}
-use Rattle.client_rule.specs.declared.judgement.Judgement.TheVariants as judgement
 use Rattle.report_text.specs.Lines.{said_text}
 use Rattle.report_text.specs.declared.happening.Said.{Said}
 use Rattle.report_text.specs.declared.happening.Said.TheVariants as said
@@ -16,6 +14,7 @@ use Rattle.ar_lines.specs.declared.refusal.Reason.TheVariants.{Limit}
 use Rattle.ar_lines.specs.declared.refusal.Refusal.{Refusal}
 use Rattle.ar_run.specs.Answers.{Answer, one_line}
 use Rattle.ar_run.specs.Runs.{most_bytes}
+use Rattle.ar_world.specs.Judging.{said_of}
 use Rattle.arpki_play.specs.Inquiries.{Inquiry, inquiry_at}
 use Rattle.arpki_play.specs.Questions.{Question, question_at}
 use Rattle.arpki_play.specs.declared.command.Command.{Command}
@@ -38,13 +37,6 @@ judged question =
     in one_line (verdict_text found) (verdict_status found)
 
 -- ---- the judgement on a confirmation
-
--- what the client says that judges a confirmation of a name
-abbrev pub said_of : List ℕ → Judgement → Said
-said_of name (judgement.Accepted certificate digest epoch root) =
-    said.Accepted name certificate.serial epoch root digest
-said_of name (judgement.Absent epoch root) = said.Absent name epoch root
-said_of name (judgement.Refused check) = said.Refused check
 
 abbrev pub said_status : Said → ℕ
 said_status (said.Accepted name serial epoch root certificate) = 0

@@ -1,27 +1,11 @@
--- RollNotes: the messages by which logs and authorities announce their next keys.
+-- What a directory learns from RollNotes, the messages by which logs and authorities announce their next keys.
 use Rattle.std.specs.Prelude.{ℕ, List, Option, Some, None, option_and_then, Ok, Err, Result}
-use Rattle.std.specs.Result.{result_ok}
 use Rattle.ar_message.specs.Messages.{message_in}
-use Rattle.ar_message.specs.declared.message.Message.{Message}
-use Rattle.ar_message.specs.declared.message.Message.TheVariants.{RollNote}
 use Rattle.party_keys.specs.Directory.{Directory}
 use Rattle.party_keys.specs.Learning.{Announced, learned, learning}
 use Rattle.party_keys.specs.declared.fault.LearnFault.{LearnFault}
 use Rattle.party_keys.specs.declared.learning.Learned.{Learned}
-
--- ---- the message
-
--- what a message announces, where it is a RollNote
-abbrev pub announced_by : Message → Option Announced
-announced_by (RollNote party generation key signature) =
-    Some (record { party = party; generation = generation; key = key; signature = signature })
-announced_by _ = None
-
--- what bytes announce, where they are a RollNote
-abbrev pub note_in : List ℕ → Option Announced
-note_in bytes = option_and_then announced_by (result_ok (message_in bytes))
-
--- ---- learning from it
+use Rattle.ar_world.specs.Learning.{note_of}
 
 -- the directory behind what it learnt, new or again
 abbrev pub if_learned : Result Learned LearnFault → Directory → Announced → Option Directory
@@ -34,4 +18,4 @@ learnt_by keys a = if_learned (learned keys a) keys a
 
 -- the directory that learnt from these bytes
 unfoldable pub learnt_from : Directory → List ℕ → Option Directory
-learnt_from keys bytes = option_and_then (learnt_by keys) (note_in bytes)
+learnt_from keys bytes = option_and_then (learnt_by keys) (note_of (message_in bytes))

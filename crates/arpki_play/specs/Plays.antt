@@ -1,10 +1,8 @@
 -- What `play` and `make <number> run` write, and with which status.
-use Rattle.std.specs.Prelude.{ℕ, nat_lt, if◌then◌else◌, List, [], ◌∷◌, ◌++◌, codes, length, map, Option, Some, None}
+use Rattle.std.specs.Prelude.{ℕ, nat_lt, if◌then◌else◌, List, [], ◌∷◌, ◌++◌, codes, length, Option, Some, None}
 use Rattle.std.specs.Fmt.{decimal}
 use Rattle.hex.specs.Hex.{encode_lower}
 use Rattle.sha2.specs.Sha256.{sha256}
-use Rattle.owner_check.specs.Answers.{Told}
-use Rattle.owner_check.specs.declared.answer.Answer.{Answer as Answered}
 use Rattle.ar_run.specs.Answers.{Answer}
 use Rattle.ar_run.specs.Runs.{most_bytes}
 use Rattle.ar_world.specs.Parties.{CheckParts}
@@ -14,10 +12,6 @@ use Rattle.ar_world.specs.declared.cause.Cause.{Cause}
 use Rattle.script_play.specs.Playing.{Played, played_of, refusal_of, written_of}
 use Rattle.script_play.specs.declared.counts.Counts.{Counts}
 use Rattle.arpki_play.specs.Answers.{refused_line, too_long}
-
--- what checks tell of themselves, and have answered
-abbrev pub checks_told : {C : Type 0} → (C → Option Told) → (C → List Answered) → List C → List CheckParts
-checks_told told answers checks = map (λ check. record { told = told check; answers = answers check }) checks
 
 -- ---- `play`
 

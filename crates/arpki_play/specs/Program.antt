@@ -1,16 +1,17 @@
 -- What a run of the program takes of its source, and what it writes to its sink.
-use Rattle.std.specs.Prelude.{◌≡◌, ◌<◌, ◌≤◌, ◌⊎◌, ℕ, List, length, Option, Some, None, Result, IfOk, Vec}
+use Rattle.std.specs.Prelude.{◌≡◌, ◌<◌, ◌≤◌, ◌⊎◌, ℕ, List, [], ◌∷◌, length, Option, Some, None, Result, IfOk, OnOk, Vec}
 use Rattle.std.specs.declared.alloc.Global.{Global}
 use Rattle.ar_io.specs.Wrote.{Appended, AppendedFront, Unchanged}
 use Rattle.ar_run.specs.Answers.{Answer, written_of}
 use Rattle.ar_run.specs.Runs as runs
 use Rattle.ar_run.specs.declared.fault.Fault.{Fault}
 use Rattle.ar_world.specs.Parties.{CheckParts}
-use Rattle.ar_world.specs.Run.{Saying}
+use Rattle.ar_world.specs.Run.{Saying, run}
+use Rattle.run_safety.specs.Headline.{IsSafeRun}
 use Rattle.script_make.specs.Script.{script}
 use Rattle.script_play.specs.Playing.{AppendedUpTo, WritesUpTo}
 use Rattle.arpki_play.specs.Answers.{answer_to, usage}
-use Rattle.arpki_play.specs.Plays.{made_answer, play_answer}
+use Rattle.arpki_play.specs.Plays.{made_answer, made_of, play_answer}
 use Rattle.arpki_play.specs.declared.request.Request.{Request}
 use Rattle.arpki_play.specs.declared.request.Request.TheVariants as requests
 
@@ -18,32 +19,44 @@ use Rattle.arpki_play.specs.declared.request.Request.TheVariants as requests
 abbrev pub IsAnswered : {K : Type 0} → Answer → (K → List ℕ → Type 0) → K → K → ℕ → Type 0
 IsAnswered answer wrote sink written status = (status ≡ answer.status) × Appended wrote sink written (written_of answer)
 
--- A command took its input, its answer to it was written whole, and the status is the answer's; so did `play`, by some answers of
--- the checks that tell nothing of themselves. A script, its summary and the usage line take no input: the script was written whole,
--- with status 0, and the usage line where the words are of no form.
+-- `play` took its input, and its answer to it was written whole, by some answers of the checks that tell nothing of themselves;
+-- the status is the answer's, and the run that was played is safe.
+pub record PlaysWhole {K : Type 0} (checks : List CheckParts) (old new : Option (List ℕ)) (wrote : K → List ℕ → Type 0) (sink written : K) (status : ℕ) : Type 0 where
+  pub saying : Saying
+  pub input : List ℕ
+  pub taken : runs.TakesAll old new input
+  pub answered : IsAnswered (play_answer saying checks input) wrote sink written status
+  pub safe : length input ≤ runs.most_bytes → IsSafeRun (run saying checks input)
+
+-- The script for so many domains was played, and its summary was written whole; the run that was played is safe.
+pub record RunsWhole {K : Type 0} (checks : List CheckParts) (domains : ℕ) (wrote : K → List ℕ → Type 0) (sink written : K) (status : ℕ) : Type 0 where
+  pub saying : Saying
+  pub answered : IsAnswered (made_answer saying checks domains) wrote sink written status
+  pub safe : IsSafeRun (run saying checks (script domains))
+
+-- A script for so many domains was played, and its run is safe: the line and the status are those of its summary, or of the line
+-- that is refused.
+pub record Sums (checks : List CheckParts) (domains : ℕ) (text : List ℕ) (told : Vec ℕ Global × ℕ) : Type 0 where
+  pub saying : Saying
+  pub is : made_of saying checks domains text ≡ record { lines = told.0.items ∷ []; status = told.1 }
+  pub safe : IsSafeRun (run saying checks text)
+
+-- A command took its input, its answer to it was written whole, and the status is the answer's; so did `play`. A script, its summary
+-- and the usage line take no input: the script was written whole, with status 0, and the usage line where the words are of no
+-- form.
 abbrev pub Answers : {K : Type 0} → List CheckParts → Option Request → Option (List ℕ) → Option (List ℕ) → (K → List ℕ → Type 0) → K → K → ℕ → Type 0
 Answers checks (Some (requests.Answer command)) old new wrote sink written status = runs.Answers (answer_to command) old new wrote sink written status
 Answers checks (Some (requests.Make domains)) old new wrote sink written status = (status ≡ 0) × Appended wrote sink written (script domains)
-Answers checks (Some requests.Play) old new wrote sink written status =
-    (saying : Saying) × runs.Answers (play_answer saying checks) old new wrote sink written status
-Answers checks (Some (requests.Run domains)) old new wrote sink written status =
-    (saying : Saying) × IsAnswered (made_answer saying checks domains) wrote sink written status
+Answers checks (Some requests.Play) old new wrote sink written status = PlaysWhole checks old new wrote sink written status
+Answers checks (Some (requests.Run domains)) old new wrote sink written status = RunsWhole checks domains wrote sink written status
 Answers checks None old new wrote sink written status = IsAnswered usage wrote sink written status
 
--- what is played of an input: it, unless it is too long
-abbrev pub IsScript : Option (Vec ℕ Global) → List ℕ → Type 0
-IsScript (Some script) input = (script.items ≡ input) × (length input ≤ runs.most_bytes)
-IsScript None input = runs.most_bytes < length input
-
--- an input was taken, and this is to be played of it
-abbrev pub ReadsScript : Option (List ℕ) → Option (List ℕ) → Option (Vec ℕ Global) → Type 0
-ReadsScript old new script = (input : List ℕ) × runs.TakesAll old new input × IsScript script input
-
--- An input was played: its answer was written whole, by some answers of the checks that tell nothing of themselves, and the status
--- is the answer's. Or memory ran out, or a write failed, and a front of the answer was written.
+-- An input was played: its answer was written whole, by some answers of the checks that tell nothing of themselves, the status is
+-- the answer's, and the run is safe. Or memory ran out, or a write failed, and a front of the answer was written.
 pub record IsPlayed {K : Type 0} (faults : K → ℕ) (wrote : K → List ℕ → Type 0) (old new : K) (checks : List CheckParts) (input : List ℕ) (result : Result ℕ Fault) : Type 0 where
   pub saying : Saying
   pub status : IfOk result (λ status. status ≡ (play_answer saying checks input).status)
+  pub safe : OnOk result (length input ≤ runs.most_bytes → IsSafeRun (run saying checks input))
   pub written : WritesUpTo faults wrote old new (written_of (play_answer saying checks input)) result
 
 -- `play` took its input, and of its answer to it a front was written.

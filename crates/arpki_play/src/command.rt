@@ -1,8 +1,7 @@
 ghost use Rattle.std.specs.Prelude.{◌≡◌};
 
-use crate::verdicts::refuse;
+use crate::verdicts::refuse_long;
 use crate::{inquiry, question};
-use ar_lines::{Reason, Refusal};
 use ar_run::{Answer, Respond};
 use std::alloc::{AllocError, Global};
 
@@ -30,12 +29,6 @@ impl Command {
     }
 }
 
-/// The refusal of an input that is too long.
-const TOO_LONG: Refusal = Refusal {
-    line: 0,
-    reason: Reason::Limit,
-};
-
 impl Respond for Command {
     ghost use Rattle.arpki_play.specs.Answers.{answer_to};
 
@@ -49,6 +42,6 @@ impl Respond for Command {
     }
 
     fn refuse(&self, alloc: Global) -> Result<Answer, AllocError> {
-        refuse(alloc, TOO_LONG)
+        refuse_long(alloc)
     }
 }

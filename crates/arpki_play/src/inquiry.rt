@@ -5,12 +5,13 @@ ghost use Rattle.script_text.specs.Forms.{party_count_of, quorum_of};
 ghost use Rattle.ar_lines.specs.Readings.{Follows, FollowsUnless, ReadsUnless, spelled, start_of_lines};
 ghost use Rattle.party_keys.specs.Directory.{is_party_count, is_quorum};
 
-use crate::judgements::{said, tell};
+use crate::judgements::tell;
 use crate::rolls::rolls;
 use crate::verdicts::refuse;
 use ar_lines::{LineFault, Lines, Refusal, Word};
 use ar_names::Name;
 use ar_run::Answer;
+use ar_world::said_of;
 use client_rule::judge;
 use lms_tree::LmsPublic;
 use party_keys::Directory;
@@ -184,7 +185,7 @@ fn judged(alloc: Global, inquiry: Inquiry) -> Result<Answer, AllocError>
         confirmation,
     } = inquiry;
     let judgement = judge(&directory, name.text(), &confirmation, now, age);
-    tell(alloc, &said(name, &judgement))
+    tell(alloc, &said_of(name, &judgement))
 }
 
 /// The answer to an input that is not too long.

@@ -13,6 +13,8 @@ mod judgements;
 pub mod laws;
 #[cfg(test)]
 mod make_tests;
+#[cfg(test)]
+mod play_tests;
 mod plays;
 mod program;
 mod question;

@@ -1,22 +1,9 @@
 use crate::arpki_main;
-use ar_io::{MemSink, MemSource, QuietSink, QuietSource};
+use crate::tests::{no_checks, run, words_of};
+use ar_io::{MemSink, QuietSink, QuietSource};
 use owner_check::BookCheck;
 use std::alloc::{AllocError, Global};
 use std::test::Fail;
-
-// No checks of owners: no script is played.
-fn no_checks(alloc: Global) -> Vec<BookCheck> {
-    Vec::new(alloc)
-}
-
-// The words of a run.
-fn words_of(alloc: Global, words: &[&str]) -> Result<Vec<String>, AllocError> {
-    let mut all = Vec::new(alloc);
-    for word in words {
-        all.push(String::from_str(alloc, *word)?)?;
-    }
-    Ok(all)
-}
 
 // The status of a run, how many bytes it wrote, and their SHA-256 in hex.
 fn quiet_run(alloc: Global, words: &[&str]) -> Result<(u8, u64, String), AllocError> {
@@ -112,21 +99,9 @@ fn other_numbers_of_domains_are_words_of_no_form(rt: HostRuntime) -> Result<(), 
 
 #[test]
 fn each_line_of_a_script_is_one_piece(rt: HostRuntime) -> Result<(), Fail> {
-    let words = words_of(rt.alloc(), &["make", "1"])?;
     // The first read fails, if there is one, and so does the third write.
-    let mut source = MemSource::new(Vec::new(rt.alloc()), 1, [1].to_vec(rt.alloc())?);
-    let mut sink = MemSink::new(rt.alloc(), [3].to_vec(rt.alloc())?);
-    sink.reserve(rt.alloc(), 500)?;
-    assert_eq!(rt;
-        arpki_main(
-            rt.alloc(),
-            &words,
-            &mut source,
-            &mut sink,
-            no_checks(rt.alloc())
-        ),
-        5
-    );
+    let (status, sink) = run(rt.alloc(), &["make", "1"], "", 1, &[1], &[3], 500)?;
+    assert_eq!(rt; status, 5);
     assert_eq!(rt; sink.written(), b"keys 6 3\nlogs 5 4\n".as_slice());
     Ok(())
 }

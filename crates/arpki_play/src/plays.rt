@@ -4,49 +4,23 @@ ghost use Rattle.std.specs.Prelude.{◌≡◌, ◌≢◌, ◌<◌, ◌≤◌, �
 ghost use Rattle.ar_base.specs.Faults.{HasRisen};
 ghost use Rattle.ar_io.specs.Wrote.{AppendedFront, Unchanged};
 ghost use Rattle.ar_run.specs.Answers.{written_of};
-ghost use Rattle.ar_run.specs.Runs.{TakesAtMost, most_bytes};
-ghost use Rattle.ar_world.specs.Parties.{CheckParts};
+ghost use Rattle.ar_run.specs.Runs.{IsInput, TakesAtMost, most_bytes};
+ghost use Rattle.ar_world.specs.Parties.{CheckParts, checks_told};
 ghost use Rattle.ar_world.specs.Run.{Saying};
-ghost use Rattle.arpki_play.specs.Plays.{checks_told, made_answer, made_of, run_status, summary_line, summed};
-ghost use Rattle.arpki_play.specs.Program.{Answers, IsAnswered, IsPlayed, IsScript, PlaysFront, ReadsScript, Stops};
+ghost use Rattle.script_make.specs.Script.{script};
+ghost use Rattle.arpki_play.specs.Plays.{made_answer, run_status, summary_line, summed};
+ghost use Rattle.arpki_play.specs.Program.{Answers, IsPlayed, PlaysFront, RunsWhole, Stops, Sums};
 ghost use Rattle.arpki_play.specs.declared.request.Request.TheVariants.{Play};
 
 use crate::request::Domains;
-use crate::verdicts::refuse;
-use ar_io::{QuietSink, ReadFault, Sink, Source, read_all};
-use ar_lines::{Reason, Refusal};
-use ar_run::{Fault, write_answer, write_line};
+use crate::verdicts::refuse_long;
+use ar_io::{QuietSink, Sink, Source};
+use ar_run::{Fault, read_input, write_answer, write_line};
 use ar_text::{Part, append};
 use owner_check::OwnerCheck;
 use script_make::last_epoch;
 use script_play::{Counts, Played, play, refused_line};
 use std::alloc::{AllocError, Global};
-
-/// The bytes of the longest script.
-const MOST_BYTES: usize = 1_048_576;
-
-/// The refusal of a script that is too long.
-const TOO_LONG: Refusal = Refusal {
-    line: 0,
-    reason: Reason::Limit,
-};
-
-/// All that the source has left; `None` where it is too long.
-fn read_script<S: Source>(alloc: Global, source: &mut S) -> Result<Option<Vec<u8>>, Fault>
-    ensures ok { IfOk result (λ script. ReadsScript (S.left source.old) (S.left source.new) script) }
-    ensures source { result ≡ Err Fault.Source → HasRisen (S.faults source.old) (S.faults source.new) }
-    ensures sink { result ≢ Err Fault.Sink }
-    ensures taken { IfErr result (λ fault. TakesAtMost most_bytes (S.left source.old) (S.left source.new)) }
-    ensures uncounted { result ≢ Err Fault.Source → S.faults source.new ≡ S.faults source.old }
-    ensures faults { S.faults source.old ≤ S.faults source.new }
-{
-    match read_all(alloc, source, MOST_BYTES) {
-        Ok(script) => Ok(Some(script)),
-        Err(ReadFault::Long) => Ok(None),
-        Err(ReadFault::Fault) => Err(Fault::Source),
-        Err(ReadFault::Memory) => Err(Fault::Memory),
-    }
-}
 
 /// The status where a script came to this.
 fn status_of<C: OwnerCheck>(played: Played<C>) -> u8
@@ -79,12 +53,12 @@ fn play_short<C: OwnerCheck, K: Sink>(
 
 /// Writes that a script is too long.
 #[tactic(auto, using(crate::proofs::Played::long_laws))]
-fn refuse_long<K: Sink>(alloc: Global, sink: &mut K) -> Result<u8, Fault>
+fn play_long<K: Sink>(alloc: Global, sink: &mut K) -> Result<u8, Fault>
     ensures played { (checks : List CheckParts) (input : List ℕ) → most_bytes < length input
         → IsPlayed K.faults K.wrote sink.old sink.new checks input result }
     ensures bound { IfOk result (λ status. status < 4) }
 {
-    let answer = refuse(alloc, TOO_LONG)?;
+    let answer = refuse_long(alloc)?;
     write_answer(sink, &answer)?;
     Ok(3)
 }
@@ -97,13 +71,13 @@ fn play_script<C: OwnerCheck, K: Sink>(
     script: Option<Vec<u8>>,
     sink: &mut K,
 ) -> Result<u8, Fault>
-    ensures played { (input : List ℕ) → IsScript script input
+    ensures played { (input : List ℕ) → IsInput script input
         → IsPlayed K.faults K.wrote sink.old sink.new (checks_told C.told C.answers checks.items) input result }
     ensures bound { IfOk result (λ status. status < 4) }
 {
     match script {
         Some(script) => play_short(alloc, checks, &script, sink),
-        None => refuse_long(alloc, sink),
+        None => play_long(alloc, sink),
     }
 }
 
@@ -131,7 +105,7 @@ pub(crate) fn play_input<C: OwnerCheck, S: Source, K: Sink>(
     ensures source_faults { S.faults source.old ≤ S.faults source.new }
     ensures sink_faults { K.faults sink.old ≤ K.faults sink.new }
 {
-    match read_script(alloc, source) {
+    match read_input(alloc, source) {
         Ok(script) => play_script(alloc, checks, script, sink),
         Err(fault) => Err(fault),
     }
@@ -200,8 +174,7 @@ fn play_quietly<C: OwnerCheck>(
     checks: Vec<C>,
     text: &[u8],
 ) -> Result<(Vec<u8>, u8), AllocError>
-    ensures told { IfOk result (λ told. (saying : Saying)
-        × (made_of saying (checks_told C.told C.answers checks.items) domains.now text.now ≡ record { lines = told.0.items ∷ []; status = told.1 })) }
+    ensures told { IfOk result (Sums (checks_told C.told C.answers checks.items) domains.now text.now) }
     ensures bound { IfOk result (λ told. told.1 < 4) }
 {
     let mut quiet = QuietSink::new();
@@ -218,8 +191,7 @@ fn make_and_play<C: OwnerCheck>(
     domains: &Domains,
     checks: Vec<C>,
 ) -> Result<(Vec<u8>, u8), AllocError>
-    ensures told { IfOk result (λ told. (saying : Saying)
-        × (made_answer saying (checks_told C.told C.answers checks.items) domains.now ≡ record { lines = told.0.items ∷ []; status = told.1 })) }
+    ensures told { IfOk result (Sums (checks_told C.told C.answers checks.items) domains.now (script domains.now)) }
     ensures bound { IfOk result (λ told. told.1 < 4) }
 {
     let text = domains.script(alloc)?;
@@ -234,8 +206,7 @@ pub(crate) fn run_made<C: OwnerCheck, K: Sink>(
     checks: Vec<C>,
     sink: &mut K,
 ) -> Result<u8, Fault>
-    ensures ok { IfOk result (λ status. (saying : Saying)
-        × IsAnswered (made_answer saying (checks_told C.told C.answers checks.items) domains.now) K.wrote sink.old sink.new status) }
+    ensures ok { IfOk result (λ status. RunsWhole (checks_told C.told C.answers checks.items) domains.now K.wrote sink.old sink.new status) }
     ensures bound { IfOk result (λ status. status < 4) }
     ensures sink { result ≡ Err Fault.Sink → HasRisen (K.faults sink.old) (K.faults sink.new)
         × ((saying : Saying) × AppendedFront K.wrote sink.old sink.new (written_of (made_answer saying (checks_told C.told C.answers checks.items) domains.now))) }

@@ -1,35 +1,26 @@
-ghost use Rattle.std.specs.Prelude.{◌≡◌, IfOk, option_and_then};
+ghost use Rattle.std.specs.Prelude.{◌≡◌, IfOk};
 ghost use Rattle.ar_lines.specs.Readings.{FollowsUnless, ReadsUnless, spelled};
 ghost use Rattle.arpki_play.specs.Inquiries.{learnt_of_hex, most_rolls, roll_at, rolls_at};
-ghost use Rattle.arpki_play.specs.Notes.{announced_by, learnt_by, learnt_from};
+ghost use Rattle.arpki_play.specs.Notes.{learnt_by, learnt_from};
 
 use ar_lines::{LineFault, Lines, Word};
-use ar_message::{Message, MessageFault};
+use ar_world::RollNote;
 use party_keys::{Directory, LearnFault, Learned};
 use std::alloc::{AllocError, Global};
 
 /// How many RollNotes the directory may learn from.
 const MOST_ROLLS: usize = 64;
 
-/// The directory that learnt from a RollNote; `None` where the message is none, or it is not learnt.
+/// The directory that learnt from a RollNote; `None` where it is not learnt.
 fn learnt_by(
     alloc: Global,
     directory: Directory,
-    message: &Message,
+    note: &RollNote,
 ) -> Result<Option<Directory>, AllocError>
-    ensures { IfOk result (λ learnt. learnt ≡ option_and_then (learnt_by directory) (announced_by message.now)) }
+    ensures { IfOk result (λ learnt. learnt ≡ learnt_by directory note.now) }
 {
-    let Message::RollNote {
-        party,
-        generation,
-        key,
-        signature,
-    } = message
-    else {
-        return Ok(None);
-    };
     let mut directory = directory;
-    match directory.learn(alloc, *party, *generation, *key, signature.as_slice()) {
+    match note.teach(alloc, &mut directory) {
         Ok(Learned::New | Learned::Again) => Ok(Some(directory)),
         Err(LearnFault::Memory) => Err(AllocError),
         _ => Ok(None),
@@ -45,10 +36,9 @@ fn learnt_from(
 ) -> Result<Option<Directory>, AllocError>
     ensures { IfOk result (λ learnt. learnt ≡ learnt_from directory bytes.now) }
 {
-    match Message::read(alloc, bytes) {
-        Ok(message) => learnt_by(alloc, directory, &message),
-        Err(MessageFault::Form(_)) => Ok(None),
-        Err(MessageFault::Memory) => Err(AllocError),
+    match RollNote::read(alloc, bytes)? {
+        Some(note) => learnt_by(alloc, directory, &note),
+        None => Ok(None),
     }
 }
 

@@ -7,8 +7,17 @@ use std::alloc::{AllocError, Global};
 use std::test::Fail;
 
 // No checks of owners: no script is played.
-fn no_checks(alloc: Global) -> Vec<BookCheck> {
+pub(crate) fn no_checks(alloc: Global) -> Vec<BookCheck> {
     Vec::new(alloc)
+}
+
+// The words of a run.
+pub(crate) fn words_of(alloc: Global, words: &[&str]) -> Result<Vec<String>, AllocError> {
+    let mut all = Vec::new(alloc);
+    for word in words {
+        all.push(String::from_str(alloc, *word)?)?;
+    }
+    Ok(all)
 }
 
 // A key made to fit: with the types 5 and 3 and with I, C, all elements and the path zero, the
@@ -93,11 +102,11 @@ fn inquiry(alloc: Global, now: &str) -> Result<String, AllocError> {
     Ok(text)
 }
 
-// The status of a run of a command over an input that is read in pieces, and what it wrote. The reads and
+// The status of a run of these words over an input that is read in pieces, and what it wrote. The reads and
 // the writes of these numbers fail, and the sink has room for so many bytes.
-fn run(
+pub(crate) fn run(
     alloc: Global,
-    command: &str,
+    words: &[&str],
     input: &str,
     chunk: usize,
     reads: &[u64],
@@ -106,7 +115,7 @@ fn run(
 ) -> Result<(u8, MemSink), AllocError>
     requires { 0 < chunk }
 {
-    let words = vec![in alloc; String::from_str(alloc, command)?]?;
+    let words = words_of(alloc, words)?;
     let bytes = Vec::from_slice(alloc, input.as_bytes())?;
     let mut source = MemSource::new(bytes, chunk, Vec::from_slice(alloc, reads)?);
     let mut sink = MemSink::new(alloc, Vec::from_slice(alloc, writes)?);
@@ -120,7 +129,7 @@ fn run(
 fn quiet_run(alloc: Global, command: &str, input: &str) -> Result<(u8, u64), AllocError>
     ensures { IfOk result (λ run. (run.0 ≤ 3) ⊎ (run.0 ≡ 6)) }
 {
-    let words = vec![in alloc; String::from_str(alloc, command)?]?;
+    let words = words_of(alloc, &[command])?;
     let mut source = QuietSource::new(Vec::from_slice(alloc, input.as_bytes())?);
     let mut sink = QuietSink::new();
     let status = arpki_main(alloc, &words, &mut source, &mut sink, no_checks(alloc));
@@ -146,11 +155,19 @@ fn each_read_that_fails_is_a_fault_of_the_source(rt: HostRuntime) -> Result<(), 
     let input = three_lines(rt.alloc(), "00000000")?;
     // 4,811 bytes in pieces of 100 are 49 reads, and the next one finds the end.
     for failing in 1..51 {
-        let (status, sink) = run(rt.alloc(), "sig", input.as_str(), 100, &[failing], &[], 100)?;
+        let (status, sink) = run(
+            rt.alloc(),
+            &["sig"],
+            input.as_str(),
+            100,
+            &[failing],
+            &[],
+            100,
+        )?;
         assert_eq!(rt; status, 4, "at read {failing}");
         assert!(rt; sink.written().is_empty(), "at read {failing}");
     }
-    let (status, sink) = run(rt.alloc(), "sig", input.as_str(), 100, &[51], &[], 100)?;
+    let (status, sink) = run(rt.alloc(), &["sig"], input.as_str(), 100, &[51], &[], 100)?;
     assert_eq!(rt; status, 0);
     assert_eq!(rt; sink.written(), b"valid\n".as_slice());
     Ok(())
@@ -159,7 +176,6 @@ fn each_read_that_fails_is_a_fault_of_the_source(rt: HostRuntime) -> Result<(), 
 #[test]
 fn each_write_that_fails_is_a_fault_of_the_sink(rt: HostRuntime) -> Result<(), Fail> {
     let input = three_lines(rt.alloc(), "00000000")?;
-    let words = vec![in rt.alloc(); String::from_str(rt.alloc(), "nothing")?]?;
     // The numbers of failing writes, the room, and what is written before the fault.
     let cases: [(&[u64], usize, &[u8]); 4] = [
         (&[1], 100, b""),
@@ -168,23 +184,20 @@ fn each_write_that_fails_is_a_fault_of_the_sink(rt: HostRuntime) -> Result<(), F
         (&[2], 5, b"valid"),
     ];
     for (writes, room, written) in cases {
-        let (status, sink) = run(rt.alloc(), "sig", input.as_str(), 5000, &[], writes, room)?;
+        let (status, sink) = run(
+            rt.alloc(),
+            &["sig"],
+            input.as_str(),
+            5000,
+            &[],
+            writes,
+            room,
+        )?;
         assert_eq!(rt; status, 5, "with room {room}");
         assert_eq!(rt; sink.written(), written, "with room {room}");
     }
-    let mut source = MemSource::new(Vec::new(rt.alloc()), 1, Vec::new(rt.alloc()));
-    let mut sink = MemSink::new(rt.alloc(), Vec::new(rt.alloc()));
-    sink.reserve(rt.alloc(), 6)?;
-    assert_eq!(rt;
-        arpki_main(
-            rt.alloc(),
-            &words,
-            &mut source,
-            &mut sink,
-            no_checks(rt.alloc())
-        ),
-        5
-    );
+    let (status, sink) = run(rt.alloc(), &["nothing"], "", 1, &[], &[], 6)?;
+    assert_eq!(rt; status, 5);
     assert_eq!(rt; sink.written(), b"usage:".as_slice());
     Ok(())
 }
@@ -200,7 +213,7 @@ fn short_reads_give_the_same_answer(rt: HostRuntime) -> Result<(), Fail> {
     for (leaf, status, answer) in cases {
         let input = three_lines(rt.alloc(), leaf)?;
         for chunk in [1, 7, 5000] {
-            let (ended, sink) = run(rt.alloc(), "sig", input.as_str(), chunk, &[], &[], 100)?;
+            let (ended, sink) = run(rt.alloc(), &["sig"], input.as_str(), chunk, &[], &[], 100)?;
             assert_eq!(rt; ended, status, "leaf {leaf} by {chunk}");
             assert_eq!(rt; sink.written(), answer, "leaf {leaf} by {chunk}");
         }
@@ -220,7 +233,7 @@ fn a_confirmation_is_judged(rt: HostRuntime) -> Result<(), Fail> {
     ];
     for (now, status, answer) in cases {
         let input = inquiry(rt.alloc(), now)?;
-        let (ended, sink) = run(rt.alloc(), "check", input.as_str(), 5000, &[], &[], 200)?;
+        let (ended, sink) = run(rt.alloc(), &["check"], input.as_str(), 5000, &[], &[], 200)?;
         assert_eq!(rt; ended, status, "now {now}");
         assert_eq!(rt; sink.written(), answer, "now {now}");
         let quiet = quiet_run(rt.alloc(), "check", input.as_str())?;
@@ -232,10 +245,10 @@ fn a_confirmation_is_judged(rt: HostRuntime) -> Result<(), Fail> {
 #[test]
 fn a_fault_leaves_a_verdict_unwritten(rt: HostRuntime) -> Result<(), Fail> {
     let input = inquiry(rt.alloc(), "9")?;
-    let (status, sink) = run(rt.alloc(), "check", input.as_str(), 5000, &[2], &[], 200)?;
+    let (status, sink) = run(rt.alloc(), &["check"], input.as_str(), 5000, &[2], &[], 200)?;
     assert_eq!(rt; status, 4);
     assert!(rt; sink.written().is_empty());
-    let (status, sink) = run(rt.alloc(), "check", input.as_str(), 5000, &[], &[2], 20)?;
+    let (status, sink) = run(rt.alloc(), &["check"], input.as_str(), 5000, &[], &[2], 20)?;
     assert_eq!(rt; status, 5);
     assert_eq!(rt; sink.written(), b"accepted a.example s".as_slice());
     Ok(())

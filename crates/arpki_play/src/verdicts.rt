@@ -1,8 +1,8 @@
 ghost use Rattle.std.specs.Prelude.{◌≡◌, IfOk};
 ghost use Rattle.ar_run.specs.Answers.{one_line};
-ghost use Rattle.arpki_play.specs.Answers.{refused_line, verdict_status, verdict_text};
+ghost use Rattle.arpki_play.specs.Answers.{refused_line, too_long, verdict_status, verdict_text};
 
-use ar_lines::Refusal;
+use ar_lines::{Reason, Refusal};
 use ar_run::Answer;
 use lms_tree::Verdict;
 use std::alloc::{AllocError, Global};
@@ -26,4 +26,15 @@ pub fn refuse(alloc: Global, refusal: Refusal) -> Result<Answer, AllocError>
 {
     let line = format!(in alloc; "{refusal}")?;
     Answer::one_line(alloc, line.into_bytes(), 3)
+}
+
+/// The answer to an input that is too long.
+pub fn refuse_long(alloc: Global) -> Result<Answer, AllocError>
+    ensures { IfOk result (λ answer. answer ≡ refused_line too_long) }
+{
+    let refusal = Refusal {
+        line: 0,
+        reason: Reason::Limit,
+    };
+    refuse(alloc, refusal)
 }

@@ -1,8 +1,9 @@
 //! A script, from its first line to its last.
 
-ghost use Rattle.std.specs.Prelude.{ℕ, map};
+ghost use Rattle.std.specs.Prelude.{ℕ};
 ghost use Rattle.owner_check.specs.declared.answer.Outcome.{Outcome};
 ghost use Rattle.ar_lines.specs.Lines.{lines_of};
+ghost use Rattle.ar_world.specs.Parties.{checks_told};
 ghost use Rattle.ar_world.specs.Run.{follows, line_taken, progress_of, run_from, taken};
 ghost use Rattle.ar_world.specs.Step.{step};
 ghost use Rattle.script_play.specs.Playing.{Plays, PlaysAll, PlaysLines, PlaysSome};
@@ -156,7 +157,7 @@ pub fn play<C: OwnerCheck, K: Sink>(
     input: &[u8],
     sink: &mut K,
 ) -> Result<Played<C>, Fault>
-    ensures { Plays K.faults K.wrote sink.old sink.new (map (λ check. record { told = C.told check; answers = C.answers check }) checks.items) input.now result }
+    ensures { Plays K.faults K.wrote sink.old sink.new (checks_told C.told C.answers checks.items) input.now result }
 {
     let mut stage = Stage {
         world: World::new(alloc, checks),
@@ -165,6 +166,7 @@ pub fn play<C: OwnerCheck, K: Sink>(
     match stage.take_all(alloc, sink, input) {
         Ok(refused) => {
             let Stage { world, counts } = stage;
+            world.told();
             Ok(Played {
                 world,
                 counts,

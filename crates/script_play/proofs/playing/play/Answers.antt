@@ -1,7 +1,12 @@
--- A script that breaks off.
-use Rattle.script_play.proofs.Runs.{play-broken}
+-- A script that is played, and one that breaks off.
+use Rattle.script_play.proofs.Runs.{play-broken, play-so}
 use Rattle.script_play.proofs.playing.play.Goals as goal
 
 pub returns-in-Err : goal.returns-in-Err
 returns-in-Err g c =
     play-broken g.K.Sink.faults g.K.Sink.wrote c.args.sink.now c.take_all.new.sink _ c.new.result c.none.result c.take_all.new.self c.args.input.now c.in-Err.fault c.new.ensures c.in-Err.ensures
+
+pub returns-in-Ok : goal.returns-in-Ok
+returns-in-Ok g c =
+    play-so g.K.Sink.faults g.K.Sink.wrote c.args.sink.now c.take_all.new.sink _ c.new.result c.none.result _ c.take_all.new.self c.args.input.now c.in-Ok.refused
+    c.new.ensures c.none.ensures c.stage.view_is c.in-Ok.ensures c.told.ensures

@@ -1,13 +1,13 @@
-use Rattle.std.proofs.Common.{rules, ◌≡◌, ◌<◌, ◌++◌, ◌∷◌, [], length, List, Option, Some, Ok, Err, Result, refl, sym, ap, subst}
+use Rattle.std.proofs.Common.{rules, ◌≡◌, ◌<◌, length, List, Option, Some, Result, refl, sym, ap, subst}
 use Rattle.std.specs.Option.{option_map}
 use Rattle.authority_core.specs.RollRows.{roll_row}
 use Rattle.lms_tree.specs.Key.{public_of}
 use Rattle.lms_tree.specs.KeyParts.{KeyParts}
 use Rattle.ar_world.specs.Acting.{RepliesBy, Reply, authority_turned}
 use Rattle.ar_world.specs.Logs.{next_of}
-use Rattle.ar_world.specs.Parties.{AuthorityNode, CheckParts}
+use Rattle.ar_world.specs.Parties.{AuthorityNode, CheckParts, check_told}
 use Rattle.ar_world.specs.declared.fault.WorldFault.{WorldFault}
-use Rattle.ar_world.proofs.Nodes.{authority-of, authority_rolled_so, authority_stayed, authority_waited, has_more, parts_of}
+use Rattle.ar_world.proofs.Nodes.{authority-of, authority_rolled_so, authority_stayed, authority_waited, has_more}
 use Rattle.ar_world.proofs.parties.HonestAuthority.roll.Goals.{in-Ok, in-Err-Memory, in-Err}
 use Rattle.ar_world.proofs.parties.HonestAuthority.roll.Goals as goal
 
@@ -20,7 +20,7 @@ invariant_of-self g c = elim c.match-roll.branch [
 
 pub returns-clause-row : goal.returns-clause-row
 returns-clause-row g c =
-    let parts : _ → CheckParts = parts_of g.C.OwnerCheck.told g.C.OwnerCheck.answers in
+    let parts : _ → CheckParts = check_told g.C.OwnerCheck.told g.C.OwnerCheck.answers in
     let check : Option CheckParts = option_map parts c.roll.new.self.check in
     let old : AuthorityNode = authority-of c.self.inside.authority.state c.self.inside.authority.ring.keys (option_map parts c.self.inside.authority.check) in
     let new : AuthorityNode = authority-of c.roll.new.self.state c.roll.new.self.ring.keys check in

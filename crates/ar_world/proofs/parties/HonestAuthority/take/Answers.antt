@@ -1,4 +1,4 @@
-use Rattle.std.proofs.Common.{rules, ◌≡◌, List, Option, Ok, Err, Result, refl, sym, ap, ◌∙◌, subst}
+use Rattle.std.proofs.Common.{rules, Ok, Err, Result, sym, ap, ◌∙◌, subst}
 use Rattle.ar_message.specs.Messages.{message_in}
 use Rattle.authority_core.specs.Row.{asked_in}
 use Rattle.authority_core.specs.declared.refusal.AuthorityRefusal.{AuthorityRefusal}

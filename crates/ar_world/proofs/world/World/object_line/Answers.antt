@@ -2,9 +2,10 @@ use Rattle.std.proofs.Common.{◌≡◌, ◌<◌, length, Some, Ok, sym, subst}
 use Rattle.std.specs.Prelude.{position}
 use Rattle.owner_core.specs.Rows.{object_row}
 use Rattle.report_text.specs.declared.happening.What.TheVariants.{Object}
+use Rattle.ar_world.specs.Acting.{ActsBy, acted, owner_does}
 use Rattle.ar_world.specs.Finding.{is_owner, room}
+use Rattle.ar_world.specs.Owning.{owner_party}
 use Rattle.ar_world.specs.State.{Drafted, World}
-use Rattle.ar_world.specs.Submitting.{AnswersBy}
 use Rattle.ar_world.proofs.Answered.{objected_there}
 use Rattle.ar_world.proofs.world.World.object_line.Goals as goal
 
@@ -15,5 +16,7 @@ returns g c =
     let here = subst (λ (w : World). position (is_owner c.args.owner) w.owners ≡ Some c.in_ok-place.place) old i.place in
     let within = subst (λ (w : World). c.in_ok-place.found < length w.drafts) old i.found in
     let free = subst (λ (w : World). room w ≡ Ok tt) old i.room in
-    let told = subst (λ (d : Drafted). AnswersBy c.objected.result c.index_mut.result.now c.objected.new.owner c.self.inside.pool.messages c.objected.new.pool.messages (Object c.args.draft) (object_row c.index_mut.result.now d.cert)) c.behind-self.view_is c.objected.ensures in
-    rw (← c.self.view_is) (objected_there _ _ _ _ _ _ c.index_mut.result.now _ c.index.result.now _ here c.index_mut.ensures.value i.draft within c.index.ensures free told)
+    let me = c.index_mut-owner_there.result.now in
+    let acts = subst (λ (d : Drafted). ActsBy c.objected.result me c.objected.new.owner c.self.inside.pool.messages c.objected.new.pool.messages
+    (acted c.self.inside.pool.messages (owner_party c.args.owner) (Object c.args.draft) (owner_does me (object_row me d.cert)))) c.behind-self.view_is c.objected.ensures in
+    rw (← c.self.view_is) (objected_there _ _ _ _ _ _ me _ c.index.result.now _ here c.index_mut-owner_there.ensures.value i.draft within c.index.ensures free acts)

@@ -1,9 +1,8 @@
 use Rattle.std.proofs.Common.{rules, refl, ap, ◌≡◌, ◌∙◌}
-use Rattle.std.specs.Prelude.{map}
 use Rattle.std.specs.Vec.{vec_items}
 use Rattle.ar_statement.specs.declared.party.Role.TheVariants.{LogServer}
 use Rattle.ar_world.specs.FirstKeys.{FirstKeys, first_of}
-use Rattle.ar_world.specs.Parties.{CheckParts}
+use Rattle.ar_world.specs.Parties.{checks_told}
 use Rattle.ar_world.specs.State.{keys_for}
 use Rattle.ar_world.specs.declared.phase.Phase.TheVariants as phase
 use Rattle.ar_world.proofs.FirstParties.{few-kept, joined-world, put-first}
@@ -17,4 +16,4 @@ returns-clause-world g c =
     let made : c.self.inside.phase ≡ phase.LogsMade = search rules in
     let keys : c.replace-keys.result ≡ first_of (keys_for c.self.inside.setup LogServer c.self.inside.setup.logs) = c.replace-keys.ensures.value ∙ c.self.invariant.keys made in
     joined-world _ _ _ _ _ _ _ _ _ _ (put-first _ _ _ c.requires.logs.0 c.join_logs.ensures) (put-first _ _ _ c.requires.authorities.0 c.join_authorities.ensures)
-    (ap (λ (k : FirstKeys). k.rings) (c.keys.view_is ∙ keys)) (ap (λ (v : _). map {B = CheckParts} (λ check. record { told = g.C.OwnerCheck.told check; answers = g.C.OwnerCheck.answers check }) (vec_items v)) c.replace-checks.ensures.value) c.founded.invariant (search rules) c.self.view_is c.founded.view_is
+    (ap (λ (k : FirstKeys). k.rings) (c.keys.view_is ∙ keys)) (ap (λ (v : _). checks_told g.C.OwnerCheck.told g.C.OwnerCheck.answers (vec_items v)) c.replace-checks.ensures.value) c.founded.invariant (search rules) c.self.view_is c.founded.view_is

@@ -1,0 +1,134 @@
+-- The line `authorities`: all logs and authorities sit in their places, and all begin with one directory.
+use Rattle.std.proofs.Common.{◌≡◌, ◌∙◌, ℕ, zero, suc, ◌+◌, ◌<◌, List, [], ◌∷◌, ◌++◌, All, refl, sym, ap, subst, arith, Bool, true, false, Some, Ok, Err, is_none, IfOk}
+use Rattle.std.specs.Prelude.{if◌then◌else◌, length, map, slice_get}
+use Rattle.std.specs.List.{filter_map, list_any, range_with_len}
+use Rattle.std.specs.Result.{result_ok}
+use Rattle.std.proofs.lemmas.List.{length-map}
+use Rattle.std.proofs.lemmas.List.Elements.{All-nil}
+use Rattle.std.proofs.lemmas.List.FromFn.{length-map-range_with_len}
+use Rattle.ar_council.specs.Council.{council_of}
+use Rattle.ar_safety.specs.Held.{IsTaken, Taken}
+use Rattle.ar_statement.specs.Claims.{is_party}
+use Rattle.ar_statement.specs.declared.party.Party.{Party}
+use Rattle.ar_statement.specs.declared.party.Role.{Role}
+use Rattle.ar_statement.specs.declared.party.Role.TheVariants as role
+use Rattle.ar_world.specs.Finding.{honest_in}
+use Rattle.ar_world.specs.Finding.{named}
+use Rattle.ar_world.specs.Founding.{authorities_line, fresh_log, fresh_logs, genesis_of, key_made, keys_made, new_authorities, new_authority, peopled}
+use Rattle.ar_world.specs.Judging.{verdict_on}
+use Rattle.ar_world.specs.State.{Setup, World, key_for, keys_for}
+use Rattle.lms_tree.specs.Key.{public_of}
+use Rattle.lms_tree.specs.declared.public_key.LmsPublic.{LmsPublic}
+use Rattle.party_keys.specs.Directory.{Directory, directory_of, directory_with, first_keys, is_party_count, is_quorum}
+use Rattle.party_keys.specs.Seen.{authority_party, log_party}
+use Rattle.party_keys.specs.declared.fault.DirectoryFault.{DirectoryFault}
+use Rattle.party_keys.specs.declared.fault.DirectoryFault.TheVariants.{Authorities, Logs, Quorum}
+use Rattle.run_safety.specs.Headline.{accepted_in}
+use Rattle.run_safety.specs.Seats.{AreSeated, IsAuthorityOf, IsLogOf}
+use Rattle.run_safety.proofs.Chains.{if-chained, named-there}
+use Rattle.run_safety.proofs.Parts.{Bare, Makes, SeatedIn, Stands, part_of, told_by, told_in}
+
+-- ---- the first directory
+
+-- a directory that is made has these keys
+made-of : (logs authorities : List LmsPublic) (q : ℕ) (keys : Directory) → result_ok (directory_of logs authorities q) ≡ Some keys → directory_with logs authorities q ≡ keys
+made-of logs authorities q keys h = by (is_party_count (length logs)) (is_party_count (length authorities)) (is_quorum q (length logs)) h
+  where
+    by : (many some bound : Bool)
+        → result_ok {E = DirectoryFault} (if many then (if some then (if bound then Ok (directory_with logs authorities q) else Err Quorum) else Err Authorities) else Err Logs) ≡ Some keys
+        → directory_with logs authorities q ≡ keys
+    by true true true h = cc
+    by true true false h = absurd cc
+    by true false bound h = absurd cc
+    by false some bound h = absurd cc
+
+-- one key of each of so many parties
+first-long : (setup : Setup) (r : Role) (count : ℕ) → length (first_keys (map public_of (keys_for setup r count))) ≡ count
+first-long setup r count =
+    length-map (map public_of (keys_for setup r count)) (λ key. key ∷ []) ∙ length-map (keys_for setup r count) public_of
+    ∙ length-map-range_with_len (key_for setup r) 0 count
+
+-- so many logs and authorities as the setup and the line say
+genesis-long : (setup : Setup) (count : ℕ) (genesis : Directory) → genesis_of setup count ≡ Some genesis
+    → (length genesis.logs ≡ setup.logs) × (length genesis.authorities ≡ count)
+genesis-long setup count genesis h =
+    let is = made-of (map public_of (keys_for setup role.LogServer setup.logs)) (map public_of (keys_for setup role.Authority count)) setup.quorum genesis h
+    in (
+      ap (λ (d : Directory). length d.logs) (sym is) ∙ first-long setup role.LogServer setup.logs,
+      ap (λ (d : Directory). length d.authorities) (sym is) ∙ first-long setup role.Authority count,
+    )
+
+-- ---- places
+
+-- what is made for each number stands there
+made-there : {X : Type 0} (f : ℕ → X) (a n m : ℕ) (x : X) → honest_in (map (λ k. Some (f k)) (range_with_len a n)) m ≡ Some x → x ≡ f (a + m)
+made-there f a zero m x h = absurd cc
+made-there f a (suc n) zero x h = let e : a ≡ a + 0 = omega arith in let is : f a ≡ x = cc in sym is ∙ ap f e
+made-there f a (suc n) (suc m) x h = let e : a + 1 + m ≡ a + suc m = omega arith in made-there f (a + 1) n m x h ∙ ap f e
+
+-- and each place has one
+made-full : {X : Type 0} (f : ℕ → X) (a n m : ℕ) → m < n → is_none (honest_in (map (λ k. Some (f k)) (range_with_len a n)) m) ≡ false
+made-full f a zero m less = absurd (omega (arith, less))
+made-full f a (suc n) zero less = refl
+made-full f a (suc n) (suc m) less = made-full f (a + 1) n m (omega (arith, less))
+
+-- made for each number, all are seated
+made-seated : {X : Type 0} (party : ℕ → Party) (dishonest : List Party) (count : ℕ) (sits : ℕ → X → Type 0) (f : ℕ → X) → dishonest ≡ [] → ((n : ℕ) → sits n (f n))
+    → AreSeated party dishonest count sits (map (λ k. Some (f k)) (range_with_len 0 count))
+made-seated party dishonest count sits f none each = record {
+  all = length-map-range_with_len (λ k. Some (f k)) 0 count;
+  own = λ n node there. let same : node ≡ f n = made-there f 0 count n node there ∙ ap f (let e : 0 + n ≡ n = omega arith in e) in subst (sits n) (sym same) (each n);
+  empty = λ n less. made-full f 0 count n less ∙ sym (ap (list_any (is_party (party n))) none);
+}
+
+-- ---- `authorities`
+
+made-quiet : (setup : Setup) (r : Role) (numbers : List ℕ)
+    → filter_map accepted_in (map (λ number. key_made (record { role = r; number = number }) (key_for setup r number)) numbers) ≡ []
+made-quiet setup r [] = refl
+made-quiet setup r (number ∷ numbers) = made-quiet setup r numbers
+
+pub keys-quiet : (setup : Setup) (r : Role) (count : ℕ) → filter_map accepted_in (keys_made setup r count) ≡ []
+keys-quiet setup r count = made-quiet setup r (range_with_len 0 count)
+
+-- nothing is held
+none-taken : (clients : Directory) (judged : List Taken) → judged ≡ [] → All (λ t. IsTaken (verdict_on clients t)) judged
+none-taken clients judged none = subst (All (λ t. IsTaken (verdict_on clients t))) (sym none) (All-nil (λ t. IsTaken (verdict_on clients t)))
+
+peopled-seated : (w : World) (count : ℕ) (genesis : Directory) → genesis_of w.setup count ≡ Some genesis → Bare (part_of w)
+    → SeatedIn (part_of (peopled w count genesis).0)
+peopled-seated w count genesis made bare =
+    let long = genesis-long w.setup count genesis made in
+    record {
+      council = refl;
+      logs = subst (λ n. AreSeated log_party (part_of w).dishonest n (IsLogOf (council_of genesis)) (fresh_logs w.setup genesis)) (sym long.0)
+          (made-seated log_party (part_of w).dishonest w.setup.logs (IsLogOf (council_of genesis))
+          (λ number. fresh_log genesis number (key_for w.setup role.LogServer number)) bare.dishonest
+          (λ n. record { number = refl; council = refl }));
+      authorities = subst (λ n. AreSeated authority_party (part_of w).dishonest n (IsAuthorityOf (council_of genesis)) (new_authorities w.setup genesis w.checks count)) (sym long.1)
+          (made-seated authority_party (part_of w).dishonest count (IsAuthorityOf (council_of genesis))
+          (λ number. new_authority genesis number (key_for w.setup role.Authority number) (slice_get w.checks number)) bare.dishonest
+          (λ n. record { number = refl; council = refl }));
+      taken = none-taken genesis w.judged bare.judged;
+    }
+
+-- nothing is told where nothing is held
+none-told : (clients : Directory) (judged : List Taken) → judged ≡ [] → map (told_by clients) judged ≡ []
+none-told clients judged none = ap (map (told_by clients)) none
+
+-- before the line nobody is dishonest, and nothing was accepted
+pub authorities-makes : (w : World) (count : ℕ) → (Stands (part_of w) → Bare (part_of w)) → IfOk (authorities_line w count) (Makes w)
+authorities-makes w count bare =
+    if-chained (named 1 (genesis_of w.setup count)) _ (Makes w) (λ genesis same.
+    let made = named-there 1 (genesis_of w.setup count) genesis same in
+    record {
+      phase = refl;
+      keeps = record {
+        stands = λ s. record {
+          seated = peopled-seated w count genesis made (bare s);
+          bare = λ early. record { dishonest = (bare s).dishonest; judged = (bare s).judged };
+        };
+        told = λ s. ap (λ xs. told_in (part_of w) ++ xs) (keys-quiet w.setup role.Authority count)
+            ∙ ap (λ xs. xs ++ []) (none-told w.clients w.judged (bare s).judged) ∙ sym (none-told genesis w.judged (bare s).judged);
+      };
+    })

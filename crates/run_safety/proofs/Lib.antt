@@ -1,0 +1,10 @@
+pub mod Chains
+pub mod Clients
+pub mod Founded
+pub mod Held
+pub mod Lines
+pub mod Nodes
+pub mod Parts
+pub mod Places
+pub mod Runs
+pub mod Safe

@@ -1,0 +1,156 @@
+-- The steps of honest logs and authorities, and what parties send: each that changes stays who it is.
+use Rattle.std.proofs.Common.{◌≡◌, ◌∙◌, ℕ, ◌+◌, List, [], ◌∷◌, ◌++◌, refl, ap, Option, Some, None, Ok, Err, Result}
+use Rattle.std.specs.Prelude.{is_none, map, slice_set}
+use Rattle.std.specs.List.{filter_map}
+use Rattle.ar_council.specs.Council.{council_of}
+use Rattle.ar_message.specs.Filling.{filled}
+use Rattle.ar_message.specs.Messages.{message_in}
+use Rattle.ar_message.specs.declared.sent.Sent.{Sent}
+use Rattle.ar_message.specs.declared.unsigned.Unsigned.{Unsigned}
+use Rattle.ar_statement.specs.declared.party.Party.{Party}
+use Rattle.ar_world.specs.Authorities.{authority_answers, authority_reply, authority_rolled, authority_rolls, authority_takes, node_behind, says_to}
+use Rattle.ar_world.specs.Codes.{authority_code, log_code, owner_code}
+use Rattle.ar_world.specs.Finding.{authority_at, log_at}
+use Rattle.ar_world.specs.Logs.{log_answers, log_rolls, log_steps}
+use Rattle.ar_world.specs.Owning.{owner_party}
+use Rattle.ar_world.specs.Parties.{AuthorityNode, LogNode}
+use Rattle.ar_world.specs.Pool.{Pooled, entries_from, pooled_from}
+use Rattle.ar_world.specs.Sending.{ending_of, posted}
+use Rattle.ar_world.specs.State.{World, with_authority, with_log}
+use Rattle.ar_world.specs.Submitting.{owner_answers, submitted}
+use Rattle.ar_world.specs.declared.event.LogEvent.{LogEvent}
+use Rattle.ar_world.specs.declared.event.LogEvent.TheVariants as events
+use Rattle.authority_core.proofs.Standing as authority
+use Rattle.authority_core.specs.RollRows.{roll_row}
+use Rattle.authority_core.specs.Row.{asked_in}
+use Rattle.authority_core.specs.State as authority_state
+use Rattle.lms_tree.specs.Key.{public_of}
+use Rattle.lms_tree.specs.KeyParts.{KeyParts}
+use Rattle.log_core.proofs.Standing as log
+use Rattle.log_core.specs.Row.{row}
+use Rattle.log_core.specs.State as log_state
+use Rattle.owner_check.specs.declared.answer.Outcome.{Outcome}
+use Rattle.owner_core.specs.Rows.{Row}
+use Rattle.owner_core.specs.declared.refusal.OwnerRefusal.{OwnerRefusal}
+use Rattle.party_keys.specs.Seen.{authority_party, log_party}
+use Rattle.report_text.specs.declared.happening.Happening.{Happening}
+use Rattle.report_text.specs.declared.happening.Happening.TheVariants.{Step}
+use Rattle.report_text.specs.declared.happening.What.{What}
+use Rattle.report_text.specs.declared.happening.What.TheVariants as whats
+use Rattle.run_safety.specs.Headline.{accepted_in}
+use Rattle.run_safety.specs.Seats.{IsAuthorityOf, IsLogOf}
+use Rattle.run_safety.proofs.Parts.{Goes, Makes, moves, part_of, still}
+use Rattle.run_safety.proofs.Places.{seated-changed}
+
+-- ---- what is printed
+
+-- that messages enter tells of nothing accepted
+pub entries-quiet : (n : ℕ) (xs : List Pooled) → filter_map accepted_in (entries_from n xs) ≡ []
+entries-quiet n [] = refl
+entries-quiet n (x ∷ xs) = entries-quiet (n + 1) xs
+
+-- nor does a party's step
+pub does-quiet : (who : Party) (what : What) (log : ℕ) (ended : Option (ℕ × Option (List ℕ))) (n : ℕ) (xs : List Pooled)
+    → filter_map accepted_in ((Step who what None ∷ ending_of log ended) ++ entries_from n xs) ≡ []
+does-quiet who what log None n xs = entries-quiet n xs
+does-quiet who what log (Some ended) n xs = entries-quiet n xs
+
+-- ---- a party in its place
+
+-- a log that changes stays who it is
+log-put : (w : World) (number : ℕ) (was is : LogNode) (said : List Happening) → log_at w number ≡ Some was
+    → (is.core.log.me ≡ was.core.log.me) × (is.core.log.council ≡ was.core.log.council) → filter_map accepted_in said ≡ []
+    → Goes (part_of w) (part_of (with_log w number is)) said
+log-put w number was is said there stays none =
+    moves (part_of w) (slice_set w.logs number (Some is)) w.authorities said (λ s. record {
+      council = s.council;
+      logs = seated-changed log_party _ _ (IsLogOf (council_of w.genesis)) w.logs number was is there
+          (λ sat. record { number = stays.0 ∙ sat.number; council = stays.1 ∙ sat.council }) s.logs;
+      authorities = s.authorities;
+      taken = s.taken;
+    }) none
+
+-- so does an authority
+pub authority-put : (w : World) (number : ℕ) (was is : AuthorityNode) (said : List Happening) → authority_at w number ≡ Some was
+    → (is.state.me ≡ was.state.me) × (council_of is.state.keys ≡ council_of was.state.keys) → filter_map accepted_in said ≡ []
+    → Goes (part_of w) (part_of (with_authority w number is)) said
+authority-put w number was is said there stays none =
+    moves (part_of w) w.logs (slice_set w.authorities number (Some is)) said (λ s. record {
+      council = s.council;
+      logs = s.logs;
+      authorities = seated-changed authority_party _ _ (IsAuthorityOf (council_of w.genesis)) w.authorities number was is there
+          (λ sat. record { number = stays.0 ∙ sat.number; council = stays.1 ∙ sat.council }) s.authorities;
+      taken = s.taken;
+    }) none
+
+-- ---- logs
+
+log-makes : (w : World) (number : ℕ) (node : LogNode) (keys : List KeyParts) (what : What) (event : LogEvent) (a : log_state.Answer) → log_at w number ≡ Some node
+    → ((reply : log_state.Reply) → a ≡ Ok reply → (reply.after.log.me ≡ node.core.log.me) × (reply.after.log.council ≡ node.core.log.council))
+    → Makes w (log_answers w number node keys what event a)
+log-makes w number node keys what event (Ok reply) there stays =
+    log-put w number node (record { core = reply.after; keys = keys; taken = node.taken ++ event ∷ [] }) _ there (stays reply refl)
+    (does-quiet (log_party number) what number (filled keys reply.unsigned).ended _ (map (pooled_from (log_party number)) (filled keys reply.unsigned).messages))
+log-makes w number node keys what event (Err refusal) there stays = still _ _ (Step (log_party number) what (Some (log_code refusal)) ∷ []) refl refl
+
+pub log-steps-makes : (w : World) (number : ℕ) (node : LogNode) (what : What) (event : LogEvent) (input : log_state.Input) → log_at w number ≡ Some node
+    → Makes w (log_steps w number node what event input)
+unfolding log_steps
+log-steps-makes w number node what event input there = log-makes w number node node.keys what event (row node.core input) there (log.row-stays node.core input)
+
+pub log-rolls-makes : (w : World) (number : ℕ) (node : LogNode) (next : KeyParts) → log_at w number ≡ Some node → Makes w (log_rolls w number node next)
+unfolding log_rolls
+log-rolls-makes w number node next there =
+    let input = log_state.rolls (public_of next)
+    in log-makes w number node (node.keys ++ next ∷ []) whats.Roll events.Roll (row node.core input) there (log.row-stays node.core input)
+
+-- ---- authorities
+
+-- an answer keeps who an authority is
+abbrev Stays : authority_state.AuthorityState → authority_state.Answer → Type 0
+Stays s a = (later : authority_state.AuthorityState) (sent : Unsigned) → a ≡ Ok (later, sent) → (later.me ≡ s.me) × (council_of later.keys ≡ council_of s.keys)
+
+authority-makes : (w : World) (number : ℕ) (was node : AuthorityNode) (what : What) (a : authority_state.Answer) → authority_at w number ≡ Some was
+    → node.state ≡ was.state → Stays was.state a → Makes w (authority_answers w number node what a)
+authority-makes w number was node what (Ok answer) there same stays =
+    authority-put w number was (record node { state = answer.0 }) _ there (stays answer.0 answer.1 refl)
+    (does-quiet (authority_party number) what number (filled node.keys answer.1).ended _ (map (pooled_from (authority_party number)) (filled node.keys answer.1).messages))
+authority-makes w number was node what (Err refusal) there same stays =
+    authority-put w number was node (Step (authority_party number) what (Some (authority_code refusal)) ∷ []) there
+    (ap (λ s. s.me) same, ap (λ s. council_of s.keys) same) refl
+
+pub authority-takes-makes : (says : Outcome) (w : World) (number : ℕ) (node : AuthorityNode) (what : What) (bytes : List ℕ) → authority_at w number ≡ Some node
+    → Makes w (authority_takes says w number node what bytes)
+unfolding authority_takes
+authority-takes-makes says w number node what bytes there =
+    let m = message_in bytes
+    in let a = authority_reply says node m
+    in authority-makes w number node (node_behind node m a) what a there refl
+    (authority.row-stays node.state (is_none node.check) m (says_to says node.check (asked_in m)))
+
+rolled-makes : (w : World) (number : ℕ) (node : AuthorityNode) (next : KeyParts) (a : authority_state.Answer) → authority_at w number ≡ Some node → Stays node.state a
+    → Makes w (authority_rolled w number node next a)
+rolled-makes w number node next (Ok answer) there stays =
+    authority-makes w number node (record node { keys = node.keys ++ next ∷ [] }) whats.Roll (Ok answer) there refl stays
+rolled-makes w number node next (Err refusal) there stays = authority-makes w number node node whats.Roll (Err refusal) there refl stays
+
+pub authority-rolls-makes : (w : World) (number : ℕ) (node : AuthorityNode) (next : KeyParts) → authority_at w number ≡ Some node
+    → Makes w (authority_rolls w number node next)
+unfolding authority_rolls
+authority-rolls-makes w number node next there =
+    rolled-makes w number node next (roll_row node.state (public_of next)) there (authority.rolling-stays node.state (public_of next))
+
+-- ---- others that send
+
+pub posted-makes : (w : World) (who : Party) (sent : Sent) → Makes w (posted w who sent)
+posted-makes w who sent = still _ _ _ refl (entries-quiet _ (map (pooled_from who) sent.messages))
+
+pub owner-makes : (w : World) (number : ℕ) (what : What) (r : Row Sent) → Makes w (owner_answers w number what r)
+owner-makes w number what (Ok made) =
+    still _ _ _ refl (does-quiet (owner_party number) what number made.0.ended _ (map (pooled_from (owner_party number)) made.0.messages))
+owner-makes w number what (Err refusal) = still _ _ (Step (owner_party number) what (Some (owner_code refusal)) ∷ []) refl refl
+
+pub submitted-makes : (w : World) (number : ℕ) (what : What) (r : Result Sent OwnerRefusal) → Makes w (submitted w number what r)
+submitted-makes w number what (Ok sent) =
+    still _ _ _ refl (does-quiet (owner_party number) what number sent.ended _ (map (pooled_from (owner_party number)) sent.messages))
+submitted-makes w number what (Err refusal) = still _ _ (Step (owner_party number) what (Some (owner_code refusal)) ∷ []) refl refl

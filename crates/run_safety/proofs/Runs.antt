@@ -1,0 +1,236 @@
+-- What a step, the deliveries of a `flush` and a whole script keep: who sits where, and what clients hold.
+use Rattle.std.proofs.Common.{◌≡◌, ◌∙◌, ◌≤◌, ℕ, zero, suc, ◌+◌, List, [], ◌∷◌, arith, refl, ap, subst, Bool, true, false, Option, Some, None, Ok, Err, Result, IfOk}
+use Rattle.std.specs.Prelude.{if◌then◌else◌, map, nat_le, nat_lt, ◌==◌}
+use Rattle.std.specs.List.{filter_map}
+use Rattle.std.proofs.lemmas.Bool.{false_from_ne_true, leb-true, ltb-true}
+use Rattle.std.proofs.lemmas.List.Elements.{All-nil}
+use Rattle.std.proofs.lemmas.Option.{same_Some}
+use Rattle.ar_lines.specs.Lines.{lines_of}
+use Rattle.ar_lines.specs.declared.refusal.Reason.{Reason}
+use Rattle.ar_lines.specs.declared.refusal.Reason.TheVariants as reason
+use Rattle.ar_safety.specs.Held.{IsTaken}
+use Rattle.ar_statement.specs.declared.party.Party.{Party}
+use Rattle.ar_world.specs.Delivering.{deliver_line, next_due}
+use Rattle.ar_world.specs.Finding.{Effect, need}
+use Rattle.ar_world.specs.Founding.{led_to, may_come, place_of}
+use Rattle.ar_world.specs.Judging.{verdict_on}
+use Rattle.ar_world.specs.Parties.{CheckParts}
+use Rattle.ar_world.specs.Run.{Progress, Run, Saying, delivering, flushed, follows, line_taken, most_deliveries, most_lines, progress_of, refusing, run, run_behind, run_from, taken, taken_as, then_if, then_on}
+use Rattle.ar_world.specs.State.{Moved, World, first_world, no_directory}
+use Rattle.ar_world.specs.Step.{effect, leads_to, step, stepped}
+use Rattle.ar_world.specs.declared.cause.Cause.{Cause}
+use Rattle.ar_world.specs.declared.cause.Cause.TheVariants.{Unread}
+use Rattle.ar_world.specs.declared.event.LogEvent.TheVariants as events
+use Rattle.ar_world.specs.declared.fault.WorldFault.TheVariants.{Order}
+use Rattle.ar_world.specs.declared.phase.Phase.{Phase}
+use Rattle.ar_world.specs.declared.phase.Phase.TheVariants as phase
+use Rattle.log_core.specs.State.{passes, proposes}
+use Rattle.owner_check.specs.Answers.{forgotten, learnt}
+use Rattle.owner_check.specs.declared.answer.Outcome.{Outcome}
+use Rattle.report_text.specs.declared.happening.Happening.TheVariants.{Forgot, Taught}
+use Rattle.report_text.specs.declared.happening.What.TheVariants as whats
+use Rattle.script_text.specs.Rows.{read_of}
+use Rattle.script_text.specs.declared.line.Line.{Line}
+use Rattle.script_text.specs.declared.line.Line.TheVariants as line
+use Rattle.run_safety.specs.Headline.{accepted_in, said_by}
+use Rattle.run_safety.specs.Seats.{IsSeated}
+use Rattle.run_safety.proofs.Chains.{if-chained, need-holds}
+use Rattle.run_safety.proofs.Founded.{authorities-makes}
+use Rattle.run_safety.proofs.Lines.{ask-makes, check-line-makes, deliver-makes, dishonest-makes, handover-makes, inject-makes, judge-makes, keys-makes, learn-makes, log-order-makes, logs-makes, object-makes, owner-line-makes, register-makes, retire-makes, revoke-makes, roll-makes, sign-makes, submit-makes, update-makes}
+use Rattle.run_safety.proofs.Parts.{Keeps, Makes, Stands, both, part_of, seated, still}
+
+-- ---- a step
+
+-- the line may come where it leads
+abbrev Comes : World → Option Phase → Type 0
+Comes w o = (next : Phase) → o ≡ Some next → may_come w.phase next ≡ true
+
+-- before the line `authorities` all is bare
+early : (p : Phase) → (place_of p == 3) ≡ true → nat_le 4 (place_of p) ≡ false
+early phase.Beginning h = absurd cc
+early phase.SecretTold h = absurd cc
+early phase.KeysTold h = absurd cc
+early phase.LogsMade h = refl
+early phase.AuthoritiesMade h = absurd cc
+early phase.DishonestTold h = absurd cc
+early phase.Running h = absurd cc
+
+-- a party is made dishonest behind it
+late : (p : Phase) → may_come p phase.DishonestTold ≡ true → nat_le 4 (place_of p) ≡ true
+late phase.Beginning h = absurd cc
+late phase.SecretTold h = absurd cc
+late phase.KeysTold h = absurd cc
+late phase.LogsMade h = absurd cc
+late phase.AuthoritiesMade h = refl
+late phase.DishonestTold h = refl
+late phase.Running h = refl
+
+effect-makes : (says : Outcome) (w : World) (l : Line) → Comes w (leads_to l) → IfOk (effect says w l) (Makes w)
+unfolding effect
+effect-makes says w (line.Secret secret) comes = still _ _ [] refl refl
+effect-makes says w (line.Keys lms ots) comes = keys-makes w lms ots
+effect-makes says w (line.Logs n q) comes = logs-makes w n q
+effect-makes says w (line.Authorities m) comes = authorities-makes w m (λ s. s.bare (early w.phase (comes phase.AuthoritiesMade refl)))
+effect-makes says w (line.Dishonest party) comes = dishonest-makes w party (late w.phase (comes phase.DishonestTold refl))
+effect-makes says w (line.Owner owner) comes = owner-line-makes w owner
+effect-makes says w (line.Teach authority name owner) comes = check-line-makes w authority owner (learnt name) (Taught authority) refl
+effect-makes says w (line.Forget authority name owner) comes = check-line-makes w authority owner (forgotten name) (Forgot authority) refl
+effect-makes says w (line.Retire authority) comes = retire-makes w authority
+effect-makes says w (line.Register owner name policy asks) comes = register-makes w owner name policy asks
+effect-makes says w (line.Update owner draft policy asks) comes = update-makes w owner draft policy asks
+effect-makes says w (line.Revoke owner draft asks) comes = revoke-makes w owner draft asks
+effect-makes says w (line.Handover owner draft) comes = handover-makes w owner draft
+effect-makes says w (line.Object owner draft) comes = object-makes w owner draft
+effect-makes says w (line.Submit draft) comes = submit-makes w draft
+effect-makes says w (line.Propose log) comes = log-order-makes w log whats.Propose events.Propose proposes
+effect-makes says w (line.Pass log) comes = log-order-makes w log whats.Pass events.Pass passes
+effect-makes says w (line.Roll party) comes = roll-makes w party
+effect-makes says w (line.Learn message) comes = learn-makes w message
+effect-makes says w (line.Ask log name first second client) comes = ask-makes w log name first second client
+effect-makes says w (line.Deliver message party) comes = deliver-makes says w message party
+effect-makes says w line.Flush comes = still _ _ [] refl refl
+effect-makes says w (line.Judge message name now age) comes = judge-makes w message name now age (comes phase.Running refl)
+effect-makes says w (line.Sign party pieces) comes = sign-makes w party pieces
+effect-makes says w (line.Inject to pieces) comes = inject-makes w to pieces
+effect-makes says w line.Burst comes = tt
+effect-makes says w line.End comes = tt
+
+-- what a line comes to keeps all, in its phase too
+abbrev KeptBy : World → Moved → Type 0
+KeptBy w made = Keeps (part_of w) (part_of made.0) made.1
+
+-- what is below an early place is early
+below : (n k : ℕ) → nat_lt n k ≡ true → k ≤ 3 → nat_le 4 n ≡ false
+below n k less most = false_from_ne_true (nat_le 4 n) (λ e. let one = leb-true 4 n e in let other = ltb-true n k less in omega (arith, one, other, most))
+
+-- a line that leads to an early phase came in an early one
+stays-early : (now next : Phase) → may_come now next ≡ true → nat_le 4 (place_of next) ≡ false → nat_le 4 (place_of now) ≡ false
+stays-early now phase.Beginning comes before = below (place_of now) 0 comes (omega arith)
+stays-early now phase.SecretTold comes before = below (place_of now) 1 comes (omega arith)
+stays-early now phase.KeysTold comes before = below (place_of now) 2 comes (omega arith)
+stays-early now phase.LogsMade comes before = below (place_of now) 3 comes (omega arith)
+stays-early now phase.AuthoritiesMade comes before = absurd cc
+stays-early now phase.DishonestTold comes before = absurd cc
+stays-early now phase.Running comes before = absurd cc
+
+led-keeps : (w : World) (next : Phase) (made : Moved) → may_come w.phase next ≡ true → Makes w made → KeptBy w (record made.0 { phase = next }, made.1)
+led-keeps w next made comes makes = record {
+  stands = λ s.
+      let was = makes.keeps.stands s in
+      record {
+        seated = record { council = was.seated.council; logs = was.seated.logs; authorities = was.seated.authorities; taken = was.seated.taken };
+        bare = λ before.
+            let bare = was.bare (ap (λ p. nat_le 4 (place_of p)) makes.phase ∙ stays-early w.phase next comes before) in
+            record { dishonest = bare.dishonest; judged = bare.judged };
+      };
+  told = makes.keeps.told;
+}
+
+stepped-keeps : (w : World) (o : Option Phase) (made : Effect) → (Comes w o → IfOk made (Makes w)) → IfOk (stepped w o made) (KeptBy w)
+stepped-keeps w None made makes = tt
+stepped-keeps w (Some next) made makes = if-chained (need (may_come w.phase next) Order) _ (KeptBy w) (λ u same.
+    let comes = need-holds (may_come w.phase next) Order u same in
+    by comes made (makes (λ other is. subst (λ p. may_come w.phase p ≡ true) (same_Some next other is) comes)))
+  where
+    by : may_come w.phase next ≡ true → (made : Effect) → IfOk made (Makes w) → IfOk (led_to next made) (KeptBy w)
+    by comes (Ok m) makes = led-keeps w next m comes makes
+    by comes (Err why) makes = tt
+
+step-keeps : (says : Outcome) (w : World) (l : Line) → IfOk (step says w l) (KeptBy w)
+step-keeps says w l = stepped-keeps w (leads_to l) (effect says w l) (effect-makes says w l)
+
+-- ---- lines
+
+-- what was done since keeps all
+abbrev Leaves : World → Progress → Type 0
+Leaves w p = Keeps (part_of w) (part_of p.world) p.said
+
+unmoved-leaves : (w : World) → Keeps (part_of w) (part_of w) []
+unmoved-leaves w = (still (part_of w) (part_of w) [] refl refl).keeps
+
+effect-leaves : (w : World) (made : Effect) → IfOk made (KeptBy w) → Leaves w (progress_of w made)
+effect-leaves w (Ok m) keeps = keeps
+effect-leaves w (Err why) keeps = unmoved-leaves w
+
+if-leaves : (w : World) (cause : Option Cause) (p : Progress) (next : World → Progress) → Leaves w p → ((v : World) → Leaves v (next v)) → Leaves w (then_if cause p next)
+if-leaves w None p next first rest = both (part_of w) (part_of p.world) (part_of (next p.world).world) p.said (next p.world).said first (rest p.world)
+if-leaves w (Some cause) p next first rest = first
+
+then-leaves : (w : World) (p : Progress) (next : World → Progress) → Leaves w p → ((v : World) → Leaves v (next v)) → Leaves w (then_on p next)
+then-leaves w p next first rest = if-leaves w p.refused p next first rest
+
+delivered-keeps : (w : World) (made : Effect) → IfOk made (Makes w) → IfOk made (KeptBy w)
+delivered-keeps w (Ok m) makes = makes.keeps
+delivered-keeps w (Err why) makes = tt
+
+delivering-leaves : (says : Outcome) (w : World) (due : Option (ℕ × Party)) (next : World → Progress) → ((v : World) → Leaves v (next v)) → Leaves w (delivering says w due next)
+delivering-leaves says w None next rest = unmoved-leaves w
+delivering-leaves says w (Some due) next rest =
+    let made = deliver_line says w due.0 due.1
+    in then-leaves w (progress_of w made) next (effect-leaves w made (delivered-keeps w made (deliver-makes says w due.0 due.1))) rest
+
+flushed-leaves : (most : ℕ) (says : ℕ → Outcome) (number : ℕ) (w : World) → Leaves w (flushed most says number w)
+unfolding flushed
+flushed-leaves zero says number w = unmoved-leaves w
+flushed-leaves (suc more) says number w = delivering-leaves (says number) w (next_due w) (flushed more says (number + 1)) (flushed-leaves more says (number + 1))
+
+follows-leaves : (says : ℕ → Outcome) (l : Line) (w : World) → Leaves w (follows says l w)
+follows-leaves says line.Flush w = flushed-leaves most_deliveries says 0 w
+follows-leaves says _ w = unmoved-leaves w
+
+taken-leaves : (says : ℕ → Outcome) (w : World) (l : Line) → Leaves w (taken says w l)
+taken-leaves says w l =
+    then-leaves w (progress_of w (step (says 0) w l)) (follows says l) (effect-leaves w (step (says 0) w l) (step-keeps (says 0) w l)) (follows-leaves says l)
+
+taken-as-leaves : (says : ℕ → Outcome) (w : World) (read : Result (Option Line) Reason) → Leaves w (taken_as says w read)
+taken-as-leaves says w (Ok (Some l)) = taken-leaves says w l
+taken-as-leaves says w (Ok None) = unmoved-leaves w
+taken-as-leaves says w (Err why) = unmoved-leaves w
+
+either-leaves : (w : World) (b : Bool) (p q : Progress) → Leaves w p → Leaves w q → Leaves w (if b then p else q)
+either-leaves w true p q one other = one
+either-leaves w false p q one other = other
+
+line-leaves : (says : ℕ → Outcome) (number : ℕ) (w : World) (text : List ℕ) → Leaves w (line_taken says number w text)
+unfolding line_taken
+line-leaves says number w text =
+    either-leaves w (nat_lt most_lines number) (refusing w (Unread reason.Limit)) (taken_as says w (read_of text))
+    (unmoved-leaves w) (taken-as-leaves says w (read_of text))
+
+-- ---- a script
+
+abbrev Runs : World → Run → Type 0
+Runs w r = Keeps (part_of w) (part_of r.world) r.said
+
+behind-runs : (number : ℕ) (w : World) (p : Progress) (cause : Option Cause) (rest : World → Run) → Leaves w p → ((v : World) → Runs v (rest v)) → Runs w (run_behind number p cause rest)
+behind-runs number w p None rest first later = both (part_of w) (part_of p.world) (part_of (rest p.world).world) p.said (rest p.world).said first (later p.world)
+behind-runs number w p (Some cause) rest first later = first
+
+from-runs : (saying : Saying) (number : ℕ) (w : World) (texts : List (List ℕ)) → Runs w (run_from saying number w texts)
+unfolding run_from
+from-runs saying number w [] = unmoved-leaves w
+from-runs saying number w (text ∷ texts) =
+    let p = line_taken (saying number) number w text
+    in behind-runs number w p p.refused (λ later. run_from saying (number + 1) later texts) (line-leaves (saying number) number w text)
+    (λ later. from-runs saying (number + 1) later texts)
+
+-- before the first line nobody is there
+first-stands : (checks : List CheckParts) → Stands (part_of (first_world checks))
+first-stands checks = record {
+  seated = record {
+    council = refl;
+    logs = record { all = refl; own = λ number node there. absurd cc; empty = λ number less. absurd (omega (arith, less)) };
+    authorities = record { all = refl; own = λ number node there. absurd cc; empty = λ number less. absurd (omega (arith, less)) };
+    taken = All-nil (λ t. IsTaken (verdict_on no_directory t));
+  };
+  bare = λ before. record { dishonest = refl; judged = refl };
+}
+
+pub run-seated : (saying : Saying) (checks : List CheckParts) (input : List ℕ) → IsSeated (run saying checks input).world
+run-seated saying checks input =
+    let runs = from-runs saying 1 (first_world checks) (lines_of input)
+    in seated (run saying checks input).world (runs.stands (first-stands checks)).seated
+
+pub run-told : (saying : Saying) (checks : List CheckParts) (input : List ℕ)
+    → filter_map accepted_in (run saying checks input).said ≡ map (said_by (run saying checks input).world) (run saying checks input).world.judged
+run-told saying checks input = (from-runs saying 1 (first_world checks) (lines_of input)).told (first-stands checks)

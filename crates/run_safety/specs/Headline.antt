@@ -1,0 +1,44 @@
+-- What is promised of a run.
+use Rattle.std.specs.Prelude.{◌≡◌, map}
+use Rattle.std.specs.List.{filter_map}
+use Rattle.std.specs.Prelude.{Option, Some, None}
+use Rattle.report_text.specs.declared.happening.Happening.{Happening}
+use Rattle.report_text.specs.declared.happening.Happening.TheVariants.{Judged}
+use Rattle.report_text.specs.declared.happening.Said.{Said}
+use Rattle.report_text.specs.declared.happening.Said.TheVariants.{Absent, Accepted, Refused}
+use Rattle.ar_safety.specs.Held.{AreSafe, Taken, records_of}
+use Rattle.ar_safety.specs.Theorem.{Few, NoCollision, NoForgery}
+use Rattle.ar_world.specs.Judging.{said_of, verdict_on}
+use Rattle.ar_world.specs.Records.{HasParties, held_of}
+use Rattle.ar_world.specs.Run.{Run}
+use Rattle.ar_world.specs.State.{World}
+
+-- ---- what is written of clients
+
+-- what a verdict says, where it accepts a certificate, or that there is none
+abbrev pub said_accepted : Said → Option Said
+said_accepted (Accepted name serial epoch root certificate) = Some (Accepted name serial epoch root certificate)
+said_accepted (Absent name epoch root) = Some (Absent name epoch root)
+said_accepted (Refused check) = None
+
+-- the same of what is written
+abbrev pub accepted_in : Happening → Option Said
+accepted_in (Judged message said) = said_accepted said
+accepted_in _ = None
+
+-- what is written of a judgement that is held
+abbrev pub said_by : World → Taken → Said
+said_by w t = said_of t.name (verdict_on w.clients t)
+
+-- ---- the promise
+
+-- With at most two dishonest parties, where no honest signature was forged and no hashes collide, all that the theorem says is true
+-- of what the parties hold.
+abbrev pub IsSafeWorld : World → Type 0
+IsSafeWorld w = Few (records_of (held_of w)) → NoForgery (records_of (held_of w)) → NoCollision (records_of (held_of w)) → AreSafe (held_of w)
+
+-- Of a run: from the line `authorities` on its parties are safe so; and what is written as accepted, a certificate or that there is
+-- none, is what clients hold, each by its verdict, in order.
+pub record IsSafeRun (r : Run) : Type 0 where
+  pub safe : HasParties r.world → IsSafeWorld r.world
+  pub written : filter_map accepted_in r.said ≡ map (said_by r.world) r.world.judged

@@ -1,0 +1,36 @@
+//! Laws on runs: each is the contract of a function with an empty body.
+ghost use Rattle.std.specs.Prelude.{◌≡◌, ℕ, List, map};
+ghost use Rattle.std.specs.List.{filter_map};
+ghost use Rattle.ar_safety.specs.Held.{AreKept};
+ghost use Rattle.ar_world.specs.Parties.{CheckParts};
+ghost use Rattle.ar_world.specs.Records.{HasParties, KeepsRecords, held_of};
+ghost use Rattle.ar_world.specs.Run.{Saying, run};
+ghost use Rattle.ar_world.specs.State.{World};
+ghost use Rattle.run_safety.specs.Headline.{IsSafeRun, accepted_in, said_by};
+ghost use Rattle.run_safety.specs.Seats.{IsSeated};
+
+/// Whatever lines a script has: each honest log and authority is the one with the number of its place, by one council; the
+/// place of each other is empty, and it is one of the dishonest parties; and what clients hold they accepted, by their
+/// directory as it is. Before the line `authorities` there is none of them.
+pub fn a_run_keeps_its_parties()
+    ensures { (saying : Saying) (checks : List CheckParts) (input : List ℕ) → IsSeated (run saying checks input).world }
+{}
+
+/// What is written of a script as accepted, a certificate or that there is none, is what its clients hold, each by its
+/// verdict, in order.
+pub fn what_is_written_as_accepted_is_held()
+    ensures { (saying : Saying) (checks : List CheckParts) (input : List ℕ)
+        → filter_map accepted_in (run saying checks input).said ≡ map (said_by (run saying checks input).world) (run saying checks input).world.judged }
+{}
+
+/// Where all parties are seated, and each keeps its own record, what they hold is what the theorem speaks of: the records of
+/// all honest logs and authorities, none left out, and what clients accepted.
+pub fn what_seated_parties_hold_is_kept()
+    ensures { (w : World) → IsSeated w → KeepsRecords w → AreKept (held_of w) }
+{}
+
+/// A run is safe, whose parties keep their records.
+pub fn a_run_is_safe()
+    ensures { (saying : Saying) (checks : List CheckParts) (input : List ℕ) → (HasParties (run saying checks input).world → KeepsRecords (run saying checks input).world)
+        → IsSafeRun (run saying checks input) }
+{}

@@ -1,0 +1,10 @@
+//! The safety theorem of a run: with at most two dishonest parties, where no honest signature was forged and no hashes
+//! collide, a client of a script accepts only what honest parties agree on, whatever messages are made, lost, repeated,
+//! reordered or injected in it.
+//!
+//! `specs/Headline.antt` has what is promised of a run. `specs/Seats.antt` has what each line of a script keeps, by which the
+//! records that the parties of a world hold are those of which the theorem of `ar_safety` speaks. `laws` has both, over the
+//! definitions of `ar_world` alone.
+#![tactic(auto)]
+
+pub mod laws;
