@@ -7,6 +7,7 @@
 //! ordered list of tests or of conditions is the first that fails, `specs/Gives.antt` that a call which takes
 //! memory answers as its definition says, and `specs/Apart.antt` that no two strings of a list have one digest
 //! under SHA-256.
+//! `specs/Shares.antt` says what shares of seats are, and `specs/Places.antt` where a text stands in a list.
 #![tactic(auto)]
 
 pub use items::Items;

@@ -1,6 +1,6 @@
 ghost use Rattle.std.specs.Prelude.{◌≡◌, ◌==◌, ◌<◌, ◌^◌, ◌↔◌, length, IsNone, IfSome};
-ghost use Rattle.std.specs.Int.{w8, w16, w32, w64};
-ghost use Rattle.ar_base.specs.Bytes.{AreBytes};
+ghost use Rattle.std.specs.Int.{w8, w16, w32, w64, from_be_bytes};
+ghost use Rattle.ar_base.specs.Bytes.{AreBytes, IsDigest};
 
 use std::marker::Model;
 
@@ -167,4 +167,19 @@ pub fn are_bytes(bytes: &[u8])
     ensures { AreBytes bytes.now }
 {
     let _bytes = bytes;
+}
+
+/// Tells a proof that 32 bytes are a digest. It does nothing.
+pub fn digest_told(digest: &[u8; 32])
+    ensures { IsDigest digest.now }
+{
+    are_bytes(digest);
+}
+
+/// The big-endian number that four bytes are.
+pub fn u32_of(bytes: &[u8]) -> u32
+    requires { length bytes.now ≡ 4 }
+    ensures { result ≡ from_be_bytes w32 bytes.now }
+{
+    u32::from_be_bytes([bytes[0], bytes[1], bytes[2], bytes[3]])
 }

@@ -53,6 +53,7 @@ impl Policy {
 /// The certificate of a domain.
 #[derive(Debug, Drop)]
 pub struct Cert {
+    /// The name of the domain; in the text behind its length in one byte.
     pub name: Name,
     /// How many certificates the domain had before.
     pub serial: u64,
@@ -60,6 +61,7 @@ pub struct Cert {
     pub previous: [u8; 32],
     /// The key of the domain.
     pub subject: LmsPublic,
+    /// What the next certificate needs, and what clients ask of a confirmation.
     pub policy: Policy,
     /// Whether the domain takes no further certificates.
     pub revoked: bool,

@@ -27,6 +27,7 @@ impl Model for Endorsement {
 /// A certificate with what vouches for it.
 #[derive(Debug, Drop)]
 pub struct Change {
+    /// The certificate that is to follow the name's newest one, or to be its first; of an objection the pending one.
     pub cert: Cert,
     /// At most 8 endorsements, by authorities whose numbers ascend strictly.
     pub endorsements: Items<Endorsement>,

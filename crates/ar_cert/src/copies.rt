@@ -20,6 +20,7 @@ pub(crate) fn numbers_of(alloc: Global, bytes: &[u8]) -> Result<Vec<u16>, AllocE
 
 impl Cert {
     /// A second value that says the same.
+    /// The only error is want of memory.
     pub fn copy(&self, alloc: Global) -> Result<Cert, AllocError>
         ensures { IfOk result (λ cert. cert ≡ self.now) }
     {
@@ -45,7 +46,7 @@ impl Cert {
 }
 
 impl Endorsement {
-    /// A second value that says the same.
+    /// A second value that says the same. The only error here and below is want of memory.
     fn copy(&self, alloc: Global) -> Result<Endorsement, AllocError>
         ensures { IfOk result (λ endorsement. endorsement ≡ self.now) }
     {
@@ -58,7 +59,11 @@ impl Endorsement {
 }
 
 /// Copies of all, in their order.
-fn copies(alloc: Global, endorsements: &[Endorsement]) -> Result<Vec<Endorsement>, AllocError>
+/// The only error is want of memory.
+pub fn copy_endorsements(
+    alloc: Global,
+    endorsements: &[Endorsement],
+) -> Result<Vec<Endorsement>, AllocError>
     ensures { IfOk result (λ list. list.items ≡ endorsements.now) }
 {
     let mut list = Vec::with_capacity(alloc, endorsements.len())?;
@@ -69,7 +74,8 @@ fn copies(alloc: Global, endorsements: &[Endorsement]) -> Result<Vec<Endorsement
 }
 
 /// A signature of its own, where there is one.
-fn signature_of(
+/// The only error is want of memory.
+pub fn copy_signature(
     alloc: Global,
     signature: &Option<Items<u8>>,
 ) -> Result<Option<Items<u8>>, AllocError>
@@ -83,13 +89,14 @@ fn signature_of(
 
 impl Change {
     /// A second value that says the same.
+    /// The only error is want of memory.
     pub fn copy(&self, alloc: Global) -> Result<Change, AllocError>
         ensures { IfOk result (λ change. change ≡ self.now) }
     {
         let cert = self.cert.copy(alloc)?;
-        let endorsements = copies(alloc, self.endorsements.as_slice())?;
-        let handover = signature_of(alloc, &self.handover)?;
-        let objection = signature_of(alloc, &self.objection)?;
+        let endorsements = copy_endorsements(alloc, self.endorsements.as_slice())?;
+        let handover = copy_signature(alloc, &self.handover)?;
+        let objection = copy_signature(alloc, &self.objection)?;
         Ok(Change {
             cert,
             endorsements: Items::from_vec(endorsements),

@@ -43,9 +43,9 @@ pub(crate) fn wait(fields: &mut Fields, waits: bool) -> Result<Option<u16>, usiz
     Ok(Some(wait))
 }
 
-/// An LMS public key that can be read.
+/// Reads an LMS public key, which has to be one that can be read; else it gives the place of its first byte.
 #[tactic(auto, unfolding(crate::specs::Certificate::key_at))]
-pub(crate) fn key(fields: &mut Fields) -> Result<LmsPublic, usize>
+pub fn take_key(fields: &mut Fields) -> Result<LmsPublic, usize>
     ensures { Tells (λ key. key) result fields.new (key_at fields.old) }
 {
     let place = fields.place();

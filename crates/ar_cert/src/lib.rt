@@ -21,18 +21,16 @@ mod facts;
 mod fault;
 mod fields;
 mod judging;
-#[cfg(test)]
-mod judging_tests;
 pub mod laws;
 mod reading;
-#[cfg(test)]
-mod tests;
 mod view;
 mod writing;
 
 pub use cert::{Cert, Policy};
 pub use change::{Change, Endorsement};
 pub use change_view::ChangeView;
+pub use copies::{copy_endorsements, copy_signature};
 pub use fault::CertFault;
+pub use fields::take_key;
 pub use judging::{chain_ok, judge_change, judge_update};
 pub use view::CertView;

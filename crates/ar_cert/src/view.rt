@@ -2,7 +2,7 @@ ghost use Rattle.std.specs.Prelude.{◌≡◌};
 
 use crate::cert::{Cert, Policy};
 use crate::copies::numbers_of;
-use crate::fields::{key, trusted, version, wait};
+use crate::fields::{take_key, trusted, version, wait};
 use ar_base::Items;
 use ar_bytes::{Fields, are_bytes};
 use ar_names::NameView;
@@ -108,7 +108,7 @@ impl<'a> FieldsView<'a> {
         let name = name(fields)?.text();
         let serial = fields.take_u64()?;
         let previous = digest(fields)?;
-        let subject = key(fields)?;
+        let subject = take_key(fields)?;
         let terms = TermsView::take(fields)?;
         let revoked = fields.take_flag()?;
         Ok(FieldsView {

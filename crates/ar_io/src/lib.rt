@@ -4,6 +4,11 @@
 //! `read_all` and `write_all` are generic over every source and sink. `MemSource` and `MemSink` are
 //! lists in memory whose calls give little and fail on demand, `QuietSource` and `QuietSink` never
 //! fail, and `StdSource` and `StdSink` stand over std's readers and writers.
+//!
+//! `specs/Calls.antt` says which calls of an object in memory fail, `specs/ReadAll.antt` what was taken from a
+//! source that could not be read to its end, and `specs/Wrote.antt` what a call did to what a sink wrote.
+//! `specs/MemSource.antt`, `specs/MemSink.antt`, `specs/QuietSink.antt` and `specs/StdEdge.antt` say what
+//! contracts see of each kind.
 #![tactic(auto)]
 
 pub use faults::{Failed, ReadFault};
@@ -30,7 +35,5 @@ mod sink;
 mod source;
 mod std_sink;
 mod std_source;
-#[cfg(test)]
-mod tests;
 mod unread;
 mod writing;

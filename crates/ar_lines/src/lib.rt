@@ -20,6 +20,4 @@ pub mod laws;
 mod lines;
 mod party;
 mod refusal;
-#[cfg(test)]
-mod tests;
 mod word;

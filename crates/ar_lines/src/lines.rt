@@ -181,6 +181,7 @@ impl<'a> Lines<'a> {
     }
 
     /// The next line, which has to be text of two words: this one, and the field that is given.
+    /// A missing line is refused as `words`, another by the first of `text`, `word` and `words` that holds.
     #[tactic(auto, unfolding(crate::specs::Rows::field_at))]
     pub fn field(&mut self, name: &[u8]) -> Result<Word<'a>, Refusal>
         ensures { Follows (λ word. word) result self.new (field_at name.now self.old) }
@@ -190,6 +191,7 @@ impl<'a> Lines<'a> {
     }
 
     /// The next line, which has to be text of three words: this one, and the two fields that are given.
+    /// It is refused as in `field`.
     #[tactic(auto, unfolding(crate::specs::Rows::two_fields_at))]
     pub fn two_fields(&mut self, name: &[u8]) -> Result<(Word<'a>, Word<'a>), Refusal>
         ensures { Follows (λ words. words) result self.new (two_fields_at name.now self.old) }

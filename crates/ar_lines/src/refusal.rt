@@ -40,6 +40,7 @@ impl fmt::Display for Reason {
 pub struct Refusal {
     /// Its number, from 1; 0 stands for the whole input.
     pub line: u64,
+    /// The first reason that holds against the line.
     pub reason: Reason,
 }
 

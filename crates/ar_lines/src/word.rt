@@ -77,6 +77,7 @@ impl<'a> Word<'a> {
     }
 
     /// The bytes that a hex word spells: two lower-case digits for each byte.
+    /// Another word is refused as the field that it is; `Memory` is want of memory.
     #[tactic(auto, using(crate::proofs::HexWords::hex_laws))]
     pub fn bytes(&self, alloc: Global) -> Result<Vec<u8>, LineFault>
         ensures { ReadsOrWants (λ bytes. bytes.items) result (spelled self.now (bytes_of_hex self.now.text)) }
@@ -91,6 +92,7 @@ impl<'a> Word<'a> {
     }
 
     /// The public key whose text a hex word of 112 digits spells. It takes no memory.
+    /// Another word is refused as the field that it is.
     pub fn key(&self) -> Result<LmsPublic, Refusal>
         ensures { result ≡ spelled self.now (key_of_hex self.now.text) }
     {
@@ -99,6 +101,7 @@ impl<'a> Word<'a> {
 
     /// The number below 2^64 that the word spells in decimal digits, without a sign and without leading
     /// zeros.
+    /// Another word is refused as the field that it is.
     pub fn number(&self) -> Result<u64, Refusal>
         ensures { result ≡ spelled self.now (number_of self.now.text) }
     {
@@ -106,6 +109,7 @@ impl<'a> Word<'a> {
     }
 
     /// The name that the word is.
+    /// Another word is refused as the field that it is; `Memory` is want of memory.
     pub fn name(&self, alloc: Global) -> Result<Name, LineFault>
         ensures { ReadsOrWants (λ name. name) result (spelled self.now (name_of self.now.text)) }
     {

@@ -3,7 +3,6 @@
 
 ghost use Rattle.std.specs.Prelude.{◌≡◌, IfOk};
 ghost use Rattle.ar_bytes.specs.Reading.{Tells, such_that};
-ghost use Rattle.ar_cert.specs.Certificate.{key_at};
 ghost use Rattle.ar_cert.specs.Changes.{IsSignature};
 ghost use Rattle.ar_statement.specs.Ranges.{is_witness};
 ghost use Rattle.ar_statement.specs.Texts.{role_at};
@@ -13,14 +12,10 @@ ghost use Rattle.ar_message.specs.Messages.{endorse_ask_at, endorsed_at, submit_
 use crate::take_lists::{take_changes, take_statuses, take_votes};
 use crate::{Message, MessageFault, Signature};
 use ar_bytes::Fields;
-use ar_cert::{CertView, ChangeView};
+use ar_cert::{CertView, ChangeView, take_key};
 use ar_statement::fields::{digest, epoch, name, role, roots, value};
 use ar_statement::{Party, Role};
-use lms_tree::LmsPublic;
 use std::alloc::Global;
-
-/// The bytes of a key.
-const KEY_LEN: usize = 56;
 
 #[tactic(auto, unfolding(crate::specs::Messages::endorse_ask_at))]
 pub(crate) fn endorse_ask(alloc: Global, fields: &mut Fields) -> Result<Message, MessageFault>
@@ -192,24 +187,13 @@ fn witness(fields: &mut Fields) -> Result<Party, usize>
     Ok(role.party(number))
 }
 
-/// An LMS public key that can be read.
-#[tactic(auto, unfolding(ar_cert::specs::Certificate::key_at))]
-fn key(fields: &mut Fields) -> Result<LmsPublic, usize>
-    ensures { Tells (λ key. key) result fields.new (key_at fields.old) }
-{
-    let place = fields.place();
-    let bytes = fields.take_bytes(KEY_LEN)?;
-    let key = LmsPublic::read(bytes).ok_or(place)?;
-    Ok(key)
-}
-
 #[tactic(auto, unfolding(crate::specs::Messages::roll_note_at))]
 pub(crate) fn roll_note(alloc: Global, fields: &mut Fields) -> Result<Message, MessageFault>
     ensures { Fills result roll_note_at fields.old }
 {
     let party = witness(fields)?;
     let generation = fields.take_u32()?;
-    let key = key(fields)?;
+    let key = take_key(fields)?;
     let signature = fields.take_counted()?;
     fields.take_end()?;
     let signature = Signature::of(alloc, signature)?;

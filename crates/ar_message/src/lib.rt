@@ -22,8 +22,6 @@ mod sent;
 mod signature;
 mod steps;
 mod take_lists;
-#[cfg(test)]
-mod tests;
 mod unsigned;
 mod view;
 mod write_kinds;

@@ -25,6 +25,7 @@ pub struct LogStatus {
 /// At most 16 votes, of logs whose numbers ascend strictly.
 #[derive(Debug, Drop)]
 pub struct Votes {
+    /// In a message its length stands in front of it, u8; no log has two votes in it.
     pub list: Vec<Vote>,
 }
 
@@ -44,6 +45,7 @@ impl Model for Votes {
 /// At most 16 statuses, of logs whose numbers ascend strictly.
 #[derive(Debug, Drop)]
 pub struct Statuses {
+    /// In a message its length stands in front of it, u8; no log has two statuses in it.
     pub list: Vec<LogStatus>,
 }
 
@@ -63,6 +65,7 @@ impl Model for Statuses {
 /// At most 64 changes, in the order in which they are applied.
 #[derive(Debug, Drop)]
 pub struct Changes {
+    /// In a message its length stands in front of it, u8; each change is judged behind the ones before it.
     pub list: Vec<Change>,
 }
 

@@ -5,6 +5,7 @@ use std::marker::Model;
 /// authority begins with the generation of its key, u32.
 #[derive(Debug, Drop)]
 pub struct Signature {
+    /// In a message their number stands in front of them, u16.
     pub bytes: Vec<u8>,
 }
 
@@ -34,6 +35,7 @@ impl Signature {
     }
 
     /// So many zero bytes, where a signature is due.
+    /// The only error is want of memory.
     pub fn zeros(alloc: Global, len: usize) -> Result<Signature, AllocError>
         requires { len < 2 ^ 16 }
         ensures { IfOk result (λ signature. signature ≡ zeros len) }

@@ -8,6 +8,7 @@ use tree_proof::Path;
 /// behind the other.
 #[derive(Debug, Drop)]
 pub struct Steps {
+    /// 32 for each step. In a message the number of steps stands in front of them, u16.
     pub bytes: Vec<u8>,
 }
 
@@ -37,6 +38,7 @@ impl Steps {
     }
 
     /// The steps of a path in the tree, which has at most 256: its digests are copied once.
+    /// The only error is want of memory.
     pub fn of_path(alloc: Global, path: &Path) -> Result<Steps, AllocError>
         requires { length path.now.steps ≤ 256 }
         ensures { IfOk result (λ steps. steps ≡ flat_map (λ step. step) path.now.steps) }

@@ -20,7 +20,9 @@ pub struct Blank {
 
 /// What a step sends, before it is signed. It has to be spent, by `fill`: until then no message may leave.
 pub struct Unsigned {
+    /// What leaves once each blank is signed.
     pub sent: Sent,
+    /// Each place in its messages where a signature of the sender's own is due.
     pub blanks: Items<Blank>,
 }
 

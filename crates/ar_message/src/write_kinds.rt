@@ -1,6 +1,6 @@
 //! Messages written, kind by kind.
 
-ghost use Rattle.std.specs.Prelude.{◌≡◌, ◌+◌, ◌≤◌, ◌++◌, length, vec_len, vec_capacity, IsOk, OnOk, OnErr};
+ghost use Rattle.std.specs.Prelude.{◌≡◌, ◌+◌, ◌≤◌, ◌++◌, length, vec_len, vec_capacity, IfOk, IsOk, OnOk, OnErr};
 ghost use Rattle.std.specs.Int.{w8, w16, w32, w64};
 ghost use Rattle.ar_base.specs.Ranges.{IsFromTo};
 ghost use Rattle.ar_bytes.specs.Joined.{optional_text};
@@ -337,5 +337,14 @@ impl Message {
             out.truncate(start);
         }
         result
+    }
+
+    /// The text. The one error is want of memory.
+    pub fn text(&self, alloc: Global) -> Result<Vec<u8>, AllocError>
+        ensures { IfOk result (λ text. text.items ≡ message_text self.now) }
+    {
+        let mut text = Vec::new(alloc);
+        self.write(alloc, &mut text)?;
+        Ok(text)
     }
 }

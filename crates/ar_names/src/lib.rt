@@ -1,5 +1,8 @@
 //! Names of domains: which texts are names, where a text that is none goes wrong, and the digest under
 //! which a name stands in the integrity tree.
+//!
+//! `specs/Names.antt` says which texts are names, where the first fault of another one is, and which digest a
+//! name has, and `specs/NameReading.antt` what reading a text as a name gives.
 #![tactic(auto)]
 
 mod fault;

@@ -79,6 +79,7 @@ impl Name {
 
 impl<'a> NameView<'a> {
     /// The name as a value of its own. Its text is not looked at again.
+    /// The only error is want of memory.
     pub fn to_name(&self, alloc: Global) -> Result<Name, AllocError>
         ensures { IfOk result (λ name. name ≡ self.now) }
     {

@@ -25,6 +25,7 @@ impl Model for Answer {
 
 impl Answer {
     /// The answer of one line, which is given without its newline.
+    /// The only error is want of memory.
     pub fn one_line(alloc: Global, text: Vec<u8>, status: u8) -> Result<Answer, AllocError>
         requires { status < 4 }
         ensures { IfOk result (λ answer. answer ≡ one_line text.items status) }

@@ -17,5 +17,3 @@ mod fault;
 mod input;
 mod respond;
 mod running;
-#[cfg(test)]
-mod tests;

@@ -11,6 +11,7 @@ use ar_io::{Sink, Source, write_all};
 use std::alloc::Global;
 
 /// The answer of a command to all that the source has left.
+/// `Source` comes where a read failed, `Memory` where memory ran out, and `Sink` never.
 pub fn answer_from<S: Source, C: Respond>(
     alloc: Global,
     command: &C,
@@ -33,6 +34,7 @@ pub fn answer_from<S: Source, C: Respond>(
 }
 
 /// Writes a line as one piece. It takes no memory.
+/// The only error is `Sink`, where a write failed.
 pub fn write_line<K: Sink>(sink: &mut K, line: &[u8]) -> Result<(), Fault>
     ensures { Writes K.faults K.wrote sink.old sink.new line.now result }
 {
@@ -59,6 +61,7 @@ fn first_line(text: &[u8]) -> (&[u8], &[u8])
 }
 
 /// Writes the lines of a text, each as one piece. It takes no memory.
+/// The only error is `Sink`, where a write failed.
 pub fn write_text<K: Sink>(sink: &mut K, text: &[u8]) -> Result<(), Fault>
     ensures { Writes K.faults K.wrote sink.old sink.new text.now result }
 {
@@ -72,6 +75,7 @@ pub fn write_text<K: Sink>(sink: &mut K, text: &[u8]) -> Result<(), Fault>
 }
 
 /// Writes the lines of an answer, each as one piece. It takes no memory.
+/// The only error is `Sink`, where a write failed.
 pub fn write_answer<K: Sink>(sink: &mut K, answer: &Answer) -> Result<(), Fault>
     ensures { Writes K.faults K.wrote sink.old sink.new (written_of answer.now) result }
 {
@@ -83,6 +87,7 @@ pub fn write_answer<K: Sink>(sink: &mut K, answer: &Answer) -> Result<(), Fault>
 
 /// Runs a command that reads an input: reads all of it, and writes the answer. It returns the status of
 /// the answer.
+/// `Source` comes where a read failed, `Sink` where a write did, and `Memory` where memory ran out.
 pub fn run<S: Source, K: Sink, C: Respond>(
     alloc: Global,
     command: &C,

@@ -1,6 +1,8 @@
 //! What the parties sign: the statements, and the one text of each.
 //!
 //! `specs/Claims.antt` has the texts as a table by kind.
+//! `specs/Texts.antt` says how a text is read, `specs/Fields.antt` the fields that certificates and messages
+//! have too, and `specs/Ranges.antt` which values the fields of a statement have.
 #![tactic(auto)]
 
 pub mod fields;
@@ -8,8 +10,6 @@ pub mod laws;
 mod party;
 mod reading;
 mod statement;
-#[cfg(test)]
-mod tests;
 mod text;
 mod told;
 mod writing;

@@ -14,7 +14,9 @@ pub enum Role {
 /// One of the parties of its role. Numbers count from 0.
 #[derive(Clone, Copy, Debug, PartialEq, Eq)]
 pub struct Party {
+    /// In texts one byte, in front of the number.
     pub role: Role,
+    /// Its place among the parties of its role, from 0; 0 for an owner as signer, since its key names it.
     pub number: u16,
 }
 
@@ -59,5 +61,17 @@ impl Role {
             Role::LogServer | Role::Authority => true,
             Role::Owner | Role::Client => false,
         }
+    }
+}
+
+impl Party {
+    ghost use Rattle.std.specs.Prelude.{◌≡◌};
+    ghost use Rattle.ar_statement.specs.Claims.{is_party};
+
+    /// Whether both are one party.
+    pub fn is_same(&self, other: &Party) -> bool
+        ensures { result ≡ is_party self.now other.now }
+    {
+        self.role.number() == other.role.number() && self.number == other.number
     }
 }

@@ -1,9 +1,9 @@
-ghost use Rattle.std.specs.Prelude.{◌≡◌, length};
-ghost use Rattle.std.specs.Int.{w32, from_be_bytes};
+ghost use Rattle.std.specs.Prelude.{◌≡◌};
 ghost use Rattle.ar_statement.specs.Ranges.{is_readable};
 
 use crate::fields::is_epoch;
 use crate::party::{Party, Role};
+use ar_bytes::u32_of;
 use ar_names::NameView;
 
 /// The most bytes that the text of a statement has.
@@ -32,7 +32,9 @@ pub enum Statement<'a> {
     Vote {
         log: u16,
         epoch: u64,
+        /// The root of the table in which the epoch begins, before anything ripens in it.
         base: [u8; 32],
+        /// The root of the table that the epoch is to end with.
         root: [u8; 32],
     },
     /// At the end of the epoch the name has the certificate with this digest, in the table with this
@@ -56,19 +58,23 @@ pub enum Statement<'a> {
     Answer {
         name: NameView<'a>,
         certificate: [u8; 32],
+        /// The 32 bytes that the client sent, new for each connection.
         challenge: [u8; 32],
     },
     /// What the log did in the epoch: it voted for a base and a root, or for nothing, and will not.
     Status {
         log: u16,
         epoch: u64,
+        /// The base and the root; `None` where it voted for nothing.
         value: Option<([u8; 32], [u8; 32])>,
     },
     /// The log's or authority's key behind that of this generation: the text of an LMS public key
     /// (RFC 8554, section 5.3).
     Roll {
         signer: Party,
+        /// The generation of the key that signs, from 0.
         generation: u32,
+        /// The next key: u32 LMS type, u32 LM-OTS type, I and T[1].
         key: [u8; 56],
     },
     /// The owner whose key the certificate with this digest would replace objects to it.
@@ -121,20 +127,12 @@ impl Statement<'_> {
     }
 }
 
-/// The number that four bytes are.
-fn number_in(bytes: &[u8]) -> u32
-    requires { length bytes.now ≡ 4 }
-    ensures { result ≡ from_be_bytes w32 bytes.now }
-{
-    u32::from_be_bytes([bytes[0], bytes[1], bytes[2], bytes[3]])
-}
-
 /// Whether a key begins with the numbers of an LMS type and of an LM-OTS type.
 #[tactic(auto, unfolding(crate::specs::Ranges::is_readable))]
 fn is_readable(key: &[u8; 56]) -> bool
     ensures { result ≡ is_readable key.now }
 {
-    let lms = number_in(&key[..4]);
-    let ots = number_in(&key[4..8]);
+    let lms = u32_of(&key[..4]);
+    let ots = u32_of(&key[4..8]);
     5 <= lms && lms <= 9 && 1 <= ots && ots <= 4
 }

@@ -54,6 +54,8 @@ impl Text {
 /// A text, and the party that signed it.
 #[derive(Clone, Copy, Debug)]
 pub struct SeenText {
+    /// Who signed it: its signature was verified, or it is the log's own ballot or status.
     pub party: Party,
+    /// The text of the statement that was signed, at most 330 bytes.
     pub text: Text,
 }

@@ -5,14 +5,8 @@ ghost use Rattle.ar_statement.specs.Claims.{claim_of};
 ghost use Rattle.ar_statement.specs.Ranges.{AreRoots, HasFields, IsHeld, IsKeyText};
 
 use crate::statement::Statement;
-use ar_bytes::are_bytes;
+use ar_bytes::{are_bytes, digest_told};
 use ar_names::NameView;
-
-fn digest_told(digest: &[u8; 32])
-    ensures { IsDigest digest.now }
-{
-    are_bytes(digest);
-}
 
 fn roots_told(base: &[u8; 32], root: &[u8; 32])
     ensures { AreRoots (base.now, root.now) }

@@ -1,13 +1,11 @@
 -- The line `judge`: a client judges a message.
 use Rattle.std.specs.Prelude.{ℕ, ◌+◌, Bool, false, true, if◌then◌else◌, List, [], ◌∷◌, ◌++◌, Option, Some, None, Ok}
 use Rattle.ar_base.specs.Chaining.{◌>>=◌}
-use Rattle.ar_safety.specs.Held.{Taken}
+use Rattle.ar_safety.specs.Held.{Taken, verdict_on}
 use Rattle.ar_statement.specs.declared.party.Role.{Role}
 use Rattle.ar_statement.specs.declared.party.Role.TheVariants as role
-use Rattle.client_rule.specs.Rule.{judgement}
 use Rattle.client_rule.specs.declared.judgement.Judgement.{Judgement}
 use Rattle.client_rule.specs.declared.judgement.Judgement.TheVariants as judgement
-use Rattle.party_keys.specs.Directory.{Directory}
 use Rattle.report_text.specs.declared.happening.Happening.TheVariants.{Judged}
 use Rattle.report_text.specs.declared.happening.Said.{Said}
 use Rattle.report_text.specs.declared.happening.Said.TheVariants as said
@@ -69,11 +67,7 @@ accepted_with judged t verdict = if is_accepted verdict then judged ++ t ∷ [] 
 abbrev pub judging : World → ℕ → Taken → Judgement → Moved
 judging w message t verdict = (record w { judged = accepted_with w.judged t verdict }, Judged message (said_of t.name verdict) ∷ [])
 
--- the client's rule, by a directory
-abbrev pub verdict_on : Directory → Taken → Judgement
-verdict_on keys t = judgement keys t.name t.bytes t.now t.age
-
--- by the one that all clients share
+-- the client's rule, by the directory that all clients share
 abbrev pub judged_by_rule : World → ℕ → Taken → Moved
 judged_by_rule w message t = judging w message t (verdict_on w.clients t)
 

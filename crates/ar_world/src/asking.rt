@@ -21,15 +21,6 @@ use owner_check::OwnerCheck;
 use report_text::Happening;
 use std::alloc::{AllocError, Global};
 
-/// The text of a message.
-fn text_of(alloc: Global, message: &Message) -> Result<Vec<u8>, AllocError>
-    ensures { IfOk result (λ text. text.items ≡ message_text message.now) }
-{
-    let mut text = Vec::new(alloc);
-    message.write(alloc, &mut text)?;
-    Ok(text)
-}
-
 /// The text by which a client asks for a name.
 fn question_text(
     alloc: Global,
@@ -47,7 +38,7 @@ fn question_text(
         first,
         second,
     };
-    text_of(alloc, &message)
+    message.text(alloc)
 }
 
 /// One message of a party enters the pool, and this is told.

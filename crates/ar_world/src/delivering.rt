@@ -15,7 +15,7 @@ use crate::fault::WorldFault;
 use crate::finding::has_owner;
 use crate::owners;
 use crate::parties::{HonestAuthority, HonestLog};
-use crate::pool::{Pool, Pooled, has_party, is_party};
+use crate::pool::{Pool, Pooled, has_party};
 use crate::replying::{MOST_SENT, Reply, tell};
 use crate::sending::reserve;
 use crate::world::World;
@@ -169,7 +169,7 @@ fn is_sender(from: Option<Party>, who: Party) -> bool
     ensures { result ≡ is_sender from who }
 {
     match from {
-        Some(sender) => is_party(&sender, &who),
+        Some(sender) => sender.is_same(&who),
         None => false,
     }
 }

@@ -24,9 +24,13 @@ impl Model for Drafted {
 /// was judged, how old it might be, and its bytes.
 #[derive(Debug, Drop)]
 pub struct Judged {
+    /// The name that the client asked for.
     pub name: Name,
+    /// The epoch that it was for the client, from 1.
     pub now: u64,
+    /// How many epochs old the client let it be.
     pub age: u64,
+    /// The bytes as they stand in the pool, which are a confirmation.
     pub bytes: Vec<u8>,
 }
 

@@ -18,7 +18,7 @@ ghost use Rattle.ar_world.specs.declared.fault.WorldFault.TheVariants.{Memory};
 use crate::composing::composed;
 use crate::fault::WorldFault;
 use crate::parties::Forger;
-use crate::pool::{Pool, Pooled, is_party};
+use crate::pool::{Pool, Pooled};
 use crate::sending::{enter, reserve, say};
 use crate::world::World;
 use ar_base::Items;
@@ -36,7 +36,7 @@ fn forger_place(forgers: &[Forger], party: Party) -> Option<usize>
 {
     forgers
         .iter()
-        .position(|forger| is_party(&party, &forger.party))
+        .position(|forger| party.is_same(&forger.party))
 }
 
 /// Writes the generation 0, and the signature of a text by a leaf of a key.

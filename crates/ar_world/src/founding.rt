@@ -2,8 +2,6 @@
 
 ghost use Rattle.std.specs.Prelude.{◌≡◌, ◌≤◌, ◌<◌, [], ◌∷◌, ◌++◌, length, slice_set, true, vec_len, vec_capacity, Ok, None, Some, IfSome, MatchOption, option_and_then};
 ghost use Rattle.ar_statement.specs.declared.party.Role.TheVariants.{Authority, LogServer};
-ghost use Rattle.lms_tree.specs.Key.{type_to_make};
-ghost use Rattle.lms_tree.specs.LmsKind as lms_kind;
 ghost use Rattle.report_text.specs.declared.happening.Happening.TheVariants.{Dishonest};
 ghost use Rattle.ar_world.specs.Finding.{honest_in};
 ghost use Rattle.ar_world.specs.Founded.{AreOwn, with_parties};
@@ -21,25 +19,12 @@ use crate::world::World;
 use ar_base::Items;
 use ar_statement::{Party, Role};
 use lm_ots::OtsType;
-use lms_tree::{LmsKey, LmsType};
+use lms_tree::{LmsKey, type_to_make};
 use owner_check::OwnerCheck;
 use party_keys::{is_party_count, is_quorum};
 use report_text::Happening;
 use std::alloc::Global;
 use std::mem;
-
-/// The LMS type of a number, where keys of it are made.
-fn type_to_make(number: u32) -> Option<LmsType>
-    ensures is { result ≡ type_to_make number }
-    ensures again { IfSome result (λ lms. type_to_make (lms_kind.number_of lms) ≡ Some lms) }
-{
-    match number {
-        5 => Some(LmsType::H5),
-        6 => Some(LmsType::H10),
-        7 => Some(LmsType::H15),
-        _ => None,
-    }
-}
 
 // ---- the secret, the types of keys and the logs
 

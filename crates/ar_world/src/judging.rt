@@ -3,7 +3,8 @@
 ghost use Rattle.std.specs.Prelude.{◌≡◌, ◌∷◌, ◌++◌, [], nat_le, true, IfOk, OnOk, OnErr};
 ghost use Rattle.report_text.specs.declared.happening.Happening.TheVariants as happening;
 ghost use Rattle.ar_world.specs.Founding.{place_of};
-ghost use Rattle.ar_world.specs.Judging.{accepted_with, is_accepted, is_to_client, judge_line, judged_number, newest_from, said_of, verdict_on};
+ghost use Rattle.ar_safety.specs.Held.{verdict_on};
+ghost use Rattle.ar_world.specs.Judging.{accepted_with, is_accepted, is_to_client, judge_line, judged_number, newest_from, said_of};
 ghost use Rattle.ar_world.specs.Step.{StepsBy};
 
 use crate::drafted::Judged;

@@ -1,11 +1,7 @@
 //! The line `learn`.
 
 ghost use Rattle.std.specs.Prelude.{◌≡◌, ◌<◌, ◌≤◌, ◌+◌, ◌&&◌, ◌∷◌, [], nat_le, true, is_some, vec_len, vec_capacity, IfOk, OnOk, OnErr, Some};
-ghost use Rattle.std.specs.List.{list_any};
-ghost use Rattle.std.specs.Str.{bytes_eq};
-ghost use Rattle.ar_council.specs.Seen.{with_seen};
 ghost use Rattle.ar_message.specs.Messages.{message_in};
-ghost use Rattle.ar_statement.specs.Claims.{is_party};
 ghost use Rattle.report_text.specs.declared.happening.Happening.TheVariants.{Learnt};
 ghost use Rattle.ar_world.specs.Founding.{place_of};
 ghost use Rattle.ar_world.specs.Kept.{clients_in, genesis_in};
@@ -14,10 +10,10 @@ ghost use Rattle.ar_world.specs.Step.{StepsBy};
 
 use crate::fault::WorldFault;
 use crate::note::RollNote;
-use crate::pool::is_party;
 use crate::sending::say;
 use crate::world::{Directories, World};
 use ar_base::Items;
+use ar_council::see;
 use ar_statement::{SeenText, Statement, Text};
 use owner_check::OwnerCheck;
 use party_keys::{Directory, LearnFault};
@@ -37,24 +33,6 @@ fn roll_seen(note: &RollNote) -> SeenText
             generation: note.generation,
             key: note.key.bytes(),
         }),
-    }
-}
-
-/// Whether a party's text is among these.
-fn is_among(rolls: &[SeenText], roll: &SeenText) -> bool
-    ensures { result ≡ list_any (λ s. is_party s.party roll.now.party && bytes_eq s.text roll.now.text) rolls.now }
-{
-    rolls.iter().any(|s| is_party(&s.party, &roll.party)
-        && s.text.as_bytes() == roll.text.as_bytes())
-}
-
-/// Puts a Roll behind the others, unless it is there. There is room for it.
-fn keep(rolls: &mut Vec<SeenText>, roll: SeenText)
-    requires { vec_len rolls.old < vec_capacity rolls.old }
-    ensures { rolls.new.items ≡ with_seen rolls.old.items roll }
-{
-    if !is_among(rolls, &roll) {
-        rolls.push_reserved(roll);
     }
 }
 
@@ -88,7 +66,7 @@ fn learn_note(
 {
     match note.teach(alloc, clients) {
         Ok(_) => {
-            keep(rolls, roll_seen(note));
+            see(rolls, roll_seen(note));
             Ok(None)
         }
         Err(LearnFault::Memory) => Err(AllocError),

@@ -11,6 +11,7 @@
 //! dishonest parties send (`Forging`). `Logs` and `Authorities` have the steps of honest logs and authorities: the rows
 //! of the crates below with the party's signatures in what it sends. `Step` has the step of each line, and `Run` a whole
 //! script with all that is written of it.
+//! `Records` has what the honest parties and the clients of a world hold, of which the safety theorem speaks.
 #![tactic(auto)]
 
 mod asking;

@@ -15,8 +15,11 @@ use std::marker::Model;
 /// The note of a Roll, by which a party announces the key behind its key of this generation.
 #[derive(Debug, Drop)]
 pub struct RollNote {
+    /// The log or authority that signs.
     pub party: Party,
+    /// The generation of the key that signs, from 0.
     pub generation: u32,
+    /// The public key of the next generation.
     pub key: LmsPublic,
     /// The party's signature of the Roll that says so.
     pub signature: Signature,

@@ -36,7 +36,7 @@ pub(crate) fn may_come(now: Phase, next: Phase) -> bool
 }
 
 /// How far a phase is.
-fn place_of(phase: Phase) -> u8
+pub(crate) fn place_of(phase: Phase) -> u8
     ensures { result ≡ place_of phase }
 {
     phase as u8

@@ -197,18 +197,11 @@ pub(crate) fn numbered<T>(items: &[T], number: u64) -> Option<&T>
     items.get(place)
 }
 
-/// Whether both are one party.
-pub(crate) fn is_party(one: &Party, other: &Party) -> bool
-    ensures { result ≡ is_party one.now other.now }
-{
-    one.role.number() == other.role.number() && one.number == other.number
-}
-
 /// Whether the party is one of these.
 pub(crate) fn has_party(parties: &[Party], who: Party) -> bool
     ensures { result ≡ list_any (is_party who) parties.now }
 {
-    parties.iter().any(|party| is_party(&who, party))
+    parties.iter().any(|party| who.is_same(party))
 }
 
 /// To whom a message was delivered, with a party to which it is delivered now.

@@ -1,13 +1,15 @@
 //! What honest parties and clients of a world hold, of which the theorem speaks.
 
-ghost use Rattle.std.specs.Prelude.{◌≡◌, ◌++◌, ◌∷◌, [], All, IfOk, IfSome, OnOk, map};
+ghost use Rattle.std.specs.Prelude.{◌≡◌, ◌++◌, ◌∷◌, [], All, IfOk, IfSome, OnOk, map, nat_le};
 ghost use Rattle.std.specs.List.{filter_map};
 ghost use Rattle.std.specs.Option.{option_map};
 ghost use Rattle.ar_base.specs.Bytes.{AreBytes};
 ghost use Rattle.epoch_log.specs.Log.{record_of};
+ghost use Rattle.ar_world.specs.Founding.{place_of};
 ghost use Rattle.ar_world.specs.Records.{HasParties, AuthorityKeepsRecord, LogKeepsRecord, KeepsRecords, held_of};
 
 use crate::drafted::Judged;
+use crate::order::place_of;
 use crate::parties::{Forger, HonestAuthority, HonestLog};
 use crate::world::World;
 use ar_bytes::are_bytes;
@@ -174,6 +176,20 @@ fn judged_told(judged: &[Judged])
 }
 
 impl<C: OwnerCheck> World<C> {
+    /// What clients accepted, or by which they hold that a name has no certificate, in the order in which they judged.
+    pub fn judged(&self) -> &[Judged]
+        ensures { result.now ≡ self.now.judged }
+    {
+        self.judged.as_slice()
+    }
+
+    /// Whether the logs and authorities are there: since the line `authorities` was taken.
+    pub fn has_parties(&self) -> bool
+        ensures { result ≡ nat_le 4 (place_of self.now.phase) }
+    {
+        place_of(self.phase) >= 4
+    }
+
     /// All that honest parties and clients hold of which the safety theorem speaks: the records of all honest logs and
     /// authorities, and all that clients accepted and learnt, as they stand. The only error is want of memory.
     pub fn records(&self, alloc: Global) -> Result<Records<'_>, AllocError>
@@ -188,7 +204,7 @@ impl<C: OwnerCheck> World<C> {
             dishonest: dishonest_parties(alloc, &self.forgers)?,
             logs: log_records(alloc, &self.logs)?,
             authorities: authority_records(alloc, &self.authorities)?,
-            judged: &self.judged,
+            judged: self.judged(),
             learned: &self.learned,
         })
     }

@@ -1,5 +1,8 @@
 //! The program `arpki`: its words, its standard input and its standard output, and a check of owners for each authority, handed
 //! to `arpki_main`, and its exit status.
+//!
+//! What it answers is in the contract of `arpki_main`: read `specs/Program.antt` of the crate `arpki_play`
+//! first.
 #![tactic(auto)]
 
 use ar_io::{StdSink, StdSource};

@@ -16,6 +16,8 @@
 //! of a table has as its key the value of a domain with the serial n and a certificate digest of zeros,
 //! and as its value that of the serial n and a certificate digest of ones (`value_digest`). The message is
 //! a Decision of 64 changes and 16 votes, whose signatures have so many bytes.
+//!
+//! There are no definitions here: what a call gives is in the contract that it has in its own crate.
 #![tactic(auto)]
 
 use std::alloc::Global;

@@ -55,7 +55,7 @@ fn scripts_are_those_of_another_program(rt: HostRuntime) -> Result<(), Fail> {
 }
 
 // A check with an empty book for each authority of a script.
-fn empty_books(alloc: Global) -> Result<Vec<BookCheck>, AllocError> {
+pub(crate) fn empty_books(alloc: Global) -> Result<Vec<BookCheck>, AllocError> {
     let mut checks = Vec::new(alloc);
     for _ in 0..16 {
         checks.push(BookCheck::new(alloc))?;

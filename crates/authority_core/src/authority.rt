@@ -22,7 +22,7 @@ use crate::record::AuthorityRecord;
 use crate::refusal::AuthorityRefusal;
 use crate::state::AuthorityState;
 use ar_message::{Sent, fill};
-use key_roll::KeyRing;
+use key_roll::{KeyRing, ring_signature_len};
 use lms_tree::LmsKey;
 use owner_check::OwnerCheck;
 use party_keys::Directory;
@@ -47,25 +47,6 @@ impl<C: OwnerCheck> Model for Authority<C> {
     ghost invariant = { λ a. IsRingOf a.core.state a.ring.keys };
 }
 
-// How many bytes a signature by the key has, with the generation in front.
-fn signature_len(key: &LmsKey) -> u16
-    ensures { result ≡ ring_signature_len key.now }
-{
-    4 + key.signature_len() as u16
-}
-
-// Adds the next key, for which there is room.
-fn add(alloc: Global, ring: &mut KeyRing, key: LmsKey)
-    requires next { IsNext ring.old.keys key }
-    requires room { 0 < ring.old.room }
-    ensures { ring.new.keys ≡ ring.old.keys ++ key ∷ [] }
-{
-    match ring.add(alloc, key) {
-        Ok(()) => {}
-        Err(_) => unreachable!(),
-    }
-}
-
 impl<C: OwnerCheck> Authority<C> {
     /// The authority with this number that has done nothing yet, with its key of generation 0 and the check that it asks.
     /// The only error is want of memory, and then the check comes back.
@@ -85,7 +66,7 @@ impl<C: OwnerCheck> Authority<C> {
             (λ refused. refused.0 ≡ check) }
     {
         let leaves = key.leaves();
-        let len = signature_len(&key);
+        let len = ring_signature_len(&key);
         match KeyRing::new(alloc, key) {
             Ok(ring) => {
                 let state = AuthorityState::new(alloc, number, directory, leaves, len);
@@ -191,7 +172,7 @@ impl<C: OwnerCheck> Authority<C> {
         let key = self.ring.next(alloc)?;
         self.ring.reserve(alloc)?;
         let unsigned = self.core.roll(alloc, &key.public())?;
-        add(alloc, &mut self.ring, key);
+        self.ring.add_reserved(alloc, key);
         Ok(fill(&self.ring, unsigned))
     }
 

@@ -25,6 +25,7 @@ use std::alloc::{AllocError, Global};
 /// Where a signature of its own is due, what it sends has zero bytes; `ar_message::fill` writes the signature there.
 #[derive(Drop)]
 pub struct AuthorityCore<C: OwnerCheck> {
+    /// Its number, the keys that it knows, and what it remembers.
     pub state: AuthorityState,
     /// The check that is asked before a certificate is endorsed; `None` once the authority has retired.
     pub check: Option<C>,

@@ -6,6 +6,8 @@
 //! `specs/Calls.antt` what each thing that it does makes of it. `specs/Row.antt` has the row of each message, with zero
 //! bytes where a signature is due: `EndorseRow`, `ConfirmRows` over `Confirming`, and `RollRows`. `specs/Keyed.antt` has
 //! the answers with the signatures in, and which keys are the authority's.
+//! `specs/State.antt` says where an authority stands and what is true of that, and `specs/Refusals.antt` what
+//! it refuses where a call below does.
 #![tactic(auto)]
 
 mod authority;

@@ -2,57 +2,11 @@
 
 ghost use Rattle.std.specs.Prelude.{◌≡◌, ◌+◌, ◌<◌, ◌≤◌, ◌&&◌, length, vec_len, vec_capacity};
 ghost use Rattle.std.specs.List.{list_any};
-ghost use Rattle.std.specs.Str.{bytes_eq};
-ghost use Rattle.ar_statement.specs.Claims.{is_party};
-ghost use Rattle.ar_council.specs.Seen.{seen_after, with_seen};
-ghost use Rattle.ar_council.specs.Values.{is_same_digest};
 ghost use Rattle.authority_core.specs.Calls.{are_same, is_same_asked, is_same_bottom, is_same_kept, with_asked, with_kept};
 
 use crate::entries::{Asked, Kept};
-use ar_statement::SeenText;
+use ar_council::is_same_digest;
 use tree_proof::Bottom;
-
-// ---- what was seen
-
-fn is_same_seen(s: &SeenText, more: &SeenText) -> bool
-    ensures { result ≡ (is_party s.now.party more.now.party && bytes_eq s.now.text more.now.text) }
-{
-    s.party.role.number() == more.party.role.number()
-        && s.party.number == more.party.number
-        && s.text.as_bytes() == more.text.as_bytes()
-}
-
-fn has_seen(seen: &[SeenText], more: &SeenText) -> bool
-    ensures { result ≡ list_any (λ s. is_party s.party more.now.party && bytes_eq s.text more.now.text) seen.now }
-{
-    seen.iter().any(|s| is_same_seen(s, more))
-}
-
-/// Puts one more behind what was seen, unless it is there. There is room for it.
-pub(crate) fn see(seen: &mut Vec<SeenText>, more: &SeenText)
-    requires { vec_len seen.old < vec_capacity seen.old }
-    ensures items { seen.new.items ≡ with_seen seen.old.items more.now }
-    ensures len { vec_len seen.new ≤ vec_len seen.old + 1 }
-    ensures capacity { vec_capacity seen.old ≤ vec_capacity seen.new }
-{
-    if has_seen(seen, more) {
-        return;
-    }
-    match seen.push(*more) {
-        Ok(()) => {}
-        Err(_) => unreachable!(),
-    }
-}
-
-/// Puts each of these behind what was seen, unless it is there. There is room for them.
-pub(crate) fn see_all(seen: &mut Vec<SeenText>, more: &[SeenText])
-    requires { vec_len seen.old + length more.now ≤ vec_capacity seen.old }
-    ensures { seen.new.items ≡ seen_after seen.old.items more.now }
-{
-    for s in more {
-        see(seen, s);
-    }
-}
 
 // ---- what the check said yes to
 
@@ -83,16 +37,6 @@ pub(crate) fn put_asked(asked: &mut Vec<Asked>, a: Asked)
 }
 
 // ---- what is kept
-
-fn is_same_digest(one: &Option<[u8; 32]>, other: &Option<[u8; 32]>) -> bool
-    ensures { result ≡ is_same_digest one.now other.now }
-{
-    match (one, other) {
-        (None, None) => true,
-        (Some(one), Some(other)) => one == other,
-        (None, Some(_)) | (Some(_), None) => false,
-    }
-}
 
 fn is_same_bottom(one: &Option<Bottom>, other: &Option<Bottom>) -> bool
     ensures { result ≡ is_same_bottom one.now other.now }

@@ -14,8 +14,9 @@ ghost use Rattle.authority_core.specs.declared.refusal.AuthorityRefusal.TheVaria
 ghost use Rattle.authority_core.specs.declared.refusal.AuthorityRefusal.TheVariants.{CheckFault};
 
 use crate::entries::{Asked, Kept};
-use crate::lists::{put_asked, put_kept, see, see_all};
+use crate::lists::{put_asked, put_kept};
 use crate::refusal::{AuthorityRefusal, of_learning};
+use ar_council::{confirmation_statement, see, see_each};
 use ar_statement::{Party, Role, SeenText, Statement, Text};
 use key_roll::{RollBook, RollDue};
 use lms_tree::LmsPublic;
@@ -49,22 +50,13 @@ impl Model for AuthorityRecord {
 pub(crate) fn kept_statement(party: Party, kept: &Kept) -> Statement<'_>
     ensures { claim_of result ≡ kept_claim party kept.now }
 {
-    let name = kept.name.view();
-    match kept.certificate {
-        Some(certificate) => Statement::Confirm {
-            signer: party,
-            epoch: kept.epoch,
-            name,
-            certificate,
-            root: kept.root,
-        },
-        None => Statement::ConfirmAbsent {
-            signer: party,
-            epoch: kept.epoch,
-            name,
-            root: kept.root,
-        },
-    }
+    confirmation_statement(
+        party,
+        kept.epoch,
+        kept.name.view(),
+        kept.certificate,
+        kept.root,
+    )
 }
 
 // Enters a statement, which is no Roll, in an authority's book.
@@ -187,7 +179,7 @@ impl AuthorityRecord {
         });
         match keys.learn(alloc, party, generation, key, signature) {
             Ok(_) => {
-                see(&mut self.seen, &SeenText { party, text });
+                see(&mut self.seen, SeenText { party, text });
                 Ok(())
             }
             Err(fault) => Err(of_learning(party, generation, fault)),
@@ -233,7 +225,7 @@ impl AuthorityRecord {
         self.signed.reserve(alloc, 1)?;
         match enter_kept(&mut self.signed, alloc, me, &kept) {
             Ok(due) => {
-                see_all(&mut self.seen, seen);
+                see_each(&mut self.seen, seen);
                 put_kept(&mut self.kept, kept);
                 Ok(due)
             }

@@ -11,6 +11,7 @@ pub struct Facts<'a> {
     pub digest: [u8; 32],
     /// Whether it revokes the name, after which nothing follows.
     pub revoked: bool,
+    /// What it asks of the certificate behind it, and of confirmations.
     pub policy: PolicyFacts<'a>,
 }
 

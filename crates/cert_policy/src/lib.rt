@@ -16,5 +16,3 @@ pub mod laws;
 mod manner;
 mod refusal;
 mod rules;
-#[cfg(test)]
-mod tests;

@@ -1,6 +1,7 @@
 //! What a client does with a confirmation: it judges it under a directory of keys, without memory.
 //!
 //! `specs/Rule.antt` has the checks in their order.
+//! `specs/Meaning.antt` says what an answer means: each check as a fact about the confirmation.
 //!
 //! ```rust
 //! match judge(&directory, b"a.example", confirmation, now, age) {
@@ -17,8 +18,6 @@ mod checks;
 mod judgement;
 pub mod laws;
 mod shown;
-#[cfg(test)]
-mod tests;
 
 pub use ar_message::ConfView;
 pub use judgement::{Judgement, judge};

@@ -11,7 +11,7 @@ ghost use Rattle.domain_table.specs.Rows.{AreRows, IsPlace, chain_pair, data_in,
 
 use crate::refusal::ChangeRefusal;
 use crate::row::Row;
-use ar_cert::{Change, judge_change, judge_update};
+use ar_cert::{Cert, Change, judge_change, judge_update};
 use cert_policy::{Manner, PolicyRefusal};
 
 /// How many certificates and waiting changes a table may have.
@@ -50,6 +50,16 @@ pub(crate) fn newest(chain: &[Change]) -> Option<&Change>
     ensures { option_map (λ c. c.now.cert) result ≡ newest chain.now }
 {
     chain.last()
+}
+
+/// The newest certificate of a chain.
+pub(crate) fn newest_certificate(chain: &[Change]) -> Option<&Cert>
+    ensures { option_map (λ c. c.now) result ≡ newest chain.now }
+{
+    match newest(chain) {
+        Some(change) => Some(&change.cert),
+        None => None,
+    }
 }
 
 /// Whether what waits in a row is ripe at an epoch.

@@ -1,7 +1,7 @@
 ghost use Rattle.std.specs.Prelude.{◌≡◌, ◌↔◌, Some, None, Ok, Err, IfErr, IfOk, OnOk, OnErr, [], ◌∷◌};
 ghost use Rattle.std.specs.Option.{option_map};
 ghost use Rattle.std.specs.FinMap.{entries, get};
-ghost use Rattle.domain_table.specs.Tables.{no_table};
+ghost use Rattle.domain_table.specs.Tables.{chain_of, newest, no_table};
 ghost use Rattle.domain_table.specs.declared.fault.ApplyFault.TheVariants as faults;
 ghost use Rattle.domain_table.specs.declared.refusal.ChangeRefusal.{ChangeRefusal};
 ghost use Rattle.domain_table.specs.Applying.{answer_of, apply, judge, judge_ripe, ripen, taken};
@@ -14,9 +14,9 @@ use crate::refusal::ChangeRefusal;
 use crate::ripe_rows::{has_ripe, ripen_rows};
 use crate::row::Row;
 use crate::row_copy::copy_rows;
-use crate::rows::{judged, row_of, waiting_of};
+use crate::rows::{judged, newest_certificate, row_of, waiting_of};
 use crate::take::take;
-use ar_cert::Change;
+use ar_cert::{Cert, Change};
 use cert_policy::Manner;
 use hash_tree::Trie;
 use std::alloc::{AllocError, Global};
@@ -68,6 +68,16 @@ impl Table {
         match row_of(&self.rows, name) {
             None => None,
             Some(row) => Some(row.chain.as_slice()),
+        }
+    }
+
+    /// The newest certificate of a name. It is `None` exactly where the table has no such name.
+    pub fn newest(&self, name: &[u8]) -> Option<&Cert>
+        ensures { option_map (λ c. c.now) result ≡ newest (chain_of self.now name.now) }
+    {
+        match self.get(name) {
+            Some(chain) => newest_certificate(chain),
+            None => None,
         }
     }
 

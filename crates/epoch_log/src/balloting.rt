@@ -10,8 +10,8 @@ use crate::closing::Plan;
 use crate::counting::{ballots_with, count_vote, reports};
 use crate::deciding::vote_text;
 use crate::parts::Parts;
-use crate::seeing::see;
 use ar_base::Items;
+use ar_council::see;
 use std::alloc::{AllocError, Global};
 use vote_quorum::Value;
 

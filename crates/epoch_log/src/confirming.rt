@@ -19,22 +19,15 @@ ghost use Rattle.epoch_log.specs.Right.{newest_digest};
 use crate::Confirmed;
 use crate::parts::Parts;
 use crate::signing::{leaf_for, sign};
-use ar_bytes::are_bytes;
-use ar_cert::Change;
+use ar_bytes::digest_told;
+use ar_council::{confirmation_statement, is_same_digest};
 use ar_names::{Name, NameView};
 use ar_statement::{Role, Statement};
 use domain_table::Table;
 use key_roll::{BookFault, RollDue};
 use std::alloc::Global;
 
-/// Tells a proof that a digest is one.
-fn digest_told(digest: &[u8; 32])
-    ensures { IsDigest digest.now }
-{
-    are_bytes(digest);
-}
-
-/// The same of a digest, where there is one.
+/// Tells a proof that a digest, where there is one, is one.
 fn some_digest_told(digest: &Option<[u8; 32]>)
     ensures { IfSome digest.now IsDigest }
 {
@@ -43,31 +36,12 @@ fn some_digest_told(digest: &Option<[u8; 32]>)
     }
 }
 
-/// The newest change of a chain.
-fn newest(chain: &[Change]) -> Option<&Change>
-    ensures { option_map (λ c. c.now.cert) result ≡ newest chain.now }
-{
-    chain.last()
-}
-
 /// The digest of the newest certificate of a name.
-fn newest_digest(table: &Table, name: &[u8]) -> Option<[u8; 32]>
+pub fn newest_digest(table: &Table, name: &[u8]) -> Option<[u8; 32]>
     ensures { result ≡ newest_digest table.now name.now }
 {
-    let chain = table.get(name)?;
-    let change = newest(chain)?;
-    Some(change.cert.digest())
-}
-
-/// Whether two digests, or none, are the same.
-fn is_same_digest(one: &Option<[u8; 32]>, other: &Option<[u8; 32]>) -> bool
-    ensures { result ≡ is_same_digest one.now other.now }
-{
-    match (one, other) {
-        (None, None) => true,
-        (Some(one), Some(other)) => *one == *other,
-        _ => false,
-    }
+    let certificate = table.newest(name)?;
+    Some(certificate.digest())
 }
 
 /// Whether two confirmations say the same.
@@ -97,8 +71,8 @@ fn put_confirmed(confirmed: &mut Vec<Confirmed>, more: Confirmed)
     }
 }
 
-/// A log's confirmation that under a name there is a certificate with this digest, or none.
-pub(crate) fn confirm_statement(
+/// A log's confirmation that a name has a certificate with this digest, or none.
+pub fn confirm_statement(
     log: u16,
     epoch: u64,
     name: NameView<'_>,
@@ -108,21 +82,7 @@ pub(crate) fn confirm_statement(
     ensures { claim_of result ≡ confirm_claim log epoch name.entry certificate root }
 {
     let signer = Role::LogServer.party(log);
-    match certificate {
-        Some(certificate) => Statement::Confirm {
-            signer,
-            epoch,
-            name,
-            certificate,
-            root,
-        },
-        None => Statement::ConfirmAbsent {
-            signer,
-            epoch,
-            name,
-            root,
-        },
-    }
+    confirmation_statement(signer, epoch, name, certificate, root)
 }
 
 impl Parts {

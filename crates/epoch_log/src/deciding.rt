@@ -12,12 +12,12 @@ ghost use Rattle.epoch_log.specs.Telling.{CanDecide, IsTableBehind, signed_votes
 
 use crate::ending::Decision;
 use crate::parts::Parts;
-use crate::seeing::{push_all_endorsements, see_each, seen_text};
+use crate::seeing::push_all_endorsements;
 use crate::statements::changes_told;
 use crate::tables::table_after;
 use ar_base::Items;
 use ar_cert::Change;
-use ar_council::{value_told, vote_statement};
+use ar_council::{see_each, seen_text, value_told, vote_statement};
 use ar_statement::{Role, SeenText};
 use std::alloc::{AllocError, Global};
 use vote_quorum::Value;

@@ -11,9 +11,9 @@ ghost use Rattle.epoch_log.specs.Calls.{AreEndorsers, after_endorsed, after_lear
 ghost use Rattle.epoch_log.specs.Log.{IsLog, moved, parts_of, state_in};
 
 use crate::parts::Parts;
-use crate::seeing::{endorsements, see, see_each, seen_text};
+use crate::seeing::endorsements;
 use ar_cert::Change;
-use ar_council::key_told;
+use ar_council::{key_told, see, see_each, seen_text};
 use ar_statement::{Party, Role, Statement};
 use key_roll::{RollDue, RollFault};
 use lms_tree::LmsPublic;

@@ -35,6 +35,7 @@ mod stating;
 mod tables;
 mod voting;
 
+pub use confirming::{confirm_statement, newest_digest};
 pub use ending::LAST_EPOCH;
 pub use entries::{Closing, Confirmed, Ended, How, Newest, Stated, Voted};
 pub use finishing::own_vote;

@@ -8,8 +8,7 @@ ghost use Rattle.epoch_log.specs.Log.{IsLog, moved, parts_of, state_in};
 ghost use Rattle.epoch_log.specs.Telling.{CanSkip, statuses_in};
 
 use crate::parts::Parts;
-use crate::seeing::{see_each, seen_text};
-use ar_council::{ballot_told, status_statement};
+use ar_council::{ballot_told, see_each, seen_text, status_statement};
 use ar_statement::{Role, SeenText};
 use std::alloc::{AllocError, Global};
 use vote_quorum::Value;

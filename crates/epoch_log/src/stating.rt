@@ -10,10 +10,9 @@ use crate::Closing;
 use crate::closing::Plan;
 use crate::counting::{ballots, count_status, reports_with};
 use crate::parts::Parts;
-use crate::seeing::see;
 use crate::skipping::status_text;
 use ar_base::Items;
-use ar_council::ballot_told;
+use ar_council::{ballot_told, see};
 use std::alloc::{AllocError, Global};
 use vote_quorum::Value;
 

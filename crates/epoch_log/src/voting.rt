@@ -12,12 +12,12 @@ ghost use Rattle.epoch_log.specs.Log.{IsLog, moved, parts_of, state_in};
 
 use crate::Voted;
 use crate::parts::Parts;
-use crate::seeing::{push_all_endorsements, see_each, seen_text};
+use crate::seeing::push_all_endorsements;
 use crate::signing::{leaf_for, sign};
 use crate::statements::changes_told;
 use ar_base::Items;
 use ar_cert::Change;
-use ar_council::{propose_statement, value_told, vote_statement};
+use ar_council::{propose_statement, see_each, seen_text, value_told, vote_statement};
 use ar_statement::{Role, SeenText};
 use key_roll::{BookFault, RollDue};
 use std::alloc::{AllocError, Global};

@@ -9,6 +9,9 @@
 //! that changes: contracts see the finite map of its entries, a change of one entry hashes the path of
 //! its key alone, and each hash call is a tick of the counter that the caller hands in (`Steps`).
 //! `specs/Kept.antt` says what the kept tree is.
+//!
+//! `specs/Entries.antt` has the finite maps that the tree is over, `specs/Strings.antt` the strings that are
+//! hashed, and `specs/Path.antt` the path of a key.
 #![tactic(auto)]
 
 pub use bits::key_bit;

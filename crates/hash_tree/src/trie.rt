@@ -107,6 +107,7 @@ impl Trie {
     }
 
     /// The path of a key: its steps, and the entry at its foot.
+    /// The only error is want of memory.
     pub fn walk(&self, alloc: Global, key: &[u8; 32]) -> Result<Walk, AllocError>
         ensures bottom { IfOk result (λ walk. walk.bottom ≡ bottom_of key.now self.now) }
         ensures steps { IfOk result (λ walk. walk.steps ≡ steps_of key.now self.now) }

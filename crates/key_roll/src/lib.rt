@@ -3,12 +3,13 @@
 //!
 //! `specs/Book.antt` says what a book is, `specs/Entry.antt` which leaf it gives to a statement,
 //! `specs/Ring.antt` which keys a party has, and `laws` that no generation's leaf serves two statements.
+//! `specs/Rolls.antt` says which texts are Rolls, the statements that announce a next key.
 #![tactic(auto)]
 
 pub use book::RollBook;
 pub use due::{RollDue, forgo};
 pub use fault::{BookFault, RollFault};
-pub use ring::KeyRing;
+pub use ring::{KeyRing, ring_signature_len};
 pub use signed::Signed;
 
 mod book;

@@ -1,4 +1,4 @@
-ghost use Rattle.std.specs.Prelude.{◌≡◌, ◌++◌, ◌∷◌, [], ℕ, length, max, slice_get, Some, IfOk, IfErr, OnOk, OnErr, MatchResult};
+ghost use Rattle.std.specs.Prelude.{◌≡◌, ◌<◌, ◌++◌, ◌∷◌, [], ℕ, length, max, slice_get, Some, IfOk, IfErr, OnOk, OnErr, MatchResult};
 ghost use Rattle.key_roll.specs.Ring.{IsNext, Owes, next_seed, ring_signature_len, signature_by};
 ghost use Rattle.lms_tree.specs.KeyParts.{KeyParts};
 
@@ -89,6 +89,18 @@ impl KeyRing {
         }
     }
 
+    /// Adds the next key, for which room was reserved. It takes no memory.
+    pub fn add_reserved(&mut self, alloc: Global, key: LmsKey)
+        requires next { IsNext self.old.keys key }
+        requires room { 0 < self.old.room }
+        ensures { self.new.keys ≡ self.old.keys ++ key ∷ [] }
+    {
+        match self.add(alloc, key) {
+            Ok(()) => {}
+            Err(_) => unreachable!(),
+        }
+    }
+
     /// The key of generation 0; the others are dropped. It takes no memory.
     pub fn into_first(self) -> LmsKey
         ensures { slice_get self.keys 0 ≡ Some result }
@@ -126,6 +138,13 @@ impl KeyRing {
         write_u32(front, 0, generation);
         key.sign_at(leaf, text.as_bytes(), behind);
     }
+}
+
+/// How many bytes a signature by a ring that begins with this key has, with u32 generation in front.
+pub fn ring_signature_len(key: &LmsKey) -> u16
+    ensures { result ≡ ring_signature_len key.now }
+{
+    4 + key.signature_len() as u16
 }
 
 // The secret of the next generation: H(0x54 || SEED).

@@ -4,6 +4,7 @@ use std::collections::LinkedList;
 pub struct Held {
     /// How many leaves the book has.
     pub leaves: u32,
+    /// The seat's part of 2^32; 0 where it was joined into another.
     pub share: u64,
     /// The leaves that the seat drew, with those of the seats that were joined into it.
     pub drawn: LinkedList<u64>,

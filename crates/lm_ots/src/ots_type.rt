@@ -5,9 +5,13 @@ ghost use Rattle.lm_ots.specs.OtsKind.{count_of, number_of, shift_of, signature_
 /// (RFC 8554, section 4.1, table 1).
 #[derive(Clone, Copy, Debug, PartialEq, Eq)]
 pub enum OtsType {
+    /// Number 1: 265 digits of 1 bit, and a signature of 8,516 bytes.
     W1,
+    /// Number 2: 133 digits of 2 bits, and a signature of 4,292 bytes.
     W2,
+    /// Number 3: 67 digits of 4 bits, and a signature of 2,180 bytes.
     W4,
+    /// Number 4: 34 digits of 8 bits, and a signature of 1,124 bytes.
     W8,
 }
 

@@ -1,4 +1,4 @@
-ghost use Rattle.std.specs.Prelude.{◌≡◌, ◌^◌, ◌<◌, length, Ok};
+ghost use Rattle.std.specs.Prelude.{◌≡◌, ◌^◌, ◌<◌, length, IfSome, Ok, Some};
 ghost use Rattle.ar_base.specs.Gives.{GivesOrWants};
 ghost use Rattle.lm_ots.specs.OtsKind as ots_kind;
 ghost use Rattle.lms_tree.specs.LmsKind as lms_kind;
@@ -132,9 +132,10 @@ impl LmsKey {
     }
 }
 
-// The LMS type of a number, where keys of it are made.
-fn type_to_make(number: u32) -> Option<LmsType>
-    ensures { result ≡ type_to_make number }
+/// The LMS type of a number, where keys of it are made: H5, H10 or H15, of the numbers 5 to 7.
+pub fn type_to_make(number: u32) -> Option<LmsType>
+    ensures is { result ≡ type_to_make number }
+    ensures again { IfSome result (λ lms. type_to_make (lms_kind.number_of lms) ≡ Some lms) }
 {
     match number {
         5 => Some(LmsType::H5),

@@ -3,6 +3,8 @@
 //! `specs/` states the scheme on lists of bytes: `LmsKind` the table of types, `PublicKey` the text of
 //! a key, `Tree` the nodes and the way up, and `Validity` the five conditions and the verdict, which
 //! is the first that fails.
+//! `Signature` has the text of a signature, and `Key` the keys that sign, made from a seed, with their
+//! signatures.
 //!
 //! ```rust
 //! let key = LmsKey::make(alloc, &seed, 5, 3)?;
@@ -14,7 +16,7 @@
 //! `verdict` is `Verdict::Valid` then, which the caller `sign_and_verify` of the crate `worked_examples` proves.
 #![tactic(auto)]
 
-pub use key::{KeyFault, LmsKey};
+pub use key::{KeyFault, LmsKey, type_to_make};
 pub use lms_type::LmsType;
 pub use public_key::LmsPublic;
 pub use validity::{Verdict, valid};
@@ -27,7 +29,5 @@ mod parts;
 mod path;
 mod public_key;
 mod signature;
-#[cfg(test)]
-mod tests;
 mod tree;
 mod validity;

@@ -5,10 +5,15 @@ ghost use Rattle.lms_tree.specs.LmsKind.{height_of, number_of, type_of_number};
 /// section 5.1, table 2).
 #[derive(Clone, Copy, Debug, PartialEq, Eq)]
 pub enum LmsType {
+    /// Number 5: 32 leaves.
     H5,
+    /// Number 6: 1,024 leaves.
     H10,
+    /// Number 7: 32,768 leaves.
     H15,
+    /// Number 8: 1,048,576 leaves. Signatures under such keys are judged; no such key is made.
     H20,
+    /// Number 9: 33,554,432 leaves. Signatures under such keys are judged; no such key is made.
     H25,
 }
 

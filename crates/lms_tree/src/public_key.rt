@@ -12,9 +12,13 @@ use lm_ots::OtsType;
 /// the identifier I of 16 bytes, and the root T[1].
 #[derive(Clone, Copy, Debug, PartialEq, Eq)]
 pub struct LmsPublic {
+    /// The type of the tree; in the text its number, u32.
     pub lms: LmsType,
+    /// The type of the one-time signatures; in the text its number, u32.
     pub ots: OtsType,
+    /// I, which stands in each string that is hashed for the tree.
     pub id: [u8; 16],
+    /// T[1], the value of node 1, to which each valid signature leads.
     pub root: [u8; 32],
 }
 

@@ -15,6 +15,7 @@ use lm_ots::ots_candidate;
 /// What a verification answers.
 #[derive(Clone, Copy, Debug, PartialEq, Eq)]
 pub enum Verdict {
+    /// None of the conditions fails.
     Valid,
     /// The number of the first condition that fails.
     Invalid(u8),

@@ -2,13 +2,11 @@
 
 ghost use Rattle.std.specs.Prelude.{◌≡◌, ◌+◌, ◌≤◌, Err, IfErr, IfOk, Some, flat_map, length};
 ghost use Rattle.ar_base.specs.Gives.{GivesUnless};
-ghost use Rattle.ar_council.specs.Values.{confirm_claim};
 ghost use Rattle.ar_message.specs.Lists.{AreVotes, vote_text};
 ghost use Rattle.ar_message.specs.Messages.{message_text};
 ghost use Rattle.ar_message.specs.declared.message.Message.TheVariants.{LogConfirmed};
 ghost use Rattle.ar_statement.specs.Claims.{claim_of, text_of};
 ghost use Rattle.epoch_log.specs.Calls.{confirmation_text};
-ghost use Rattle.epoch_log.specs.Right.{newest_digest};
 ghost use Rattle.log_core.specs.Checks.{has_decision};
 ghost use Rattle.log_core.specs.Confirming.{confirm_row, confirmation_prepared, confirmed_draft, confirmed_places, confirming_of};
 ghost use Rattle.log_core.specs.Sending.{none_composed, sent_votes, with_draft};
@@ -20,13 +18,13 @@ use crate::checks::book_refusal;
 use crate::log_core::LogCore;
 use crate::own_places::{own_votes, sent_votes};
 use crate::sending::{Drafts, OwnPlace, Ready, written};
-use crate::showing::{body_of, newest_certificate};
+use crate::showing::body_of;
 use crate::signers::known;
 use ar_message::{Address, Confirming, Message, Signature, Unsigned};
 use ar_names::{Name, NameView};
 use ar_statement::{Role, Statement};
 use domain_table::Table;
-use epoch_log::{EpochLog, Newest};
+use epoch_log::{EpochLog, Newest, confirm_statement, newest_digest};
 use key_roll::forgo;
 use std::alloc::{AllocError, Global};
 use std::marker::Model;
@@ -58,44 +56,6 @@ fn decision(log: &EpochLog) -> Result<&Newest, LogRefusal>
     match log.newest() {
         Some(newest) => Ok(newest),
         None => Err(LogRefusal::WrongEpoch(log.epoch())),
-    }
-}
-
-/// The digest of the newest certificate of a name.
-fn newest_digest(table: &Table, name: &[u8]) -> Option<[u8; 32]>
-    ensures { result ≡ newest_digest table.now name.now }
-{
-    match newest_certificate(table, name) {
-        Some(certificate) => Some(certificate.digest()),
-        None => None,
-    }
-}
-
-/// A log's confirmation that a name has a certificate with this digest, or none.
-fn confirm_statement(
-    log: u16,
-    epoch: u64,
-    name: NameView<'_>,
-    certificate: Option<[u8; 32]>,
-    root: [u8; 32],
-) -> Statement<'_>
-    ensures { claim_of result ≡ confirm_claim log epoch name.entry certificate root }
-{
-    let signer = Role::LogServer.party(log);
-    match certificate {
-        Some(certificate) => Statement::Confirm {
-            signer,
-            epoch,
-            name,
-            certificate,
-            root,
-        },
-        None => Statement::ConfirmAbsent {
-            signer,
-            epoch,
-            name,
-            root,
-        },
     }
 }
 

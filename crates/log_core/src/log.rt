@@ -21,7 +21,7 @@ use ar_bytes::are_bytes;
 use ar_council::key_told;
 use ar_message::{Sent, fill};
 use epoch_log::Record;
-use key_roll::KeyRing;
+use key_roll::{KeyRing, ring_signature_len};
 use lms_tree::{LmsKey, LmsPublic};
 use party_keys::Directory;
 use std::alloc::{AllocError, Global};
@@ -45,26 +45,6 @@ impl Model for Log {
     ghost view = { λ l. record { core = l.core; ring = l.ring } };
 
     ghost invariant = { λ l. IsRingOf l.core l.ring.keys };
-}
-
-/// How many bytes a signature by the key has, with the generation in front.
-fn signature_len(key: &LmsKey) -> usize
-    ensures is { result ≡ ring_signature_len key.now }
-    ensures few { result < 2 ^ 16 }
-{
-    4 + key.signature_len()
-}
-
-/// Adds the next key, for which there is room.
-fn add(alloc: Global, ring: &mut KeyRing, key: LmsKey)
-    requires next { IsNext ring.old.keys key }
-    requires room { 0 < ring.old.room }
-    ensures { ring.new.keys ≡ ring.old.keys ++ key ∷ [] }
-{
-    match ring.add(alloc, key) {
-        Ok(()) => {}
-        Err(_) => unreachable!(),
-    }
 }
 
 /// Tells a proof that a log can be asked to go on to a key. It does nothing.
@@ -105,7 +85,7 @@ impl Log {
         }) }
     {
         let leaves = key.leaves();
-        let len = signature_len(&key);
+        let len = ring_signature_len(&key) as usize;
         match KeyRing::new(alloc, key) {
             Ok(ring) => {
                 let core = LogCore::new(alloc, number, directory, leaves, len);
@@ -189,7 +169,7 @@ impl Log {
         let public = key.public();
         next_told(&public);
         let unsigned = self.core.roll(alloc, &public)?;
-        add(alloc, &mut self.ring, key);
+        self.ring.add_reserved(alloc, key);
         Ok(fill(&self.ring, unsigned))
     }
 

@@ -2,35 +2,14 @@
 
 ghost use Rattle.std.specs.Prelude.{◌≡◌, ◌≤◌, IfOk, length};
 ghost use Rattle.std.specs.Option.{option_map};
-ghost use Rattle.domain_table.specs.Tables.{chain_of, newest};
 ghost use Rattle.log_core.specs.Confirming.{absence, body_by, body_of};
 
-use ar_cert::{Cert, Change};
+use ar_cert::Cert;
 use ar_message::{Body, Steps};
 use ar_names::Name;
 use domain_table::Table;
 use std::alloc::{AllocError, Global};
 use tree_proof::{Bottom, Found, Path, path_of};
-
-/// The newest certificate of a chain.
-fn newest(chain: &[Change]) -> Option<&Cert>
-    ensures { option_map (λ c. c.now) result ≡ newest chain.now }
-{
-    match chain.last() {
-        Some(change) => Some(&change.cert),
-        None => None,
-    }
-}
-
-/// The newest certificate of a name.
-pub(crate) fn newest_certificate<'a>(table: &'a Table, name: &[u8]) -> Option<&'a Cert>
-    ensures { option_map (λ c. c.now) result ≡ newest (chain_of table.now name.now) }
-{
-    match table.get(name) {
-        Some(chain) => newest(chain),
-        None => None,
-    }
-}
 
 /// That a name has no certificate, by what is found at its key.
 fn absence(alloc: Global, at_key: Found, path: &Path) -> Result<Body, AllocError>
@@ -75,6 +54,6 @@ pub(crate) fn body_of(alloc: Global, table: &Table, name: &Name) -> Result<Body,
     ensures { IfOk result (λ body. body ≡ body_of table.now name.now) }
 {
     let (at_key, path) = path_of(alloc, table.trie(), &name.digest())?;
-    let certificate = newest_certificate(table, name.text());
+    let certificate = table.newest(name.text());
     body_by(alloc, certificate, at_key, &path)
 }

@@ -14,6 +14,8 @@ pub enum Outcome {
 /// What was asked, and what it came to.
 #[derive(Debug, Drop)]
 pub struct Answer {
+    /// The name and the key that were asked about.
     pub pair: Pair,
+    /// What the check said, or that it failed; an ask that lacked memory is not kept.
     pub outcome: Outcome,
 }

@@ -5,6 +5,7 @@ use std::alloc::{AllocError, Global};
 /// its answers and its faults are those.
 #[derive(Drop)]
 pub struct Boxed {
+    /// The check that is asked; its box was made by the caller.
     pub check: Box<dyn OwnerCheck>,
 }
 

@@ -7,6 +7,9 @@
 //!
 //! Contracts see of a check the answers that it gave, in order, a count of its faults, and, where it tells
 //! them, its book and the numbers of the asks that fail.
+//!
+//! `specs/Answers.antt` says what a check answers that tells its book and its failing asks, and what is kept of
+//! answers; `specs/Book.antt` has the book of pairs.
 #![tactic(auto)]
 
 pub use answer::{Answer, Outcome};
@@ -25,5 +28,3 @@ mod check;
 mod failing_check;
 mod fault;
 mod pair;
-#[cfg(test)]
-mod tests;

@@ -1,9 +1,9 @@
 ghost use Rattle.std.specs.Prelude.{◌≡◌, IfOk};
 
-use crate::endorsing::{copies, count_below, has_endorsed, insert};
+use crate::endorsing::{count_below, has_endorsed, insert};
 use crate::refusal::OwnerRefusal;
 use ar_base::Items;
-use ar_cert::{Cert, Change, Endorsement};
+use ar_cert::{Cert, Change, Endorsement, copy_endorsements, copy_signature};
 use std::alloc::{AllocError, Global};
 use std::marker::Model;
 
@@ -86,23 +86,13 @@ impl Draft {
         ensures { IfOk result (λ change. change ≡ self.now) }
     {
         let cert = self.cert.copy(alloc)?;
-        let endorsements = copies(alloc, &self.endorsements)?;
-        let handover = handover_of(alloc, &self.handover)?;
+        let endorsements = copy_endorsements(alloc, &self.endorsements)?;
+        let handover = copy_signature(alloc, &self.handover)?;
         Ok(Change {
             cert,
             endorsements: Items::from_vec(endorsements),
             handover,
             objection: None,
         })
-    }
-}
-
-/// A handover of its own, where there is one.
-fn handover_of(alloc: Global, handover: &Option<Items<u8>>) -> Result<Option<Items<u8>>, AllocError>
-    ensures { IfOk result (λ copy. copy ≡ handover.now) }
-{
-    match handover {
-        None => Ok(None),
-        Some(handover) => Ok(Some(Items::from_vec(Vec::from_slice(alloc, handover.as_slice())?))),
     }
 }

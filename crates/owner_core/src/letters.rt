@@ -11,21 +11,12 @@ use ar_message::{Address, Message, Outgoing, Sent};
 use ar_statement::Role;
 use std::alloc::{AllocError, Global};
 
-/// The text of a message.
-fn text_of(alloc: Global, message: Message) -> Result<Vec<u8>, AllocError>
-    ensures { IfOk result (λ text. text.items ≡ message_text message) }
-{
-    let mut text = Vec::new(alloc);
-    message.write(alloc, &mut text)?;
-    Ok(text)
-}
-
 /// The text of an owner's request to endorse a certificate.
 fn ask_text(alloc: Global, owner: u16, cert: &Cert) -> Result<Vec<u8>, AllocError>
     ensures { IfOk result (λ text. text.items ≡ message_text (EndorseAsk owner cert.now)) }
 {
     let cert = cert.copy(alloc)?;
-    text_of(alloc, Message::EndorseAsk { owner, cert })
+    Message::EndorseAsk { owner, cert }.text(alloc)
 }
 
 /// A text to an authority.
@@ -78,7 +69,7 @@ pub(crate) fn room(alloc: Global) -> Result<Vec<Outgoing>, AllocError>
 pub(crate) fn submit_text(alloc: Global, change: Change) -> Result<Vec<u8>, AllocError>
     ensures { IfOk result (λ text. text.items ≡ message_text (Submit change)) }
 {
-    text_of(alloc, Message::Submit { change })
+    Message::Submit { change }.text(alloc)
 }
 
 /// A text to all logs, in the room for one message.

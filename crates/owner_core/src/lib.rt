@@ -36,8 +36,6 @@ mod refusal;
 mod signing;
 mod step;
 mod submitting;
-#[cfg(test)]
-mod tests;
 
 pub use owner::Owner;
 pub use refusal::OwnerRefusal;

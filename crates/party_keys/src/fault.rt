@@ -29,7 +29,7 @@ pub enum VerifyFault {
     /// The signature is not valid: 1 it has fewer than four bytes; 6 its generation is not known of the
     /// party; 1 to 5 the condition of `lms_tree::valid` that fails first under the key of its generation; 7
     /// the text is not one for its leaf.
-    #[error("the signature is bad, by test {0}")]
+    #[error("the signature is bad, by check {0}")]
     Bad(u8),
 }
 
@@ -40,7 +40,7 @@ pub enum SignerFault {
     #[error("a signer is not in the directory")]
     Unknown(Party),
     /// The signature of the party is not valid, by the number of `VerifyFault::Bad`; it is the first such.
-    #[error("a signature is bad, by test {1}")]
+    #[error("a signature is bad, by check {1}")]
     Bad(Party, u8),
 }
 
@@ -51,7 +51,7 @@ pub enum LearnFault {
     #[error("the signer is not in the directory")]
     Unknown,
     /// The signature of the Roll is not valid, by the number of `VerifyFault::Bad`.
-    #[error("the signature is bad, by test {0}")]
+    #[error("the signature is bad, by check {0}")]
     Bad(u8),
     /// Another key is known as the next of the announced generation.
     #[error("another key is known as the next")]

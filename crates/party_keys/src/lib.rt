@@ -5,6 +5,7 @@
 //! `specs/Directory.antt` says which directories there are, `Signatures` what verifying answers, `Learning`
 //! how a directory comes to know further keys, `Signers` what a list of signers is answered, and `Seeds` has
 //! the secrets.
+//! `specs/Seen.antt` says what was seen of parties, and `specs/Kept.antt` how a directory keeps its keys.
 //!
 //! ```rust
 //! let signed = directory.verify(party, Text::of(&statement).as_bytes(), signature).is_ok();
@@ -20,8 +21,6 @@ mod learning;
 mod role_keys;
 mod seed;
 mod signers;
-#[cfg(test)]
-mod tests;
 mod verifying;
 
 pub use directory::{Directory, is_party_count, is_quorum};

@@ -1,21 +1,13 @@
-ghost use Rattle.std.specs.Prelude.{◌≡◌, length, Some};
+ghost use Rattle.std.specs.Prelude.{◌≡◌, Some};
 ghost use Rattle.std.specs.Option.{option_map};
-ghost use Rattle.std.specs.Int.{w32, from_be_bytes};
 ghost use Rattle.ar_statement.specs.Claims.{claim_of};
 ghost use Rattle.party_keys.specs.Signatures.{answer_by, claim_in, is_in_place, is_last_leaf, leaf_of, number_in_front, roll_in, rolls_from, verified};
 
 use crate::Directory;
 use crate::fault::VerifyFault;
+use ar_bytes::u32_of;
 use ar_statement::{Party, Statement};
 use lms_tree::{LmsPublic, Verdict, valid};
-
-/// The number that four bytes are.
-fn number_in(bytes: &[u8]) -> u32
-    requires { length bytes.now ≡ 4 }
-    ensures { result ≡ from_be_bytes w32 bytes.now }
-{
-    u32::from_be_bytes([bytes[0], bytes[1], bytes[2], bytes[3]])
-}
 
 /// The number that the first four bytes are, where there are so many.
 fn number_in_front(bytes: &[u8]) -> Option<u32>
@@ -24,7 +16,7 @@ fn number_in_front(bytes: &[u8]) -> Option<u32>
     if bytes.len() < 4 {
         return None;
     }
-    Some(number_in(&bytes[..4]))
+    Some(u32_of(&bytes[..4]))
 }
 
 /// The statement that has this text.

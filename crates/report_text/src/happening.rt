@@ -33,7 +33,9 @@ pub enum Values {
 pub struct Code {
     /// Its letter is `L`, `A`, `O` or `C`.
     pub role: Role,
+    /// It stands behind the letter, as 10 in `L10`.
     pub number: u8,
+    /// What is printed behind it, each behind a space.
     pub values: Values,
 }
 
@@ -42,18 +44,31 @@ pub struct Code {
 pub enum Kind {
     /// Bytes that a script composed.
     Raw,
+    /// An owner asks an authority to endorse a certificate.
     EndorseAsk,
+    /// An authority endorses a certificate.
     Endorsed,
+    /// An owner hands a change to the logs.
     Submit,
+    /// A log proposes changes.
     Propose,
+    /// A log votes for a base and a root.
     Ballot,
+    /// A log states what it did in an epoch.
     StatusNote,
+    /// An epoch is decided, by the votes in it.
     Decision,
+    /// An epoch is skipped, by the statuses in it.
     SkipNote,
+    /// A client asks for a confirmation.
     ConfirmAsk,
+    /// A log confirms, for the first authority.
     LogConfirmed,
+    /// A log and the first authority confirm, for the second.
     HalfConfirmed,
+    /// A log and two authorities confirm, for the client.
     Confirmation,
+    /// A log or an authority announces its next key.
     RollNote,
 }
 
@@ -106,15 +121,21 @@ pub enum Said {
     /// The name has this certificate.
     Accepted {
         name: Name,
+        /// How many certificates the name had before it.
         serial: u64,
+        /// The epoch at whose end it has it.
         epoch: u64,
+        /// The root of the table at the end of the epoch.
         root: [u8; 32],
+        /// Its digest.
         certificate: [u8; 32],
     },
     /// The name has none.
     Absent {
         name: Name,
+        /// The epoch at whose end it has none.
         epoch: u64,
+        /// The root of the table at the end of the epoch.
         root: [u8; 32],
     },
     /// The check with this number fails.
@@ -169,11 +190,15 @@ pub enum Happening {
     },
     /// A message enters the pool.
     Entered {
+        /// Its number in the pool, from 1.
         message: u64,
         kind: Kind,
+        /// Who sent it; `None` where a script injected it.
         from: Option<Party>,
         to: Target,
+        /// In bytes.
         length: u64,
+        /// The SHA-256 of its bytes.
         digest: [u8; 32],
     },
     /// A dishonest party has no leaf left.

@@ -12,6 +12,4 @@ mod happening;
 pub mod laws;
 mod printing;
 mod said;
-#[cfg(test)]
-mod tests;
 mod words;

@@ -1,23 +1,27 @@
 -- What clients learn and accept: what they accepted stays accepted, and each judgement that accepts is written and held.
 use Rattle.std.proofs.Common.{◌≡◌, ◌∙◌, ℕ, List, [], ◌∷◌, ◌++◌, All, append-nil, refl, sym, ap, subst, true, false, Option, Some, None}
-use Rattle.std.specs.Prelude.{map, nat_le}
+use Rattle.std.specs.Prelude.{map, nat_le, slice_get}
 use Rattle.std.specs.List.{filter_map}
 use Rattle.std.proofs.lemmas.List.{map-append}
 use Rattle.std.proofs.lemmas.List.Elements.{All-cons, All-head, All-nil, All-push, All-tail}
 use Rattle.ar_council.proofs.Members.{council-learning}
 use Rattle.ar_council.specs.Council.{council_of}
-use Rattle.ar_safety.specs.Held.{IsTaken, Taken, asked_by}
+use Rattle.ar_safety.specs.Held.{IsTaken, Taken, asked_by, verdict_on}
 use Rattle.ar_world.specs.Founding.{place_of}
-use Rattle.ar_world.specs.Judging.{accepted_with, judged_by_rule, said_of, verdict_on}
+use Rattle.ar_world.specs.Judging.{accepted_with, judged_by_rule, said_of}
 use Rattle.ar_world.specs.Learning.{knows_by, learning}
 use Rattle.ar_world.specs.State.{World}
 use Rattle.client_rule.proofs.Learning.{still_absent, still_accepted}
 use Rattle.client_rule.specs.declared.judgement.Judgement.{Judgement}
 use Rattle.client_rule.specs.declared.judgement.Judgement.TheVariants.{Absent, Accepted, Refused}
-use Rattle.party_keys.specs.Directory.{Directory}
+use Rattle.lms_tree.specs.declared.public_key.LmsPublic.{LmsPublic}
+use Rattle.party_keys.proofs.Growing.{all_grows}
+use Rattle.party_keys.specs.Directory.{Directory, keys_of}
 use Rattle.party_keys.specs.Learning.{Announced}
 use Rattle.report_text.specs.declared.happening.Happening.TheVariants.{Judged}
 use Rattle.run_safety.specs.Headline.{accepted_in}
+use Rattle.run_safety.proofs.Nodes.{first-stays}
+use Rattle.ar_statement.specs.declared.party.Party.{Party}
 use Rattle.run_safety.proofs.Parts.{Makes, part_of, told_by, told_in}
 
 -- ---- `learn`
@@ -52,6 +56,14 @@ knows-council : (keys : Directory) (note : Option Announced) → council_of (kno
 knows-council keys None = refl
 knows-council keys (Some a) = council-learning keys a
 
+-- the first key that is known of a party stays so
+knows-still : (keys : Directory) (note : Option Announced) (who : Party) (key : LmsPublic) → slice_get (keys_of keys who) 0 ≡ Some key
+    → slice_get (keys_of (knows_by keys note) who) 0 ≡ Some key
+knows-still keys None who key is = is
+knows-still keys (Some a) who key is =
+    let grows = all_grows keys (a ∷ []) who in
+    ap (λ known. slice_get known 0) grows.1 ∙ first-stays (keys_of keys who) grows.0 key is
+
 pub learning-makes : (w : World) (message : ℕ) (note : Option Announced) → Makes w (learning w message note)
 learning-makes w message note = record {
   phase = refl;
@@ -59,11 +71,15 @@ learning-makes w message note = record {
     stands = λ s. record {
       seated = record {
         council = knows-council w.clients note ∙ s.seated.council;
+        known = λ who key is. knows-still w.clients note who key (s.seated.known who key is);
         logs = s.seated.logs;
         authorities = s.seated.authorities;
+        whole = s.seated.whole;
         taken = (all-same w.clients note w.judged s.seated.taken).taken;
       };
       bare = λ early. record { dishonest = (s.bare early).dishonest; judged = (s.bare early).judged };
+      counted = s.counted;
+      founded = s.founded;
     };
     told = λ s. append-nil (told_in (part_of w)) ∙ (all-same w.clients note w.judged s.seated.taken).told;
   };
@@ -103,11 +119,15 @@ judging-makes w message t late = record {
     stands = λ s. record {
       seated = record {
         council = s.seated.council;
+        known = s.seated.known;
         logs = s.seated.logs;
         authorities = s.seated.authorities;
+        whole = s.seated.whole;
         taken = (held-by w.clients w.judged t (verdict_on w.clients t) refl).taken s.seated.taken;
       };
       bare = λ early. let e : true ≡ false = sym late ∙ early in absurd cc;
+      counted = s.counted;
+      founded = s.founded;
     };
     told = λ s. (held-by w.clients w.judged t (verdict_on w.clients t) refl).told message;
   };

@@ -1,13 +1,12 @@
 -- The line `authorities`: all logs and authorities sit in their places, and all begin with one directory.
-use Rattle.std.proofs.Common.{◌≡◌, ◌∙◌, ℕ, zero, suc, ◌+◌, ◌<◌, List, [], ◌∷◌, ◌++◌, All, refl, sym, ap, subst, arith, Bool, true, false, Some, Ok, Err, is_none, IfOk}
+use Rattle.std.proofs.Common.{◌≡◌, ◌∙◌, ℕ, zero, suc, ◌+◌, ◌<◌, ◌≤◌, List, [], ◌∷◌, ◌++◌, All, refl, sym, ap, subst, arith, Bool, true, false, Some, Ok, Err, is_none, IfOk}
 use Rattle.std.specs.Prelude.{if◌then◌else◌, length, map, slice_get}
 use Rattle.std.specs.List.{filter_map, list_any, range_with_len}
 use Rattle.std.specs.Result.{result_ok}
 use Rattle.std.proofs.lemmas.List.{length-map}
 use Rattle.std.proofs.lemmas.List.Elements.{All-nil}
 use Rattle.std.proofs.lemmas.List.FromFn.{length-map-range_with_len}
-use Rattle.ar_council.specs.Council.{council_of}
-use Rattle.ar_safety.specs.Held.{IsTaken, Taken}
+use Rattle.ar_safety.specs.Held.{IsTaken, Taken, verdict_on}
 use Rattle.ar_statement.specs.Claims.{is_party}
 use Rattle.ar_statement.specs.declared.party.Party.{Party}
 use Rattle.ar_statement.specs.declared.party.Role.{Role}
@@ -15,17 +14,18 @@ use Rattle.ar_statement.specs.declared.party.Role.TheVariants as role
 use Rattle.ar_world.specs.Finding.{honest_in}
 use Rattle.ar_world.specs.Finding.{named}
 use Rattle.ar_world.specs.Founding.{authorities_line, fresh_log, fresh_logs, genesis_of, key_made, keys_made, new_authorities, new_authority, peopled}
-use Rattle.ar_world.specs.Judging.{verdict_on}
 use Rattle.ar_world.specs.State.{Setup, World, key_for, keys_for}
 use Rattle.lms_tree.specs.Key.{public_of}
+use Rattle.lms_tree.specs.KeyParts.{KeyParts}
 use Rattle.lms_tree.specs.declared.public_key.LmsPublic.{LmsPublic}
-use Rattle.party_keys.specs.Directory.{Directory, directory_of, directory_with, first_keys, is_party_count, is_quorum}
+use Rattle.party_keys.specs.Directory.{Directory, directory_of, directory_with, first_keys, is_party_count, is_quorum, keys_at, keys_of}
 use Rattle.party_keys.specs.Seen.{authority_party, log_party}
 use Rattle.party_keys.specs.declared.fault.DirectoryFault.{DirectoryFault}
 use Rattle.party_keys.specs.declared.fault.DirectoryFault.TheVariants.{Authorities, Logs, Quorum}
 use Rattle.run_safety.specs.Headline.{accepted_in}
-use Rattle.run_safety.specs.Seats.{AreSeated, IsAuthorityOf, IsLogOf}
+use Rattle.run_safety.specs.Seats.{AreSeated, IsAuthorityOf, IsLogOf, honest_count}
 use Rattle.run_safety.proofs.Chains.{if-chained, named-there}
+use Rattle.run_safety.proofs.Places.{honest-below}
 use Rattle.run_safety.proofs.Parts.{Bare, Makes, SeatedIn, Stands, part_of, told_by, told_in}
 
 -- ---- the first directory
@@ -47,6 +47,17 @@ first-long : (setup : Setup) (r : Role) (count : ℕ) → length (first_keys (ma
 first-long setup r count =
     length-map (map public_of (keys_for setup r count)) (λ key. key ∷ []) ∙ length-map (keys_for setup r count) public_of
     ∙ length-map-range_with_len (key_for setup r) 0 count
+
+-- the one key that is known of a party is that of its own
+known-from : (f : ℕ → KeyParts) (a n m : ℕ) → m < n → keys_at (first_keys (map public_of (map f (range_with_len a n)))) m ≡ public_of (f (a + m)) ∷ []
+known-from f a zero m less = absurd (omega (arith, less))
+known-from f a (suc n) zero less = let e : a ≡ a + 0 = omega arith in ap (λ k. public_of (f k) ∷ []) e
+known-from f a (suc n) (suc m) less =
+    let e : a + 1 + m ≡ a + suc m = omega arith in
+    known-from f (a + 1) n m (omega (arith, less)) ∙ ap (λ k. public_of (f k) ∷ []) e
+
+known-there : (setup : Setup) (r : Role) (count n : ℕ) → n < count → keys_at (first_keys (map public_of (keys_for setup r count))) n ≡ public_of (key_for setup r n) ∷ []
+known-there setup r count n less = let e : 0 + n ≡ n = omega arith in known-from (key_for setup r) 0 count n less ∙ ap (λ k. public_of (key_for setup r k) ∷ []) e
 
 -- so many logs and authorities as the setup and the line say
 genesis-long : (setup : Setup) (count : ℕ) (genesis : Directory) → genesis_of setup count ≡ Some genesis
@@ -72,12 +83,20 @@ made-full f a zero m less = absurd (omega (arith, less))
 made-full f a (suc n) zero less = refl
 made-full f a (suc n) (suc m) less = made-full f (a + 1) n m (omega (arith, less))
 
+-- all of them are honest
+count-made : {X : Type 0} (f : ℕ → X) (a n : ℕ) → honest_count (map (λ k. Some (f k)) (range_with_len a n)) ≡ length (map (λ k. Some (f k)) (range_with_len a n))
+count-made f a zero = refl
+count-made f a (suc n) = ap suc (count-made f (a + 1) n)
+
 -- made for each number, all are seated
-made-seated : {X : Type 0} (party : ℕ → Party) (dishonest : List Party) (count : ℕ) (sits : ℕ → X → Type 0) (f : ℕ → X) → dishonest ≡ [] → ((n : ℕ) → sits n (f n))
+made-seated : {X : Type 0} (party : ℕ → Party) (dishonest : List Party) (count : ℕ) (sits : ℕ → X → Type 0) (f : ℕ → X) → dishonest ≡ [] → ((n : ℕ) → n < count → sits n (f n))
     → AreSeated party dishonest count sits (map (λ k. Some (f k)) (range_with_len 0 count))
 made-seated party dishonest count sits f none each = record {
   all = length-map-range_with_len (λ k. Some (f k)) 0 count;
-  own = λ n node there. let same : node ≡ f n = made-there f 0 count n node there ∙ ap f (let e : 0 + n ≡ n = omega arith in e) in subst (sits n) (sym same) (each n);
+  own = λ n node there.
+      let same : node ≡ f n = made-there f 0 count n node there ∙ ap f (let e : 0 + n ≡ n = omega arith in e) in
+      let less : n < count = subst (λ long. n < long) (length-map-range_with_len (λ k. Some (f k)) 0 count) (honest-below _ n node there) in
+      subst (sits n) (sym same) (each n less);
   empty = λ n less. made-full f 0 count n less ∙ sym (ap (list_any (is_party (party n))) none);
 }
 
@@ -99,16 +118,42 @@ peopled-seated : (w : World) (count : ℕ) (genesis : Directory) → genesis_of 
     → SeatedIn (part_of (peopled w count genesis).0)
 peopled-seated w count genesis made bare =
     let long = genesis-long w.setup count genesis made in
+    let is = made-of (map public_of (keys_for w.setup role.LogServer w.setup.logs)) (map public_of (keys_for w.setup role.Authority count)) w.setup.quorum genesis made in
     record {
       council = refl;
-      logs = subst (λ n. AreSeated log_party (part_of w).dishonest n (IsLogOf (council_of genesis)) (fresh_logs w.setup genesis)) (sym long.0)
-          (made-seated log_party (part_of w).dishonest w.setup.logs (IsLogOf (council_of genesis))
+      known = λ who key is. is;
+      logs = subst (λ n. AreSeated log_party (part_of w).dishonest n (IsLogOf genesis) (fresh_logs w.setup genesis)) (sym long.0)
+          (made-seated log_party (part_of w).dishonest w.setup.logs (IsLogOf genesis)
           (λ number. fresh_log genesis number (key_for w.setup role.LogServer number)) bare.dishonest
-          (λ n. record { number = refl; council = refl }));
-      authorities = subst (λ n. AreSeated authority_party (part_of w).dishonest n (IsAuthorityOf (council_of genesis)) (new_authorities w.setup genesis w.checks count)) (sym long.1)
-          (made-seated authority_party (part_of w).dishonest count (IsAuthorityOf (council_of genesis))
+          (λ n less. record {
+            number = refl;
+            council = refl;
+            key = record {
+              first = key_for w.setup role.LogServer n;
+              is = refl;
+              same = ap (λ (d : Directory). slice_get (keys_of d (log_party n)) 0) (sym is)
+                  ∙ ap (λ keys. slice_get keys 0) (known-there w.setup role.LogServer w.setup.logs n less);
+            };
+          }));
+      authorities = subst (λ n. AreSeated authority_party (part_of w).dishonest n (IsAuthorityOf genesis) (new_authorities w.setup genesis w.checks count)) (sym long.1)
+          (made-seated authority_party (part_of w).dishonest count (IsAuthorityOf genesis)
           (λ number. new_authority genesis number (key_for w.setup role.Authority number) (slice_get w.checks number)) bare.dishonest
-          (λ n. record { number = refl; council = refl }));
+          (λ n less. record {
+            number = refl;
+            council = refl;
+            key = record {
+              first = key_for w.setup role.Authority n;
+              is = refl;
+              same = ap (λ (d : Directory). slice_get (keys_of d (authority_party n)) 0) (sym is)
+                  ∙ ap (λ keys. slice_get keys 0) (known-there w.setup role.Authority count n less);
+            };
+          }));
+      whole =
+          let none : length (part_of w).dishonest ≡ 0 = ap length bare.dishonest in
+          let logs : honest_count (fresh_logs w.setup genesis) ≡ length (fresh_logs w.setup genesis) = count-made (λ number. fresh_log genesis number (key_for w.setup role.LogServer number)) 0 w.setup.logs in
+          let authorities : honest_count (new_authorities w.setup genesis w.checks count) ≡ length (new_authorities w.setup genesis w.checks count) =
+          count-made (λ number. new_authority genesis number (key_for w.setup role.Authority number) (slice_get w.checks number)) 0 count in
+          omega (arith, none, logs, authorities);
       taken = none-taken genesis w.judged bare.judged;
     }
 
@@ -127,6 +172,8 @@ authorities-makes w count bare =
         stands = λ s. record {
           seated = peopled-seated w count genesis made (bare s);
           bare = λ early. record { dishonest = (bare s).dishonest; judged = (bare s).judged };
+          counted = s.counted;
+          founded = subst (λ n. n ≤ 16) (sym (genesis-long w.setup count genesis made).0) s.counted;
         };
         told = λ s. ap (λ xs. told_in (part_of w) ++ xs) (keys-quiet w.setup role.Authority count)
             ∙ ap (λ xs. xs ++ []) (none-told w.clients w.judged (bare s).judged) ∙ sym (none-told genesis w.judged (bare s).judged);

@@ -86,7 +86,7 @@ logs-known w seated = ap (λ (c : Council). c.logs) (sym seated.council)
 
 log-records : (w : World) → IsSeated w → (held_of w).logs ≡ honest_records log_party (held_of w).dishonest (log_past w) (length w.clients.logs)
 log-records w seated =
-    all-records log_party (held_of w).dishonest (length w.genesis.logs) (IsLogOf (council_of w.genesis)) (λ (node : LogNode). node.core.log.past)
+    all-records log_party (held_of w).dishonest (length w.genesis.logs) (IsLogOf w.genesis) (λ (node : LogNode). node.core.log.past)
     (fresh 0 (council_of w.clients) 1).past w.logs seated.logs
     ∙ ap (honest_records log_party (held_of w).dishonest (log_past w)) (logs-known w seated)
 
@@ -96,10 +96,10 @@ honest-log : (w : World) → IsSeated w → KeepsRecords w → (n : ℕ) → IsH
 honest-log w seated keeps n is =
     let dishonest : List Party = (held_of w).dishonest in
     let none : LogRecord = (fresh 0 (council_of w.clients) 1).past in
-    let there = sits-there log_party dishonest (length w.genesis.logs) (IsLogOf (council_of w.genesis)) w.logs n seated.logs
+    let there = sits-there log_party dishonest (length w.genesis.logs) (IsLogOf w.genesis) w.logs n seated.logs
     (let known = is.known in let e = logs-known w seated in omega (arith, known, e)) is.honest in
     let node : LogNode = there.0 in
-    let own : IsLogOf (council_of w.genesis) n node = seated.logs.own n node there.1 in
+    let own : IsLogOf w.genesis n node = seated.logs.own n node there.1 in
     let its : (records_of (held_of w)).logs n ≡ node.core.log.past =
     ap (λ (xs : List LogRecord). record_at log_party dishonest xs none n) (log-records w seated)
     ∙ own-record log_party dishonest (log_past w) none (length w.clients.logs) n is.known is.honest
@@ -119,7 +119,7 @@ authorities-known w seated = ap (λ (c : Council). c.authorities) (sym seated.co
 authority-records : (w : World) → IsSeated w
     → (held_of w).authorities ≡ honest_records authority_party (held_of w).dishonest (authority_past w) (length w.clients.authorities)
 authority-records w seated =
-    all-records authority_party (held_of w).dishonest (length w.genesis.authorities) (IsAuthorityOf (council_of w.genesis)) (λ (node : AuthorityNode). node.state.past)
+    all-records authority_party (held_of w).dishonest (length w.genesis.authorities) (IsAuthorityOf w.genesis) (λ (node : AuthorityNode). node.state.past)
     (fresh_authority 1) w.authorities seated.authorities
     ∙ ap (honest_records authority_party (held_of w).dishonest (authority_past w)) (authorities-known w seated)
 
@@ -128,10 +128,10 @@ honest-authority : (w : World) → IsSeated w → KeepsRecords w → (n : ℕ) �
 honest-authority w seated keeps n is =
     let dishonest : List Party = (held_of w).dishonest in
     let none : AuthorityRecord = fresh_authority 1 in
-    let there = sits-there authority_party dishonest (length w.genesis.authorities) (IsAuthorityOf (council_of w.genesis)) w.authorities n seated.authorities
+    let there = sits-there authority_party dishonest (length w.genesis.authorities) (IsAuthorityOf w.genesis) w.authorities n seated.authorities
     (let known = is.known in let e = authorities-known w seated in omega (arith, known, e)) is.honest in
     let node : AuthorityNode = there.0 in
-    let own : IsAuthorityOf (council_of w.genesis) n node = seated.authorities.own n node there.1 in
+    let own : IsAuthorityOf w.genesis n node = seated.authorities.own n node there.1 in
     let its : (records_of (held_of w)).authorities n ≡ node.state.past =
     ap (λ (xs : List AuthorityRecord). record_at authority_party dishonest xs none n) (authority-records w seated)
     ∙ own-record authority_party dishonest (authority_past w) none (length w.clients.authorities) n is.known is.honest

@@ -1,5 +1,7 @@
 pub mod Chains
 pub mod Clients
+pub mod Deliveries
+pub mod Flushes
 pub mod Founded
 pub mod Held
 pub mod Lines
@@ -8,3 +10,4 @@ pub mod Parts
 pub mod Places
 pub mod Runs
 pub mod Safe
+pub mod Waiting

@@ -1,16 +1,16 @@
 -- What each line makes keeps who sits where and what clients hold.
-use Rattle.std.proofs.Common.{◌≡◌, ◌∙◌, ℕ, zero, suc, ◌+◌, List, [], ◌∷◌, ◌++◌, append-nil, refl, sym, ap, subst, Bool, true, false, Option, Some, None, Ok, Err, Result, IfOk, get_or, is_none}
+use Rattle.std.proofs.Common.{◌≡◌, ◌∙◌, ◌≤◌, ℕ, zero, suc, ◌+◌, List, [], ◌∷◌, ◌++◌, append-nil, arith, refl, sym, ap, subst, Bool, true, false, Option, Some, None, Ok, Err, Result, IfOk, get_or, is_none}
 use Rattle.std.specs.Prelude.{length, map, nat_le, nat_lt, position, slice_set, unwrap_or}
 use Rattle.std.specs.List.{filter_map}
 use Rattle.std.specs.Option.{option_map}
 use Rattle.std.specs.Result.{result_ok}
-use Rattle.std.proofs.lemmas.List.{map-append}
+use Rattle.std.proofs.lemmas.Bool.{and_parts, leb-true}
+use Rattle.std.proofs.lemmas.List.{length-append, map-append}
 use Rattle.std.proofs.lemmas.List.Quantifiers.{position-Some}
 use Rattle.std.proofs.lemmas.Option.{option_and_then_some}
 use Rattle.ar_base.specs.Chaining.{◌>>=◌}
 use Rattle.ar_cert.specs.Certificate.{Certificate, digest_of}
 use Rattle.ar_council.proofs.Seeing.{one_party}
-use Rattle.ar_council.specs.Council.{council_of}
 use Rattle.ar_message.specs.Messages.{message_in}
 use Rattle.ar_message.specs.declared.sent.Sent.{Sent}
 use Rattle.ar_statement.specs.Claims.{party}
@@ -55,13 +55,13 @@ use Rattle.report_text.specs.declared.happening.What.{What}
 use Rattle.report_text.specs.declared.happening.What.TheVariants.{Handover, Object, Submit, Take}
 use Rattle.script_text.specs.declared.line.PolicyWords.{PolicyWords}
 use Rattle.run_safety.specs.Headline.{accepted_in}
-use Rattle.run_safety.specs.Seats.{IsAuthorityOf, IsLogOf}
-use Rattle.run_safety.proofs.Chains.{if-chained, named-there}
+use Rattle.run_safety.specs.Seats.{IsAuthorityOf, IsLogOf, honest_count}
+use Rattle.run_safety.proofs.Chains.{if-chained, named-there, need-holds}
 use Rattle.run_safety.proofs.Clients.{judging-makes, learning-makes}
 use Rattle.run_safety.proofs.Founded.{keys-quiet}
 use Rattle.run_safety.proofs.Nodes.{authority-put, authority-rolls-makes, authority-takes-makes, entries-quiet, log-rolls-makes, log-steps-makes, owner-makes, posted-makes, submitted-makes}
-use Rattle.run_safety.proofs.Parts.{Goes, Makes, Part, SeatedIn, behind, part_of, still, told_in}
-use Rattle.run_safety.proofs.Places.{seated-beside, seated-without}
+use Rattle.run_safety.proofs.Parts.{Goes, Makes, Part, SeatedIn, behind, counts, part_of, still, told_in}
+use Rattle.run_safety.proofs.Places.{seated-beside, seated-without, count-without, set-long}
 
 -- ---- owners and drafts
 
@@ -145,11 +145,15 @@ keys-makes w lms ots =
     if-chained (named 1 (type_to_make lms)) _ (Makes w) (λ tree same.
     if-chained (named 2 (type_of_number ots)) _ (Makes w) (λ one there. still _ _ [] refl refl))
 
+count-most : (count : ℕ) → is_party_count count ≡ true → count ≤ 16
+count-most count counted = leb-true count 16 (and_parts (nat_le 3 count) (nat_le count 16) counted).1
+
 pub logs-makes : (w : World) (count quorum : ℕ) → IfOk (logs_line w count quorum) (Makes w)
 logs-makes w count quorum =
     if-chained (need (is_party_count count) (Absent 1)) _ (Makes w) (λ counted same.
     if-chained (need (is_quorum quorum count) (Absent 2)) _ (Makes w) (λ bound there.
-    still _ _ (keys_made w.setup role.LogServer count) refl (keys-quiet w.setup role.LogServer count)))
+    counts (part_of w) count (keys_made w.setup role.LogServer count) (count-most count (need-holds (is_party_count count) (Absent 1) counted same))
+    (keys-quiet w.setup role.LogServer count)))
 
 -- ---- who becomes dishonest
 
@@ -162,10 +166,21 @@ turns w who key logs authorities late sits =
     subst (λ dishonest. Goes (part_of w) (now dishonest) (Dishonest who ∷ [])) (sym (map-append (λ (f : Forger). f.party) w.forgers (record { party = who; key = key; next = 0 } ∷ []))) (record {
       phase = refl;
       keeps = record {
-        stands = λ s. record { seated = sits s.seated; bare = λ early. let e : true ≡ false = sym late ∙ early in absurd cc };
+        stands = λ s. record { seated = sits s.seated; bare = λ early. let e : true ≡ false = sym late ∙ early in absurd cc; counted = s.counted; founded = s.founded };
         told = λ s. append-nil (told_in (part_of w));
       };
     })
+
+-- one more is dishonest where one less is honest
+less-one : (dishonest : List Party) (who : Party) (was now others all : ℕ) → suc now ≡ was → length dishonest + (was + others) ≡ all → length (dishonest ++ who ∷ []) + (now + others) ≡ all
+less-one dishonest who was now others all less sum =
+    let more : length (dishonest ++ who ∷ []) ≡ length dishonest + 1 = length-append dishonest (who ∷ []) in
+    omega (arith, less, sum, more)
+
+less-other : (dishonest : List Party) (who : Party) (was now others all : ℕ) → suc now ≡ was → length dishonest + (others + was) ≡ all → length (dishonest ++ who ∷ []) + (others + now) ≡ all
+less-other dishonest who was now others all less sum =
+    let more : length (dishonest ++ who ∷ []) ≡ length dishonest + 1 = length-append dishonest (who ∷ []) in
+    omega (arith, less, sum, more)
 
 turned-makes : (w : World) (r : Role) (number : ℕ) (key : KeyParts) → nat_le 4 (place_of w.phase) ≡ true → honest_key w r number ≡ Some key
     → Makes w (turned w (party r number) key, Dishonest (party r number) ∷ [])
@@ -173,16 +188,23 @@ turned-makes w role.LogServer number key late there =
     option_and_then_some (λ (node : LogNode). first_key node.keys) (log_at w number) key there (λ node is has.
     turns w (log_party number) key (slice_set w.logs number None) w.authorities late (λ s. record {
       council = s.council;
-      logs = seated-without role.LogServer _ _ (IsLogOf (council_of w.genesis)) w.logs number node (λ m. refl) is s.logs;
-      authorities = seated-beside authority_party (log_party number) _ _ (IsAuthorityOf (council_of w.genesis)) w.authorities (λ m. refl) s.authorities;
+      known = s.known;
+      logs = seated-without role.LogServer _ _ (IsLogOf w.genesis) w.logs number node (λ m. refl) is s.logs;
+      authorities = seated-beside authority_party (log_party number) _ _ (IsAuthorityOf w.genesis) w.authorities (λ m. refl) s.authorities;
+      whole = less-one (part_of w).dishonest (log_party number) (honest_count w.logs) (honest_count (slice_set w.logs number None)) (honest_count w.authorities) (length w.logs + length w.authorities)
+          (count-without w.logs number node is) s.whole ∙ ap (λ n. n + length w.authorities) (sym (set-long w.logs number None));
       taken = s.taken;
     }))
 turned-makes w role.Authority number key late there =
     option_and_then_some (λ (node : AuthorityNode). first_key node.keys) (authority_at w number) key there (λ node is has.
     turns w (authority_party number) key w.logs (slice_set w.authorities number None) late (λ s. record {
       council = s.council;
-      logs = seated-beside log_party (authority_party number) _ _ (IsLogOf (council_of w.genesis)) w.logs (λ m. refl) s.logs;
-      authorities = seated-without role.Authority _ _ (IsAuthorityOf (council_of w.genesis)) w.authorities number node (λ m. refl) is s.authorities;
+      known = s.known;
+      logs = seated-beside log_party (authority_party number) _ _ (IsLogOf w.genesis) w.logs (λ m. refl) s.logs;
+      authorities = seated-without role.Authority _ _ (IsAuthorityOf w.genesis) w.authorities number node (λ m. refl) is s.authorities;
+      whole = less-other (part_of w).dishonest (authority_party number) (honest_count w.authorities) (honest_count (slice_set w.authorities number None)) (honest_count w.logs)
+          (length w.logs + length w.authorities) (count-without w.authorities number node is) s.whole
+          ∙ ap (λ n. length w.logs + n) (sym (set-long w.authorities number None));
       taken = s.taken;
     }))
 turned-makes w role.Owner number key late there = absurd cc
@@ -209,13 +231,13 @@ check-line-makes w number owner tells said none =
     if-chained (named 1 (checking_at w number)) _ (Makes w) (λ found same.
     if-chained (named 3 (owner_at w owner)) _ (Makes w) (λ holder there.
     authority-put w number found.0 (retold (tells (known_key holder)) found) (said ∷ [])
-    (checking-there w number found (named-there 1 (checking_at w number) found same)) (refl, refl) none))
+    (checking-there w number found (named-there 1 (checking_at w number) found same)) (refl, refl) (λ first is. is) none))
 
 pub retire-makes : (w : World) (number : ℕ) → IfOk (retire_line w number) (Makes w)
 retire-makes w number =
     if-chained (named 1 (checking_at w number)) _ (Makes w) (λ found same.
     authority-put w number found.0 (record found.0 { check = None }) (Retired number ∷ [])
-    (checking-there w number found (named-there 1 (checking_at w number) found same)) (refl, refl) refl)
+    (checking-there w number found (named-there 1 (checking_at w number) found same)) (refl, refl) (λ first is. is) refl)
 
 -- ---- orders
 
@@ -242,7 +264,7 @@ roll-makes w who = roll-of-makes w who.role who.number
 -- ---- deliveries
 
 -- who takes deliveries is there
-log-takes : (w : World) (r : Role) (number : ℕ) (node : LogNode) → taker_in w r number ≡ Some (a_log node) → log_at w number ≡ Some node
+pub log-takes : (w : World) (r : Role) (number : ℕ) (node : LogNode) → taker_in w r number ≡ Some (a_log node) → log_at w number ≡ Some node
 log-takes w role.LogServer number node h = by (log_at w number) h
   where
     by : (o : Option LogNode) → option_map a_log o ≡ Some (a_log node) → o ≡ Some node
@@ -260,7 +282,7 @@ log-takes w role.Owner number node h = by (owner_at w number) h
     by (Some x) e = absurd cc
 log-takes w role.Client number node h = absurd cc
 
-authority-takes : (w : World) (r : Role) (number : ℕ) (node : AuthorityNode) → taker_in w r number ≡ Some (an_authority node) → authority_at w number ≡ Some node
+pub authority-takes : (w : World) (r : Role) (number : ℕ) (node : AuthorityNode) → taker_in w r number ≡ Some (an_authority node) → authority_at w number ≡ Some node
 authority-takes w role.LogServer number node h = by (log_at w number) h
   where
     by : (o : Option LogNode) → option_map a_log o ≡ Some (an_authority node) → authority_at w number ≡ Some node
@@ -278,13 +300,15 @@ authority-takes w role.Owner number node h = by (owner_at w number) h
     by (Some x) e = absurd cc
 authority-takes w role.Client number node h = absurd cc
 
--- the party that takes a delivery
-can-take : (o : Option Pooled) (t : Option Taker) (r : Result (Unit {0}) WorldFault) (found : Pooled × Taker)
-    → (named 1 o >>= λ p. named 2 t >>= λ taker. r >>= λ free. Ok (p, taker)) ≡ Ok found → t ≡ Some found.1
+-- what a delivery needs is there: the message, the party that takes it, and room
+pub can-take : (o : Option Pooled) (t : Option Taker) (r : Result (Unit {0}) WorldFault) (found : Pooled × Taker)
+    → (named 1 o >>= λ p. named 2 t >>= λ taker. r >>= λ free. Ok (p, taker)) ≡ Ok found → (o ≡ Some found.0) × (t ≡ Some found.1) × (r ≡ Ok tt)
 can-take None t r found same = absurd cc
 can-take (Some p) None r found same = absurd cc
 can-take (Some p) (Some taker) (Err e) found same = absurd cc
-can-take (Some p) (Some taker) (Ok u) found same = ap (λ (x : Result (Pooled × Taker) WorldFault). Some (unwrap_or (result_ok x) (p, taker)).1) same
+can-take (Some p) (Some taker) (Ok u) found same =
+    let is : (p, taker) ≡ found = ap (λ (x : Result (Pooled × Taker) WorldFault). unwrap_or (result_ok x) (p, taker)) same in
+    (ap (λ (f : Pooled × Taker). Some f.0) is, ap (λ (f : Pooled × Taker). Some f.1) is, refl)
 
 delivery-makes : (says : Outcome) (w v : World) (message : ℕ) (bytes : List ℕ) (r : Role) (number : ℕ) (taker : Taker) → v.logs ≡ w.logs → v.authorities ≡ w.authorities
     → taker_in w r number ≡ Some taker → Makes v (delivery says v message bytes number taker)
@@ -298,7 +322,7 @@ pub deliver-makes : (says : Outcome) (w : World) (message : ℕ) (who : Party) �
 deliver-makes says w message who =
     if-chained (can_deliver w message who) (λ found. Ok (delivery says (noted w message found.0 who) message found.0.bytes who.number found.1)) (Makes w) (λ found same.
     delivery-makes says w (noted w message found.0 who) message found.0.bytes who.role who.number found.1 refl refl
-    (can-take (message_at w message) (taker_at w who) (room w) found same))
+    (can-take (message_at w message) (taker_at w who) (room w) found same).1)
 
 -- ---- messages, clients, dishonest parties
 

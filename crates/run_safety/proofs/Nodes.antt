@@ -1,6 +1,6 @@
 -- The steps of honest logs and authorities, and what parties send: each that changes stays who it is.
-use Rattle.std.proofs.Common.{◌≡◌, ◌∙◌, ℕ, ◌+◌, List, [], ◌∷◌, ◌++◌, refl, ap, Option, Some, None, Ok, Err, Result}
-use Rattle.std.specs.Prelude.{is_none, map, slice_set}
+use Rattle.std.proofs.Common.{◌≡◌, ◌∙◌, ℕ, ◌+◌, List, [], ◌∷◌, ◌++◌, refl, sym, ap, Option, Some, None, Ok, Err, Result}
+use Rattle.std.specs.Prelude.{is_none, length, map, slice_get, slice_set}
 use Rattle.std.specs.List.{filter_map}
 use Rattle.ar_council.specs.Council.{council_of}
 use Rattle.ar_message.specs.Filling.{filled}
@@ -26,6 +26,7 @@ use Rattle.authority_core.specs.Row.{asked_in}
 use Rattle.authority_core.specs.State as authority_state
 use Rattle.lms_tree.specs.Key.{public_of}
 use Rattle.lms_tree.specs.KeyParts.{KeyParts}
+use Rattle.lms_tree.specs.declared.public_key.LmsPublic.{LmsPublic}
 use Rattle.log_core.proofs.Standing as log
 use Rattle.log_core.specs.Row.{row}
 use Rattle.log_core.specs.State as log_state
@@ -38,9 +39,9 @@ use Rattle.report_text.specs.declared.happening.Happening.TheVariants.{Step}
 use Rattle.report_text.specs.declared.happening.What.{What}
 use Rattle.report_text.specs.declared.happening.What.TheVariants as whats
 use Rattle.run_safety.specs.Headline.{accepted_in}
-use Rattle.run_safety.specs.Seats.{IsAuthorityOf, IsLogOf}
+use Rattle.run_safety.specs.Seats.{IsAuthorityOf, IsLogOf, KnowsFirst, honest_count}
 use Rattle.run_safety.proofs.Parts.{Goes, Makes, moves, part_of, still}
-use Rattle.run_safety.proofs.Places.{seated-changed}
+use Rattle.run_safety.proofs.Places.{seated-changed, count-changed, set-long}
 
 -- ---- what is printed
 
@@ -57,52 +58,71 @@ does-quiet who what log (Some ended) n xs = entries-quiet n xs
 
 -- ---- a party in its place
 
+-- the first of the keys stays
+abbrev StaysFirst : List KeyParts → List KeyParts → Type 0
+StaysFirst keys later = (first : KeyParts) → slice_get keys 0 ≡ Some first → slice_get later 0 ≡ Some first
+
+still-known : (known : List LmsPublic) (keys later : List KeyParts) → StaysFirst keys later → KnowsFirst known keys → KnowsFirst known later
+still-known known keys later stays knows = record { first = knows.first; is = stays knows.first knows.is; same = knows.same }
+
+-- the first of a list stays so with more behind it
+pub first-stays : {X : Type 0} (xs more : List X) (first : X) → slice_get xs 0 ≡ Some first → slice_get (xs ++ more) 0 ≡ Some first
+first-stays [] more first is = absurd cc
+first-stays (x ∷ xs) more first is = is
+
 -- a log that changes stays who it is
 log-put : (w : World) (number : ℕ) (was is : LogNode) (said : List Happening) → log_at w number ≡ Some was
-    → (is.core.log.me ≡ was.core.log.me) × (is.core.log.council ≡ was.core.log.council) → filter_map accepted_in said ≡ []
+    → (is.core.log.me ≡ was.core.log.me) × (is.core.log.council ≡ was.core.log.council) → StaysFirst was.keys is.keys → filter_map accepted_in said ≡ []
     → Goes (part_of w) (part_of (with_log w number is)) said
-log-put w number was is said there stays none =
+log-put w number was is said there stays first none =
     moves (part_of w) (slice_set w.logs number (Some is)) w.authorities said (λ s. record {
       council = s.council;
-      logs = seated-changed log_party _ _ (IsLogOf (council_of w.genesis)) w.logs number was is there
-          (λ sat. record { number = stays.0 ∙ sat.number; council = stays.1 ∙ sat.council }) s.logs;
+      known = s.known;
+      logs = seated-changed log_party _ _ (IsLogOf w.genesis) w.logs number was is there
+          (λ sat. record { number = stays.0 ∙ sat.number; council = stays.1 ∙ sat.council; key = still-known _ was.keys is.keys first sat.key }) s.logs;
       authorities = s.authorities;
+      whole = ap (λ n. length (part_of w).dishonest + (n + honest_count w.authorities)) (count-changed w.logs number was is there)
+          ∙ s.whole ∙ ap (λ n. n + length w.authorities) (sym (set-long w.logs number (Some is)));
       taken = s.taken;
     }) none
 
 -- so does an authority
 pub authority-put : (w : World) (number : ℕ) (was is : AuthorityNode) (said : List Happening) → authority_at w number ≡ Some was
-    → (is.state.me ≡ was.state.me) × (council_of is.state.keys ≡ council_of was.state.keys) → filter_map accepted_in said ≡ []
+    → (is.state.me ≡ was.state.me) × (council_of is.state.keys ≡ council_of was.state.keys) → StaysFirst was.keys is.keys → filter_map accepted_in said ≡ []
     → Goes (part_of w) (part_of (with_authority w number is)) said
-authority-put w number was is said there stays none =
+authority-put w number was is said there stays first none =
     moves (part_of w) w.logs (slice_set w.authorities number (Some is)) said (λ s. record {
       council = s.council;
+      known = s.known;
       logs = s.logs;
-      authorities = seated-changed authority_party _ _ (IsAuthorityOf (council_of w.genesis)) w.authorities number was is there
-          (λ sat. record { number = stays.0 ∙ sat.number; council = stays.1 ∙ sat.council }) s.authorities;
+      authorities = seated-changed authority_party _ _ (IsAuthorityOf w.genesis) w.authorities number was is there
+          (λ sat. record { number = stays.0 ∙ sat.number; council = stays.1 ∙ sat.council; key = still-known _ was.keys is.keys first sat.key }) s.authorities;
+      whole = ap (λ n. length (part_of w).dishonest + (honest_count w.logs + n)) (count-changed w.authorities number was is there)
+          ∙ s.whole ∙ ap (λ n. length w.logs + n) (sym (set-long w.authorities number (Some is)));
       taken = s.taken;
     }) none
 
 -- ---- logs
 
 log-makes : (w : World) (number : ℕ) (node : LogNode) (keys : List KeyParts) (what : What) (event : LogEvent) (a : log_state.Answer) → log_at w number ≡ Some node
+    → StaysFirst node.keys keys
     → ((reply : log_state.Reply) → a ≡ Ok reply → (reply.after.log.me ≡ node.core.log.me) × (reply.after.log.council ≡ node.core.log.council))
     → Makes w (log_answers w number node keys what event a)
-log-makes w number node keys what event (Ok reply) there stays =
-    log-put w number node (record { core = reply.after; keys = keys; taken = node.taken ++ event ∷ [] }) _ there (stays reply refl)
+log-makes w number node keys what event (Ok reply) there first stays =
+    log-put w number node (record { core = reply.after; keys = keys; taken = node.taken ++ event ∷ [] }) _ there (stays reply refl) first
     (does-quiet (log_party number) what number (filled keys reply.unsigned).ended _ (map (pooled_from (log_party number)) (filled keys reply.unsigned).messages))
-log-makes w number node keys what event (Err refusal) there stays = still _ _ (Step (log_party number) what (Some (log_code refusal)) ∷ []) refl refl
+log-makes w number node keys what event (Err refusal) there first stays = still _ _ (Step (log_party number) what (Some (log_code refusal)) ∷ []) refl refl
 
 pub log-steps-makes : (w : World) (number : ℕ) (node : LogNode) (what : What) (event : LogEvent) (input : log_state.Input) → log_at w number ≡ Some node
     → Makes w (log_steps w number node what event input)
 unfolding log_steps
-log-steps-makes w number node what event input there = log-makes w number node node.keys what event (row node.core input) there (log.row-stays node.core input)
+log-steps-makes w number node what event input there = log-makes w number node node.keys what event (row node.core input) there (λ first is. is) (log.row-stays node.core input)
 
 pub log-rolls-makes : (w : World) (number : ℕ) (node : LogNode) (next : KeyParts) → log_at w number ≡ Some node → Makes w (log_rolls w number node next)
 unfolding log_rolls
 log-rolls-makes w number node next there =
     let input = log_state.rolls (public_of next)
-    in log-makes w number node (node.keys ++ next ∷ []) whats.Roll events.Roll (row node.core input) there (log.row-stays node.core input)
+    in log-makes w number node (node.keys ++ next ∷ []) whats.Roll events.Roll (row node.core input) there (first-stays node.keys (next ∷ [])) (log.row-stays node.core input)
 
 -- ---- authorities
 
@@ -111,13 +131,13 @@ abbrev Stays : authority_state.AuthorityState → authority_state.Answer → Typ
 Stays s a = (later : authority_state.AuthorityState) (sent : Unsigned) → a ≡ Ok (later, sent) → (later.me ≡ s.me) × (council_of later.keys ≡ council_of s.keys)
 
 authority-makes : (w : World) (number : ℕ) (was node : AuthorityNode) (what : What) (a : authority_state.Answer) → authority_at w number ≡ Some was
-    → node.state ≡ was.state → Stays was.state a → Makes w (authority_answers w number node what a)
-authority-makes w number was node what (Ok answer) there same stays =
-    authority-put w number was (record node { state = answer.0 }) _ there (stays answer.0 answer.1 refl)
+    → node.state ≡ was.state → StaysFirst was.keys node.keys → Stays was.state a → Makes w (authority_answers w number node what a)
+authority-makes w number was node what (Ok answer) there same first stays =
+    authority-put w number was (record node { state = answer.0 }) _ there (stays answer.0 answer.1 refl) first
     (does-quiet (authority_party number) what number (filled node.keys answer.1).ended _ (map (pooled_from (authority_party number)) (filled node.keys answer.1).messages))
-authority-makes w number was node what (Err refusal) there same stays =
+authority-makes w number was node what (Err refusal) there same first stays =
     authority-put w number was node (Step (authority_party number) what (Some (authority_code refusal)) ∷ []) there
-    (ap (λ s. s.me) same, ap (λ s. council_of s.keys) same) refl
+    (ap (λ s. s.me) same, ap (λ s. council_of s.keys) same) first refl
 
 pub authority-takes-makes : (says : Outcome) (w : World) (number : ℕ) (node : AuthorityNode) (what : What) (bytes : List ℕ) → authority_at w number ≡ Some node
     → Makes w (authority_takes says w number node what bytes)
@@ -125,14 +145,14 @@ unfolding authority_takes
 authority-takes-makes says w number node what bytes there =
     let m = message_in bytes
     in let a = authority_reply says node m
-    in authority-makes w number node (node_behind node m a) what a there refl
+    in authority-makes w number node (node_behind node m a) what a there refl (λ first is. is)
     (authority.row-stays node.state (is_none node.check) m (says_to says node.check (asked_in m)))
 
 rolled-makes : (w : World) (number : ℕ) (node : AuthorityNode) (next : KeyParts) (a : authority_state.Answer) → authority_at w number ≡ Some node → Stays node.state a
     → Makes w (authority_rolled w number node next a)
 rolled-makes w number node next (Ok answer) there stays =
-    authority-makes w number node (record node { keys = node.keys ++ next ∷ [] }) whats.Roll (Ok answer) there refl stays
-rolled-makes w number node next (Err refusal) there stays = authority-makes w number node node whats.Roll (Err refusal) there refl stays
+    authority-makes w number node (record node { keys = node.keys ++ next ∷ [] }) whats.Roll (Ok answer) there refl (first-stays node.keys (next ∷ [])) stays
+rolled-makes w number node next (Err refusal) there stays = authority-makes w number node node whats.Roll (Err refusal) there refl (λ first is. is) stays
 
 pub authority-rolls-makes : (w : World) (number : ℕ) (node : AuthorityNode) (next : KeyParts) → authority_at w number ≡ Some node
     → Makes w (authority_rolls w number node next)

@@ -1,28 +1,30 @@
 -- Who sits where in a world and what its clients hold, and what is kept of that from one world to a later one.
-use Rattle.std.proofs.Common.{◌≡◌, List, [], ◌++◌, All, append-nil, append_assoc, refl, sym, ap, ◌∙◌, subst, false, Option}
-use Rattle.std.specs.Prelude.{length, map, nat_le}
+use Rattle.std.proofs.Common.{◌≡◌, ◌+◌, ◌≤◌, List, [], ◌++◌, All, append-nil, append_assoc, refl, sym, ap, ◌∙◌, subst, false, Option}
+use Rattle.std.specs.Prelude.{ℕ, length, map, nat_le, slice_get, Some}
 use Rattle.std.specs.List.{filter_map}
 use Rattle.std.proofs.lemmas.List.Elements.{filter_map-append}
 use Rattle.ar_council.specs.Council.{council_of}
-use Rattle.ar_safety.specs.Held.{IsTaken, Taken}
+use Rattle.ar_safety.specs.Held.{IsTaken, Taken, verdict_on}
 use Rattle.ar_statement.specs.declared.party.Party.{Party}
 use Rattle.ar_world.specs.Founding.{place_of}
-use Rattle.ar_world.specs.Judging.{said_of, verdict_on}
+use Rattle.ar_world.specs.Judging.{said_of}
 use Rattle.ar_world.specs.Parties.{AuthorityNode, LogNode}
 use Rattle.ar_world.specs.State.{Moved, World}
 use Rattle.ar_world.specs.declared.phase.Phase.{Phase}
-use Rattle.party_keys.specs.Directory.{Directory}
+use Rattle.lms_tree.specs.declared.public_key.LmsPublic.{LmsPublic}
+use Rattle.party_keys.specs.Directory.{Directory, keys_of}
 use Rattle.party_keys.specs.Seen.{authority_party, log_party}
 use Rattle.report_text.specs.declared.happening.Happening.{Happening}
 use Rattle.report_text.specs.declared.happening.Said.{Said}
 use Rattle.run_safety.specs.Headline.{accepted_in}
-use Rattle.run_safety.specs.Seats.{AreSeated, IsAuthorityOf, IsLogOf, IsSeated}
+use Rattle.run_safety.specs.Seats.{AreSeated, IsAuthorityOf, IsLogOf, IsSeated, honest_count}
 
 -- ---- what is told of a world
 
--- what is told here of a world
+-- what is told here of a world; the count is that of the line `logs`
 pub record Part : Type 0 where
   pub phase : Phase
+  pub count : ℕ
   pub logs : List (Option LogNode)
   pub authorities : List (Option AuthorityNode)
   pub dishonest : List Party
@@ -33,6 +35,7 @@ pub record Part : Type 0 where
 abbrev pub part_of : World → Part
 part_of w = record {
   phase = w.phase;
+  count = w.setup.logs;
   logs = w.logs;
   authorities = w.authorities;
   dishonest = map (λ forger. forger.party) w.forgers;
@@ -44,22 +47,26 @@ part_of w = record {
 -- all are seated, of what is told
 pub record SeatedIn (p : Part) : Type 0 where
   pub council : council_of p.clients ≡ council_of p.genesis
-  pub logs : AreSeated log_party p.dishonest (length p.genesis.logs) (IsLogOf (council_of p.genesis)) p.logs
-  pub authorities : AreSeated authority_party p.dishonest (length p.genesis.authorities) (IsAuthorityOf (council_of p.genesis)) p.authorities
+  pub known : (who : Party) (key : LmsPublic) → slice_get (keys_of p.genesis who) 0 ≡ Some key → slice_get (keys_of p.clients who) 0 ≡ Some key
+  pub logs : AreSeated log_party p.dishonest (length p.genesis.logs) (IsLogOf p.genesis) p.logs
+  pub authorities : AreSeated authority_party p.dishonest (length p.genesis.authorities) (IsAuthorityOf p.genesis) p.authorities
+  pub whole : length p.dishonest + (honest_count p.logs + honest_count p.authorities) ≡ length p.logs + length p.authorities
   pub taken : All (λ t. IsTaken (verdict_on p.clients t)) p.judged
 
 pub seated : (w : World) → SeatedIn (part_of w) → IsSeated w
-seated w s = record { council = s.council; logs = s.logs; authorities = s.authorities; taken = s.taken }
+seated w s = record { council = s.council; known = s.known; logs = s.logs; authorities = s.authorities; whole = s.whole; taken = s.taken }
 
 -- nobody is dishonest yet, and no client accepted anything
 pub record Bare (p : Part) : Type 0 where
   pub dishonest : p.dishonest ≡ []
   pub judged : p.judged ≡ []
 
--- all are seated; and so it is before the line `authorities`
+-- all are seated; before the line `authorities` all is bare; and there are at most 16 logs, told by the line `logs` and founded
 pub record Stands (p : Part) : Type 0 where
   pub seated : SeatedIn p
   pub bare : nat_le 4 (place_of p.phase) ≡ false → Bare p
+  pub counted : p.count ≤ 16
+  pub founded : length p.genesis.logs ≤ 16
 
 -- what clients hold, as it is written
 abbrev pub told_by : Directory → Taken → Said
@@ -114,7 +121,29 @@ pub moves : (p : Part) (logs : List (Option LogNode)) (authorities : List (Optio
 moves p logs authorities said sits none = record {
   phase = refl;
   keeps = record {
-    stands = λ s. record { seated = sits s.seated; bare = λ early. record { dishonest = (s.bare early).dishonest; judged = (s.bare early).judged } };
+    stands = λ s. record { seated = sits s.seated; bare = λ early. record { dishonest = (s.bare early).dishonest; judged = (s.bare early).judged }; counted = s.counted; founded = s.founded };
+    told = λ s. ap (λ xs. told_in p ++ xs) none ∙ append-nil (told_in p);
+  };
+}
+
+-- So many logs are to be made; all else stays.
+pub counts : (p : Part) (count : ℕ) (said : List Happening) → count ≤ 16 → filter_map accepted_in said ≡ [] → Goes p (record p { count = count }) said
+counts p count said few none = record {
+  phase = refl;
+  keeps = record {
+    stands = λ s. record {
+      seated = record {
+        council = s.seated.council;
+        known = s.seated.known;
+        logs = s.seated.logs;
+        authorities = s.seated.authorities;
+        whole = s.seated.whole;
+        taken = s.seated.taken;
+      };
+      bare = λ early. record { dishonest = (s.bare early).dishonest; judged = (s.bare early).judged };
+      counted = few;
+      founded = s.founded;
+    };
     told = λ s. ap (λ xs. told_in p ++ xs) none ∙ append-nil (told_in p);
   };
 }

@@ -8,7 +8,7 @@ use Rattle.ar_statement.specs.Claims.{is_party, party}
 use Rattle.ar_statement.specs.declared.party.Party.{Party}
 use Rattle.ar_statement.specs.declared.party.Role.{Role}
 use Rattle.ar_world.specs.Finding.{honest_in}
-use Rattle.run_safety.specs.Seats.{AreSeated}
+use Rattle.run_safety.specs.Seats.{AreSeated, honest_count}
 
 -- ---- places of a list
 
@@ -36,6 +36,22 @@ put-beside (p ∷ more) zero zero slot other = absurd (other refl)
 put-beside (p ∷ more) zero (suc m) slot other = refl
 put-beside (p ∷ more) (suc n) zero slot other = refl
 put-beside (p ∷ more) (suc n) (suc m) slot other = put-beside more n m slot (λ same. other (ap suc same))
+
+-- as many are honest where one stands in the place of another
+pub count-changed : {X : Type 0} (parties : List (Option X)) (n : ℕ) (was is : X) → honest_in parties n ≡ Some was → honest_count (slice_set parties n (Some is)) ≡ honest_count parties
+count-changed [] n was is there = absurd cc
+count-changed (None ∷ more) zero was is there = absurd cc
+count-changed (Some p ∷ more) zero was is there = refl
+count-changed (None ∷ more) (suc n) was is there = count-changed more n was is there
+count-changed (Some p ∷ more) (suc n) was is there = ap suc (count-changed more n was is there)
+
+-- and one less where one is gone
+pub count-without : {X : Type 0} (parties : List (Option X)) (n : ℕ) (was : X) → honest_in parties n ≡ Some was → suc (honest_count (slice_set parties n None)) ≡ honest_count parties
+count-without [] n was there = absurd cc
+count-without (None ∷ more) zero was there = absurd cc
+count-without (Some p ∷ more) zero was there = refl
+count-without (None ∷ more) (suc n) was there = count-without more n was there
+count-without (Some p ∷ more) (suc n) was there = ap suc (count-without more n was there)
 
 -- whether two places are one
 abbrev Tells : ℕ → ℕ → Type 0

@@ -1,6 +1,6 @@
 -- What a step, the deliveries of a `flush` and a whole script keep: who sits where, and what clients hold.
-use Rattle.std.proofs.Common.{◌≡◌, ◌∙◌, ◌≤◌, ℕ, zero, suc, ◌+◌, List, [], ◌∷◌, arith, refl, ap, subst, Bool, true, false, Option, Some, None, Ok, Err, Result, IfOk}
-use Rattle.std.specs.Prelude.{if◌then◌else◌, map, nat_le, nat_lt, ◌==◌}
+use Rattle.std.proofs.Common.{◌≡◌, ◌∙◌, ◌≤◌, ℕ, zero, suc, ◌+◌, List, [], ◌∷◌, arith, refl, sym, ap, subst, Bool, true, false, Option, Some, None, Ok, Err, Result, IfOk}
+use Rattle.std.specs.Prelude.{if◌then◌else◌, length, map, nat_le, nat_lt, ◌==◌}
 use Rattle.std.specs.List.{filter_map}
 use Rattle.std.proofs.lemmas.Bool.{false_from_ne_true, leb-true, ltb-true}
 use Rattle.std.proofs.lemmas.List.Elements.{All-nil}
@@ -8,13 +8,13 @@ use Rattle.std.proofs.lemmas.Option.{same_Some}
 use Rattle.ar_lines.specs.Lines.{lines_of}
 use Rattle.ar_lines.specs.declared.refusal.Reason.{Reason}
 use Rattle.ar_lines.specs.declared.refusal.Reason.TheVariants as reason
-use Rattle.ar_safety.specs.Held.{IsTaken}
+use Rattle.ar_safety.specs.Held.{IsTaken, verdict_on}
 use Rattle.ar_statement.specs.declared.party.Party.{Party}
 use Rattle.ar_world.specs.Delivering.{deliver_line, next_due}
 use Rattle.ar_world.specs.Finding.{Effect, need}
 use Rattle.ar_world.specs.Founding.{led_to, may_come, place_of}
-use Rattle.ar_world.specs.Judging.{verdict_on}
 use Rattle.ar_world.specs.Parties.{CheckParts}
+use Rattle.ar_world.specs.Records.{held_of}
 use Rattle.ar_world.specs.Run.{Progress, Run, Saying, delivering, flushed, follows, line_taken, most_deliveries, most_lines, progress_of, refusing, run, run_behind, run_from, taken, taken_as, then_if, then_on}
 use Rattle.ar_world.specs.State.{Moved, World, first_world, no_directory}
 use Rattle.ar_world.specs.Step.{effect, leads_to, step, stepped}
@@ -118,10 +118,12 @@ led-keeps w next made comes makes = record {
   stands = λ s.
       let was = makes.keeps.stands s in
       record {
-        seated = record { council = was.seated.council; logs = was.seated.logs; authorities = was.seated.authorities; taken = was.seated.taken };
+        seated = record { council = was.seated.council; known = was.seated.known; logs = was.seated.logs; authorities = was.seated.authorities; whole = was.seated.whole; taken = was.seated.taken };
         bare = λ before.
             let bare = was.bare (ap (λ p. nat_le 4 (place_of p)) makes.phase ∙ stays-early w.phase next comes before) in
             record { dishonest = bare.dishonest; judged = bare.judged };
+        counted = was.counted;
+        founded = was.founded;
       };
   told = makes.keeps.told;
 }
@@ -219,11 +221,15 @@ first-stands : (checks : List CheckParts) → Stands (part_of (first_world check
 first-stands checks = record {
   seated = record {
     council = refl;
+    known = λ who key is. is;
     logs = record { all = refl; own = λ number node there. absurd cc; empty = λ number less. absurd (omega (arith, less)) };
     authorities = record { all = refl; own = λ number node there. absurd cc; empty = λ number less. absurd (omega (arith, less)) };
+    whole = refl;
     taken = All-nil (λ t. IsTaken (verdict_on no_directory t));
   };
   bare = λ before. record { dishonest = refl; judged = refl };
+  counted = omega arith;
+  founded = omega arith;
 }
 
 pub run-seated : (saying : Saying) (checks : List CheckParts) (input : List ℕ) → IsSeated (run saying checks input).world
@@ -232,5 +238,11 @@ run-seated saying checks input =
     in seated (run saying checks input).world (runs.stands (first-stands checks)).seated
 
 pub run-told : (saying : Saying) (checks : List CheckParts) (input : List ℕ)
-    → filter_map accepted_in (run saying checks input).said ≡ map (said_by (run saying checks input).world) (run saying checks input).world.judged
+    → filter_map accepted_in (run saying checks input).said ≡ map (said_by (held_of (run saying checks input).world)) (held_of (run saying checks input).world).judged
 run-told saying checks input = (from-runs saying 1 (first_world checks) (lines_of input)).told (first-stands checks)
+
+-- there are no more logs than the line `logs` may say
+pub run-few : (saying : Saying) (checks : List CheckParts) (input : List ℕ) → length (run saying checks input).world.logs ≤ 16
+run-few saying checks input =
+    let stands = (from-runs saying 1 (first_world checks) (lines_of input)).stands (first-stands checks)
+    in subst (λ n. n ≤ 16) (sym stands.seated.logs.all) stands.founded

@@ -13,6 +13,7 @@ pub safe-run : (saying : Saying) (checks : List CheckParts) (input : List ℕ)
 safe-run saying checks input keeps =
     let w = (run saying checks input).world in
     record {
+      kept = λ there. seated-kept w (run-seated saying checks input) (keeps there);
       safe = λ there. run-safe (held_of w) (seated-kept w (run-seated saying checks input) (keeps there));
       written = run-told saying checks input;
     }

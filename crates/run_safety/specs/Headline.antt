@@ -6,9 +6,9 @@ use Rattle.report_text.specs.declared.happening.Happening.{Happening}
 use Rattle.report_text.specs.declared.happening.Happening.TheVariants.{Judged}
 use Rattle.report_text.specs.declared.happening.Said.{Said}
 use Rattle.report_text.specs.declared.happening.Said.TheVariants.{Absent, Accepted, Refused}
-use Rattle.ar_safety.specs.Held.{AreSafe, Taken, records_of}
+use Rattle.ar_safety.specs.Held.{AreKept, AreSafe, Held, Taken, records_of, verdict_on}
 use Rattle.ar_safety.specs.Theorem.{Few, NoCollision, NoForgery}
-use Rattle.ar_world.specs.Judging.{said_of, verdict_on}
+use Rattle.ar_world.specs.Judging.{said_of}
 use Rattle.ar_world.specs.Records.{HasParties, held_of}
 use Rattle.ar_world.specs.Run.{Run}
 use Rattle.ar_world.specs.State.{World}
@@ -27,8 +27,8 @@ accepted_in (Judged message said) = said_accepted said
 accepted_in _ = None
 
 -- what is written of a judgement that is held
-abbrev pub said_by : World → Taken → Said
-said_by w t = said_of t.name (verdict_on w.clients t)
+abbrev pub said_by : Held → Taken → Said
+said_by h t = said_of t.name (verdict_on h.directory t)
 
 -- ---- the promise
 
@@ -37,8 +37,10 @@ said_by w t = said_of t.name (verdict_on w.clients t)
 abbrev pub IsSafeWorld : World → Type 0
 IsSafeWorld w = Few (records_of (held_of w)) → NoForgery (records_of (held_of w)) → NoCollision (records_of (held_of w)) → AreSafe (held_of w)
 
--- Of a run: from the line `authorities` on its parties are safe so; and what is written as accepted, a certificate or that there is
--- none, is what clients hold, each by its verdict, in order.
+-- Of a run: from the line `authorities` on, what its parties hold are the records of all honest ones, each an honest one's, and
+-- its parties are safe so; and what is written as accepted, a certificate or that there is none, is what clients hold, each by its
+-- verdict, in order.
 pub record IsSafeRun (r : Run) : Type 0 where
+  pub kept : HasParties r.world → AreKept (held_of r.world)
   pub safe : HasParties r.world → IsSafeWorld r.world
-  pub written : filter_map accepted_in r.said ≡ map (said_by r.world) r.world.judged
+  pub written : filter_map accepted_in r.said ≡ map (said_by (held_of r.world)) (held_of r.world).judged

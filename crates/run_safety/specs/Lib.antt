@@ -1,2 +1,3 @@
+pub mod Flushes
 pub mod Headline
 pub mod Seats

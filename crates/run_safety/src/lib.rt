@@ -3,8 +3,8 @@
 //! reordered or injected in it.
 //!
 //! `specs/Headline.antt` has what is promised of a run. `specs/Seats.antt` has what each line of a script keeps, by which the
-//! records that the parties of a world hold are those of which the theorem of `ar_safety` speaks. `laws` has both, over the
-//! definitions of `ar_world` alone.
+//! records that the parties of a world hold are those of which the theorem of `ar_safety` speaks. `specs/Flushes.antt` has
+//! what is promised of a `flush`: that it goes to its end. `laws` has all of it, over the definitions of `ar_world` alone.
 #![tactic(auto)]
 
 pub mod laws;

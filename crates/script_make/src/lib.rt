@@ -8,5 +8,3 @@ pub use making::{last_epoch, make};
 
 mod making;
 mod rows;
-#[cfg(test)]
-mod tests;

@@ -30,7 +30,9 @@ pub(crate) enum Row {
 /// Numbers that follow one another.
 #[derive(Clone, Copy, Debug)]
 pub(crate) struct Span {
+    /// The least of them.
     pub first: u32,
+    /// How many they are.
     pub count: u32,
 }
 

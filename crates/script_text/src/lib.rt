@@ -21,6 +21,4 @@ mod numbers;
 mod pieces;
 mod reading;
 mod rows;
-#[cfg(test)]
-mod tests;
 mod words;

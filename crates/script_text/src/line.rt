@@ -30,16 +30,21 @@ pub enum Line<'a> {
     },
     /// The numbers of the types of the keys of logs and authorities, of LMS and of LM-OTS.
     Keys {
+        /// 5, 6 or 7.
         lms: u32,
+        /// 3 or 4 behind 5 and 6, and 3 behind 7.
         ots: u32,
     },
     /// There are n logs, and q of them are a quorum.
     Logs {
+        /// From 3 to 16.
         n: u16,
+        /// With 2q > n + 2, and at most n.
         q: u16,
     },
     /// There are m authorities.
     Authorities {
+        /// From 3 to 16.
         m: u16,
     },
     /// The log or authority is dishonest from here on.
@@ -71,19 +76,24 @@ pub enum Line<'a> {
         owner: u16,
         name: NameView<'a>,
         policy: PolicyWords,
+        /// The authorities that are asked to endorse it: 1 to 8, ascending.
         asks: Numbers,
     },
     /// An owner drafts the certificate behind a draft.
     Update {
         owner: u16,
+        /// The draft that it follows.
         draft: u64,
         policy: PolicyWords,
+        /// The authorities that are asked to endorse it: 1 to 8, ascending.
         asks: Numbers,
     },
     /// An owner drafts the certificate behind a draft by which its name is revoked.
     Revoke {
         owner: u16,
+        /// The draft that it follows.
         draft: u64,
+        /// The authorities that are asked to endorse it: 1 to 8, ascending.
         asks: Numbers,
     },
     /// An owner hands its name over to a draft.
@@ -120,7 +130,9 @@ pub enum Line<'a> {
     Ask {
         log: u16,
         name: NameView<'a>,
+        /// The authority that confirms behind the log.
         first: u16,
+        /// The authority that confirms last; it may be the first.
         second: u16,
         client: u16,
     },
@@ -135,7 +147,9 @@ pub enum Line<'a> {
     Judge {
         message: Option<u64>,
         name: NameView<'a>,
+        /// The epoch that it is for the client.
         now: u64,
+        /// How many epochs old what it accepts may be.
         age: u64,
     },
     /// A dishonest party signs bytes that are composed.

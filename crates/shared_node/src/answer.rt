@@ -37,13 +37,16 @@ impl Place {
 /// What a node answered, and where the call stands in the history.
 #[derive(Drop)]
 pub struct Answer<R> {
+    /// How many calls stand before this one.
     pub place: Place,
+    /// What the core replied, in its state after those calls.
     pub reply: R,
 }
 
 /// What a node that is closed gives back.
 #[derive(Drop)]
 pub struct Closed<C: Core> {
+    /// In its state after all calls.
     pub core: C,
     /// The inputs of all calls in their order, each with its note.
     pub history: Vec<(C::Input, C::Note)>,

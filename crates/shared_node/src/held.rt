@@ -8,6 +8,7 @@ pub struct Held<S, I, N> {
     pub seen: LinkedList<(I, N)>,
     /// The places of the seat's own calls, with those of the seats that were joined into it.
     pub own: LinkedList<u64>,
+    /// The seat's part of 2^32; 0 where it was joined into another.
     pub share: u64,
     /// Whether the seat has the core.
     pub holds: bool,

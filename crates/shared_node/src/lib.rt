@@ -8,6 +8,8 @@
 //!
 //! A seat can be split for another thread, and joined again. A seat that has the whole share is the
 //! only one: with it the node is closed, and gives back the core and the history.
+//!
+//! `specs/History.antt` says what a core makes of a history of calls, and which histories are legal.
 #![tactic(auto)]
 
 pub use answer::{Answer, Closed, Place};

@@ -7,7 +7,9 @@ use std::alloc::{AllocError, Global};
 /// A core with the calls that it answered.
 #[derive(Drop)]
 pub(crate) struct Node<C, I, N> {
+    /// In its state after these calls.
     pub core: C,
+    /// The inputs of the calls in their order, each with its note.
     pub history: Vec<(I, N)>,
 }
 

@@ -8,6 +8,7 @@ use std::alloc::{AllocError, Global};
 
 /// The path of a key in a kept tree, and what it shows: that of `make_present` where the key is there,
 /// and else that of `make_absent` with its bottom.
+/// The only error is want of memory.
 pub fn path_of(alloc: Global, trie: &Trie, key: &[u8; 32]) -> Result<(Found, Path), AllocError>
     ensures found { IfOk result (λ made. made.0 ≡ found_of key.now trie.now) }
     ensures steps { IfOk result (λ made. made.1.steps ≡ steps_of key.now trie.now) }

@@ -10,6 +10,7 @@ use hash_tree::{digest_at, halves, key_bit};
 use std::alloc::{AllocError, Global};
 
 /// The path of a key that is among the entries.
+/// The only error is want of memory.
 pub fn make_present(
     alloc: Global,
     entries: &[([u8; 32], [u8; 32])],
@@ -27,6 +28,7 @@ pub fn make_present(
 }
 
 /// The path of a key that is not among the entries, and what lies at its foot.
+/// The only error is want of memory.
 pub fn make_absent(
     alloc: Global,
     entries: &[([u8; 32], [u8; 32])],

@@ -19,6 +19,4 @@ mod exclusion;
 pub mod laws;
 mod marks;
 mod tally;
-#[cfg(test)]
-mod tests;
 mod value;

@@ -23,6 +23,7 @@ use sign_book::{BookFault, SignBook, sign};
 use std::alloc::{AllocError, Global};
 
 /// `lms_tree`: the signature of a message by the first leaf of a key.
+/// The only error is want of memory.
 pub fn signature_by(alloc: Global, key: &LmsKey, message: &[u8]) -> Result<Vec<u8>, AllocError>
     ensures { IfOk result (λ signature. signature.items ≡ signature_of key.now 0 message.now) }
 {
@@ -41,6 +42,7 @@ pub fn verdict_on(key: &LmsKey, message: &[u8], signature: &[u8]) -> Verdict
 }
 
 /// `lms_tree`: signs a message by a new key, and verifies the signature, which is valid.
+/// The only error is want of memory.
 pub fn sign_and_verify(alloc: Global, seed: &[u8; 32], message: &[u8]) -> Result<Verdict, KeyFault>
     ensures { IfOk result (λ verdict. verdict ≡ verdicts.Valid) }
 {
@@ -91,6 +93,7 @@ pub fn serial_of(bytes: &[u8]) -> Option<u64>
 }
 
 /// `sign_book`: signs a handover to the certificate with this digest. Asked again, it gives the same bytes.
+/// Its errors are those of `SignBook::enter`.
 pub fn hand_over(
     alloc: Global,
     book: &mut SignBook,

@@ -1,11 +1,10 @@
 //! How the libraries are called: in `callers` by functions with contracts, and in tests by worked examples, which need several
 //! crates side by side. What these give is compared with another program's answers.
+//! There are no definitions here: the contracts cite those of the crates that are called.
 #![tactic(auto)]
 
 #[cfg(test)]
 mod authorities;
 pub mod callers;
-#[cfg(test)]
-mod logs;
 #[cfg(test)]
 mod tables;

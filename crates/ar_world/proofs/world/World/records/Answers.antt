@@ -5,6 +5,7 @@ use Rattle.std.specs.Option.{option_map}
 use Rattle.std.specs.Prelude.{Option}
 use Rattle.ar_world.specs.Kept.{clients_in}
 use Rattle.ar_world.specs.Parties.{AuthorityNode, Forger, LogNode}
+use Rattle.ar_world.specs.State.{World}
 use Rattle.ar_world.proofs.Remembered.{held-so}
 use Rattle.ar_world.proofs.world.World.records.Goals as goal
 
@@ -16,4 +17,4 @@ returns g c =
     (c.in_ok-dishonest_parties.ensures ∙ ap (map (λ (forger : Forger). forger.party)) c.deref.ensures.value)
     (c.in_ok-log_records.ensures ∙ ap logs c.deref-2.ensures.value)
     (c.in_ok-authority_records.ensures ∙ ap authorities c.deref-3.ensures.value)
-    c.deref-4.ensures.value c.deref-5.ensures.value
+    (c.judged.ensures ∙ sym (ap (λ (w : World). w.judged) c.self.view_is)) c.deref-4.ensures.value

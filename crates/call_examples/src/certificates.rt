@@ -1,0 +1,239 @@
+use ar_cert::{Cert, CertFault, CertView, Change};
+use std::alloc::Global;
+use std::test::Fail;
+
+/// A certificate of a.example.
+fn certificate() -> &'static [u8] {
+    b"\x01\x09a.example\x00\x00\x00\x00\x00\x00\x00\x00\x00\x00\x00\x00\x00\x00\x00\x00\x00\x00\x00\x00\x00\x00\x00\x00\x00\x00\x00\x00\x00\x00\x00\x00\x00\x00\x00\x00\x00\x00\x00\x00\x00\x00\x00\x05\x00\x00\x00\x03\x91\xb8\xc6\x9c\x81\xc1\x0d\x06\xc3\x0f\xb4\xa1\x9a\x4a\x3c\xcf\x1b\xc9w\xce\x31c\xaa\x5euo\xcdw\x81\x45\xf8\xd7\x1e\x0f\xa1\xc9p\xcc\xd4\xec\x40\xdc\x9eu\xb1\x04\x22\x3a\x01\x02\x01\x00\x00\x00\x0a\x00\x00\x00\x00\x00\x00\x03\xe8\x03\x00\x00\x00\x01\x00\x02\x00"
+}
+
+/// What stands behind it in a change with three endorsements and a handover.
+fn endorsements() -> &'static [u8] {
+    b"\x03\x00\x00\x00\x03abc\x00\x01\x00\x00\x00\x02\x00\x01z\x01\x00\x02ho"
+}
+
+/// Its digest.
+fn digest() -> [u8; 32] {
+    [
+        0xea, 0x1b, 0x54, 0x16, 0x5a, 0x40, 0x92, 0x14, 0x87, 0x30, 0xca, 0x96, 0x33, 0xe1, 0x55,
+        0xce, 0x6b, 0x32, 0x33, 0x5f, 0x35, 0x73, 0xbf, 0x19, 0x1c, 0x7f, 0xa7, 0xff, 0xa2, 0x4d,
+        0x1e, 0x3f,
+    ]
+}
+
+/// Where the fields of the certificate begin.
+fn certificate_fields() -> &'static [usize] {
+    &[
+        0, 1, 2, 11, 19, 51, 107, 108, 109, 110, 114, 122, 123, 125, 127, 129,
+    ]
+}
+
+/// Where the fields of the change begin.
+fn change_fields() -> &'static [usize] {
+    &[
+        0, 2, 132, 133, 135, 137, 140, 142, 144, 146, 148, 149, 150, 152,
+    ]
+}
+
+/// The fault of a text that was cut to this length: at the last field that begins in it or behind it.
+fn fault_of_cut(fields: &[usize], len: usize) -> Option<CertFault> {
+    let mut place = 0;
+    for start in fields {
+        if *start <= len {
+            place = *start;
+        }
+    }
+    Some(CertFault::Form(place))
+}
+
+/// The text of the change.
+fn change_text(alloc: Global) -> Result<Vec<u8>, Fail> {
+    let mut text = [0, 130].to_vec(alloc)?;
+    text.extend_from_slice(certificate())?;
+    text.extend_from_slice(endorsements())?;
+    Ok(text)
+}
+
+/// The text with one byte changed.
+fn changed(alloc: Global, text: &[u8], at: usize, byte: u8) -> Result<Vec<u8>, Fail> {
+    let mut copy = text.to_vec(alloc)?;
+    if let Some(old) = copy.get_mut(at) {
+        *old = byte;
+    }
+    Ok(copy)
+}
+
+/// The text with one byte behind it.
+fn longer(alloc: Global, text: &[u8]) -> Result<Vec<u8>, Fail> {
+    let mut copy = text.to_vec(alloc)?;
+    copy.push(0)?;
+    Ok(copy)
+}
+
+#[test]
+fn a_cut_certificate_fails_at_the_field_that_is_cut(rt: HostRuntime) {
+    let text = certificate();
+    for len in 0..text.len() {
+        let fault = Cert::read(rt.alloc(), &text[..len]).err();
+        assert_eq!(rt; fault, fault_of_cut(certificate_fields(), len), "at {len}");
+    }
+}
+
+#[test]
+fn a_cut_change_fails_at_the_field_that_is_cut(rt: HostRuntime) -> Result<(), Fail> {
+    let text = change_text(rt.alloc())?;
+    for len in 0..text.len() {
+        let fault = Change::read(rt.alloc(), &text[..len]).err();
+        assert_eq!(rt; fault, fault_of_cut(change_fields(), len), "at {len}");
+    }
+    Ok(())
+}
+
+#[test]
+fn a_wrong_field_fails_at_its_first_byte(rt: HostRuntime) -> Result<(), Fail> {
+    let table = [
+        (0, 2, 0),
+        (1, 0, 1),
+        (1, 254, 1),
+        (4, b'-', 2),
+        (54, 10, 51),
+        (107, 3, 107),
+        (109, 2, 109),
+        (122, 17, 122),
+        (126, 0, 125),
+        (129, 2, 129),
+    ];
+    for (at, byte, place) in table {
+        let text = changed(rt.alloc(), certificate(), at, byte)?;
+        let fault = Cert::read(rt.alloc(), &text).err();
+        assert_eq!(rt; fault, Some(CertFault::Form(place)), "at {at}");
+    }
+    let text = longer(rt.alloc(), certificate())?;
+    let fault = Cert::read(rt.alloc(), &text).err();
+    assert_eq!(rt; fault, Some(CertFault::Form(130)));
+    Ok(())
+}
+
+#[test]
+fn a_wrong_field_of_a_change_fails_at_its_first_byte(rt: HostRuntime) -> Result<(), Fail> {
+    let change = change_text(rt.alloc())?;
+    let table = [
+        (1, 129, 131),
+        (1, 131, 132),
+        (0, 255, 2),
+        (132, 9, 132),
+        (141, 0, 140),
+        (149, 2, 149),
+    ];
+    for (at, byte, place) in table {
+        let text = changed(rt.alloc(), &change, at, byte)?;
+        let fault = Change::read(rt.alloc(), &text).err();
+        assert_eq!(rt; fault, Some(CertFault::Form(place)), "at {at}");
+    }
+    let text = longer(rt.alloc(), &change)?;
+    let fault = Change::read(rt.alloc(), &text).err();
+    assert_eq!(rt; fault, Some(CertFault::Form(154)));
+    Ok(())
+}
+
+/// A certificate that is read, copied and written again, and its digest.
+fn cert_again(alloc: Global, text: &[u8]) -> Result<(Vec<u8>, [u8; 32]), Fail> {
+    let cert = Cert::read(alloc, text).ok().ok_or("a certificate")?;
+    let mut again = Vec::new(alloc);
+    cert.copy(alloc)?.write(alloc, &mut again)?;
+    Ok((again, cert.digest()))
+}
+
+/// A change that is read, copied and written again.
+fn change_again(alloc: Global, text: &[u8]) -> Result<Vec<u8>, Fail> {
+    let change = Change::read(alloc, text).ok().ok_or("a change")?;
+    let mut again = Vec::new(alloc);
+    change.copy(alloc)?.write(alloc, &mut again)?;
+    Ok(again)
+}
+
+/// The same certificate, whose policy has version 2 and this wait.
+fn waiting(alloc: Global, wait: [u8; 2]) -> Result<Vec<u8>, Fail> {
+    let mut text = Vec::from_slice(alloc, certificate())?;
+    text.pop();
+    if let Some(version) = text.get_mut(107) {
+        *version = 2;
+    }
+    text.extend_from_slice(&wait)?;
+    text.push(0)?;
+    Ok(text)
+}
+
+/// The digest of the one with a wait of 300.
+fn waiting_digest() -> [u8; 32] {
+    [
+        0x0b, 0xa2, 0x82, 0x94, 0x42, 0xd3, 0x11, 0x54, 0x33, 0x44, 0x9b, 0x0e, 0x10, 0xd3, 0x9a,
+        0x04, 0x97, 0x62, 0xbd, 0x78, 0xd9, 0x3b, 0x8d, 0x7a, 0x70, 0x26, 0x63, 0xce, 0x73, 0x68,
+        0x71, 0xb7,
+    ]
+}
+
+/// The text of a change with an objection.
+fn objecting(alloc: Global) -> Result<Vec<u8>, Fail> {
+    let mut text = [0, 130].to_vec(alloc)?;
+    text.extend_from_slice(certificate())?;
+    text.extend_from_slice(b"\x00\x02\x00\x02no")?;
+    Ok(text)
+}
+
+#[test]
+fn certificates_are_read_and_written_again(rt: HostRuntime) -> Result<(), Fail> {
+    let waiting = waiting(rt.alloc(), [1, 44])?;
+    for (text, digest) in [(certificate(), digest()), (&waiting, waiting_digest())] {
+        let (again, found) = cert_again(rt.alloc(), text)?;
+        assert_eq!(rt; again.as_slice(), text);
+        assert_eq!(rt; found, digest);
+    }
+    Ok(())
+}
+
+#[test]
+fn changes_are_read_and_written_again(rt: HostRuntime) -> Result<(), Fail> {
+    for text in [change_text(rt.alloc())?, objecting(rt.alloc())?] {
+        let again = change_again(rt.alloc(), &text)?;
+        assert_eq!(rt; again.as_slice(), text.as_slice());
+    }
+    Ok(())
+}
+
+#[test]
+fn a_wait_is_from_1_to_10000(rt: HostRuntime) -> Result<(), Fail> {
+    for wait in [[0, 0], [39, 17]] {
+        let text = waiting(rt.alloc(), wait)?;
+        let fault = Cert::read(rt.alloc(), &text).err();
+        assert_eq!(rt; fault, Some(CertFault::Form(129)), "{wait:?}");
+    }
+    Ok(())
+}
+
+/// The numbers that a certificate says.
+fn numbers_of(view: &CertView) -> [u64; 7] {
+    [
+        view.serial(),
+        u64::from(view.threshold()),
+        u64::from(view.keyed()),
+        u64::from(view.max_age()),
+        view.until(),
+        u64::from(view.wait().unwrap_or(0)),
+        u64::from(view.revoked()),
+    ]
+}
+
+#[test]
+fn a_certificate_is_viewed_in_place(rt: HostRuntime) -> Result<(), Fail> {
+    let waiting = waiting(rt.alloc(), [1, 44])?;
+    for (text, wait) in [(certificate(), 0), (&waiting, 300)] {
+        let view = CertView::read(text).ok_or("a certificate")?;
+        assert_eq!(rt; numbers_of(&view), [0, 2, 1, 10, 1000, wait, 0]);
+        assert_eq!(rt; view.name(), b"a.example".as_slice());
+        assert_eq!(rt; view.previous(), [0; 32]);
+        assert_eq!(rt; view.trusted(), [0, 0, 0, 1, 0, 2].as_slice());
+        assert_eq!(rt; text.get(51..107), Some(view.subject().bytes().as_slice()));
+    }
+    Ok(())
+}

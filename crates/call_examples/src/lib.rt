@@ -1,0 +1,25 @@
+//! Tests of calls of single crates, which stand here so that those crates are proved once: of statements, certificates and
+//! changes, messages, directories, owners, confirmations, and the lines of scripts and of what is printed. There is nothing to
+//! call.
+#![tactic(auto)]
+
+#[cfg(test)]
+mod certificates;
+#[cfg(test)]
+mod changes;
+#[cfg(test)]
+mod confirmations;
+#[cfg(test)]
+mod directories;
+#[cfg(test)]
+mod fitting;
+#[cfg(test)]
+mod messages;
+#[cfg(test)]
+mod owners;
+#[cfg(test)]
+mod printed_lines;
+#[cfg(test)]
+mod script_lines;
+#[cfg(test)]
+mod statements;
