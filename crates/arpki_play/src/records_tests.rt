@@ -58,7 +58,7 @@ fn counts(alloc: Global, world: &World<BookCheck>) -> Result<Option<[usize; 5]>,
 fn the_records_of_a_world_are_those_of_its_parties(rt: HostRuntime) -> Result<(), Fail> {
     let world = world_behind(rt.alloc(), WITH_A_DISHONEST_LOG)?.expect(&rt, "the script is played");
     assert_eq!(rt; counts(rt.alloc(), &world)?, Some([1, 4, 4, 1, 1]));
-    // Seventeen messages came, of which another program gives the first 135 bytes; the log L0 took three of them and rolled.
+    // Seventeen messages came, of which another program gives the first 135 bytes; the log L0 took four of them and rolled.
     assert_eq!(rt; world.messages(), 17);
     assert_eq!(rt; world.message(1).map(|bytes| bytes.len()), Some(135));
     assert_eq!(rt; world.message(18).is_none(), true);
