@@ -6,5 +6,6 @@
 #[cfg(test)]
 mod authorities;
 pub mod callers;
+pub mod crate_docs;
 #[cfg(test)]
 mod tables;
