@@ -1,6 +1,5 @@
 //! Tests of calls of single crates, which stand here so that those crates are proved once: of statements, certificates and
-//! changes, messages, directories, owners, confirmations, and the lines of scripts and of what is printed. There is nothing to
-//! call.
+//! changes, messages, directories, confirmations, and the lines of scripts and of what is printed. There is nothing to call.
 #![tactic(auto)]
 
 #[cfg(test)]
@@ -15,8 +14,6 @@ mod directories;
 mod fitting;
 #[cfg(test)]
 mod messages;
-#[cfg(test)]
-mod owners;
 #[cfg(test)]
 mod printed_lines;
 #[cfg(test)]
