@@ -1,13 +1,11 @@
 //! Tests of calls of single crates, which stand here so that those crates are proved once: of statements, certificates and
-//! changes, messages, directories, confirmations, and the lines of scripts and of what is printed. There is nothing to call.
+//! changes, messages, directories, and the lines of scripts and of what is printed. There is nothing to call.
 #![tactic(auto)]
 
 #[cfg(test)]
 mod certificates;
 #[cfg(test)]
 mod changes;
-#[cfg(test)]
-mod confirmations;
 #[cfg(test)]
 mod directories;
 #[cfg(test)]
