@@ -1,5 +1,5 @@
-use ar_statement::{Party, Role};
 use script_text::{Line, Reason};
+use std::alloc::Global;
 use std::process::Abort;
 use std::test::Fail;
 
@@ -8,6 +8,31 @@ fn expect_refused(rt: &impl Abort, lines: &[(&str, Reason)]) {
     for (line, reason) in lines {
         assert_eq!(rt; Line::read(line.as_bytes()).err(), Some(*reason), "{line}");
     }
+}
+
+/// Each of these lines is refused for its count of words.
+fn expect_words(rt: &impl Abort, lines: &[&str]) {
+    for line in lines {
+        assert_eq!(rt;
+            Line::read(line.as_bytes()).err(),
+            Some(Reason::Words),
+            "{line}"
+        );
+    }
+}
+
+/// What these bytes are read as, as it is shown to a programmer.
+fn shown(alloc: Global, line: &[u8]) -> Result<String, Fail> {
+    Ok(format!(in alloc; "{:?}", Line::read(line))?)
+}
+
+/// Each of these lines is read as it is shown behind it.
+fn expect_read(rt: &impl Abort, alloc: Global, lines: &[(&str, &str)]) -> Result<(), Fail> {
+    for (line, reading) in lines {
+        let found = shown(alloc, line.as_bytes())?;
+        assert_eq!(rt; found.as_str(), *reading, "{line}");
+    }
+    Ok(())
 }
 
 #[test]
@@ -23,7 +48,7 @@ fn lines_without_a_row_are_refused(rt: HostRuntime) {
 
 #[test]
 fn other_counts_of_words_are_refused(rt: HostRuntime) {
-    for line in [
+    let lines = [
         "flush ",
         "flush 1",
         "secret",
@@ -62,13 +87,8 @@ fn other_counts_of_words_are_refused(rt: HostRuntime) {
         "inject logs",
         "burst 1",
         "end 1",
-    ] {
-        assert_eq!(rt;
-            Line::read(line.as_bytes()).err(),
-            Some(Reason::Words),
-            "{line}"
-        );
-    }
+    ];
+    expect_words(&rt, &lines);
 }
 
 #[test]
@@ -239,317 +259,89 @@ fn words_of_messages_are_refused(rt: HostRuntime) {
 
 #[test]
 fn a_comment_is_skipped_whatever_its_bytes_are(rt: HostRuntime) -> Result<(), Fail> {
-    for line in [
-        b"".as_slice(),
-        b"#".as_slice(),
-        b"# flush".as_slice(),
-        b"#\xff\t\x00".as_slice(),
-    ] {
-        assert!(rt; matches!(Line::read(line), Ok(None)));
-    }
-    assert_eq!(rt; Line::read(b"fl\xffush").err(), Some(Reason::Text));
+    let lines = [("", "Ok(None)"), ("#", "Ok(None)"), ("# flush", "Ok(None)")];
+    expect_read(&rt, rt.alloc(), &lines)?;
+    let skipped = shown(rt.alloc(), b"#\xff\t\x00")?;
+    assert_eq!(rt; skipped.as_str(), "Ok(None)");
+    let refused = shown(rt.alloc(), b"fl\xffush")?;
+    assert_eq!(rt; refused.as_str(), "Err(Text)");
     Ok(())
 }
 
+// Lines of policies and the secret are in a stored example.
 #[test]
-fn setup_lines_are_read(rt: HostRuntime) -> Result<(), Fail> {
-    let secret = b"secret abababababababababababababababababababababababababababababababab";
-    match Line::read(secret) {
-        Ok(Some(Line::Secret { secret })) => assert_eq!(rt; secret, [0xab; 32]),
-        _ => return Err("no secret".into()),
-    }
-    assert!(rt;
-        matches!(
-            Line::read(b"keys 7 3"),
-            Ok(Some(Line::Keys { lms: 7, ots: 3 }))
-        )
-    );
-    assert!(rt;
-        matches!(
-            Line::read(b"keys 6 4"),
-            Ok(Some(Line::Keys { lms: 6, ots: 4 }))
-        )
-    );
-    assert!(rt;
-        matches!(
-            Line::read(b"logs 16 16"),
-            Ok(Some(Line::Logs { n: 16, q: 16 }))
-        )
-    );
-    assert!(rt; matches!(Line::read(b"logs 3 3"), Ok(Some(Line::Logs { n: 3, q: 3 }))));
-    assert!(rt;
-        matches!(
-            Line::read(b"authorities 3"),
-            Ok(Some(Line::Authorities { m: 3 }))
-        )
-    );
-    assert!(rt;
-        matches!(
-            Line::read(b"dishonest L65535"),
-            Ok(Some(Line::Dishonest {
-                party: Party {
-                    role: Role::LogServer,
-                    number: 65535
-                }
-            }))
-        )
-    );
-    Ok(())
-}
-
-#[test]
-fn lines_of_owners_are_read(rt: HostRuntime) -> Result<(), Fail> {
-    assert!(rt;
-        matches!(
-            Line::read(b"owner D511"),
-            Ok(Some(Line::Owner { owner: 511 }))
-        )
-    );
-    match Line::read(b"teach A15 a.example D65535") {
-        Ok(
-            Some(
-                Line::Teach {
-                    authority: 15,
-                    name,
-                    owner: 65535,
-                },
-            ),
-        ) => { assert_eq!(rt; name.text(), b"a.example".as_slice()) }
-        _ => return Err("not taught".into()),
-    }
-    match Line::read(b"forget A0 a-1.example D512") {
-        Ok(
-            Some(
-                Line::Forget {
-                    authority: 0,
-                    name,
-                    owner: 512,
-                },
-            ),
-        ) => { assert_eq!(rt; name.text(), b"a-1.example".as_slice()) }
-        _ => return Err("not forgotten".into()),
-    }
-    assert!(rt;
-        matches!(
-            Line::read(b"retire A3"),
-            Ok(Some(Line::Retire { authority: 3 }))
-        )
-    );
-    Ok(())
-}
-
-#[test]
-fn lines_of_drafts_are_read(rt: HostRuntime) -> Result<(), Fail> {
-    match Line::read(b"revoke D2 1 0,1,2,3,4,5,6,7") {
-        Ok(
-            Some(
-                Line::Revoke {
-                    owner: 2,
-                    draft: 1,
-                    asks,
-                },
-            ),
-        ) => { assert_eq!(rt; asks.as_slice(), [0, 1, 2, 3, 4, 5, 6, 7].as_slice()) }
-        _ => return Err("not revoked".into()),
-    }
-    assert!(rt;
-        matches!(
-            Line::read(b"handover D3 0"),
-            Ok(Some(Line::Handover { owner: 3, draft: 0 }))
-        )
-    );
-    assert!(rt;
-        matches!(
-            Line::read(b"object D4 9"),
-            Ok(Some(Line::Object { owner: 4, draft: 9 }))
-        )
-    );
-    assert!(rt;
-        matches!(
-            Line::read(b"submit 18446744073709551615"),
-            Ok(Some(Line::Submit { draft: u64::MAX }))
-        )
-    );
-    Ok(())
-}
-
-#[test]
-fn a_registration_is_read(rt: HostRuntime) -> Result<(), Fail> {
-    let line =
-        b"register D0 a.example 255 keyed/10000 4294967295 18446744073709551615 0,1,65535 3,18446744073709551615";
-    match Line::read(line) {
-        Ok(
-            Some(
-                Line::Register {
-                    owner: 0,
-                    name,
-                    policy,
-                    asks,
-                },
-            ),
-        ) => {
-            assert_eq!(rt; name.text(), b"a.example".as_slice());
-            assert_eq!(rt;
-                (policy.threshold, policy.keyed, policy.wait),
-                (255, true, Some(10_000))
-            );
-            assert_eq!(rt; (policy.max_age, policy.until), (u32::MAX, u64::MAX));
-            assert_eq!(rt; policy.trusted.as_slice(), [0, 1, 65535].as_slice());
-            assert_eq!(rt; asks.as_slice(), [3, u64::MAX].as_slice());
-        }
-        _ => return Err("not registered".into()),
-    }
-    Ok(())
-}
-
-#[test]
-fn updates_are_read(rt: HostRuntime) -> Result<(), Fail> {
-    match Line::read(b"update D1 4096 0 free/1 0 7 - 0") {
-        Ok(
-            Some(
-                Line::Update {
-                    owner: 1,
-                    draft: 4096,
-                    policy,
-                    asks,
-                },
-            ),
-        ) => {
-            assert_eq!(rt;
-                (policy.threshold, policy.keyed, policy.wait),
-                (0, false, Some(1))
-            );
-            assert_eq!(rt; (policy.max_age, policy.until), (0, 7));
-            assert!(rt; policy.trusted.is_empty());
-            assert_eq!(rt; (asks.len(), asks.as_slice()), (1, [0].as_slice()));
-        }
-        _ => return Err("not updated".into()),
-    }
-    match Line::read(b"update D1 1 2 keyed 8 1000 1 0") {
-        Ok(Some(Line::Update { policy, .. })) => assert_eq!(rt;
-            (policy.keyed, policy.wait),
-            (true, None)
+fn lines_of_the_setup_and_of_owners_are_read(rt: HostRuntime) -> Result<(), Fail> {
+    let lines = [
+        ("keys 7 3", "Ok(Some(Keys { lms: 7, ots: 3 }))"),
+        ("keys 6 4", "Ok(Some(Keys { lms: 6, ots: 4 }))"),
+        ("logs 16 16", "Ok(Some(Logs { n: 16, q: 16 }))"),
+        ("logs 3 3", "Ok(Some(Logs { n: 3, q: 3 }))"),
+        ("authorities 3", "Ok(Some(Authorities { m: 3 }))"),
+        (
+            "dishonest L65535",
+            "Ok(Some(Dishonest { party: Party { role: LogServer, number: 65535 } }))",
         ),
-        _ => return Err("not updated".into()),
-    }
-    Ok(())
-}
-
-#[test]
-fn lines_of_logs_are_read(rt: HostRuntime) {
-    assert!(rt;
-        matches!(
-            Line::read(b"propose L4"),
-            Ok(Some(Line::Propose { log: 4 }))
-        )
-    );
-    assert!(rt; matches!(Line::read(b"pass L0"), Ok(Some(Line::Pass { log: 0 }))));
-    assert!(rt;
-        matches!(
-            Line::read(b"roll A2"),
-            Ok(Some(Line::Roll {
-                party: Party {
-                    role: Role::Authority,
-                    number: 2
-                }
-            }))
-        )
-    );
-    assert!(rt; matches!(Line::read(b"learn 7"), Ok(Some(Line::Learn { message: 7 }))));
-}
-
-#[test]
-fn lines_of_clients_are_read(rt: HostRuntime) -> Result<(), Fail> {
-    match Line::read(b"ask L1 b.example A2 A3 C65535") {
-        Ok(
-            Some(
-                Line::Ask {
-                    log: 1,
-                    name,
-                    first: 2,
-                    second: 3,
-                    client: 65535,
-                },
-            ),
-        ) => { assert_eq!(rt; name.text(), b"b.example".as_slice()) }
-        _ => return Err("not asked".into()),
-    }
-    match Line::read(b"judge last b 1 0") {
-        Ok(
-            Some(
-                Line::Judge {
-                    message: None,
-                    name,
-                    now: 1,
-                    age: 0,
-                },
-            ),
-        ) => { assert_eq!(rt; name.text(), b"b".as_slice()) }
-        _ => return Err("not judged".into()),
-    }
-    assert!(rt;
-        matches!(
-            Line::read(b"judge 5 b 18446744073709551615 4"),
-            Ok(Some(Line::Judge {
-                message: Some(5),
-                now: u64::MAX,
-                age: 4,
-                ..
-            }))
-        )
-    );
-    Ok(())
-}
-
-#[test]
-fn messages_and_bursts_are_read(rt: HostRuntime) -> Result<(), Fail> {
-    assert!(rt;
-        matches!(
-            Line::read(b"deliver 12 D3"),
-            Ok(Some(Line::Deliver {
-                message: 12,
-                party: Party {
-                    role: Role::Owner,
-                    number: 3
-                }
-            }))
-        )
-    );
-    match Line::read(b"sign A1 x m12:0:4 x00ff") {
-        Ok(
-            Some(
-                Line::Sign {
-                    party: Party {
-                        role: Role::Authority,
-                        number: 1,
-                    },
-                    pieces,
-                },
-            ),
-        ) => { assert_eq!(rt; pieces.text(), b"x m12:0:4 x00ff".as_slice()) }
-        _ => return Err("not signed".into()),
-    }
-    match Line::read(b"inject logs x") {
-        Ok(Some(Line::Inject { to: None, pieces })) => assert_eq!(rt;
-            pieces.text(),
-            b"x".as_slice()
+        ("owner D511", "Ok(Some(Owner { owner: 511 }))"),
+        (
+            "teach A15 a.b D65535",
+            "Ok(Some(Teach { authority: 15, name: NameView { text: [97, 46, 98] }, owner: 65535 }))",
         ),
-        _ => return Err("not injected".into()),
-    }
-    assert!(rt;
-        matches!(
-            Line::read(b"inject C0 m1:5:5"),
-            Ok(Some(Line::Inject {
-                to: Some(Party {
-                    role: Role::Client,
-                    number: 0
-                }),
-                ..
-            }))
-        )
-    );
-    assert!(rt; matches!(Line::read(b"flush"), Ok(Some(Line::Flush))));
-    assert!(rt; matches!(Line::read(b"burst"), Ok(Some(Line::Burst))));
-    assert!(rt; matches!(Line::read(b"end"), Ok(Some(Line::End))));
-    Ok(())
+        (
+            "forget A0 a-1.b D512",
+            "Ok(Some(Forget { authority: 0, name: NameView { text: [97, 45, 49, 46, 98] }, owner: 512 }))",
+        ),
+        ("retire A3", "Ok(Some(Retire { authority: 3 }))"),
+        ("handover D3 0", "Ok(Some(Handover { owner: 3, draft: 0 }))"),
+        ("object D4 9", "Ok(Some(Object { owner: 4, draft: 9 }))"),
+        (
+            "submit 18446744073709551615",
+            "Ok(Some(Submit { draft: 18446744073709551615 }))",
+        ),
+    ];
+    expect_read(&rt, rt.alloc(), &lines)
+}
+
+#[test]
+fn lines_of_logs_clients_and_messages_are_read(rt: HostRuntime) -> Result<(), Fail> {
+    let lines = [
+        ("propose L4", "Ok(Some(Propose { log: 4 }))"),
+        ("pass L0", "Ok(Some(Pass { log: 0 }))"),
+        (
+            "roll A2",
+            "Ok(Some(Roll { party: Party { role: Authority, number: 2 } }))",
+        ),
+        ("learn 7", "Ok(Some(Learn { message: 7 }))"),
+        (
+            "ask L1 b A2 A3 C65535",
+            "Ok(Some(Ask { log: 1, name: NameView { text: [98] }, first: 2, second: 3, client: 65535 }))",
+        ),
+        (
+            "judge last b 1 0",
+            "Ok(Some(Judge { message: None, name: NameView { text: [98] }, now: 1, age: 0 }))",
+        ),
+        (
+            "judge 5 b 18446744073709551615 4",
+            "Ok(Some(Judge { message: Some(5), name: NameView { text: [98] }, now: 18446744073709551615, age: 4 }))",
+        ),
+        (
+            "deliver 12 D3",
+            "Ok(Some(Deliver { message: 12, party: Party { role: Owner, number: 3 } }))",
+        ),
+        (
+            "sign A1 x m1:0:4",
+            "Ok(Some(Sign { party: Party { role: Authority, number: 1 }, pieces: Pieces { text: [120, 32, 109, 49, 58, 48, 58, 52] } }))",
+        ),
+        (
+            "inject logs x",
+            "Ok(Some(Inject { to: None, pieces: Pieces { text: [120] } }))",
+        ),
+        (
+            "inject C0 x00",
+            "Ok(Some(Inject { to: Some(Party { role: Client, number: 0 }), pieces: Pieces { text: [120, 48, 48] } }))",
+        ),
+        ("flush", "Ok(Some(Flush))"),
+        ("burst", "Ok(Some(Burst))"),
+        ("end", "Ok(Some(End))"),
+    ];
+    expect_read(&rt, rt.alloc(), &lines)
 }
