@@ -12,17 +12,9 @@ mod command;
 mod inquiry;
 mod judgements;
 pub mod laws;
-#[cfg(test)]
-mod make_tests;
-#[cfg(test)]
-mod play_tests;
 mod plays;
 mod program;
 mod question;
-#[cfg(test)]
-mod records_tests;
 mod request;
 mod rolls;
-#[cfg(test)]
-mod tests;
 mod verdicts;

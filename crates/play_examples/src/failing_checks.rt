@@ -1,6 +1,6 @@
-use crate::arpki_main;
-use crate::tests::words_of;
+use crate::runs::words_of;
 use ar_io::{QuietSink, QuietSource};
+use arpki_play::arpki_main;
 use owner_check::FailingCheck;
 use std::alloc::{AllocError, Global};
 use std::test::Fail;

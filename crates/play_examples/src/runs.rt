@@ -1,7 +1,7 @@
 ghost use Rattle.std.specs.Prelude.{◌≡◌, ◌<◌, ◌≤◌, ◌⊎◌, IfOk};
 
-use crate::arpki_main;
 use ar_io::{MemSink, MemSource, QuietSink, QuietSource};
+use arpki_play::arpki_main;
 use owner_check::BookCheck;
 use std::alloc::{AllocError, Global};
 use std::test::Fail;

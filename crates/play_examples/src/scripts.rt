@@ -1,6 +1,6 @@
-use crate::arpki_main;
-use crate::tests::{no_checks, run, words_of};
+use crate::runs::{no_checks, run, words_of};
 use ar_io::{MemSink, QuietSink, QuietSource};
+use arpki_play::arpki_main;
 use owner_check::BookCheck;
 use std::alloc::{AllocError, Global};
 use std::test::Fail;

@@ -1,4 +1,4 @@
-use crate::make_tests::empty_books;
+use crate::scripts::empty_books;
 use ar_io::QuietSink;
 use ar_world::World;
 use owner_check::BookCheck;

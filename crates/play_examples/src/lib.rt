@@ -1,0 +1,12 @@
+//! Tests of the program's top call, which stand here so that its crate is proved once: answers over inputs, reads and writes
+//! that fail, scripts that are made and played, and the records of a world. There is nothing to call.
+#![tactic(auto)]
+
+#[cfg(test)]
+mod failing_checks;
+#[cfg(test)]
+mod records;
+#[cfg(test)]
+mod runs;
+#[cfg(test)]
+mod scripts;
