@@ -20,5 +20,3 @@ mod due;
 mod fault;
 pub mod laws;
 mod places;
-#[cfg(test)]
-mod tests;
