@@ -1,7 +1,6 @@
 use ar_base::Items;
-use ar_names::Name;
 use ar_statement::{Party, Role};
-use report_text::{Code, Happening, Kind, Said, Shown, Target, Unlearnt, Values, What, print};
+use report_text::{Code, Happening, Shown, Unlearnt, Values, What, print};
 use std::alloc::{AllocError, Global};
 use std::test::Fail;
 
@@ -41,39 +40,6 @@ fn parties_and_their_keys(rt: HostRuntime) -> Result<(), Fail> {
     Ok(())
 }
 
-#[test]
-fn drafts_and_epochs(rt: HostRuntime) -> Result<(), Fail> {
-    let draft = Happening::Draft {
-        draft: 4096,
-        digest: [5; 32],
-    };
-    let decided = Happening::Ended {
-        log: 4,
-        epoch: 7,
-        root: Some([5; 32]),
-    };
-    let skipped = Happening::Ended {
-        log: 4,
-        epoch: 8,
-        root: None,
-    };
-    let lines = [
-        (
-            draft,
-            "draft 4096 0505050505050505050505050505050505050505050505050505050505050505",
-        ),
-        (
-            decided,
-            "L4 ended 7 decided 0505050505050505050505050505050505050505050505050505050505050505",
-        ),
-        (skipped, "L4 ended 8 skipped"),
-    ];
-    for (happening, line) in &lines {
-        assert!(rt; is_printed(rt.alloc(), happening, line)?);
-    }
-    Ok(())
-}
-
 /// A code of a rule.
 fn code(role: Role, number: u8, values: Values) -> Option<Code> {
     Some(Code {
@@ -81,24 +47,6 @@ fn code(role: Role, number: u8, values: Values) -> Option<Code> {
         number,
         values,
     })
-}
-
-#[test]
-fn steps_that_succeed(rt: HostRuntime) -> Result<(), Fail> {
-    let lines = [
-        (Role::LogServer.party(2), What::Take(12), "L2 take 12 ok"),
-        (Role::LogServer.party(0), What::Pass, "L0 pass ok"),
-        (Role::Owner.party(0), What::Object(9), "D0 object 9 ok"),
-    ];
-    for (party, what, line) in &lines {
-        let step = Happening::Step {
-            party: *party,
-            what: *what,
-            refused: None,
-        };
-        assert!(rt; is_printed(rt.alloc(), &step, line)?);
-    }
-    Ok(())
 }
 
 /// Whether this is the line of a step that is refused.
@@ -198,115 +146,6 @@ fn messages_that_are_learnt(rt: HostRuntime) -> Result<(), Fail> {
         };
         assert!(rt; is_printed(rt.alloc(), &learnt, line)?);
     }
-    Ok(())
-}
-
-/// A message that enters the pool with the number 9.
-fn entered(kind: Kind, from: Option<Party>, to: Target) -> Happening {
-    Happening::Entered {
-        message: 9,
-        kind,
-        from,
-        to,
-        length: 2348,
-        digest: [0xab; 32],
-    }
-}
-
-#[test]
-fn the_kinds_of_messages(rt: HostRuntime) -> Result<(), Fail> {
-    let kinds = [
-        (Kind::Raw, "Raw"),
-        (Kind::EndorseAsk, "EndorseAsk"),
-        (Kind::Endorsed, "Endorsed"),
-        (Kind::Submit, "Submit"),
-        (Kind::Propose, "Propose"),
-        (Kind::Ballot, "Ballot"),
-        (Kind::StatusNote, "StatusNote"),
-        (Kind::Decision, "Decision"),
-        (Kind::SkipNote, "SkipNote"),
-        (Kind::ConfirmAsk, "ConfirmAsk"),
-        (Kind::LogConfirmed, "LogConfirmed"),
-        (Kind::HalfConfirmed, "HalfConfirmed"),
-        (Kind::Confirmation, "Confirmation"),
-        (Kind::RollNote, "RollNote"),
-    ];
-    let (from, to) = (Role::Authority.party(1), Role::Client.party(0));
-    for (kind, word) in &kinds {
-        let line = format!(in rt.alloc();
-            "message 9 {word} from A1 to C0 2348 abababababababababababababababababababababababababababababababab"
-        )?;
-        let happening = entered(*kind, Some(from), Target::One(to));
-        assert!(rt; is_printed(rt.alloc(), &happening, line.as_str())?);
-    }
-    Ok(())
-}
-
-#[test]
-fn who_sent_a_message_and_to_whom_it_goes(rt: HostRuntime) -> Result<(), Fail> {
-    let (one, other) = (Role::Owner.party(511), Role::LogServer.party(0));
-    let routes = [
-        (
-            None,
-            Target::Logs,
-            "message 9 Raw from none to logs 2348 abababababababababababababababababababababababababababababababab",
-        ),
-        (
-            Some(one),
-            Target::One(other),
-            "message 9 Raw from D511 to L0 2348 abababababababababababababababababababababababababababababababab",
-        ),
-        (
-            Some(other),
-            Target::Nobody,
-            "message 9 Raw from L0 to none 2348 abababababababababababababababababababababababababababababababab",
-        ),
-    ];
-    for (from, to, line) in &routes {
-        assert!(rt; is_printed(rt.alloc(), &entered(Kind::Raw, *from, *to), line)?);
-    }
-    Ok(())
-}
-
-#[test]
-fn judgements(rt: HostRuntime) -> Result<(), Fail> {
-    let accepted = Happening::Judged {
-        message: 40,
-        said: Said::Accepted {
-            name: Name::read(rt.alloc(), b"d8.example")?,
-            serial: 18446744073709551615,
-            epoch: 2,
-            root: [5; 32],
-            certificate: [0xab; 32],
-        },
-    };
-    let absent = Happening::Judged {
-        message: 41,
-        said: Said::Absent {
-            name: Name::read(rt.alloc(), b"d8.example")?,
-            epoch: 9223372036854775808,
-            root: [5; 32],
-        },
-    };
-    let refused = Happening::Judged {
-        message: 42,
-        said: Said::Refused(11),
-    };
-    assert!(rt;
-        is_printed(
-            rt.alloc(),
-            &accepted,
-            "judge 40 accepted d8.example serial 18446744073709551615 epoch 2 root 0505050505050505050505050505050505050505050505050505050505050505 certificate abababababababababababababababababababababababababababababababab"
-        )?
-    );
-    assert!(rt;
-        is_printed(
-            rt.alloc(),
-            &absent,
-            "judge 41 absent d8.example epoch 9223372036854775808 root 0505050505050505050505050505050505050505050505050505050505050505"
-        )?
-    );
-    assert!(rt; is_printed(rt.alloc(), &refused, "judge 42 refused 11")?);
     Ok(())
 }
 
