@@ -74,7 +74,7 @@ fn longer(alloc: Global, text: &[u8]) -> Result<Vec<u8>, Fail> {
 fn a_cut_certificate_fails_at_the_field_that_is_cut(rt: HostRuntime) {
     let text = certificate();
     for len in 0..text.len() {
-        let fault = Cert::read(rt.alloc(), &text[..len]).err();
+        let fault = cert_fault(rt.alloc(), &text[..len]);
         assert_eq!(rt; fault, fault_of_cut(certificate_fields(), len), "at {len}");
     }
 }
@@ -83,7 +83,7 @@ fn a_cut_certificate_fails_at_the_field_that_is_cut(rt: HostRuntime) {
 fn a_cut_change_fails_at_the_field_that_is_cut(rt: HostRuntime) -> Result<(), Fail> {
     let text = change_text(rt.alloc())?;
     for len in 0..text.len() {
-        let fault = Change::read(rt.alloc(), &text[..len]).err();
+        let fault = change_fault(rt.alloc(), &text[..len]);
         assert_eq!(rt; fault, fault_of_cut(change_fields(), len), "at {len}");
     }
     Ok(())
@@ -105,11 +105,11 @@ fn a_wrong_field_fails_at_its_first_byte(rt: HostRuntime) -> Result<(), Fail> {
     ];
     for (at, byte, place) in table {
         let text = changed(rt.alloc(), certificate(), at, byte)?;
-        let fault = Cert::read(rt.alloc(), &text).err();
+        let fault = cert_fault(rt.alloc(), &text);
         assert_eq!(rt; fault, Some(CertFault::Form(place)), "at {at}");
     }
     let text = longer(rt.alloc(), certificate())?;
-    let fault = Cert::read(rt.alloc(), &text).err();
+    let fault = cert_fault(rt.alloc(), &text);
     assert_eq!(rt; fault, Some(CertFault::Form(130)));
     Ok(())
 }
@@ -127,29 +127,62 @@ fn a_wrong_field_of_a_change_fails_at_its_first_byte(rt: HostRuntime) -> Result<
     ];
     for (at, byte, place) in table {
         let text = changed(rt.alloc(), &change, at, byte)?;
-        let fault = Change::read(rt.alloc(), &text).err();
+        let fault = change_fault(rt.alloc(), &text);
         assert_eq!(rt; fault, Some(CertFault::Form(place)), "at {at}");
     }
     let text = longer(rt.alloc(), &change)?;
-    let fault = Change::read(rt.alloc(), &text).err();
+    let fault = change_fault(rt.alloc(), &text);
     assert_eq!(rt; fault, Some(CertFault::Form(154)));
     Ok(())
 }
 
-/// A certificate that is read, copied and written again, and its digest.
-fn cert_again(alloc: Global, text: &[u8]) -> Result<(Vec<u8>, [u8; 32]), Fail> {
-    let cert = Cert::read(alloc, text).ok().ok_or("a certificate")?;
-    let mut again = Vec::new(alloc);
-    cert.copy(alloc)?.write(alloc, &mut again)?;
-    Ok((again, cert.digest()))
+/// The text and the digest of a copy of a certificate.
+fn copy_of_cert(alloc: Global, cert: &Cert) -> Result<(Vec<u8>, [u8; 32]), Fail> {
+    let copy = cert.copy(alloc)?;
+    let mut text = Vec::new(alloc);
+    copy.write(alloc, &mut text)?;
+    Ok((text, copy.digest()))
 }
 
-/// A change that is read, copied and written again.
+/// The same of a certificate that is read.
+fn cert_again(alloc: Global, text: &[u8]) -> Result<(Vec<u8>, [u8; 32]), Fail> {
+    match Cert::read(alloc, text) {
+        Ok(cert) => copy_of_cert(alloc, &cert),
+        Err(_) => Err("no certificate".into()),
+    }
+}
+
+/// The text of a change.
+fn text_of(alloc: Global, change: &Change) -> Result<Vec<u8>, Fail> {
+    let mut text = Vec::new(alloc);
+    change.write(alloc, &mut text)?;
+    Ok(text)
+}
+
+/// The text of a copy of a change.
+fn copy_of_change(alloc: Global, change: &Change) -> Result<Vec<u8>, Fail> {
+    match change.copy(alloc) {
+        Ok(copy) => text_of(alloc, &copy),
+        Err(_) => Err("no memory".into()),
+    }
+}
+
+/// The same of a change that is read.
 fn change_again(alloc: Global, text: &[u8]) -> Result<Vec<u8>, Fail> {
-    let change = Change::read(alloc, text).ok().ok_or("a change")?;
-    let mut again = Vec::new(alloc);
-    change.copy(alloc)?.write(alloc, &mut again)?;
-    Ok(again)
+    match Change::read(alloc, text) {
+        Ok(change) => copy_of_change(alloc, &change),
+        Err(_) => Err("no change".into()),
+    }
+}
+
+/// Why a text is no certificate.
+fn cert_fault(alloc: Global, text: &[u8]) -> Option<CertFault> {
+    Cert::read(alloc, text).err()
+}
+
+/// Why a text is no change.
+fn change_fault(alloc: Global, text: &[u8]) -> Option<CertFault> {
+    Change::read(alloc, text).err()
 }
 
 /// The same certificate, whose policy has version 2 and this wait.
@@ -205,7 +238,7 @@ fn changes_are_read_and_written_again(rt: HostRuntime) -> Result<(), Fail> {
 fn a_wait_is_from_1_to_10000(rt: HostRuntime) -> Result<(), Fail> {
     for wait in [[0, 0], [39, 17]] {
         let text = waiting(rt.alloc(), wait)?;
-        let fault = Cert::read(rt.alloc(), &text).err();
+        let fault = cert_fault(rt.alloc(), &text);
         assert_eq!(rt; fault, Some(CertFault::Form(129)), "{wait:?}");
     }
     Ok(())
