@@ -445,19 +445,30 @@ fn fault_of_cut(places: &[usize], len: usize) -> Option<MessageFault> {
     Some(MessageFault::Form(place))
 }
 
-/// The number of the kind of a message that is read, and its text as it is written again.
+/// The number of the kind of a message, and its text.
+fn written(alloc: Global, message: &Message) -> Result<(u8, Vec<u8>), Fail> {
+    let mut text = Vec::new(alloc);
+    message.write(alloc, &mut text)?;
+    Ok((message.kind(), text))
+}
+
+/// The same of a message that is read.
 fn again(alloc: Global, text: &[u8]) -> Result<(u8, Vec<u8>), Fail> {
-    let message = Message::read(alloc, text).ok().ok_or("a message")?;
-    let mut again = Vec::new(alloc);
-    message.write(alloc, &mut again)?;
-    Ok((message.kind(), again))
+    match Message::read(alloc, text) {
+        Ok(message) => written(alloc, &message),
+        Err(_) => Err("no message".into()),
+    }
+}
+
+/// Why a text is no message.
+fn fault(alloc: Global, text: &[u8]) -> Option<MessageFault> {
+    Message::read(alloc, text).err()
 }
 
 /// The least length at which a text that is cut there has another fault than that of the field that is cut.
 fn wrong_cut(alloc: Global, text: &[u8], places: &[usize]) -> Option<usize> {
     for len in 0..text.len() {
-        let fault = Message::read(alloc, &text[..len]).err();
-        if fault != fault_of_cut(places, len) {
+        if fault(alloc, &text[..len]) != fault_of_cut(places, len) {
             return Some(len);
         }
     }
@@ -493,15 +504,15 @@ fn a_byte_more_fails_at_its_place(rt: HostRuntime) -> Result<(), Fail> {
         let mut text = text_of(rt.alloc(), &sample)?;
         let len = text.len();
         text.push(0)?;
-        let fault = Message::read(rt.alloc(), &text).err();
-        assert_eq!(rt; fault, Some(MessageFault::Form(len)), "{len} bytes");
+        let found = fault(rt.alloc(), &text);
+        assert_eq!(rt; found, Some(MessageFault::Form(len)), "{len} bytes");
     }
     Ok(())
 }
 
 /// Wrong bytes: the number of the kind of the message, the offset of the byte, the byte, and the place of the fault.
-fn wrong_bytes() -> [(usize, usize, u8, usize); 20] {
-    [
+fn wrong_bytes() -> &'static [(usize, usize, u8, usize)] {
+    &[
         (2, 0, 0, 0),
         (2, 0, 14, 0),
         (1, 4, 117, 122),
@@ -531,13 +542,13 @@ fn a_wrong_field_fails_at_its_first_byte(rt: HostRuntime) -> Result<(), Fail> {
     for (kind, at, byte, place) in wrong_bytes() {
         let sample = samples.get(kind.saturating_sub(1)).ok_or("a kind")?;
         let mut text = text_of(rt.alloc(), sample)?;
-        if let Some(old) = text.get_mut(at) {
-            *old = byte;
+        if let Some(old) = text.get_mut(*at) {
+            *old = *byte;
         }
-        let fault = Message::read(rt.alloc(), &text).err();
+        let found = fault(rt.alloc(), &text);
         assert_eq!(rt;
-            fault,
-            Some(MessageFault::Form(place)),
+            found,
+            Some(MessageFault::Form(*place)),
             "kind {kind}, byte {at}"
         );
     }
@@ -547,25 +558,28 @@ fn a_wrong_field_fails_at_its_first_byte(rt: HostRuntime) -> Result<(), Fail> {
 #[test]
 fn of_a_message_that_is_too_long_nothing_is_looked_at(rt: HostRuntime) -> Result<(), Fail> {
     let mut zeros = vec![in rt.alloc(); 0u8; 4_194_304]?;
-    let fault = Message::read(rt.alloc(), &zeros).err();
-    assert_eq!(rt; fault, Some(MessageFault::Form(0)));
+    let short = fault(rt.alloc(), &zeros);
+    assert_eq!(rt; short, Some(MessageFault::Form(0)));
     zeros.push(0)?;
-    let fault = Message::read(rt.alloc(), &zeros).err();
-    assert_eq!(rt; fault, Some(MessageFault::Form(4_194_304)));
+    let long = fault(rt.alloc(), &zeros);
+    assert_eq!(rt; long, Some(MessageFault::Form(4_194_304)));
     Ok(())
+}
+
+/// The bytes of the steps of a path with two digests, all ones and all twos.
+fn two_steps(alloc: Global) -> Result<Vec<u8>, Fail> {
+    let path = Path {
+        steps: Items::from_vec(Vec::from_array(alloc, [[1; 32], [2; 32]])?),
+    };
+    let steps = Steps::of_path(alloc, &path)?;
+    Ok(steps.as_slice().to_vec(alloc)?)
 }
 
 #[test]
 fn a_path_becomes_steps(rt: HostRuntime) -> Result<(), Fail> {
-    let digests = Vec::from_array(rt.alloc(), [[1; 32], [2; 32]])?;
-    let path = Path {
-        steps: Items::from_vec(digests),
-    };
-    let steps = Steps::of_path(rt.alloc(), &path)?;
-    let mut bytes = vec![in rt.alloc(); 1u8; 32]?;
-    for _ in 0..32 {
-        bytes.push(2)?;
-    }
-    assert_eq!(rt; steps.as_slice(), bytes.as_slice());
+    let found = two_steps(rt.alloc())?;
+    let mut bytes = Vec::new(rt.alloc());
+    append_runs(&mut bytes, &[(32, 1), (32, 2)])?;
+    assert_eq!(rt; found.as_slice(), bytes.as_slice());
     Ok(())
 }
