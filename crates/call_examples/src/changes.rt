@@ -106,30 +106,52 @@ fn change(
         text.extend_from_slice(&length(signature))?;
         text.extend_from_slice(signature)?;
     }
-    Ok(Change::read(alloc, &text).ok().ok_or("a change")?)
+    match Change::read(alloc, &text) {
+        Ok(change) => Ok(change),
+        Err(_) => Err("no change".into()),
+    }
 }
 
 /// The certificate with this number.
 fn cert(alloc: Global, number: u8) -> Result<Cert, Fail> {
-    Ok(
-        Cert::read(alloc, certificate(number))
-            .ok()
-            .ok_or("a certificate")?,
-    )
+    match Cert::read(alloc, certificate(number)) {
+        Ok(cert) => Ok(cert),
+        Err(_) => Err("no certificate".into()),
+    }
 }
 
-/// The number of the clause that fails for a change behind the certificate with this number, or behind none
-/// at 0; or 0.
-fn judged(alloc: Global, old: u8, change: &Change) -> Result<u8, Fail> {
-    let answer = if old == 0 {
-        judge_change(None, change)
-    } else {
-        judge_change(Some(&cert(alloc, old)?), change)
-    };
-    Ok(match answer {
+/// The number of the clause that fails for a change, or 0.
+fn clause(old: Option<&Cert>, change: &Change) -> u8 {
+    match judge_change(old, change) {
         Ok(()) => 0,
         Err(refusal) => refusal.number(),
-    })
+    }
+}
+
+/// The same behind the certificate with this number, or behind none at 0.
+fn judged(alloc: Global, old: u8, change: &Change) -> Result<u8, Fail> {
+    if old == 0 {
+        return Ok(clause(None, change));
+    }
+    match cert(alloc, old) {
+        Ok(old) => Ok(clause(Some(&old), change)),
+        Err(fault) => Err(fault),
+    }
+}
+
+/// The same of the change to the certificate with this number.
+fn judged_change(
+    alloc: Global,
+    old: u8,
+    new: u8,
+    endorsers: &[u8],
+    flag: u8,
+    signature: &[u8],
+) -> Result<u8, Fail> {
+    match change(alloc, new, endorsers, flag, signature) {
+        Ok(change) => judged(alloc, old, &change),
+        Err(fault) => Err(fault),
+    }
 }
 
 /// The certificate before a change, that of the change, the endorsers, what the key before says, and the
@@ -165,8 +187,7 @@ fn changes_are_judged(rt: HostRuntime) -> Result<(), Fail> {
     ];
     for (old, new, endorsers, consent, clause) in table {
         let (flag, text) = signature(consent);
-        let change = change(rt.alloc(), new, endorsers, flag, text)?;
-        let found = judged(rt.alloc(), old, &change)?;
+        let found = judged_change(rt.alloc(), old, new, endorsers, flag, text)?;
         assert_eq!(rt; found, clause, "{old} {new} {endorsers:?}");
     }
     Ok(())
@@ -179,10 +200,25 @@ fn an_altered_handover_is_none(rt: HostRuntime) -> Result<(), Fail> {
         if let Some(byte) = text.get_mut(place) {
             *byte ^= 1;
         }
-        let change = change(rt.alloc(), 2, &[0, 1, 2], 1, &text)?;
-        assert_eq!(rt; judged(rt.alloc(), 1, &change)?, 7, "{place}");
+        let found = judged_change(rt.alloc(), 1, 2, &[0, 1, 2], 1, &text)?;
+        assert_eq!(rt; found, 7, "{place}");
     }
     Ok(())
+}
+
+/// How the change to the certificate 6 is taken behind the certificate 5, where it may wait already.
+fn taken(
+    alloc: Global,
+    old: &Cert,
+    pending: Option<&[u8; 32]>,
+    endorsers: &[u8],
+    consent: Consent,
+) -> Result<Result<Manner, PolicyRefusal>, Fail> {
+    let (flag, text) = signature(consent);
+    match change(alloc, 6, endorsers, flag, text) {
+        Ok(change) => Ok(judge_update(old, pending, &change)),
+        Err(fault) => Err(fault),
+    }
 }
 
 #[test]
@@ -207,10 +243,9 @@ fn updates_are_taken_in_a_manner(rt: HostRuntime) -> Result<(), Fail> {
         ),
     ];
     for (pending, endorsers, consent, answer) in table {
-        let (flag, text) = signature(consent);
-        let change = change(rt.alloc(), 6, endorsers, flag, text)?;
         let waiting = if pending { Some(&digest) } else { None };
-        assert_eq!(rt; judge_update(&old, waiting, &change), answer);
+        let found = taken(rt.alloc(), &old, waiting, endorsers, consent)?;
+        assert_eq!(rt; found, answer);
     }
     Ok(())
 }
