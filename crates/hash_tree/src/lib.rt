@@ -28,6 +28,4 @@ pub mod laws;
 mod node;
 mod roots;
 mod steps;
-#[cfg(test)]
-mod tests;
 mod trie;
