@@ -19,5 +19,3 @@ mod fault;
 pub mod laws;
 mod ring;
 mod signed;
-#[cfg(test)]
-mod tests;
