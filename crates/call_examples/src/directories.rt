@@ -83,13 +83,6 @@ fn answer(d: &Directory, party: Party, text: &[u8], generation: u8, leaf: u8) ->
     number(d.verify(party, text, &signature(generation, leaf)))
 }
 
-// The answer to abc of authority 1 in so many bytes of its signature.
-fn answer_cut(d: &Directory, len: usize) -> u8 {
-    let good = signature(0, 3);
-    let cut = good.get(..len).unwrap_or(&[]);
-    number(d.verify(Role::Authority.party(1), b"abc", cut))
-}
-
 // The answer to the text of the Roll of a log to the key of abc, signed under generation 0.
 fn answer_to_roll(d: &Directory, log: u16, generation: u32, leaf: u8) -> u8 {
     let text = Text::of(&Statement::Roll {
@@ -131,9 +124,6 @@ fn a_signature_is_verified_under_its_generation(rt: HostRuntime) -> Result<(), F
     ] {
         let found = answer(&d, party, b"abc", generation, leaf);
         assert_eq!(rt; found, expected, "{party:?} {generation} {leaf}");
-    }
-    for (len, expected) in [(0, 1), (3, 1), (4, 1), (1295, 1), (1296, 0)] {
-        assert_eq!(rt; answer_cut(&d, len), expected, "{len}");
     }
     Ok(())
 }
