@@ -39,7 +39,7 @@ waits_fit P name chain p waits holds = record {
 }
 
 -- what waits, waits behind a chain
-chain_there : (before : Option (List Change)) (old : Certificate) → newest (unwrap_or before []) ≡ Some old → before ≡ Some (unwrap_or before [])
+pub chain_there : (before : Option (List Change)) (old : Certificate) → newest (unwrap_or before []) ≡ Some old → before ≡ Some (unwrap_or before [])
 chain_there None old e = absurd (cc)
 chain_there (Some chain) old e = refl
 

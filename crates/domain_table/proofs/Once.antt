@@ -20,7 +20,7 @@ use Rattle.domain_table.proofs.Maps.{same_name, get-ripen, waiting-ripen}
 use Rattle.domain_table.proofs.Newest.{newest_has}
 use Rattle.domain_table.proofs.Judged.{IsJudged, judged}
 use Rattle.domain_table.proofs.Steps.{unit_holds}
-use Rattle.domain_table.proofs.Applied.{ripe_follows}
+use Rattle.domain_table.proofs.Applied.{chain_there, ripe_follows}
 
 -- nothing is ripe at the epoch
 abbrev pub NoneRipe : Table → ℕ → Type 0
@@ -30,7 +30,7 @@ NoneRipe t e = (name : List ℕ) → is_ripe t e name ≡ false
 ripe_by : (t : Table) (e : ℕ) (name : List ℕ) (o : Option (List Change)) (w : Option Pending) → get t.chains name ≡ o → get t.waiting name ≡ w → is_ripe t e name ≡ is_ripe_behind e (newest (unwrap_or o [])) w
 ripe_by t e name o w chain waits = λ i. is_ripe_behind e (newest (unwrap_or (chain i) [])) (waits i)
 
-nothing_waits : (e : ℕ) (o : Option Certificate) → is_ripe_behind e o None ≡ false
+pub nothing_waits : (e : ℕ) (o : Option Certificate) → is_ripe_behind e o None ≡ false
 nothing_waits e None = refl
 nothing_waits e (Some old) = refl
 
@@ -63,14 +63,10 @@ begun_now e (Some n) fits = at (nat_le (e + n) e) refl where
   at true is = let past : e + n ≤ e = leb-true (e + n) e is in absurd (omega (arith, past, fits.0))
 
 -- a newest certificate is that of a chain
-pub behind_chain : (before : Option (List Change)) (old : Certificate) → newest (unwrap_or before []) ≡ Some old → before ≡ Some (unwrap_or before [])
-behind_chain None old e = absurd (cc)
-behind_chain (Some chain) old e = refl
-
 -- the newest certificate of a sound table is one
 fits : (t : Table) → IsSound t → (name : List ℕ) (old : Certificate) → newest (chain_of t name) ≡ Some old → IsCertificate old
 fits t sound name old is =
-    let there : get t.chains name ≡ Some (chain_of t name) = behind_chain (get t.chains name) old is in
+    let there : get t.chains name ≡ Some (chain_of t name) = chain_there (get t.chains name) old is in
     newest_has IsCertificate (chain_of t name) old (λ k d l. ((sound.chains name (chain_of t name) there).each k d l).cert) is
 
 pub still_none : (t : Table) (e : ℕ) (c : Change) (m : Manner) → IsSound t → IsJudged (newest (chain_of t c.cert.name)) c m → NoneRipe t e → NoneRipe (taken t e c m) e

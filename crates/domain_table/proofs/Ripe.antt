@@ -9,13 +9,14 @@ use Rattle.domain_table.specs.Tables.{Pending, Table, chain_of, newest}
 use Rattle.domain_table.specs.Applying.{is_over, is_ripe, is_ripe_behind, ripened, change_list, ripen, IsRipe}
 use Rattle.domain_table.specs.Sound.{Waits, IsSound}
 use Rattle.domain_table.proofs.Maps.{get-ripen, waiting-ripen}
-use Rattle.domain_table.proofs.Once.{not_ripened, behind_chain}
+use Rattle.domain_table.proofs.Applied.{chain_there}
+use Rattle.domain_table.proofs.Once.{not_ripened}
 
 pub ripe_appended : (t : Table) (e : ℕ) (name : List ℕ) (p : Pending) → IsSound t → get t.waiting name ≡ Some p → is_ripe t e name ≡ true
     → (chain_of (ripen t e) name ≡ chain_of t name ++ p.change ∷ []) × (get (ripen t e).waiting name ≡ None)
 ripe_appended t e name p sound there ripe =
     let waits : Waits name (chain_of t name) p = sound.waits name p there in
-    let before : get t.chains name ≡ Some (chain_of t name) = behind_chain (get t.chains name) waits.old waits.is_newest in (
+    let before : get t.chains name ≡ Some (chain_of t name) = chain_there (get t.chains name) waits.old waits.is_newest in (
       ap (λ o. unwrap_or o []) (get-ripen t e name ∙ ap (option_map (ripened t e name)) before
           ∙ ap (λ b. Some (cond b (chain_of t name ++ change_list (get t.waiting name)) (chain_of t name))) ripe
           ∙ ap (λ o. Some (chain_of t name ++ change_list o)) there),

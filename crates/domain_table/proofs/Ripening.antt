@@ -1,19 +1,19 @@
 -- Rows that ripen one by one.
-use Rattle.std.proofs.Common.{◌≡◌, ℕ, zero, suc, ◌+◌, ◌<◌, ◌≤◌, List, [], ◌∷◌, ◌++◌, map, length, get_or, take, drop, refl, sym, ap, ◌∙◌, arith, length-append, Bool, true, false, cond, Option, Some, None}
+use Rattle.std.proofs.Common.{◌≡◌, ℕ, zero, suc, ◌+◌, ◌<◌, ◌≤◌, List, [], ◌∷◌, ◌++◌, map, length, get_or, take, drop, refl, sym, ap, ◌∙◌, arith, length-append, Bool, true, false, cond, Some, None}
 use Rattle.std.specs.Prelude.{IsTrue, OnOk, Result, Ok, Err, option_and_then}
 use Rattle.std.specs.List.{filter_map, cons_option}
 use Rattle.std.specs.Option.{option_map}
 use Rattle.std.specs.FinMap.{is_sorted, from_entries}
 use Rattle.hash_tree.specs.Entries.{Entries, key_cmp}
 use Rattle.cert_policy.specs.declared.manner.Manner.{Manner}
-use Rattle.ar_cert.specs.Certificate.{Certificate}
 use Rattle.ar_cert.specs.Changes.{Change}
 use Rattle.domain_table.specs.declared.refusal.ChangeRefusal.{ChangeRefusal}
 use Rattle.domain_table.specs.declared.row.Row.{Row}
 use Rattle.domain_table.specs.Tables.{Pending, Table, newest, size}
-use Rattle.domain_table.specs.Applying.{after_answer, apply, apply_each, change_list, is_ripe_behind, judge, judge_ripe, ripen, taken}
+use Rattle.domain_table.specs.Applying.{after_answer, apply, apply_each, change_list, judge, judge_ripe, ripen, taken}
 use Rattle.domain_table.specs.Rows.{RowData, any_ripe, chain_pair, pending_pair, is_ripe_row, marked, marks_of, table_of, with_row, AreRows, IsChanged, IsKept, IsRipeUpTo, data_in}
 use Rattle.domain_table.proofs.Places.{split_at}
+use Rattle.domain_table.proofs.Once.{nothing_waits}
 use Rattle.domain_table.proofs.RipeRows.{ripe_data, ripe_table, size-ripen}
 use Rattle.domain_table.proofs.Changed.{are_changed}
 
@@ -37,10 +37,6 @@ pub unripe_table : (rows : List RowData) (e : ℕ) → IsTrue (is_sorted key_cmp
 unripe_table rows e rise none = sym (ripe_table rows e rise) ∙ ap table_of (no_ripe e rows none)
 
 -- without anything that waits nothing is ripe
-never_ripe : (e : ℕ) (o : Option Certificate) → is_ripe_behind e o None ≡ false
-never_ripe e None = refl
-never_ripe e (Some old) = refl
-
 -- one more row that isn't ripe
 done_step : (e : ℕ) (old : List RowData) (i : ℕ) (other : RowData) (back : List RowData) → i ≤ length old → any_ripe e (take i old) ≡ false → is_ripe_row e other ≡ false
     → any_ripe e (take (suc i) (take i old ++ other ∷ back)) ≡ false
@@ -84,7 +80,7 @@ ripened_here e first old new before trie i d p l ripe waits changed up =
     let r : RowData = get_or old i d in
     let chain : List Change = r.chain ++ p.change ∷ [] in
     let other : RowData = with_row r chain None changed.marks in
-    let not_ripe : is_ripe_row e other ≡ false = never_ripe e (newest chain) in
+    let not_ripe : is_ripe_row e other ≡ false = nothing_waits e (newest chain) in
     let parts = split_at old i d l in
     let are = are_changed old new trie i d chain None l up.are changed in
     let done : any_ripe e (take (suc i) new) ≡ false = ap (λ xs. any_ripe e (take (suc i) xs)) changed.rows ∙ done_step e old i other (drop (i + 1) old) (omega (arith, l)) up.done not_ripe in

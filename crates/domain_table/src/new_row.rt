@@ -1,12 +1,10 @@
-ghost use Rattle.std.specs.Prelude.{◌≡◌, ◌<◌, ◌≤◌, ◌++◌, ◌∷◌, [], ℕ, false, length, take, drop, get_or, None, Some, IfErr, IfOk, OnOk, OnErr, IsTrue, vec_len, vec_capacity, map};
-ghost use Rattle.std.specs.Ordering.{eq_by_cmp};
-ghost use Rattle.std.specs.FinMap.{from_entries, is_sorted};
+ghost use Rattle.std.specs.Prelude.{◌≡◌, ◌<◌, ◌≤◌, ◌++◌, ◌∷◌, [], length, take, drop, None, IfErr, IfOk, OnOk, OnErr, vec_len, vec_capacity};
+ghost use Rattle.std.specs.FinMap.{from_entries};
 ghost use Rattle.ar_names.specs.Names.{name_digest_of};
 ghost use Rattle.hash_tree.specs.Strings as strings;
-ghost use Rattle.hash_tree.specs.Entries.{key_cmp};
 ghost use Rattle.domain_table.specs.declared.row.Row.{Row};
 ghost use Rattle.domain_table.specs.Tree.{value_of_cert};
-ghost use Rattle.domain_table.specs.Rows.{AreRows, IsCome, IsPlace, chain_pair, data_in, data_of, first_row, marked, marks_of};
+ghost use Rattle.domain_table.specs.Rows.{IsCome, data_in, data_of, first_row, marked, marks_of};
 
 use crate::change_row::value_of;
 use crate::row::{Marks, Row};

@@ -1,4 +1,4 @@
-ghost use Rattle.std.specs.Prelude.{◌≡◌, ◌<◌, ◌+◌, false, length, take, List, OnOk};
+ghost use Rattle.std.specs.Prelude.{◌≡◌, ◌<◌, ◌+◌, false, length, List, OnOk};
 ghost use Rattle.std.specs.FinMap.{from_entries};
 ghost use Rattle.domain_table.specs.Applying.{ripen};
 ghost use Rattle.domain_table.specs.Rows.{AreRows, IsRipeUpTo, RowData, any_ripe, data_in, marked, marks_of, table_of};

@@ -1,4 +1,4 @@
-ghost use Rattle.std.specs.Prelude.{option_and_then, ◌≡◌, ◌++◌, ◌∷◌, ◌&&◌, ◌≤◌, ◌<◌, nat_le, length, map, ℕ, get_or, Some, None, IfErr, IfSome, IfNone, IfOk, OnOk, OnErr, IsTrue, true, false, position};
+ghost use Rattle.std.specs.Prelude.{option_and_then, ◌≡◌, ◌≤◌, ◌<◌, length, map, ℕ, get_or, Some, None, IfErr, IfOk, IsTrue, false};
 ghost use Rattle.std.specs.Option.{option_map};
 ghost use Rattle.std.specs.Ordering.{eq_by_cmp, is_lt};
 ghost use Rattle.std.specs.List.Sorted.{IsPartitionedBy};

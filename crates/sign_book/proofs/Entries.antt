@@ -1,17 +1,13 @@
 -- What the place of a text in a list says, and what entries keep of a book.
-use Rattle.std.proofs.Common.{◌≡◌, ◌≢◌, ℕ, ◌<◌, ◌↔◌, List, [], ◌∷◌, ◌++◌, length, length-append, get_or, refl, sym, ap, ◌∙◌, subst, arith, Bool, true, false, cond, nat_lt, Option, Some, None, Ok, Err}
-use Rattle.std.specs.Prelude.{bytes_eq, Contains, IsTrue, is_some, if◌then◌else◌}
-use Rattle.std.proofs.lemmas.Bool.{ltb-true, lt-ltb}
+use Rattle.std.proofs.Common.{◌≡◌, ℕ, ◌<◌, List, [], ◌∷◌, ◌++◌, length, length-append, get_or, refl, sym, ap, ◌∙◌, subst, arith, Bool, true, false, nat_lt, Option, Some, None, Ok, Err}
+use Rattle.std.specs.Prelude.{Contains, if◌then◌else◌}
+use Rattle.std.proofs.lemmas.Bool.{ltb-true}
 use Rattle.std.proofs.lemmas.List.{get_or_append_left}
 use Rattle.std.proofs.Math.Seq.{get_or-append_seam}
-use Rattle.std.proofs.lemmas.List.Quantifiers.{position-Some, all_pairs_push}
-use Rattle.std.proofs.lemmas.List.Sums.{fails_before_first}
-use Rattle.std.proofs.lemmas.Slice.Eq.{bytes_eq-Decides}
-use Rattle.std.specs.List.{position_or_len}
 use Rattle.sign_book.specs.declared.fault.BookFault.TheVariants.{Spent}
 use Rattle.sign_book.specs.Book.{Book, IsSound}
 use Rattle.ar_base.specs.Places.{place_of}
-use Rattle.ar_base.proofs.Places.{absent, contained, less-not, not-contained, not-less, once-push, one-place, stands}
+use Rattle.ar_base.proofs.Places.{contained, less-not, not-contained, not-less, once-push, one-place, stands}
 use Rattle.sign_book.specs.Entry.{leaf_at, leaf_of, with_text, after_at, after_entry}
 
 -- ---- entries
