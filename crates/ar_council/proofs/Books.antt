@@ -13,6 +13,7 @@ use Rattle.key_roll.specs.Rolls.{is_plain_of, plain_count}
 use Rattle.key_roll.specs.declared.signed.Signed.{Signed}
 use Rattle.ar_council.specs.Room.{HasRoom}
 use Rattle.ar_council.proofs.Lists.{Within}
+use Rattle.ar_council.proofs.Needs.{count-one}
 
 with-texts : (book : RollBook) (text : List ℕ) → texts_of (with_text book text) ≡ texts_of book ++ text ∷ []
 with-texts book text = map-append (λ (s : Signed). s.text) book.list (record { generation = book.newest; text = text } ∷ [])
@@ -40,9 +41,6 @@ entry-all P book text all here = at (place_of (texts_of book) text)
     at : (place : Option ℕ) → All P (texts_of (after_at book text place))
     at (Some k) = all
     at None = by (has_room book)
-
-count-one : (p : List ℕ → Bool) (text : List ℕ) → count_by p (text ∷ []) ≡ cond (p text) 1 0
-count-one p text = omega arith
 
 -- where there is room for it the text is there
 pub entry-has : (book : RollBook) (text : List ℕ) → HasRoom book (text ∷ []) → Contains (texts_of (after_entry book text)) text

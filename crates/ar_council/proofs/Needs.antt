@@ -5,7 +5,7 @@ use Rattle.ar_base.specs.Places.{place_of}
 use Rattle.ar_council.specs.Room.{new_count}
 use Rattle.key_roll.specs.Book.{RollBook, texts_of}
 
-count-one : (p : List ℕ → Bool) (text : List ℕ) → count_by p (text ∷ []) ≡ cond (p text) 1 0
+pub count-one : (p : List ℕ → Bool) (text : List ℕ) → count_by p (text ∷ []) ≡ cond (p text) 1 0
 count-one p text = omega arith
 
 -- a text that the book holds needs no leaf, and another needs one
