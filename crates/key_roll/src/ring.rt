@@ -1,4 +1,4 @@
-ghost use Rattle.std.specs.Prelude.{◌≡◌, ◌<◌, ◌++◌, ◌∷◌, [], ℕ, length, max, slice_get, Some, IfOk, IfErr, OnOk, OnErr, MatchResult};
+ghost use Rattle.std.specs.Prelude.{◌≡◌, ◌<◌, ◌-◌, ◌++◌, ◌∷◌, [], ℕ, length, max, slice_get, Some, IfOk, IfErr, OnOk, OnErr, MatchResult};
 ghost use Rattle.key_roll.specs.Ring.{IsNext, Owes, next_seed, ring_signature_len, signature_by};
 ghost use Rattle.lms_tree.specs.KeyParts.{KeyParts};
 
@@ -79,6 +79,7 @@ impl KeyRing {
         ensures back { IfErr result (λ e. e.0 ≡ key) }
         ensures err { OnErr result (self.new ≡ self.old) }
         ensures memory { OnErr result (self.old.room ≡ 0) }
+        ensures room { OnOk result (self.new.room ≡ self.old.room - 1) }
     {
         match self.keys.push(key) {
             Ok(()) => {
@@ -93,7 +94,8 @@ impl KeyRing {
     pub fn add_reserved(&mut self, alloc: Global, key: LmsKey)
         requires next { IsNext self.old.keys key }
         requires room { 0 < self.old.room }
-        ensures { self.new.keys ≡ self.old.keys ++ key ∷ [] }
+        ensures keys { self.new.keys ≡ self.old.keys ++ key ∷ [] }
+        ensures room { self.new.room ≡ self.old.room - 1 }
     {
         match self.add(alloc, key) {
             Ok(()) => {}
