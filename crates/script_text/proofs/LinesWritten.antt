@@ -17,7 +17,7 @@ use Rattle.ar_lines.proofs.Respelled.{number_in_writes, number_own, sized_writes
 use Rattle.ar_statement.specs.declared.party.Role.TheVariants as role
 use Rattle.script_text.specs.Forms.{asks_of, binding_of, trusted_of}
 use Rattle.script_text.specs.Grammar.{Fields, Form, PolicyFields, Row, are_pieces, bound, five, five_words, four, four_words, is_skipped, line_by, line_with, no_words, one, one_word, pieces, plain, policy, policy_of, policy_words, some_line, some_words, three, three_words, two, two_words}
-use Rattle.script_text.specs.Rows.{read_of, table}
+use Rattle.script_text.specs.Rows.{read_of, row, table}
 use Rattle.script_text.specs.Written.{binding_word, list_word, policy_then, text_of_line, trusted_word, words_of_line}
 use Rattle.script_text.specs.declared.line.Line.{Line}
 use Rattle.script_text.specs.declared.line.PolicyWords.{PolicyWords}
@@ -113,15 +113,12 @@ abbrev RowWrites : Row → Type 0
 RowWrites row = (ws : List (List ℕ)) (line : Line) → row.fields ws ≡ Ok line → words_of_line line ≡ row.word ∷ ws
 
 -- a row of this word
-abbrev row_with : List ℕ → Fields → Row
-row_with word fields = record { word = word; fields = fields }
-
-plain_row : (word : List ℕ) (m : Line) → words_of_line m ≡ word ∷ [] → RowWrites (row_with word (plain m))
+plain_row : (word : List ℕ) (m : Line) → words_of_line m ≡ word ∷ [] → RowWrites (row word (plain m))
 plain_row word m written ws line h =
     let none = bound_ok (no_words ws) _ line h in
     ap words_of_line (sym (the_ok m line none.2)) ∙ written ∙ ap (λ l. word ∷ l) (sym (none_are ws none.0 none.1))
 
-one_row : {A : Type 0} (word : List ℕ) (form : Form A) (write : A → List ℕ) (m : A → Line) → Writes form write → ((a : A) → words_of_line (m a) ≡ word ∷ write a ∷ []) → RowWrites (row_with word (one form m))
+one_row : {A : Type 0} (word : List ℕ) (form : Form A) (write : A → List ℕ) (m : A → Line) → Writes form write → ((a : A) → words_of_line (m a) ≡ word ∷ write a ∷ []) → RowWrites (row word (one form m))
 one_row word form write m writes written ws line h =
     let all = bound_ok (one_word ws) _ line h in
     let a = field form write all.0 1 _ line writes all.2 in
@@ -129,7 +126,7 @@ one_row word form write m writes written ws line h =
     ∙ ap (λ x. word ∷ x ∷ []) a.1
     ∙ ap (λ l. word ∷ l) (sym (one_is ws all.0 all.1))
 
-two_row : {A B : Type 0} (word : List ℕ) (first : Form A) (second : Form B) (write : A → List ℕ) (other : B → List ℕ) (m : A → B → Line) → Writes first write → Writes second other → ((a : A) (b : B) → words_of_line (m a b) ≡ word ∷ write a ∷ other b ∷ []) → RowWrites (row_with word (two first second m))
+two_row : {A B : Type 0} (word : List ℕ) (first : Form A) (second : Form B) (write : A → List ℕ) (other : B → List ℕ) (m : A → B → Line) → Writes first write → Writes second other → ((a : A) (b : B) → words_of_line (m a b) ≡ word ∷ write a ∷ other b ∷ []) → RowWrites (row word (two first second m))
 two_row word first second write other m writes others written ws line h =
     let all = bound_ok (two_words ws) _ line h in
     let a = field first write all.0.0 1 _ line writes all.2 in
@@ -137,7 +134,7 @@ two_row word first second write other m writes others written ws line h =
     ap words_of_line (sym (the_ok (m a.0 b.0) line b.2)) ∙ written a.0 b.0
     ∙ rw (a.1, b.1) (ap (λ l. word ∷ l) (sym (two_are ws all.0 all.1)))
 
-bound_row : {A B : Type 0} (word : List ℕ) (first : Form A) (second : A → Form B) (write : A → List ℕ) (other : B → List ℕ) (m : A → B → Line) → Writes first write → ((a : A) → Writes (second a) other) → ((a : A) (b : B) → words_of_line (m a b) ≡ word ∷ write a ∷ other b ∷ []) → RowWrites (row_with word (bound first second m))
+bound_row : {A B : Type 0} (word : List ℕ) (first : Form A) (second : A → Form B) (write : A → List ℕ) (other : B → List ℕ) (m : A → B → Line) → Writes first write → ((a : A) → Writes (second a) other) → ((a : A) (b : B) → words_of_line (m a b) ≡ word ∷ write a ∷ other b ∷ []) → RowWrites (row word (bound first second m))
 bound_row word first second write other m writes others written ws line h =
     let all = bound_ok (two_words ws) _ line h in
     let a = field first write all.0.0 1 _ line writes all.2 in
@@ -145,7 +142,7 @@ bound_row word first second write other m writes others written ws line h =
     ap words_of_line (sym (the_ok (m a.0 b.0) line b.2)) ∙ written a.0 b.0
     ∙ rw (a.1, b.1) (ap (λ l. word ∷ l) (sym (two_are ws all.0 all.1)))
 
-three_row : {A B C : Type 0} (word : List ℕ) (first : Form A) (second : Form B) (third : Form C) (wa : A → List ℕ) (wb : B → List ℕ) (wc : C → List ℕ) (m : A → B → C → Line) → Writes first wa → Writes second wb → Writes third wc → ((a : A) (b : B) (c : C) → words_of_line (m a b c) ≡ word ∷ wa a ∷ wb b ∷ wc c ∷ []) → RowWrites (row_with word (three first second third m))
+three_row : {A B C : Type 0} (word : List ℕ) (first : Form A) (second : Form B) (third : Form C) (wa : A → List ℕ) (wb : B → List ℕ) (wc : C → List ℕ) (m : A → B → C → Line) → Writes first wa → Writes second wb → Writes third wc → ((a : A) (b : B) (c : C) → words_of_line (m a b c) ≡ word ∷ wa a ∷ wb b ∷ wc c ∷ []) → RowWrites (row word (three first second third m))
 three_row word first second third wa wb wc m ha hb hc written ws line h =
     let all = bound_ok (three_words ws) _ line h in
     let a = field first wa all.0.0 1 _ line ha all.2 in
@@ -154,7 +151,7 @@ three_row word first second third wa wb wc m ha hb hc written ws line h =
     ap words_of_line (sym (the_ok (m a.0 b.0 c.0) line c.2)) ∙ written a.0 b.0 c.0
     ∙ rw (a.1, b.1, c.1) (ap (λ l. word ∷ l) (sym (three_are ws all.0 all.1)))
 
-four_row : {A B C D : Type 0} (word : List ℕ) (first : Form A) (second : Form B) (third : Form C) (fourth : Form D) (wa : A → List ℕ) (wb : B → List ℕ) (wc : C → List ℕ) (wd : D → List ℕ) (m : A → B → C → D → Line) → Writes first wa → Writes second wb → Writes third wc → Writes fourth wd → ((a : A) (b : B) (c : C) (d : D) → words_of_line (m a b c d) ≡ word ∷ wa a ∷ wb b ∷ wc c ∷ wd d ∷ []) → RowWrites (row_with word (four first second third fourth m))
+four_row : {A B C D : Type 0} (word : List ℕ) (first : Form A) (second : Form B) (third : Form C) (fourth : Form D) (wa : A → List ℕ) (wb : B → List ℕ) (wc : C → List ℕ) (wd : D → List ℕ) (m : A → B → C → D → Line) → Writes first wa → Writes second wb → Writes third wc → Writes fourth wd → ((a : A) (b : B) (c : C) (d : D) → words_of_line (m a b c d) ≡ word ∷ wa a ∷ wb b ∷ wc c ∷ wd d ∷ []) → RowWrites (row word (four first second third fourth m))
 four_row word first second third fourth wa wb wc wd m ha hb hc hd written ws line h =
     let all = bound_ok (four_words ws) _ line h in
     let a = field first wa all.0.0 1 _ line ha all.2 in
@@ -164,7 +161,7 @@ four_row word first second third fourth wa wb wc wd m ha hb hc hd written ws lin
     ap words_of_line (sym (the_ok (m a.0 b.0 c.0 d.0) line d.2)) ∙ written a.0 b.0 c.0 d.0
     ∙ rw (a.1, b.1, c.1, d.1) (ap (λ l. word ∷ l) (sym (four_are ws all.0 all.1)))
 
-five_row : {A B C D E : Type 0} (word : List ℕ) (first : Form A) (second : Form B) (third : Form C) (fourth : Form D) (fifth : Form E) (wa : A → List ℕ) (wb : B → List ℕ) (wc : C → List ℕ) (wd : D → List ℕ) (we : E → List ℕ) (m : A → B → C → D → E → Line) → Writes first wa → Writes second wb → Writes third wc → Writes fourth wd → Writes fifth we → ((a : A) (b : B) (c : C) (d : D) (e : E) → words_of_line (m a b c d e) ≡ word ∷ wa a ∷ wb b ∷ wc c ∷ wd d ∷ we e ∷ []) → RowWrites (row_with word (five first second third fourth fifth m))
+five_row : {A B C D E : Type 0} (word : List ℕ) (first : Form A) (second : Form B) (third : Form C) (fourth : Form D) (fifth : Form E) (wa : A → List ℕ) (wb : B → List ℕ) (wc : C → List ℕ) (wd : D → List ℕ) (we : E → List ℕ) (m : A → B → C → D → E → Line) → Writes first wa → Writes second wb → Writes third wc → Writes fourth wd → Writes fifth we → ((a : A) (b : B) (c : C) (d : D) (e : E) → words_of_line (m a b c d e) ≡ word ∷ wa a ∷ wb b ∷ wc c ∷ wd d ∷ we e ∷ []) → RowWrites (row word (five first second third fourth fifth m))
 five_row word first second third fourth fifth wa wb wc wd we m ha hb hc hd he written ws line h =
     let all = bound_ok (five_words ws) _ line h in
     let a = field first wa all.0.0 1 _ line ha all.2 in
@@ -187,7 +184,7 @@ policy_written p terms more h =
     ap (λ (x : PolicyWords). policy_then x more) (sym (the_ok made terms r.2))
     ∙ rw (t.1, k.1, m.1, u.1, r.1) refl
 
-policy_row : {A B : Type 0} (word : List ℕ) (first : Form A) (second : Form B) (wa : A → List ℕ) (wb : B → List ℕ) (m : A → B → PolicyWords → List ℕ → Line) → Writes first wa → Writes second wb → ((a : A) (b : B) (p : PolicyWords) (asks : List ℕ) → words_of_line (m a b p asks) ≡ word ∷ wa a ∷ wb b ∷ policy_then p (list_word asks ∷ [])) → RowWrites (row_with word (policy first second m))
+policy_row : {A B : Type 0} (word : List ℕ) (first : Form A) (second : Form B) (wa : A → List ℕ) (wb : B → List ℕ) (m : A → B → PolicyWords → List ℕ → Line) → Writes first wa → Writes second wb → ((a : A) (b : B) (p : PolicyWords) (asks : List ℕ) → words_of_line (m a b p asks) ≡ word ∷ wa a ∷ wb b ∷ policy_then p (list_word asks ∷ [])) → RowWrites (row word (policy first second m))
 policy_row word first second wa wb m ha hb written ws line h =
     let all = bound_ok (policy_words ws) _ line h in
     let a = field first wa all.0.0 1 _ line ha all.2 in
@@ -197,7 +194,7 @@ policy_row word first second wa wb m ha hb written ws line h =
     ap words_of_line (sym (the_ok (m a.0 b.0 p.0 c.0) line c.2)) ∙ written a.0 b.0 p.0 c.0
     ∙ rw (a.1, b.1, policy_written all.0.2 p.0 (list_word c.0 ∷ []) p.1, c.1) (ap (λ l. word ∷ l) (sym (policy_are ws all.0 all.1)))
 
-pieces_row : {A : Type 0} (word : List ℕ) (first : Form A) (wa : A → List ℕ) (m : A → List (List ℕ) → Line) → Writes first wa → ((a : A) (ps : List (List ℕ)) → words_of_line (m a ps) ≡ word ∷ wa a ∷ ps) → RowWrites (row_with word (pieces first m))
+pieces_row : {A : Type 0} (word : List ℕ) (first : Form A) (wa : A → List ℕ) (m : A → List (List ℕ) → Line) → Writes first wa → ((a : A) (ps : List (List ℕ)) → words_of_line (m a ps) ≡ word ∷ wa a ∷ ps) → RowWrites (row word (pieces first m))
 pieces_row word first wa m ha written ws line h =
     let all = bound_ok (some_words ws) _ line h in
     let a = field first wa all.0.0 1 _ line ha all.2 in
