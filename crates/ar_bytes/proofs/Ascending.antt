@@ -23,7 +23,7 @@ pub ascending-more : {A : Type 0} (number : A → ℕ) (entry : ℕ → Cursor �
 unfolding ascending_at
 ascending-more number entry count more least at e = rw (e, add-one) refl
 
-with_front-front : {A : Type 0} (front more : List A) (read : Reading (List A)) → with_front front (with_front more read) ≡ with_front (front ++ more) read
+pub with_front-front : {A : Type 0} (front more : List A) (read : Reading (List A)) → with_front front (with_front more read) ≡ with_front (front ++ more) read
 with_front-front front more (Ok x) = ap (λ l. Ok (l, x.1)) (sym (append_assoc front more x.0))
 with_front-front front more (Err place) = refl
 

@@ -1,7 +1,7 @@
 -- A certificate: what was put is read again, and what is read is spelled so.
 use Rattle.std.proofs.Common.{◌≡◌, ℕ, zero, suc, ◌^◌, ◌<◌, ◌≤◌, Bool, true, false, ◌&&◌, leb, eqb, List, [], ◌++◌, length, Option, Some, None, is_some, Ok, refl, sym, ap, subst, ◌∙◌, arith, length-append}
 use Rattle.std.proofs.lemmas.List.{append-nil}
-use Rattle.std.proofs.lemmas.Bool.{le-leb, leb-true, and_from}
+use Rattle.std.proofs.lemmas.Bool.{and_parts, le-leb, leb-true, and_from}
 use Rattle.std.specs.Prelude.{Result, IfSome}
 use Rattle.std.specs.Int.{w8, w16, w32, w64}
 use Rattle.ar_base.specs.Chaining.{◌>>=◌}
@@ -64,10 +64,6 @@ trusted_pass at new ns bytes e =
 
 -- ---- the version and the wait
 
-both : (x y : Bool) → (x && y) ≡ true → (x ≡ true) × (y ≡ true)
-both true y e = (refl, e)
-both false y e = absurd cc
-
 version_again : (waits : Bool) → ReadsBack version_at waits (version_text waits)
 unfolding version_at
 version_again true at new p = rw (such_that_again (λ n. leb 1 n && leb n 2) (number_at w8) 2 (number_text w8 2) (number_again w8 (2 ^ 8) wide8 2 (omega arith)) refl at new p) refl
@@ -77,7 +73,7 @@ version_number : (n : ℕ) → (leb 1 n && leb n 2) ≡ true → number_text w8 
 version_number zero e = absurd cc
 version_number (suc zero) e = refl
 version_number (suc (suc zero)) e = refl
-version_number (suc (suc (suc n))) e = absurd (omega (arith, leb-true (suc (suc (suc n))) 2 (both (leb 1 (suc (suc (suc n)))) (leb (suc (suc (suc n))) 2) e).1))
+version_number (suc (suc (suc n))) e = absurd (omega (arith, leb-true (suc (suc (suc n))) 2 (and_parts (leb 1 (suc (suc (suc n)))) (leb (suc (suc (suc n))) 2) e).1))
 
 version_pass : IsSpelledBy version_at version_text (λ _. Unit {0})
 unfolding version_at
@@ -97,7 +93,7 @@ wait_pass false at new wait bytes e =
     subst (λ (x : Option ℕ × Cursor). Passes at (wait_text x.0) x.1 × (IfSome x.0 IsWait × (is_some x.0 ≡ false))) (ok_is (None, at) (wait, new) e) (record { bytes = refl; place = omega arith }, (tt, refl))
 wait_pass true at new wait bytes e =
     let n = next (such_that is_wait (number_at w16)) (number_text w16) (λ n. (n < 2 ^ 16) × (is_wait n ≡ true)) (such_that_pass is_wait (number_at w16) (number_text w16) (λ n. n < 2 ^ 16) (number_pass w16 (2 ^ 16) wide16)) (λ n. Ok (Some n.0, n.1)) at (wait, new) bytes e in
-    let fits : IsWait n.0 = (leb-true 1 n.0 (both (leb 1 n.0) (leb n.0 10000) n.3.1).0, leb-true n.0 10000 (both (leb 1 n.0) (leb n.0 10000) n.3.1).1) in
+    let fits : IsWait n.0 = (leb-true 1 n.0 (and_parts (leb 1 n.0) (leb n.0 10000) n.3.1).0, leb-true n.0 10000 (and_parts (leb 1 n.0) (leb n.0 10000) n.3.1).1) in
     subst (λ (x : Option ℕ × Cursor). Passes at (wait_text x.0) x.1 × (IfSome x.0 IsWait × (is_some x.0 ≡ true))) (ok_is (Some n.0, n.1) (wait, new) n.5) (n.2, (fits, refl))
 
 -- ---- the terms

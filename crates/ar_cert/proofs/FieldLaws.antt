@@ -5,14 +5,11 @@ use Rattle.ar_bytes.specs.Reading.{Cursor, bytes_at}
 use Rattle.ar_bytes.specs.RoundTrip.{Passes, ReadsBack, IsSpelledBy}
 use Rattle.ar_bytes.proofs.Steps.{bind_ok}
 use Rattle.ar_bytes.proofs.Passing.{bytes_again, bytes_pass, AreBytes-front}
+use Rattle.ar_statement.proofs.Statements.{some_ok}
 use Rattle.lms_tree.specs.declared.public_key.LmsPublic.{LmsPublic}
 use Rattle.lms_tree.specs.PublicKey.{HasWidths, key_text, key_of_text}
 use Rattle.lms_tree.proofs.KeyLemmas.{key_of_text-key_text, key_text-key_of_text, length-key_text}
 use Rattle.ar_cert.specs.Certificate.{key_at}
-
-some_ok : {A B : Type 0} (f : A → B) (o : Option A) (place : ℕ) (y : B) → ok_or (option_map f o) place ≡ Ok y → (x : A) × (o ≡ Some x) × (f x ≡ y)
-some_ok f None place y e = absurd cc
-some_ok f (Some x) place y e = (x, refl, cc)
 
 pub key_again : (key : LmsPublic) → HasWidths key → ReadsBack key_at key (key_text key)
 unfolding key_at

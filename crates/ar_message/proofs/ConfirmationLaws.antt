@@ -1,7 +1,7 @@
 -- A confirmation: what was put is read again, and what is read is spelled so.
 use Rattle.std.proofs.Common.{◌≡◌, ℕ, zero, suc, ◌+◌, ◌*◌, ◌/◌, ◌^◌, ◌<◌, ◌≤◌, Bool, true, false, ◌&&◌, eqb, leb, ltb, cond, List, ◌++◌, length, take, drop, Ok, refl, sym, ap, subst, arith, length-append}
 use Rattle.std.specs.Int.{w8, w16, w64}
-use Rattle.std.proofs.lemmas.Bool.{le-leb, leb-true, le-ltb, ltb-false}
+use Rattle.std.proofs.lemmas.Bool.{and_parts, le-leb, leb-true, le-ltb, ltb-false}
 use Rattle.std.proofs.lemmas.List.{take_at, drop_at, take-append-drop, length-take}
 use Rattle.ar_base.specs.Bytes.{AreBytes, IsDigest}
 use Rattle.ar_base.specs.Ranges.{is_from_to}
@@ -31,15 +31,11 @@ form_again true at new p =
 form_again false at new p =
     rw (such_that_again (is_from_to 1 2) (number_at w8) 2 (number_text w8 2) (number_again w8 (2 ^ 8) wide8 2 (omega arith)) refl at new p) refl
 
-both : (x y : Bool) → (x && y) ≡ true → (x ≡ true) × (y ≡ true)
-both true y e = (refl, e)
-both false y e = absurd cc
-
 form_number : (n : ℕ) → (leb 1 n && leb n 2) ≡ true → number_text w8 n ≡ number_text w8 (cond (eqb n 1) 1 2)
 form_number zero e = absurd cc
 form_number (suc zero) e = refl
 form_number (suc (suc zero)) e = refl
-form_number (suc (suc (suc n))) e = absurd (omega (arith, leb-true (suc (suc (suc n))) 2 (both (leb 1 (suc (suc (suc n)))) (leb (suc (suc (suc n))) 2) e).1))
+form_number (suc (suc (suc n))) e = absurd (omega (arith, leb-true (suc (suc (suc n))) 2 (and_parts (leb 1 (suc (suc (suc n)))) (leb (suc (suc (suc n))) 2) e).1))
 
 pub form_pass : IsSpelledBy form_at form_text (λ _. Unit {0})
 unfolding form_at

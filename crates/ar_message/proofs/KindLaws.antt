@@ -22,6 +22,7 @@ use Rattle.ar_cert.specs.Certificate.{IsCertificate, certificate_text, counted_c
 use Rattle.ar_cert.specs.Changes.{IsChange, IsSignature, change_at, change_text}
 use Rattle.ar_cert.proofs.CertificateLaws.{counted_certificate_again, counted_certificate_pass}
 use Rattle.ar_cert.proofs.ChangeLaws.{change_again, change_pass}
+use Rattle.ar_statement.proofs.FieldsByKind.{roots_again, roots_pass}
 use Rattle.ar_cert.proofs.FieldLaws.{key_again, key_pass}
 use Rattle.ar_message.specs.Confirmation.{IsConfirmation, confirmation_fields_at, confirmation_fields_text}
 use Rattle.ar_message.specs.Lists.{changes_at, changes_text, AreChanges, votes_at, votes_text, AreVotes, statuses_at, statuses_text, AreStatuses}
@@ -31,7 +32,7 @@ use Rattle.ar_message.specs.declared.message.Message.TheVariants.{EndorseAsk, En
 use Rattle.ar_message.specs.Messages.{IsMessage, IsConfirming, IsWitness, ballot_at, confirm_ask_at, confirmation_in, confirming_at, confirming_text, decision_at, endorse_ask_at, endorsed_at, fields_at, fields_text, half_confirmed_at, kind_of, log_confirmed_at, propose_at, roll_note_at, skip_note_at, status_note_at, submit_at, whole_confirmation_at, with_confirmation, witness_at}
 use Rattle.ar_message.proofs.ConfirmationLaws.{confirmation_fields_again, confirmation_fields_pass}
 use Rattle.ar_message.proofs.ConfirmingLaws.{confirming_again, confirming_pass, whole-with}
-use Rattle.ar_message.proofs.ListLaws.{changes_again, changes_pass, votes_again, votes_pass, statuses_again, statuses_pass, roots_again, roots_pass, value_again, value_pass}
+use Rattle.ar_message.proofs.ListLaws.{changes_again, changes_pass, votes_again, votes_pass, statuses_again, statuses_pass, value_again, value_pass}
 
 -- ---- one field behind the other
 

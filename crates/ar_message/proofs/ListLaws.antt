@@ -1,5 +1,5 @@
 -- The lists of messages: what was put is read again, and what is read is spelled so.
-use Rattle.std.proofs.Common.{◌≡◌, ℕ, zero, suc, ◌+◌, ◌^◌, ◌<◌, ◌≤◌, List, [], ◌∷◌, ◌++◌, length, Option, None, Some, Ok, refl, sym, ap, subst, arith}
+use Rattle.std.proofs.Common.{◌≡◌, ℕ, zero, suc, ◌+◌, ◌^◌, ◌<◌, ◌≤◌, List, [], ◌∷◌, ◌++◌, length, Option, Ok, refl, sym, ap, subst, arith}
 use Rattle.std.specs.Prelude.{IfSome}
 use Rattle.std.specs.List.{flat_map, AllByRecursion}
 use Rattle.std.specs.Int.{w8, w16}
@@ -13,13 +13,11 @@ use Rattle.ar_bytes.proofs.Steps.{bind_ok, ok_is, between, Passes-then, Passes-f
 use Rattle.ar_bytes.proofs.Passing.{counted_again, counted_pass}
 use Rattle.ar_bytes.proofs.TestedFields.{count_again, count_pass}
 use Rattle.ar_bytes.proofs.Ascending.{same-cursor, ascending_again, ascending_pass, number_from_again, number_from_pass}
-use Rattle.ar_bytes.proofs.JoinedFields.{pair_again, pair_pass, optional_again, optional_pass}
+use Rattle.ar_bytes.proofs.JoinedFields.{optional_again, optional_pass}
 use Rattle.ar_statement.specs.Claims.{Roots, roots_text}
-use Rattle.ar_statement.specs.Fields.{digest_at}
 use Rattle.ar_statement.specs.Ranges.{AreRoots}
 use Rattle.ar_statement.specs.Texts.{roots_at}
-use Rattle.ar_statement.proofs.FieldLaws.{digest_again, digest_pass}
-use Rattle.ar_base.specs.Bytes.{IsDigest}
+use Rattle.ar_statement.proofs.FieldsByKind.{roots_again, roots_pass, values_again}
 use Rattle.ar_cert.specs.Changes.{Change, IsChange, IsSignature, change_at, change_text}
 use Rattle.ar_cert.proofs.CertificateLaws.{split, next}
 use Rattle.ar_cert.proofs.ChangeLaws.{change_again, change_pass}
@@ -105,18 +103,8 @@ votes_pass = counted_list_pass 16 (λ count at. votes_from count 0 at) vote_text
 
 -- ---- statuses
 
-pub roots_again : (roots : Roots) → AreRoots roots → ReadsBack roots_at roots (roots_text roots)
-roots_again roots h = pair_again digest_at digest_at roots.0 roots.1 roots.0 roots.1 (digest_again roots.0 h.0) (digest_again roots.1 h.1)
-
-pub roots_pass : IsSpelledBy roots_at roots_text AreRoots
-roots_pass = pair_pass digest_at digest_at (λ d. d) (λ d. d) IsDigest IsDigest digest_pass digest_pass
-
-each_again : (value : Option Roots) → IfSome value AreRoots → IfSome value (λ roots. ReadsBack roots_at roots (roots_text roots))
-each_again None h = tt
-each_again (Some roots) h = roots_again roots h
-
 pub value_again : (value : Option Roots) → IfSome value AreRoots → ReadsBack (optional_at roots_at) value (optional_text roots_text value)
-value_again value h = optional_again roots_at roots_text value (each_again value h)
+value_again value h = optional_again roots_at roots_text value (values_again value h)
 
 pub value_pass : IsSpelledBy (optional_at roots_at) (optional_text roots_text) (λ value. IfSome value AreRoots)
 value_pass = optional_pass roots_at roots_text AreRoots roots_pass

@@ -1,9 +1,10 @@
 -- Lists of entries, one entry after another.
-use Rattle.std.proofs.Common.{◌≡◌, ℕ, ◌+◌, ◌-◌, ◌<◌, ◌≤◌, List, [], ◌∷◌, ◌++◌, Ok, Err, refl, sym, ap, ◌∙◌, append_assoc, add-one, arith}
+use Rattle.std.proofs.Common.{◌≡◌, ℕ, ◌+◌, ◌-◌, ◌<◌, ◌≤◌, List, [], ◌∷◌, ◌++◌, Ok, Err, refl, sym, ap, ◌∙◌, add-one, arith}
 use Rattle.std.proofs.lemmas.List.{append-nil}
 use Rattle.ar_base.specs.Chaining.{◌>>=◌}
 use Rattle.ar_bytes.specs.Reading.{Cursor, Reading}
 use Rattle.ar_bytes.specs.Ascending.{with_front}
+use Rattle.ar_bytes.proofs.Ascending.{with_front-front}
 use Rattle.ar_message.specs.Lists.{list_at}
 
 pub list-none : {A : Type 0} (entry : Cursor → Reading A) (count : ℕ) (at : Cursor) → count ≡ 0 → list_at entry count at ≡ Ok ([], at)
@@ -13,10 +14,6 @@ list-none entry count at e = rw e refl
 pub list-more : {A : Type 0} (entry : Cursor → Reading A) (count more : ℕ) (at : Cursor) → count ≡ more + 1 → list_at entry count at ≡ (entry at >>= λ first. with_front (first.0 ∷ []) (list_at entry more first.1))
 unfolding list_at
 list-more entry count more at e = rw (e, add-one) refl
-
-with_front-front : {A : Type 0} (front more : List A) (read : Reading (List A)) → with_front front (with_front more read) ≡ with_front (front ++ more) read
-with_front-front front more (Ok x) = ap (λ l. Ok (l, x.1)) (sym (append_assoc front more x.0))
-with_front-front front more (Err place) = refl
 
 -- the loop's next entry
 pub list_goes_on : {A : Type 0} (entry : Cursor → Reading A) (front : List A) (count i : ℕ) (at new : Cursor) (x : A) (all : Reading (List A)) → i < count → entry at ≡ Ok (x, new) → with_front front (list_at entry (count - i) at) ≡ all → with_front (front ++ x ∷ []) (list_at entry (count - (i + 1)) new) ≡ all

@@ -19,10 +19,10 @@ use Rattle.ar_statement.proofs.FieldLaws.{digest_again, digest_pass, name_again,
 
 -- ---- the fields that kinds share
 
-roots_again : (roots : Roots) → AreRoots roots → ReadsBack roots_at roots (roots_text roots)
+pub roots_again : (roots : Roots) → AreRoots roots → ReadsBack roots_at roots (roots_text roots)
 roots_again roots h = pair_again digest_at digest_at roots.0 roots.1 roots.0 roots.1 (digest_again roots.0 h.0) (digest_again roots.1 h.1)
 
-roots_pass : IsSpelledBy roots_at roots_text AreRoots
+pub roots_pass : IsSpelledBy roots_at roots_text AreRoots
 roots_pass = pair_pass digest_at digest_at (λ d. d) (λ d. d) IsDigest IsDigest digest_pass digest_pass
 
 epoch_again : (epoch : ℕ) → epoch < 2 ^ 64 → ReadsBack (number_at w64) epoch (number_text w64 epoch)
@@ -53,7 +53,7 @@ key_pass at new key bytes e =
     let p = bytes_pass 56 at new key e in
     (p.0, record { len = p.1; bytes = AreBytes-front at new key p.0 bytes })
 
-values_again : (value : Option Roots) → IfSome value AreRoots → IfSome value (λ roots. ReadsBack roots_at roots (roots_text roots))
+pub values_again : (value : Option Roots) → IfSome value AreRoots → IfSome value (λ roots. ReadsBack roots_at roots (roots_text roots))
 values_again None h = tt
 values_again (Some roots) h = roots_again roots h
 

@@ -48,7 +48,7 @@ role_is n role e =
       ]
     ]
 
-some_ok : {A B : Type 0} (f : A → B) (o : Option A) (place : ℕ) (y : B) → ok_or (option_map f o) place ≡ Ok y → (x : A) × (o ≡ Some x) × (f x ≡ y)
+pub some_ok : {A B : Type 0} (f : A → B) (o : Option A) (place : ℕ) (y : B) → ok_or (option_map f o) place ≡ Ok y → (x : A) × (o ≡ Some x) × (f x ≡ y)
 some_ok f None place y e = absurd cc
 some_ok f (Some x) place y e = (x, refl, cc)
 
