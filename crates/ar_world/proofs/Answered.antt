@@ -19,19 +19,20 @@ use Rattle.report_text.specs.declared.happening.Happening.TheVariants.{Step}
 use Rattle.report_text.specs.declared.happening.What.{What}
 use Rattle.report_text.specs.declared.happening.What.TheVariants.{Handover, Object, Submit}
 use Rattle.sign_book.specs.declared.fault.BookFault.{BookFault}
-use Rattle.ar_world.specs.Acting.{ActsBy, acted, owner_does}
-use Rattle.ar_world.specs.Codes.{owner_code}
-use Rattle.ar_world.specs.Finding.{Effect, is_owner, named, owner_at, room}
-use Rattle.ar_world.specs.Owning.{owner_party}
-use Rattle.ar_world.specs.Pool.{Pooled}
+use Rattle.ar_nodes.specs.Acting.{ActsBy, acted, owner_does}
+use Rattle.ar_nodes.specs.Codes.{owner_code}
+use Rattle.ar_world.specs.Finding.{Effect, owner_at, room}
+use Rattle.ar_nodes.specs.Finding.{is_owner, named}
+use Rattle.ar_nodes.specs.Owners.{owner_party}
+use Rattle.ar_nodes.specs.Pool.{Pooled}
 use Rattle.ar_world.specs.State.{Drafted, Moved, World}
 use Rattle.ar_world.specs.Step.{StepsBy}
 use Rattle.ar_world.specs.Submitting.{attached, attached_by, handed, handover_line, object_line, owner_answers, submit_line, submitted}
-use Rattle.ar_world.specs.declared.fault.WorldFault.{WorldFault}
-use Rattle.ar_world.specs.declared.fault.WorldFault.TheVariants as faults
+use Rattle.ar_nodes.specs.declared.fault.WorldFault.{WorldFault}
+use Rattle.ar_nodes.specs.declared.fault.WorldFault.TheVariants as faults
 use Rattle.ar_world.proofs.Drafts.{draft_is_at, owner_is_at, owner_number, owner_put, same_item, steps_as}
 use Rattle.ar_world.proofs.Effects.{if-chained}
-use Rattle.ar_world.proofs.Found.{item_kept, owner_nowhere}
+use Rattle.ar_nodes.proofs.Found.{item_kept, owner_nowhere}
 use Rattle.ar_world.proofs.Orders.{acts-steps}
 use Rattle.ar_world.proofs.OwnerReplies.{owner-answers, owner-steps}
 

@@ -29,19 +29,22 @@ use Rattle.party_keys.specs.Signatures.{verified}
 use Rattle.report_text.specs.declared.happening.Happening.{Happening}
 use Rattle.report_text.specs.declared.happening.What.{What}
 use Rattle.report_text.specs.declared.happening.What.TheVariants as whats
-use Rattle.ar_world.specs.Acting.{ActsBy, ActsBySome, ChangesAt, acted, authority_delivered, authority_does, authority_took, bytes_of, delivered_by, log_delivered, log_does, noted_in, owner_delivered, owner_does, with_delivered}
-use Rattle.ar_world.specs.Authorities.{authority_answers, authority_reply, authority_takes, node_behind}
-use Rattle.ar_world.specs.Delivering.{Taker, a_log, an_authority, an_owner, can_deliver, deliver_line, deliverable, delivered_to, delivery, noted, taker_at, taker_in}
-use Rattle.ar_world.specs.Finding.{authority_at, has_room, honest_in, is_owner, log_at, message_at, named, need, owner_at, room}
+use Rattle.ar_nodes.specs.Acting.{ActsBy, ActsBySome, ChangesAt, acted, authority_delivered, authority_does, authority_took, bytes_of, delivered_by, log_delivered, log_does, noted_in, owner_delivered, owner_does, with_delivered}
+use Rattle.ar_world.specs.Authorities.{authority_answers, authority_takes}
+use Rattle.ar_nodes.specs.Authorities.{authority_reply, node_behind}
+use Rattle.ar_world.specs.Delivering.{Taker, a_log, an_authority, an_owner, can_deliver, deliver_line, deliverable, delivery, noted, taker_at, taker_in}
+use Rattle.ar_nodes.specs.Pool.{delivered_to}
+use Rattle.ar_world.specs.Finding.{authority_at, has_room, log_at, message_at, owner_at, room}
+use Rattle.ar_nodes.specs.Finding.{honest_in, is_owner, named, need}
 use Rattle.ar_world.specs.Logs.{log_steps}
-use Rattle.ar_world.specs.Owning.{owner_party}
-use Rattle.ar_world.specs.Parties.{AuthorityNode, LogNode}
-use Rattle.ar_world.specs.Pool.{Pooled, numbered, set_numbered}
+use Rattle.ar_nodes.specs.Owners.{owner_party}
+use Rattle.ar_nodes.specs.Parties.{AuthorityNode, LogNode}
+use Rattle.ar_nodes.specs.Pool.{Pooled, numbered, set_numbered}
 use Rattle.ar_world.specs.State.{World, with_authority, with_log}
 use Rattle.ar_world.specs.Step.{StepsBySome}
-use Rattle.ar_world.specs.declared.event.LogEvent.TheVariants as events
-use Rattle.ar_world.specs.declared.fault.WorldFault.{WorldFault}
-use Rattle.ar_world.specs.declared.fault.WorldFault.TheVariants.{Absent, Limit}
+use Rattle.ar_nodes.specs.declared.event.LogEvent.TheVariants as events
+use Rattle.ar_nodes.specs.declared.fault.WorldFault.{WorldFault}
+use Rattle.ar_nodes.specs.declared.fault.WorldFault.TheVariants.{Absent, Limit}
 use Rattle.ar_world.proofs.Drafts.{owner_is_at}
 use Rattle.ar_world.proofs.Effects.{if-chained}
 use Rattle.ar_world.proofs.Orders.{authority-steps, authority_made, log-answers, log-steps, log_made, room-free}

@@ -15,18 +15,20 @@ use Rattle.report_text.specs.declared.happening.Happening.{Happening}
 use Rattle.report_text.specs.declared.happening.Happening.TheVariants.{Draft}
 use Rattle.script_text.specs.declared.line.PolicyWords.{PolicyWords}
 use Rattle.ar_world.specs.Drafting.{ascend, asked, draft_room, drafted, first_certificate, may_wait, next_certificate, register_line, revoke_line, terms_of, update_line}
-use Rattle.ar_world.specs.Finding.{Effect, draft_at, is_authority, is_owner, is_there, known_asks, named, need, owner_at, room, with_owner}
-use Rattle.ar_world.specs.FirstKeys.{FirstKeys}
+use Rattle.ar_world.specs.Finding.{Effect, draft_at, is_authority, is_there, known_asks, owner_at, room, with_owner}
+use Rattle.ar_nodes.specs.Finding.{is_owner, named, need}
+use Rattle.ar_founding.specs.FirstKeys.{FirstKeys}
 use Rattle.ar_world.specs.Kept.{IsKeptWorld}
-use Rattle.ar_world.specs.Parties.{LogNode}
-use Rattle.ar_world.specs.Pool.{Pooled, entries_from, numbered}
-use Rattle.ar_world.specs.State.{Drafted, Setup, World}
+use Rattle.ar_nodes.specs.Parties.{LogNode}
+use Rattle.ar_nodes.specs.Pool.{Pooled, entries_from, numbered}
+use Rattle.ar_world.specs.State.{Drafted, World}
+use Rattle.ar_founding.specs.FirstKeys.{Setup}
 use Rattle.ar_world.specs.Step.{StepsBy}
-use Rattle.ar_world.specs.declared.fault.WorldFault.{WorldFault}
-use Rattle.ar_world.specs.declared.fault.WorldFault.TheVariants.{Absent, Limit, Memory}
+use Rattle.ar_nodes.specs.declared.fault.WorldFault.{WorldFault}
+use Rattle.ar_nodes.specs.declared.fault.WorldFault.TheVariants.{Absent, Limit, Memory}
 use Rattle.ar_world.specs.declared.phase.Phase.{Phase}
-use Rattle.ar_world.specs.declared.world.Directories.{Directories}
-use Rattle.ar_world.proofs.Found.{item_kept, owner_there}
+use Rattle.ar_founding.specs.declared.directories.Directories.{Directories}
+use Rattle.ar_nodes.proofs.Found.{item_kept, owner_there}
 
 -- ---- an owner at its place
 

@@ -6,7 +6,7 @@ use Rattle.ar_statement.specs.declared.party.Party.{Party}
 use Rattle.party_keys.specs.Seen.{log_party}
 use Rattle.report_text.specs.declared.happening.Target.TheVariants.{Logs}
 use Rattle.ar_world.specs.Delivering.{addressed, due_from, due_or, due_to, is_due, is_sender}
-use Rattle.ar_world.specs.Pool.{Pooled}
+use Rattle.ar_nodes.specs.Pool.{Pooled}
 use Rattle.ar_world.specs.State.{World}
 
 -- ---- messages

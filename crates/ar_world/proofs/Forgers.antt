@@ -1,5 +1,5 @@
 -- Dishonest parties, and the leaves by which they sign.
-use Rattle.std.proofs.Common.{◌≡◌, ℕ, zero, suc, ◌+◌, ◌<◌, ◌≤◌, ◌^◌, ◌⊎◌, inl, inr, Bool, true, false, ◌&&◌, eqb, cond, List, [], ◌∷◌, ◌++◌, length, get_or, Option, Some, None, Result, Ok, Err, IfErr, refl, sym, ap, subst, ◌∙◌, arith}
+use Rattle.std.proofs.Common.{◌≡◌, ℕ, zero, suc, ◌+◌, ◌<◌, ◌≤◌, ◌⊎◌, inl, inr, Bool, true, false, ◌&&◌, eqb, cond, List, [], ◌∷◌, ◌++◌, length, get_or, Option, Some, None, Result, Ok, Err, IfErr, refl, sym, ap, subst, ◌∙◌, arith}
 use Rattle.std.specs.Prelude.{IfOk, find, nat_lt, position, slice_get, slice_set}
 use Rattle.std.specs.List.{position_or_len}
 use Rattle.std.proofs.lemmas.Bool.{and_parts, eqb-true, ltb-false, ltb-true}
@@ -9,30 +9,22 @@ use Rattle.std.proofs.lemmas.Option.{slice_get_cases, slice_get_read}
 use Rattle.ar_base.specs.Chaining.{◌>>=◌}
 use Rattle.ar_statement.specs.Claims.{role_number}
 use Rattle.ar_statement.specs.declared.party.Party.{Party}
-use Rattle.lms_tree.proofs.NodeLemmas.{pow-height_of-le}
-use Rattle.lms_tree.specs.KeyParts.{KeyParts}
 use Rattle.report_text.specs.declared.happening.Happening.{Happening}
 use Rattle.report_text.specs.declared.happening.Happening.TheVariants.{SignRefused}
 use Rattle.report_text.specs.declared.happening.Target.{Target}
 use Rattle.report_text.specs.declared.happening.Target.TheVariants.{Nobody}
-use Rattle.ar_world.specs.Finding.{Effect, is_forger, named, room}
-use Rattle.ar_world.specs.Forging.{composed, composed_in, forged, inject_line, receiver_in, sign_line, signing}
-use Rattle.ar_world.specs.Founding.{leaves_of}
-use Rattle.ar_world.specs.Parties.{Forger}
-use Rattle.ar_world.specs.Pool.{Pooled, entries_from, raw}
+use Rattle.ar_nodes.specs.Composing.{composed}
+use Rattle.ar_nodes.specs.Finding.{is_forger, named}
+use Rattle.ar_nodes.specs.Forging.{forged}
+use Rattle.ar_nodes.specs.Parties.{leaves_of, Forger}
+use Rattle.ar_nodes.specs.Pool.{Pooled, entries_from, raw}
+use Rattle.ar_nodes.specs.declared.fault.WorldFault.{WorldFault}
+use Rattle.ar_nodes.specs.declared.fault.WorldFault.TheVariants.{Absent, Memory}
+use Rattle.ar_nodes.proofs.Found.{item_kept}
+use Rattle.ar_world.specs.Finding.{Effect, room}
+use Rattle.ar_world.specs.Forging.{composed_in, inject_line, receiver_in, sign_line, signing}
 use Rattle.ar_world.specs.State.{World, with_messages}
 use Rattle.ar_world.specs.Step.{StepsBy}
-use Rattle.ar_world.specs.declared.fault.WorldFault.{WorldFault}
-use Rattle.ar_world.specs.declared.fault.WorldFault.TheVariants.{Absent, Memory}
-use Rattle.ar_world.proofs.Found.{item_kept}
-
--- ---- leaves
-
--- the number of each leaf is below that of leaves, which u32 has
-pub leaves-fit : (key : KeyParts) (next : ℕ) → next < leaves_of key → next + 1 < 2 ^ 32
-leaves-fit key next less = omega (arith, pow-height_of-le key.lms)
-
-pub ruleset leaf_laws = (leaves-fit)
 
 -- ---- where dishonest parties are found
 

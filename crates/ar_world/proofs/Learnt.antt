@@ -6,8 +6,9 @@ use Rattle.party_keys.specs.Directory.{Directory}
 use Rattle.report_text.specs.declared.happening.Happening.{Happening}
 use Rattle.report_text.specs.declared.happening.Happening.TheVariants.{Learnt}
 use Rattle.ar_world.specs.Finding.{message_at}
-use Rattle.ar_world.specs.Learning.{knows_by, learn_line, note_of, refused_by, rolls_by}
-use Rattle.ar_world.specs.Pool.{Pooled}
+use Rattle.ar_world.specs.Learning.{knows_by, learn_line, refused_by, rolls_by}
+use Rattle.client_rule.specs.Notes.{note_of}
+use Rattle.ar_nodes.specs.Pool.{Pooled}
 use Rattle.ar_world.specs.State.{World}
 
 -- the clients' directory takes what the message announces, and that of the first keys stays

@@ -5,16 +5,13 @@ pub mod Due
 pub mod Effects
 pub mod FirstParties
 pub mod Forgers
-pub mod Found
 pub mod Learnt
 pub mod Lines
 pub mod Newest
-pub mod Nodes
 pub mod Ordered
 pub mod Orders
 pub mod OwnerReplies
 pub mod Phases
-pub mod Pieces
 pub mod Pools
 pub mod Refused
 pub mod Remembered
@@ -22,6 +19,5 @@ pub mod Retold
 pub mod Runs
 pub mod Seats
 pub mod Small
-pub mod Spots
 pub mod Stepping
 pub mod Terms

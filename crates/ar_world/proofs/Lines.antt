@@ -25,27 +25,39 @@ use Rattle.report_text.specs.declared.happening.Happening.TheVariants.{Dishonest
 use Rattle.report_text.specs.declared.happening.What.{What}
 use Rattle.script_text.specs.declared.line.PolicyWords.{PolicyWords}
 use Rattle.ar_world.specs.Asking.{ask_line, question}
-use Rattle.ar_world.specs.Authorities.{authority_answers, authority_reply, authority_rolled, authority_rolls, authority_takes, node_behind}
-use Rattle.ar_world.specs.Delivering.{Taker, a_log, an_authority, an_owner, can_deliver, deliver_line, delivered_to, delivery, noted, taker_at}
+use Rattle.ar_world.specs.Authorities.{authority_answers, authority_rolled, authority_rolls, authority_takes}
+use Rattle.ar_nodes.specs.Authorities.{authority_reply, node_behind}
+use Rattle.ar_world.specs.Delivering.{Taker, a_log, an_authority, an_owner, can_deliver, deliver_line, delivery, noted, taker_at}
+use Rattle.ar_nodes.specs.Pool.{delivered_to}
 use Rattle.ar_world.specs.Drafting.{begun, draft_if, draft_room, drafted, first_certificate, next_certificate, policy_of, register_line, revoke_line, update_line}
-use Rattle.ar_world.specs.Finding.{authority_at, checking_at, draft_at, existing, forger_at, known_asks, log_at, message_at, named, need, owner_at, room, with_owner}
-use Rattle.ar_world.specs.Forging.{composed_in, forged, inject_line, receiver_in, sign_line, signing_if}
-use Rattle.ar_world.specs.Founding.{authorities_line, dishonest_line, genesis_of, honest_key, key_made, keys_line, keys_made, leaves_of, logs_line, without}
+use Rattle.ar_world.specs.Finding.{authority_at, checking_at, draft_at, existing, forger_at, known_asks, log_at, message_at, owner_at, room, with_owner}
+use Rattle.ar_nodes.specs.Finding.{named, need}
+use Rattle.ar_world.specs.Forging.{composed_in, inject_line, receiver_in, sign_line, signing_if}
+use Rattle.ar_nodes.specs.Forging.{forged}
+use Rattle.ar_world.specs.Founding.{authorities_line, dishonest_line, honest_key, keys_line, logs_line, without}
+use Rattle.ar_founding.specs.Founding.{genesis_of}
+use Rattle.ar_founding.specs.FirstKeys.{key_made, keys_made}
+use Rattle.ar_nodes.specs.Parties.{leaves_of}
 use Rattle.ar_world.specs.Judging.{judge_line, judged_number, said_of}
-use Rattle.ar_world.specs.Learning.{learn_line, note_of, refused_by}
-use Rattle.ar_world.specs.Logs.{log_answers, log_rolls, log_steps, next_of}
+use Rattle.ar_world.specs.Learning.{learn_line, refused_by}
+use Rattle.client_rule.specs.Notes.{note_of}
+use Rattle.ar_world.specs.Logs.{log_answers, log_rolls, log_steps}
+use Rattle.ar_nodes.specs.Parties.{next_of}
 use Rattle.ar_world.specs.Ordering.{log_order, roll_line, roll_of}
-use Rattle.ar_world.specs.Owning.{check_line, owner_key, owner_line, owner_party, retire_line}
+use Rattle.ar_world.specs.Owning.{check_line, owner_key, owner_line, retire_line}
+use Rattle.ar_nodes.specs.Owners.{owner_party}
 use Rattle.owner_check.specs.Answers.{Told}
-use Rattle.ar_world.specs.Parties.{AuthorityNode, Forger, LogNode}
-use Rattle.ar_world.specs.Pool.{Pooled, numbered, pooled_from, raw, set_numbered}
+use Rattle.ar_nodes.specs.Parties.{AuthorityNode, Forger, LogNode}
+use Rattle.ar_nodes.specs.Pool.{Pooled, numbered, pooled_from, raw, set_numbered}
 use Rattle.ar_world.specs.Printed.{Tells, TellsPool, as_it_came, entries_in}
-use Rattle.ar_world.specs.Sending.{does, ending_of, posted}
-use Rattle.ar_world.specs.State.{Drafted, Setup, World, key_for, with_authority, with_log}
+use Rattle.ar_world.specs.Sending.{does, posted}
+use Rattle.ar_nodes.specs.Sending.{ending_of}
+use Rattle.ar_world.specs.State.{Drafted, World, with_authority, with_log}
+use Rattle.ar_founding.specs.FirstKeys.{Setup, key_for}
 use Rattle.ar_world.specs.Submitting.{attached, attached_by, handed, handover_line, object_line, owner_answers, submit_line, submitted}
-use Rattle.ar_world.specs.declared.event.LogEvent.{LogEvent}
-use Rattle.ar_world.specs.declared.fault.WorldFault.{WorldFault}
-use Rattle.ar_world.specs.declared.fault.WorldFault.TheVariants.{Absent}
+use Rattle.ar_nodes.specs.declared.event.LogEvent.{LogEvent}
+use Rattle.ar_nodes.specs.declared.fault.WorldFault.{WorldFault}
+use Rattle.ar_nodes.specs.declared.fault.WorldFault.TheVariants.{Absent}
 use Rattle.client_rule.specs.Rule.{judgement}
 use Rattle.ar_cert.specs.Certificate.{Certificate, digest_of}
 use Rattle.ar_message.specs.Filling.{filled}
@@ -54,8 +66,8 @@ use Rattle.party_keys.specs.Seen.{authority_party, log_party}
 use Rattle.report_text.specs.declared.happening.Target.TheVariants.{Nobody}
 use Rattle.report_text.specs.declared.happening.What.TheVariants as whats
 use Rattle.report_text.specs.declared.happening.What.TheVariants.{Handover, Object, Submit, Take}
-use Rattle.ar_world.specs.Codes.{authority_code, log_code, owner_code}
-use Rattle.ar_world.specs.declared.event.LogEvent.TheVariants as events
+use Rattle.ar_nodes.specs.Codes.{authority_code, log_code, owner_code}
+use Rattle.ar_nodes.specs.declared.event.LogEvent.TheVariants as events
 use Rattle.ar_world.proofs.Effects.{if-chained}
 use Rattle.ar_world.proofs.Pools.{set-alike, tells-both, tells-from, tells-messages, tells-none}
 

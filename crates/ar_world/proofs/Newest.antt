@@ -2,7 +2,7 @@
 use Rattle.std.proofs.Common.{◌≡◌, ◌<◌, ◌≤◌, ◌+◌, ℕ, zero, suc, Bool, true, false, List, [], ◌∷◌, length, get_or, drop, Option, Some, None, refl, ap, subst, ◌∙◌, arith, if◌then◌else◌, drop-cons}
 use Rattle.std.proofs.lemmas.List.{drop_all}
 use Rattle.ar_world.specs.Judging.{is_to_client, later_or, newest_from}
-use Rattle.ar_world.specs.Pool.{Pooled}
+use Rattle.ar_nodes.specs.Pool.{Pooled}
 
 -- a later one stands
 later : (r : Option ℕ) (holds : Bool) (number m : ℕ) → r ≡ Some m → later_or r holds number ≡ Some m

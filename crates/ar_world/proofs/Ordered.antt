@@ -4,11 +4,12 @@ use Rattle.std.specs.Prelude.{Ok, Err}
 use Rattle.ar_base.specs.Chaining.{◌>>=◌}
 use Rattle.owner_check.specs.declared.answer.Outcome.{Outcome}
 use Rattle.script_text.specs.declared.line.Line.{Line}
-use Rattle.ar_world.specs.Finding.{Effect, need}
+use Rattle.ar_world.specs.Finding.{Effect}
+use Rattle.ar_nodes.specs.Finding.{need}
 use Rattle.ar_world.specs.Founding.{in_order, may_come, place_of}
 use Rattle.ar_world.specs.State.{World}
 use Rattle.ar_world.specs.Step.{effect, leads_to, step, stepped}
-use Rattle.ar_world.specs.declared.fault.WorldFault.TheVariants.{Order}
+use Rattle.ar_nodes.specs.declared.fault.WorldFault.TheVariants.{Order}
 use Rattle.ar_world.specs.declared.phase.Phase.{Phase}
 use Rattle.ar_world.specs.declared.phase.Phase.TheVariants as phase
 use Rattle.ar_world.proofs.Effects.{if-chained}

@@ -14,21 +14,23 @@ use Rattle.party_keys.specs.Seen.{authority_party, log_party}
 use Rattle.report_text.specs.declared.happening.Happening.{Happening}
 use Rattle.report_text.specs.declared.happening.What.{What}
 use Rattle.report_text.specs.declared.happening.What.TheVariants as whats
-use Rattle.ar_world.specs.Acting.{ActsBy, ChangesThere, acted, authority_turned, log_does}
+use Rattle.ar_nodes.specs.Acting.{ActsBy, ChangesThere, acted, authority_turned, log_does}
 use Rattle.ar_world.specs.Authorities.{authority_rolled, authority_rolls}
-use Rattle.ar_world.specs.Finding.{Effect, authority_at, has_room, honest_in, log_at, named, need, room}
-use Rattle.ar_world.specs.Logs.{log_answers, log_rolls, log_steps, next_of}
+use Rattle.ar_world.specs.Finding.{Effect, authority_at, has_room, log_at, room}
+use Rattle.ar_nodes.specs.Finding.{honest_in, named, need}
+use Rattle.ar_world.specs.Logs.{log_answers, log_rolls, log_steps}
+use Rattle.ar_nodes.specs.Parties.{next_of}
 use Rattle.ar_world.specs.Ordering.{log_order, roll_of}
-use Rattle.ar_world.specs.Parties.{AuthorityNode, LogNode}
-use Rattle.ar_world.specs.Pool.{Pooled}
+use Rattle.ar_nodes.specs.Parties.{AuthorityNode, LogNode}
+use Rattle.ar_nodes.specs.Pool.{Pooled}
 use Rattle.ar_world.specs.State.{Moved, World, with_authority, with_log}
 use Rattle.ar_world.specs.Step.{StepsBy}
-use Rattle.ar_world.specs.declared.event.LogEvent.{LogEvent}
-use Rattle.ar_world.specs.declared.event.LogEvent.TheVariants as events
-use Rattle.ar_world.specs.declared.fault.WorldFault.{WorldFault}
-use Rattle.ar_world.specs.declared.fault.WorldFault.TheVariants.{Absent, Limit}
-use Rattle.ar_world.proofs.Nodes.{next-there}
-use Rattle.ar_world.proofs.Spots.{honest_spot}
+use Rattle.ar_nodes.specs.declared.event.LogEvent.{LogEvent}
+use Rattle.ar_nodes.specs.declared.event.LogEvent.TheVariants as events
+use Rattle.ar_nodes.specs.declared.fault.WorldFault.{WorldFault}
+use Rattle.ar_nodes.specs.declared.fault.WorldFault.TheVariants.{Absent, Limit}
+use Rattle.ar_nodes.proofs.Nodes.{next-there}
+use Rattle.ar_nodes.proofs.Spots.{honest_spot}
 
 -- ---- what stands in its place
 

@@ -7,14 +7,15 @@ use Rattle.owner_core.specs.Rows.{Row}
 use Rattle.owner_core.specs.State.{Owner}
 use Rattle.report_text.specs.declared.happening.Happening.{Happening}
 use Rattle.report_text.specs.declared.happening.What.{What}
-use Rattle.ar_world.specs.Acting.{ActsBy, acted, owner_does}
-use Rattle.ar_world.specs.Finding.{Effect, is_owner, set_if}
-use Rattle.ar_world.specs.Owning.{owner_party}
-use Rattle.ar_world.specs.Pool.{Pooled}
+use Rattle.ar_nodes.specs.Acting.{ActsBy, acted, owner_does}
+use Rattle.ar_world.specs.Finding.{Effect}
+use Rattle.ar_nodes.specs.Finding.{is_owner, set_if}
+use Rattle.ar_nodes.specs.Owners.{owner_party}
+use Rattle.ar_nodes.specs.Pool.{Pooled}
 use Rattle.ar_world.specs.State.{Moved, World}
 use Rattle.ar_world.specs.Step.{StepsBy}
 use Rattle.ar_world.specs.Submitting.{owner_answers}
-use Rattle.ar_world.specs.declared.fault.WorldFault.{WorldFault}
+use Rattle.ar_nodes.specs.declared.fault.WorldFault.{WorldFault}
 use Rattle.ar_world.proofs.Drafts.{owner_number, owner_within}
 use Rattle.ar_world.proofs.Orders.{acts-steps, same-there}
 

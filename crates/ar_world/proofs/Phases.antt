@@ -26,23 +26,27 @@ use Rattle.script_text.specs.declared.line.Line.{Line}
 use Rattle.script_text.specs.declared.line.Line.TheVariants as line
 use Rattle.script_text.specs.declared.line.PolicyWords.{PolicyWords}
 use Rattle.ar_world.specs.Asking.{ask_line}
-use Rattle.ar_world.specs.Authorities.{authority_answers, authority_reply, authority_rolled, authority_rolls, authority_takes, node_behind}
+use Rattle.ar_world.specs.Authorities.{authority_answers, authority_rolled, authority_rolls, authority_takes}
+use Rattle.ar_nodes.specs.Authorities.{authority_reply, node_behind}
 use Rattle.ar_world.specs.Delivering.{Taker, a_log, an_authority, an_owner, can_deliver, delivery, noted}
 use Rattle.ar_world.specs.Drafting.{begun, draft_if, draft_room, first_certificate, next_certificate, policy_of, register_line, revoke_line, update_line}
-use Rattle.ar_world.specs.Finding.{authority_at, checking_at, draft_at, existing, forger_at, known_asks, log_at, message_at, named, need, owner_at, room, with_owner}
+use Rattle.ar_world.specs.Finding.{authority_at, checking_at, draft_at, existing, forger_at, known_asks, log_at, message_at, owner_at, room, with_owner}
+use Rattle.ar_nodes.specs.Finding.{named, need}
 use Rattle.ar_world.specs.Forging.{composed_in, inject_line, receiver_in, sign_line, signing_if}
-use Rattle.ar_world.specs.Founding.{leaves_of, place_of}
+use Rattle.ar_nodes.specs.Parties.{leaves_of}
+use Rattle.ar_world.specs.Founding.{place_of}
 use Rattle.ar_world.specs.Judging.{judge_line, judged_number}
-use Rattle.ar_world.specs.Logs.{log_answers, log_rolls, log_steps, next_of}
+use Rattle.ar_world.specs.Logs.{log_answers, log_rolls, log_steps}
+use Rattle.ar_nodes.specs.Parties.{next_of}
 use Rattle.ar_world.specs.Ordering.{log_order, roll_of}
 use Rattle.ar_world.specs.Owning.{check_line}
-use Rattle.ar_world.specs.Parties.{AuthorityNode, Forger, LogNode}
+use Rattle.ar_nodes.specs.Parties.{AuthorityNode, Forger, LogNode}
 use Rattle.ar_world.specs.State.{Drafted, Moved, World}
 use Rattle.ar_world.specs.Step.{effect, leads_to}
 use Rattle.ar_world.specs.Submitting.{attached, attached_by, handed, handover_line, object_line, owner_answers, submit_line, submitted}
-use Rattle.ar_world.specs.declared.event.LogEvent.{LogEvent}
-use Rattle.ar_world.specs.declared.event.LogEvent.TheVariants as events
-use Rattle.ar_world.specs.declared.fault.WorldFault.TheVariants.{Absent}
+use Rattle.ar_nodes.specs.declared.event.LogEvent.{LogEvent}
+use Rattle.ar_nodes.specs.declared.event.LogEvent.TheVariants as events
+use Rattle.ar_nodes.specs.declared.fault.WorldFault.TheVariants.{Absent}
 use Rattle.ar_world.specs.declared.phase.Phase.TheVariants as phase
 use Rattle.ar_world.proofs.Effects.{if-chained}
 

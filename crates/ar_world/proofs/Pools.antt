@@ -5,7 +5,7 @@ use Rattle.std.proofs.lemmas.List.{append-nil, length-append, length-map, map-ap
 use Rattle.std.proofs.lemmas.List.Elements.{filter-append}
 use Rattle.std.proofs.lemmas.Option.{same_Some}
 use Rattle.report_text.specs.declared.happening.Happening.{Happening}
-use Rattle.ar_world.specs.Pool.{Pooled, entries_from, entry_of}
+use Rattle.ar_nodes.specs.Pool.{Pooled, entries_from, entry_of}
 use Rattle.ar_world.specs.Printed.{TellsPool, as_it_came, entries_in, is_entry}
 
 -- ---- numbers

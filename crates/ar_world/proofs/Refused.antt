@@ -9,11 +9,12 @@ use Rattle.std.proofs.lemmas.Option.{cond_some}
 use Rattle.ar_base.specs.Chaining.{◌>>=◌}
 use Rattle.script_text.specs.declared.line.PolicyWords.{PolicyWords}
 use Rattle.ar_world.specs.Drafting.{ascend, draft_room, may_wait, policy_of, register_line, revoke_line, update_line}
-use Rattle.ar_world.specs.Finding.{draft_at, is_owner, known_asks, named, owner_at, room}
-use Rattle.ar_world.specs.Pool.{numbered}
+use Rattle.ar_world.specs.Finding.{draft_at, known_asks, owner_at, room}
+use Rattle.ar_nodes.specs.Finding.{is_owner, named}
+use Rattle.ar_nodes.specs.Pool.{numbered}
 use Rattle.ar_world.specs.State.{Drafted, World}
 use Rattle.ar_world.specs.Submitting.{handover_line, object_line, submit_line}
-use Rattle.ar_world.specs.declared.fault.WorldFault.{WorldFault}
+use Rattle.ar_nodes.specs.declared.fault.WorldFault.{WorldFault}
 use Rattle.ar_world.proofs.Drafts.{draft_is_at}
 
 -- ---- chains

@@ -1,61 +1,24 @@
 -- What an authority is whose check tells something else of itself.
-use Rattle.std.proofs.Common.{◌≡◌, ◌∙◌, ◌<◌, ℕ, zero, suc, List, [], ◌∷◌, length, get_or, Option, Some, None, IfSome, IfErr, Result, Ok, Err, inl, is_none, is_some, refl, sym, ap, subst, true, false, arith}
-use Rattle.std.specs.Prelude.{slice_set, option_and_then, IfOk}
+use Rattle.std.proofs.Common.{◌≡◌, ◌∙◌, ℕ, List, [], ◌∷◌, Option, Some, None, IfSome, IfErr, Result, Ok, Err, inl, is_some, refl, sym, ap, subst, true, false}
+use Rattle.std.specs.Prelude.{slice_set, IfOk}
 use Rattle.std.proofs.lemmas.Option.{same_Some}
-use Rattle.ar_base.specs.Chaining.{◌>>=◌}
 use Rattle.std.specs.Option.{option_map}
+use Rattle.ar_base.specs.Chaining.{◌>>=◌}
 use Rattle.owner_check.specs.Answers.{Told}
-use Rattle.owner_check.specs.declared.answer.Answer.{Answer}
 use Rattle.owner_core.specs.State.{Owner}
 use Rattle.report_text.specs.declared.happening.Happening.{Happening}
 use Rattle.report_text.specs.declared.happening.Happening.TheVariants.{Retired}
-use Rattle.ar_world.specs.Finding.{Effect, checking_at, checking_in, named, owner_at, with_check}
-use Rattle.ar_world.specs.Owning.{check_line, known_key, lesson_line, lesson_said, retelling, retire_line, retold, told_behind}
-use Rattle.ar_world.specs.Parties.{AuthorityNode, CheckParts, check_told}
+use Rattle.ar_nodes.specs.Finding.{checking_in, named}
+use Rattle.ar_nodes.specs.Parties.{AuthorityNode, CheckParts}
+use Rattle.ar_nodes.specs.Owners.{known_key}
+use Rattle.ar_nodes.specs.Teaching.{lesson_said, retold, told_behind}
+use Rattle.ar_nodes.specs.declared.fault.WorldFault.{WorldFault}
+use Rattle.ar_nodes.specs.declared.fault.WorldFault.TheVariants.{Absent, Memory}
+use Rattle.ar_nodes.specs.declared.lesson.Lesson.{Lesson}
+use Rattle.ar_world.specs.Finding.{Effect, checking_at, owner_at}
+use Rattle.ar_world.specs.Owning.{check_line, lesson_line, retire_line}
 use Rattle.ar_world.specs.State.{World, with_authority}
 use Rattle.ar_world.specs.Step.{StepsBy}
-use Rattle.ar_world.specs.declared.fault.WorldFault.{WorldFault}
-use Rattle.ar_world.specs.declared.fault.WorldFault.TheVariants.{Absent, Memory}
-use Rattle.ar_world.specs.declared.lesson.Lesson.{Lesson}
-
--- the check that tells this
-pub check_retold : {X : Type 0} (told : X → Option Told) (answers : X → List Answer) (tells : Told → Told) (old new : Option X) → is_none new ≡ is_none old
-    → IfSome old (λ o. IfSome new (λ n. told n ≡ option_map tells (told o))) → IfSome old (λ o. IfSome new (λ n. answers n ≡ answers o))
-    → option_map (check_told told answers) new ≡ option_map (retelling tells) (option_map (check_told told answers) old)
-check_retold told answers tells (Some o) (Some n) there says keeps = ap (λ t. Some (record { told = t; answers = answers n })) says
-    ∙ ap (λ a. Some (record { told = option_map tells (told o); answers = a })) keeps
-check_retold told answers tells (Some o) None there says keeps = absurd (cc)
-check_retold told answers tells None (Some n) there says keeps = absurd (cc)
-check_retold told answers tells None None there says keeps = refl
-
--- the check that tells what it told
-pub check_kept : {X : Type 0} (told : X → Option Told) (answers : X → List Answer) (old new : Option X) → is_none new ≡ is_none old
-    → IfSome old (λ o. IfSome new (λ n. told n ≡ told o)) → IfSome old (λ o. IfSome new (λ n. answers n ≡ answers o))
-    → option_map (check_told told answers) new ≡ option_map (check_told told answers) old
-check_kept told answers (Some o) (Some n) there says keeps = ap (λ t. Some (record { told = t; answers = answers n })) says
-    ∙ ap (λ a. Some (record { told = told o; answers = a })) keeps
-check_kept told answers (Some o) None there says keeps = absurd (cc)
-check_kept told answers None (Some n) there says keeps = absurd (cc)
-check_kept told answers None None there says keeps = refl
-
-pub ruleset retellings = (check_retold, check_kept)
-
--- ---- places
-
--- an authority that checks is within the list
-pub checking_within : (authorities : List (Option AuthorityNode)) (number : ℕ) → is_some (checking_in authorities number) ≡ true → number < length authorities
-checking_within [] number there = absurd (cc)
-checking_within (a ∷ more) zero there = omega arith
-checking_within (a ∷ more) (suc number) there = let h = checking_within more number there in omega arith
-
--- and it is what stands there
-pub checking_spot : (authorities : List (Option AuthorityNode)) (number : ℕ) (slot : Option AuthorityNode) → is_some (checking_in authorities number) ≡ true
-    → get_or authorities number slot ≡ slot → checking_in authorities number ≡ option_and_then with_check slot
-checking_spot [] number slot there is = absurd (cc)
-checking_spot (a ∷ more) zero slot there is = ap (option_and_then with_check) is
-checking_spot (a ∷ more) (suc number) slot there is = checking_spot more number slot there is
-
-pub ruleset checking_spots = (checking_within, checking_spot)
 
 -- ---- lines
 

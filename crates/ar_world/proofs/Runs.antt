@@ -14,18 +14,19 @@ use Rattle.script_text.specs.Rows.{read_of}
 use Rattle.script_text.specs.declared.line.Line.{Line}
 use Rattle.script_text.specs.declared.line.Line.TheVariants as line
 use Rattle.ar_world.specs.Delivering.{deliver_line, next_due}
-use Rattle.ar_world.specs.Finding.{Effect, need}
+use Rattle.ar_world.specs.Finding.{Effect}
+use Rattle.ar_nodes.specs.Finding.{need}
 use Rattle.ar_world.specs.Founding.{may_come}
-use Rattle.ar_world.specs.Parties.{CheckParts}
-use Rattle.ar_world.specs.Pool.{entries_from}
+use Rattle.ar_nodes.specs.Parties.{CheckParts}
+use Rattle.ar_nodes.specs.Pool.{entries_from}
 use Rattle.ar_world.specs.Printed.{Tells, TellsPool, entries_in}
 use Rattle.ar_world.specs.Run.{Progress, Run, Saying, delivering, flushed, follows, line_taken, most_deliveries, most_lines, progress_of, refusing, run, run_behind, run_from, taken, taken_as, then_if, then_on}
 use Rattle.ar_world.specs.State.{World, first_world}
 use Rattle.ar_world.specs.Step.{effect, leads_to, step, stepped}
 use Rattle.ar_world.specs.declared.cause.Cause.{Cause}
 use Rattle.ar_world.specs.declared.cause.Cause.TheVariants.{Unread}
-use Rattle.ar_world.specs.declared.event.LogEvent.TheVariants as events
-use Rattle.ar_world.specs.declared.fault.WorldFault.TheVariants.{Order}
+use Rattle.ar_nodes.specs.declared.event.LogEvent.TheVariants as events
+use Rattle.ar_nodes.specs.declared.fault.WorldFault.TheVariants.{Order}
 use Rattle.ar_world.specs.declared.phase.Phase.{Phase}
 use Rattle.ar_world.proofs.Effects.{if-chained}
 use Rattle.ar_world.proofs.Lines.{ask-tells, authorities-tells, check-line-tells, deliver-tells, dishonest-tells, handover-tells, inject-tells, judge-tells, keys-tells, learn-tells, log-order-tells, logs-tells, object-tells, owner-line-tells, quiet, register-tells, retire-tells, revoke-tells, roll-tells, sign-tells, submit-tells, update-tells}

@@ -7,7 +7,7 @@ use Rattle.ar_lines.specs.Parties.{party_of}
 use Rattle.script_text.specs.Forms.{lms_of, number_with, ots_of, party_count_of, quorum_of}
 use Rattle.script_text.specs.Rows.{read_of}
 use Rattle.ar_world.specs.Examples.{Example, no_logs, told_twice, too_early, unread}
-use Rattle.ar_world.specs.Parties.{CheckParts}
+use Rattle.ar_nodes.specs.Parties.{CheckParts}
 use Rattle.ar_world.specs.Run.{Saying, line_taken, lines_of_run, run, run_from}
 use Rattle.ar_world.specs.Step.{effect}
 

@@ -12,7 +12,7 @@ use Rattle.ar_world.specs.Asking.{ask_line}
 use Rattle.ar_world.specs.Delivering.{deliver_line}
 use Rattle.ar_world.specs.Drafting.{register_line, revoke_line, update_line}
 use Rattle.ar_world.specs.Forging.{inject_line, sign_line}
-use Rattle.ar_world.specs.Finding.{need}
+use Rattle.ar_nodes.specs.Finding.{need}
 use Rattle.ar_world.specs.Founding.{authorities_line, dishonest_line, keys_line, led_to, logs_line, may_come, secret_line}
 use Rattle.ar_world.specs.Judging.{judge_line}
 use Rattle.ar_world.specs.Learning.{learn_line}
@@ -21,8 +21,8 @@ use Rattle.ar_world.specs.Owning.{forget_line, owner_line, retire_line, teach_li
 use Rattle.ar_world.specs.State.{World, silent}
 use Rattle.ar_world.specs.Step.{StepsBy, StepsBySome, effect, leads_to, step, stepped}
 use Rattle.ar_world.specs.Submitting.{handover_line, object_line, submit_line}
-use Rattle.ar_world.specs.declared.fault.WorldFault.{WorldFault}
-use Rattle.ar_world.specs.declared.fault.WorldFault.TheVariants.{Order}
+use Rattle.ar_nodes.specs.declared.fault.WorldFault.{WorldFault}
+use Rattle.ar_nodes.specs.declared.fault.WorldFault.TheVariants.{Order}
 use Rattle.ar_world.specs.declared.phase.Phase.{Phase}
 use Rattle.ar_world.specs.declared.phase.Phase.TheVariants as phase
 

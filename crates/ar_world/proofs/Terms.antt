@@ -8,8 +8,8 @@ use Rattle.ar_bytes.specs.Ascending.{Ascend, AreNumbers}
 use Rattle.ar_cert.specs.Certificate.{IsWait}
 use Rattle.script_text.specs.declared.line.PolicyWords.{PolicyWords}
 use Rattle.ar_world.specs.Drafting.{ascend, may_wait, policy_of, terms_of}
-use Rattle.ar_world.specs.Finding.{named}
-use Rattle.ar_world.specs.declared.fault.WorldFault.TheVariants.{Absent}
+use Rattle.ar_nodes.specs.Finding.{named}
+use Rattle.ar_nodes.specs.declared.fault.WorldFault.TheVariants.{Absent}
 
 -- ---- numbers that ascend
 

@@ -1,5 +1,5 @@
 -- Deliveries: the line `deliver`, and which delivery is the next of a `flush`.
-use Rattle.std.specs.Prelude.{ℕ, ◌+◌, Bool, false, not, ◌&&◌, if◌then◌else◌, List, [], ◌∷◌, ◌++◌, filter, find, length, map, is_some, Option, Some, None, Result, Ok}
+use Rattle.std.specs.Prelude.{ℕ, ◌+◌, Bool, false, not, ◌&&◌, List, [], ◌∷◌, filter, find, length, map, is_some, Option, Some, None, Result, Ok}
 use Rattle.std.specs.List.{list_any, range_with_len}
 use Rattle.std.specs.Option.{option_map}
 use Rattle.ar_base.specs.Chaining.{◌>>=◌}
@@ -15,15 +15,16 @@ use Rattle.party_keys.specs.Seen.{log_party}
 use Rattle.report_text.specs.declared.happening.Target.{Target}
 use Rattle.report_text.specs.declared.happening.Target.TheVariants.{Logs, Nobody, One}
 use Rattle.report_text.specs.declared.happening.What.TheVariants.{Take}
+use Rattle.ar_nodes.specs.Finding.{named}
+use Rattle.ar_nodes.specs.Parties.{AuthorityNode, LogNode}
+use Rattle.ar_nodes.specs.Pool.{Pooled, set_numbered, delivered_to}
+use Rattle.ar_nodes.specs.declared.event.LogEvent.TheVariants as events
+use Rattle.ar_nodes.specs.declared.fault.WorldFault.{WorldFault}
 use Rattle.ar_world.specs.Authorities.{authority_takes}
-use Rattle.ar_world.specs.Finding.{Effect, authority_at, log_at, message_at, named, owner_at, room}
+use Rattle.ar_world.specs.Finding.{Effect, authority_at, log_at, message_at, owner_at, room}
 use Rattle.ar_world.specs.Logs.{log_steps}
-use Rattle.ar_world.specs.Parties.{AuthorityNode, LogNode}
-use Rattle.ar_world.specs.Pool.{Pooled, set_numbered}
 use Rattle.ar_world.specs.State.{Moved, World}
 use Rattle.ar_world.specs.Submitting.{owner_answers}
-use Rattle.ar_world.specs.declared.event.LogEvent.TheVariants as events
-use Rattle.ar_world.specs.declared.fault.WorldFault.{WorldFault}
 
 -- ---- who takes deliveries
 
@@ -44,10 +45,6 @@ abbrev pub taker_at : World → Party → Option Taker
 taker_at w who = taker_in w who.role who.number
 
 -- ---- a delivery
-
--- a message that was delivered to a party, now or before
-abbrev pub delivered_to : Party → Pooled → Pooled
-delivered_to who p = if list_any (is_party who) p.delivered then p else record p { delivered = p.delivered ++ who ∷ [] }
 
 -- the world in which it was
 abbrev pub noted : World → ℕ → Pooled → Party → World

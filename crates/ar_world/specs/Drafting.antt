@@ -12,13 +12,14 @@ use Rattle.owner_core.specs.State.{Owner}
 use Rattle.party_keys.specs.Seen.{authority_party}
 use Rattle.report_text.specs.declared.happening.Happening.TheVariants.{Draft}
 use Rattle.script_text.specs.declared.line.PolicyWords.{PolicyWords}
-use Rattle.ar_world.specs.Finding.{Effect, draft_at, known_asks, most_drafts, named, need, owner_at, room, with_owner}
-use Rattle.ar_world.specs.Owning.{owner_party}
-use Rattle.ar_world.specs.Pool.{Pooled, pooled_from}
+use Rattle.ar_world.specs.Finding.{Effect, draft_at, known_asks, most_drafts, owner_at, room, with_owner}
+use Rattle.ar_nodes.specs.Finding.{named, need}
+use Rattle.ar_nodes.specs.Owners.{owner_party}
+use Rattle.ar_nodes.specs.Pool.{Pooled, pooled_from}
 use Rattle.ar_world.specs.Sending.{posted}
 use Rattle.ar_world.specs.State.{Moved, World, printing, silent}
-use Rattle.ar_world.specs.declared.fault.WorldFault.{WorldFault}
-use Rattle.ar_world.specs.declared.fault.WorldFault.TheVariants.{Limit}
+use Rattle.ar_nodes.specs.declared.fault.WorldFault.{WorldFault}
+use Rattle.ar_nodes.specs.declared.fault.WorldFault.TheVariants.{Limit}
 
 -- numbers of authorities that ascend strictly, none of which is below `least`
 unfoldable pub ascend : ℕ → List ℕ → Bool

@@ -1,35 +1,22 @@
 -- What the words of a line name, and why a line is refused where one names nothing or where there is no room.
-use Rattle.std.specs.Prelude.{ℕ, ◌==◌, nat_lt, Bool, true, ◌&&◌, if◌then◌else◌, List, length, find, position, slice_get, slice_set, Option, Some, None, option_and_then, is_some, Result, Ok, Err}
+use Rattle.std.specs.Prelude.{ℕ, nat_lt, Bool, true, ◌&&◌, List, length, find, position, Option, is_some, Result}
 use Rattle.std.specs.List.{list_all}
-use Rattle.std.specs.Option.{ok_or, option_map}
-use Rattle.ar_statement.specs.Claims.{is_party}
 use Rattle.ar_statement.specs.declared.party.Party.{Party}
 use Rattle.ar_statement.specs.declared.party.Role.{Role}
 use Rattle.ar_statement.specs.declared.party.Role.TheVariants.{LogServer, Authority, Owner, Client}
 use Rattle.owner_core.specs.State as owners
-use Rattle.ar_world.specs.Parties.{AuthorityNode, CheckParts, Forger, LogNode}
-use Rattle.ar_world.specs.Pool.{Pooled, bytes_in, numbered}
+use Rattle.ar_nodes.specs.Finding.{need, honest_in, checking_in, is_owner, is_forger, set_if}
+use Rattle.ar_nodes.specs.Parties.{AuthorityNode, CheckParts, Forger, LogNode}
+use Rattle.ar_nodes.specs.Pool.{Pooled, bytes_in, numbered, most_messages, most_bytes}
+use Rattle.ar_nodes.specs.declared.fault.WorldFault.{WorldFault}
+use Rattle.ar_nodes.specs.declared.fault.WorldFault.TheVariants.{Absent, Limit}
 use Rattle.ar_world.specs.State.{Drafted, Moved, World}
-use Rattle.ar_world.specs.declared.fault.WorldFault.{WorldFault}
-use Rattle.ar_world.specs.declared.fault.WorldFault.TheVariants.{Absent, Limit}
 
 -- what a line comes to, or why it is refused
 abbrev pub Effect : Type 0
 Effect = Result Moved WorldFault
 
--- the test holds, or the line is refused
-abbrev pub need : Bool → WorldFault → Result (Unit {0}) WorldFault
-need holds fault = if holds then Ok tt else Err fault
-
--- the word with this number names something
-abbrev pub named : {X : Type 0} → ℕ → Option X → Result X WorldFault
-named word found = ok_or found (Absent word)
-
 -- ---- parties
-
--- of logs or authorities, the honest one with this number
-abbrev pub honest_in : {X : Type 0} → List (Option X) → ℕ → Option X
-honest_in parties number = option_and_then (λ node. node) (slice_get parties number)
 
 -- the honest log with this number
 abbrev pub log_at : World → ℕ → Option LogNode
@@ -39,28 +26,12 @@ log_at w number = honest_in w.logs number
 abbrev pub authority_at : World → ℕ → Option AuthorityNode
 authority_at w number = honest_in w.authorities number
 
--- an honest authority with the check that it has
-abbrev pub with_check : AuthorityNode → Option (AuthorityNode × CheckParts)
-with_check node = option_map (λ check. (node, check)) node.check
-
--- of these authorities, the honest one with this number, where it has not retired
-abbrev pub checking_in : List (Option AuthorityNode) → ℕ → Option (AuthorityNode × CheckParts)
-checking_in authorities number = option_and_then with_check (honest_in authorities number)
-
 -- the same of a world
 abbrev pub checking_at : World → ℕ → Option (AuthorityNode × CheckParts)
 checking_at w number = checking_in w.authorities number
 
--- the owner with this number
-abbrev pub is_owner : ℕ → owners.Owner → Bool
-is_owner number owner = owner.number == number
-
 abbrev pub owner_at : World → ℕ → Option owners.Owner
 owner_at w number = find (is_owner number) w.owners
-
--- the dishonest party
-abbrev pub is_forger : Party → Forger → Bool
-is_forger party forger = is_party party forger.party
 
 abbrev pub forger_at : World → Party → Option Forger
 forger_at w party = find (is_forger party) w.forgers
@@ -95,11 +66,6 @@ message_at w number = numbered w.pool number
 
 -- ---- items in the place of others
 
--- the list with this item at a place, where there is one
-abbrev pub set_if : {X : Type 0} → List X → Option ℕ → X → List X
-set_if xs None x = xs
-set_if xs (Some place) x = slice_set xs place x
-
 -- the world with an owner as it is now
 abbrev pub with_owner : World → owners.Owner → World
 with_owner w owner = record w { owners = set_if w.owners (position (is_owner owner.number) w.owners) owner }
@@ -109,13 +75,6 @@ abbrev pub with_forger : World → Forger → World
 with_forger w forger = record w { forgers = set_if w.forgers (position (is_forger forger.party) w.forgers) forger }
 
 -- ---- room
-
--- how many messages, and how many bytes, the pool holds when it is full
-abbrev pub most_messages : ℕ
-most_messages = 65528
-
-abbrev pub most_bytes : ℕ
-most_bytes = 260046848
 
 -- the pool is not full: a line that may send needs that
 unfoldable pub has_room : World → Bool

@@ -1,32 +1,22 @@
 -- The lines of the setup: the secret, the types of keys, the logs, the authorities, and who is dishonest.
-use Rattle.std.specs.Prelude.{◌++◌, ℕ, ◌^◌, ◌==◌, nat_le, nat_lt, Bool, List, [], ◌∷◌, map, slice_get, slice_set, Option, Some, None, option_and_then, Ok}
-use Rattle.std.specs.List.{range_with_len}
-use Rattle.std.specs.Result.{result_ok}
-use Rattle.sha2.specs.Sha256.{sha256}
+use Rattle.std.specs.Prelude.{◌++◌, ℕ, ◌==◌, nat_le, nat_lt, Bool, List, [], ◌∷◌, slice_set, Option, None, option_and_then, Ok}
 use Rattle.ar_base.specs.Chaining.{◌>>=◌}
 use Rattle.ar_base.specs.Ranges.{is_from_to}
-use Rattle.ar_council.specs.Council.{council_of}
-use Rattle.ar_statement.specs.Claims.{party}
 use Rattle.ar_statement.specs.declared.party.Party.{Party}
 use Rattle.ar_statement.specs.declared.party.Role.{Role}
 use Rattle.ar_statement.specs.declared.party.Role.TheVariants.{LogServer, Authority, Owner, Client}
-use Rattle.authority_core.specs.Calls.{fresh_authority}
-use Rattle.authority_core.specs.State.{AuthorityState}
-use Rattle.epoch_log.specs.Calls.{fresh}
-use Rattle.key_roll.specs.Ring.{ring_signature_len}
 use Rattle.lm_ots.specs.OtsKind.{type_of_number}
-use Rattle.lms_tree.specs.Key.{public_of, type_to_make}
+use Rattle.lms_tree.specs.Key.{type_to_make}
 use Rattle.lms_tree.specs.KeyParts.{KeyParts}
-use Rattle.lms_tree.specs.LmsKind.{height_of}
-use Rattle.lms_tree.specs.PublicKey.{key_text}
-use Rattle.log_core.specs.State.{CoreState}
-use Rattle.party_keys.specs.Directory.{Directory, directory_of, is_party_count, is_quorum}
-use Rattle.report_text.specs.declared.happening.Happening.{Happening}
-use Rattle.report_text.specs.declared.happening.Happening.TheVariants.{Dishonest, Made}
-use Rattle.ar_world.specs.Finding.{Effect, authority_at, log_at, named, need}
-use Rattle.ar_world.specs.Parties.{AuthorityNode, CheckParts, LogNode}
-use Rattle.ar_world.specs.State.{Moved, Setup, World, key_for, keys_for, silent}
-use Rattle.ar_world.specs.declared.fault.WorldFault.TheVariants.{Absent, Order}
+use Rattle.party_keys.specs.Directory.{Directory, is_party_count, is_quorum}
+use Rattle.report_text.specs.declared.happening.Happening.TheVariants.{Dishonest}
+use Rattle.ar_nodes.specs.Finding.{named, need}
+use Rattle.ar_nodes.specs.declared.fault.WorldFault.TheVariants.{Absent, Order}
+use Rattle.ar_founding.specs.FirstKeys.{keys_made, first_key}
+use Rattle.ar_founding.specs.Founded.{Founded, authorities_of, log_rings, logs_of}
+use Rattle.ar_founding.specs.Founding.{genesis_of, fresh_logs, new_authorities}
+use Rattle.ar_world.specs.Finding.{Effect, authority_at, log_at}
+use Rattle.ar_world.specs.State.{Moved, World, silent}
 use Rattle.ar_world.specs.declared.phase.Phase.{Phase}
 use Rattle.ar_world.specs.declared.phase.Phase.TheVariants as phase
 
@@ -63,16 +53,6 @@ in_order w next effect = do
   comes ← need (may_come w.phase next) Order
   led_to next effect
 
--- ---- what is printed of keys
-
--- a key of a party is made
-abbrev pub key_made : Party → KeyParts → Happening
-key_made who key = Made who (sha256 (key_text (public_of key)))
-
--- so are the keys of so many parties of a role
-abbrev pub keys_made : Setup → Role → ℕ → List Happening
-keys_made setup role count = map (λ number. key_made (party role number) (key_for setup role number)) (range_with_len 0 count)
-
 -- ---- `secret`, `keys`, `logs`
 
 -- all keys are made of this secret
@@ -95,42 +75,6 @@ logs_line w count quorum = do
 
 -- ---- `authorities`
 
--- the directory of the first keys, with so many authorities, where there may be so many
-abbrev pub genesis_of : Setup → ℕ → Option Directory
-genesis_of setup count =
-    result_ok (directory_of (map public_of (keys_for setup LogServer setup.logs)) (map public_of (keys_for setup Authority count)) setup.quorum)
-
--- how many leaves a key has
-abbrev pub leaves_of : KeyParts → ℕ
-leaves_of key = 2 ^ height_of key.lms
-
--- a log that has done nothing yet
-abbrev pub fresh_core : Directory → ℕ → KeyParts → CoreState
-fresh_core genesis number key = record {
-  log = fresh number (council_of genesis) (leaves_of key);
-  keys = genesis;
-  queue = [];
-  signature_len = ring_signature_len key;
-}
-
-abbrev pub fresh_log : Directory → ℕ → KeyParts → LogNode
-fresh_log genesis number key = record { core = fresh_core genesis number key; keys = key ∷ []; taken = [] }
-
--- an authority that has done nothing yet, with its check
-abbrev pub fresh_state : Directory → ℕ → KeyParts → AuthorityState
-fresh_state genesis number key = record { me = number; keys = genesis; signature_len = ring_signature_len key; past = fresh_authority (leaves_of key) }
-
-abbrev pub new_authority : Directory → ℕ → KeyParts → Option CheckParts → AuthorityNode
-new_authority genesis number key check = record { state = fresh_state genesis number key; keys = key ∷ []; check = check }
-
--- all logs, and so many authorities, which take the checks in order
-abbrev pub fresh_logs : Setup → Directory → List (Option LogNode)
-fresh_logs setup genesis = map (λ number. Some (fresh_log genesis number (key_for setup LogServer number))) (range_with_len 0 setup.logs)
-
-abbrev pub new_authorities : Setup → Directory → List CheckParts → ℕ → List (Option AuthorityNode)
-new_authorities setup genesis checks count =
-    map (λ number. Some (new_authority genesis number (key_for setup Authority number) (slice_get checks number))) (range_with_len 0 count)
-
 -- the logs and so many authorities are there, all honest, and know the first keys, as the clients do; checks that no authority
 -- takes are dropped
 abbrev pub peopled : World → ℕ → Directory → Moved
@@ -145,6 +89,17 @@ peopled w count genesis = (
   keys_made w.setup Authority count,
 )
 
+-- the same of what the program founds, in the phase to which the line leads
+abbrev pub with_parties : World → Founded → World
+with_parties w founded = record w {
+  phase = phase.AuthoritiesMade;
+  checks = [];
+  logs = logs_of founded.cores (log_rings w.setup);
+  authorities = authorities_of founded.states founded.rings w.checks;
+  genesis = founded.genesis;
+  clients = founded.genesis;
+}
+
 -- word 1 says how many authorities there are
 abbrev pub authorities_line : World → ℕ → Effect
 authorities_line w count = do
@@ -152,10 +107,6 @@ authorities_line w count = do
   Ok (peopled w count genesis)
 
 -- ---- `dishonest`
-
--- the first of a party's keys
-abbrev pub first_key : List KeyParts → Option KeyParts
-first_key keys = slice_get keys 0
 
 -- the first key of an honest log or authority
 abbrev pub honest_key : World → Role → ℕ → Option KeyParts

@@ -11,8 +11,9 @@ use Rattle.report_text.specs.declared.happening.Said.{Said}
 use Rattle.report_text.specs.declared.happening.Said.TheVariants as said
 use Rattle.report_text.specs.declared.happening.Target.{Target}
 use Rattle.report_text.specs.declared.happening.Target.TheVariants.{Logs, Nobody, One}
-use Rattle.ar_world.specs.Finding.{Effect, message_at, named}
-use Rattle.ar_world.specs.Pool.{Pooled}
+use Rattle.ar_world.specs.Finding.{Effect, message_at}
+use Rattle.ar_nodes.specs.Finding.{named}
+use Rattle.ar_nodes.specs.Pool.{Pooled}
 use Rattle.ar_world.specs.State.{Moved, World}
 
 -- ---- which message

@@ -3,13 +3,14 @@
 use Rattle.std.specs.Prelude.{◌≡◌, ◌<◌, ◌^◌, nat_le, true, List, length, All, Option, Some, None, is_some}
 use Rattle.ar_statement.specs.declared.party.Role.TheVariants.{LogServer}
 use Rattle.party_keys.specs.Directory.{Directory}
-use Rattle.ar_world.specs.FirstKeys.{FirstKeys, first_of}
+use Rattle.ar_founding.specs.FirstKeys.{FirstKeys, first_of}
 use Rattle.ar_world.specs.Founding.{place_of}
-use Rattle.ar_world.specs.Parties.{LogNode}
-use Rattle.ar_world.specs.State.{Drafted, Setup, keys_for, no_directory}
+use Rattle.ar_nodes.specs.Parties.{LogNode}
+use Rattle.ar_world.specs.State.{Drafted, no_directory}
+use Rattle.ar_founding.specs.FirstKeys.{Setup, keys_for}
 use Rattle.ar_world.specs.declared.phase.Phase.{Phase}
 use Rattle.ar_world.specs.declared.phase.Phase.TheVariants.{LogsMade}
-use Rattle.ar_world.specs.declared.world.Directories.{Directories}
+use Rattle.ar_founding.specs.declared.directories.Directories.{Directories}
 
 -- the directory of the first keys, and that of the clients; before the authorities are there, that of nobody
 abbrev pub genesis_in : Option Directories → Directory

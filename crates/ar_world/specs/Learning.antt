@@ -1,27 +1,22 @@
 -- The line `learn`: the clients' directory takes a message.
 use Rattle.std.specs.Prelude.{ℕ, List, [], ◌∷◌, Option, Some, None, Result, Ok, Err}
-use Rattle.key_roll.specs.Entry.{roll_text}
 use Rattle.ar_base.specs.Chaining.{◌>>=◌}
 use Rattle.ar_council.specs.Seen.{with_seen}
 use Rattle.ar_message.specs.Messages.{message_in}
-use Rattle.ar_message.specs.declared.message.Message.{Message}
-use Rattle.ar_message.specs.declared.message.Message.TheVariants.{RollNote}
 use Rattle.ar_statement.specs.declared.text.SeenText.{SeenText}
-use Rattle.party_keys.specs.Learning.{Announced, after_learning, learned}
+use Rattle.client_rule.specs.Notes.{note_of}
+use Rattle.key_roll.specs.Entry.{roll_text}
 use Rattle.party_keys.specs.Directory.{Directory}
+use Rattle.party_keys.specs.Learning.{Announced, after_learning, learned}
 use Rattle.party_keys.specs.declared.fault.LearnFault.{LearnFault}
 use Rattle.party_keys.specs.declared.fault.LearnFault.TheVariants as fault
 use Rattle.party_keys.specs.declared.learning.Learned.{Learned}
 use Rattle.report_text.specs.declared.happening.Happening.TheVariants.{Learnt}
 use Rattle.report_text.specs.declared.happening.Unlearnt.{Unlearnt}
 use Rattle.report_text.specs.declared.happening.Unlearnt.TheVariants as unlearnt
-use Rattle.ar_world.specs.Finding.{Effect, message_at, named}
+use Rattle.ar_nodes.specs.Finding.{named}
+use Rattle.ar_world.specs.Finding.{Effect, message_at}
 use Rattle.ar_world.specs.State.{Moved, World}
-
--- what a message announces, where it is the note of a Roll
-abbrev pub note_of : Result Message ℕ → Option Announced
-note_of (Ok (RollNote party generation key signature)) = Some (record { party = party; generation = generation; key = key; signature = signature })
-note_of _ = None
 
 -- the Roll that was learnt, with its party
 abbrev pub roll_seen : Announced → SeenText

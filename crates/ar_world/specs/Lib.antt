@@ -1,15 +1,10 @@
-pub mod Acting
 pub mod Asking
 pub mod Authorities
-pub mod Codes
-pub mod Composing
 pub mod Delivering
 pub mod Drafting
 pub mod Examples
 pub mod Finding
-pub mod FirstKeys
 pub mod Forging
-pub mod Founded
 pub mod Founding
 pub mod Judging
 pub mod Kept
@@ -17,8 +12,6 @@ pub mod Learning
 pub mod Logs
 pub mod Ordering
 pub mod Owning
-pub mod Parties
-pub mod Pool
 pub mod Printed
 pub mod Records
 pub mod Run

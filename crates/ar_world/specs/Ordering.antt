@@ -8,12 +8,14 @@ use Rattle.log_core.specs.State.{Input, passes, proposes}
 use Rattle.report_text.specs.declared.happening.What.{What}
 use Rattle.report_text.specs.declared.happening.What.TheVariants as whats
 use Rattle.ar_world.specs.Authorities.{authority_rolls}
-use Rattle.ar_world.specs.Finding.{Effect, authority_at, log_at, named, room}
-use Rattle.ar_world.specs.Logs.{log_rolls, log_steps, next_of}
+use Rattle.ar_world.specs.Finding.{Effect, authority_at, log_at, room}
+use Rattle.ar_nodes.specs.Finding.{named}
+use Rattle.ar_world.specs.Logs.{log_rolls, log_steps}
+use Rattle.ar_nodes.specs.Parties.{next_of}
 use Rattle.ar_world.specs.State.{World}
-use Rattle.ar_world.specs.declared.event.LogEvent.{LogEvent}
-use Rattle.ar_world.specs.declared.event.LogEvent.TheVariants as events
-use Rattle.ar_world.specs.declared.fault.WorldFault.TheVariants.{Absent}
+use Rattle.ar_nodes.specs.declared.event.LogEvent.{LogEvent}
+use Rattle.ar_nodes.specs.declared.event.LogEvent.TheVariants as events
+use Rattle.ar_nodes.specs.declared.fault.WorldFault.TheVariants.{Absent}
 
 -- ---- `propose` and `pass`
 

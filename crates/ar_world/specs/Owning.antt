@@ -1,14 +1,9 @@
 -- The lines on owners, and on what authorities know of them: `owner`, `teach`, `forget` and `retire`.
-use Rattle.std.specs.Prelude.{ℕ, List, [], ◌∷◌, ◌++◌, Some, None, is_none, Ok}
-use Rattle.std.specs.Option.{option_map}
+use Rattle.std.specs.Prelude.{ℕ, List, [], ◌∷◌, ◌++◌, None, is_none, Ok}
 use Rattle.ar_base.specs.Chaining.{◌>>=◌}
-use Rattle.ar_statement.specs.Claims.{party}
-use Rattle.ar_statement.specs.declared.party.Party.{Party}
 use Rattle.ar_statement.specs.declared.party.Role.TheVariants as role
 use Rattle.lm_ots.specs.declared.ots_type.OtsType.TheVariants.{W4}
-use Rattle.lms_tree.specs.Key.{public_of}
 use Rattle.lms_tree.specs.KeyParts.{KeyParts}
-use Rattle.lms_tree.specs.PublicKey.{key_text}
 use Rattle.lms_tree.specs.declared.lms_type.LmsType.TheVariants.{H5}
 use Rattle.owner_check.specs.Answers.{Told, forgotten, learnt}
 use Rattle.owner_core.specs.Rows.{first_owner}
@@ -16,17 +11,15 @@ use Rattle.owner_core.specs.State.{Owner}
 use Rattle.party_keys.specs.Seeds.{seed_of}
 use Rattle.report_text.specs.declared.happening.Happening.{Happening}
 use Rattle.report_text.specs.declared.happening.Happening.TheVariants.{Forgot, Retired, Taught}
-use Rattle.ar_world.specs.Finding.{Effect, checking_at, named, need, owner_at}
-use Rattle.ar_world.specs.Founding.{key_made, leaves_of}
-use Rattle.ar_world.specs.Parties.{AuthorityNode, CheckParts}
+use Rattle.ar_nodes.specs.Finding.{named, need}
+use Rattle.ar_nodes.specs.Owners.{owner_party, known_key}
+use Rattle.ar_nodes.specs.Parties.{leaves_of}
+use Rattle.ar_nodes.specs.Teaching.{retold, told_behind, lesson_said}
+use Rattle.ar_nodes.specs.declared.fault.WorldFault.TheVariants.{Absent}
+use Rattle.ar_nodes.specs.declared.lesson.Lesson.{Lesson}
+use Rattle.ar_founding.specs.FirstKeys.{key_made}
+use Rattle.ar_world.specs.Finding.{Effect, checking_at, owner_at}
 use Rattle.ar_world.specs.State.{World, with_authority}
-use Rattle.ar_world.specs.declared.fault.WorldFault.TheVariants.{Absent}
-use Rattle.ar_world.specs.declared.lesson.Lesson.{Lesson}
-use Rattle.ar_world.specs.declared.lesson.Lesson.TheVariants as lesson
-
--- the owner with this number, as a party
-abbrev pub owner_party : ℕ → Party
-owner_party number = party role.Owner number
 
 -- ---- `owner`
 
@@ -48,34 +41,12 @@ owner_line w number = do
 
 -- ---- `teach` and `forget`
 
--- a check that tells this of itself from here on, where it told something
-abbrev pub retelling : (Told → Told) → CheckParts → CheckParts
-retelling tells check = record check { told = option_map tells check.told }
-
--- an authority with such a check
-abbrev pub retold : (Told → Told) → AuthorityNode × CheckParts → AuthorityNode
-retold tells found = record found.0 { check = Some (retelling tells found.1) }
-
--- the key by which checks know an owner
-abbrev pub known_key : Owner → List ℕ
-known_key owner = key_text (public_of owner.key)
-
 -- Word 1 names an honest authority that has not retired, and word 3 an owner; the check does this with the owner's key.
 abbrev pub check_line : World → ℕ → ℕ → (List ℕ → Told → Told) → Happening → Effect
 check_line w authority owner tells said = do
   found ← named 1 (checking_at w authority)
   holder ← named 3 (owner_at w owner)
   Ok (with_authority w authority (retold (tells (known_key holder)) found), said ∷ [])
-
--- what a check tells of itself behind a lesson on a name and a key
-abbrev pub told_behind : Lesson → List ℕ → List ℕ → Told → Told
-told_behind lesson.Learn name = learnt name
-told_behind lesson.Forget name = forgotten name
-
--- what is printed of the lesson
-abbrev pub lesson_said : Lesson → ℕ → Happening
-lesson_said lesson.Learn authority = Taught authority
-lesson_said lesson.Forget authority = Forgot authority
 
 -- the check takes a lesson on the name
 abbrev pub lesson_line : World → Lesson → ℕ → List ℕ → ℕ → Effect

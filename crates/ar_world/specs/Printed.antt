@@ -2,7 +2,7 @@
 use Rattle.std.specs.Prelude.{◌≡◌, ◌+◌, Bool, false, true, List, [], ◌++◌, filter, length, map}
 use Rattle.report_text.specs.declared.happening.Happening.{Happening}
 use Rattle.report_text.specs.declared.happening.Happening.TheVariants.{Entered}
-use Rattle.ar_world.specs.Pool.{Pooled, entries_from}
+use Rattle.ar_nodes.specs.Pool.{Pooled, entries_from}
 use Rattle.ar_world.specs.State.{Moved}
 
 -- a message as it came, before it was delivered to anyone

@@ -10,9 +10,9 @@ use Rattle.epoch_log.specs.Honest.{HonestLog}
 use Rattle.party_keys.specs.Directory.{IsDirectory}
 use Rattle.ar_world.specs.Finding.{authority_at, log_at, message_at}
 use Rattle.ar_world.specs.Founding.{place_of}
-use Rattle.ar_world.specs.Parties.{AuthorityNode, LogNode}
+use Rattle.ar_nodes.specs.Parties.{AuthorityNode, LogNode}
 use Rattle.ar_world.specs.State.{World}
-use Rattle.ar_world.specs.declared.event.LogEvent.{LogEvent}
+use Rattle.ar_nodes.specs.declared.event.LogEvent.{LogEvent}
 
 -- the clients' directory, the dishonest parties, the records of the honest logs and of the honest authorities, each ascending by
 -- number, what clients accepted, and the Rolls that their directory learnt

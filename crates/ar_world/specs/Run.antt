@@ -14,14 +14,15 @@ use Rattle.script_text.specs.Rows.{read_of}
 use Rattle.script_text.specs.declared.line.Line.{Line}
 use Rattle.script_text.specs.declared.line.Line.TheVariants as line
 use Rattle.ar_world.specs.Delivering.{deliver_line, next_due}
-use Rattle.ar_world.specs.Finding.{Effect, most_messages}
-use Rattle.ar_world.specs.Parties.{CheckParts}
+use Rattle.ar_world.specs.Finding.{Effect}
+use Rattle.ar_nodes.specs.Pool.{most_messages}
+use Rattle.ar_nodes.specs.Parties.{CheckParts}
 use Rattle.ar_world.specs.State.{World, first_world}
 use Rattle.ar_world.specs.Step.{step}
 use Rattle.ar_world.specs.declared.cause.Cause.{Cause}
 use Rattle.ar_world.specs.declared.cause.Cause.TheVariants.{Unread, Untaken}
-use Rattle.ar_world.specs.declared.fault.WorldFault.{WorldFault}
-use Rattle.ar_world.specs.declared.fault.WorldFault.TheVariants as fault
+use Rattle.ar_nodes.specs.declared.fault.WorldFault.{WorldFault}
+use Rattle.ar_nodes.specs.declared.fault.WorldFault.TheVariants as fault
 
 -- What checks say that tell nothing of themselves: in the line with this number, in its delivery with this number, from 0. A
 -- line that is no `flush` has one delivery at most, and each asks one check, at most once.

@@ -1,32 +1,16 @@
 -- A world between two lines of a script, as plain data.
-use Rattle.std.specs.Prelude.{ℕ, ◌+◌, List, [], ◌++◌, length, map, replicate, slice_set, Option, Some}
-use Rattle.std.specs.List.{range_with_len}
+use Rattle.std.specs.Prelude.{ℕ, ◌+◌, List, [], ◌++◌, length, slice_set, Option, Some}
 use Rattle.ar_cert.specs.Certificate.{Certificate}
 use Rattle.ar_safety.specs.Held.{Taken}
-use Rattle.ar_statement.specs.declared.party.Role.{Role}
 use Rattle.ar_statement.specs.declared.text.SeenText.{SeenText}
-use Rattle.lm_ots.specs.declared.ots_type.OtsType.{OtsType}
-use Rattle.lm_ots.specs.declared.ots_type.OtsType.TheVariants.{W4}
-use Rattle.lms_tree.specs.KeyParts.{KeyParts}
-use Rattle.lms_tree.specs.declared.lms_type.LmsType.{LmsType}
-use Rattle.lms_tree.specs.declared.lms_type.LmsType.TheVariants.{H5}
 use Rattle.owner_core.specs.State.{Owner}
 use Rattle.party_keys.specs.Directory.{Directory, directory_with}
-use Rattle.party_keys.specs.Seeds.{seed_of}
 use Rattle.report_text.specs.declared.happening.Happening.{Happening}
-use Rattle.ar_world.specs.Parties.{AuthorityNode, CheckParts, Forger, LogNode}
-use Rattle.ar_world.specs.Pool.{Pooled, entries_from}
+use Rattle.ar_nodes.specs.Parties.{AuthorityNode, CheckParts, Forger, LogNode}
+use Rattle.ar_nodes.specs.Pool.{Pooled, entries_from}
+use Rattle.ar_founding.specs.FirstKeys.{Setup, plain_setup}
 use Rattle.ar_world.specs.declared.phase.Phase.{Phase}
 use Rattle.ar_world.specs.declared.phase.Phase.TheVariants.{Beginning}
-
--- what the setup says: the secret of which all keys are made, the types of the keys of logs and authorities, how many logs
--- there are, and how many of them are a quorum
-pub record Setup : Type 0 where
-  pub secret : List ℕ
-  pub lms : LmsType
-  pub ots : OtsType
-  pub logs : ℕ
-  pub quorum : ℕ
 
 -- a draft of the script: the number of its owner, and the certificate
 pub record Drafted : Type 0 where
@@ -54,10 +38,6 @@ pub record World : Type 0 where
 
 -- ---- the beginning
 
--- without lines of the setup: a secret of 32 zero bytes, the types 5 and 3, and no logs
-abbrev pub plain_setup : Setup
-plain_setup = record { secret = replicate 32 0; lms = H5; ots = W4; logs = 0; quorum = 0 }
-
 -- a directory of nobody
 abbrev pub no_directory : Directory
 no_directory = directory_with [] [] 0
@@ -79,16 +59,6 @@ first_world checks = record {
   drafts = [];
   pool = [];
 }
-
--- ---- keys
-
--- the first key of a log or authority
-abbrev pub key_for : Setup → Role → ℕ → KeyParts
-key_for setup role number = record { seed = seed_of setup.secret role number; lms = setup.lms; ots = setup.ots }
-
--- the first keys of so many parties of a role
-abbrev pub keys_for : Setup → Role → ℕ → List KeyParts
-keys_for setup role count = map (key_for setup role) (range_with_len 0 count)
 
 -- ---- what a line comes to
 

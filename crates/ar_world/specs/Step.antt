@@ -16,8 +16,8 @@ use Rattle.ar_world.specs.Ordering.{pass_line, propose_line, roll_line}
 use Rattle.ar_world.specs.Owning.{forget_line, owner_line, retire_line, teach_line}
 use Rattle.ar_world.specs.State.{World, silent}
 use Rattle.ar_world.specs.Submitting.{handover_line, object_line, submit_line}
-use Rattle.ar_world.specs.declared.fault.WorldFault.{WorldFault}
-use Rattle.ar_world.specs.declared.fault.WorldFault.TheVariants.{Memory, Order}
+use Rattle.ar_nodes.specs.declared.fault.WorldFault.{WorldFault}
+use Rattle.ar_nodes.specs.declared.fault.WorldFault.TheVariants.{Memory, Order}
 use Rattle.ar_world.specs.declared.phase.Phase.{Phase}
 use Rattle.ar_world.specs.declared.phase.Phase.TheVariants as phase
 

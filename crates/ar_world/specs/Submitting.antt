@@ -9,9 +9,10 @@ use Rattle.owner_core.specs.declared.refusal.OwnerRefusal.{OwnerRefusal}
 use Rattle.report_text.specs.declared.happening.Happening.TheVariants.{Step}
 use Rattle.report_text.specs.declared.happening.What.{What}
 use Rattle.report_text.specs.declared.happening.What.TheVariants.{Handover, Object, Submit}
-use Rattle.ar_world.specs.Codes.{owner_code}
-use Rattle.ar_world.specs.Finding.{Effect, draft_at, named, owner_at, room, with_owner}
-use Rattle.ar_world.specs.Owning.{owner_party}
+use Rattle.ar_nodes.specs.Codes.{owner_code}
+use Rattle.ar_world.specs.Finding.{Effect, draft_at, owner_at, room, with_owner}
+use Rattle.ar_nodes.specs.Finding.{named}
+use Rattle.ar_nodes.specs.Owners.{owner_party}
 use Rattle.ar_world.specs.Sending.{does, refuses}
 use Rattle.ar_world.specs.State.{Drafted, Moved, World}
 

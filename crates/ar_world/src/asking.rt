@@ -6,16 +6,15 @@ ghost use Rattle.ar_message.specs.declared.message.Message.TheVariants.{ConfirmA
 ghost use Rattle.ar_statement.specs.Claims.{party};
 ghost use Rattle.ar_statement.specs.declared.party.Role.TheVariants.{Client};
 ghost use Rattle.ar_world.specs.Asking.{ask_line, question};
-ghost use Rattle.ar_world.specs.Pool.{entries_from, pooled_from};
+ghost use Rattle.ar_nodes.specs.Pool.{entries_from, pooled_from};
 ghost use Rattle.ar_world.specs.Step.{StepsBy};
 
-use crate::fault::WorldFault;
-use crate::pool::Pool;
-use crate::sending::{enter, pooled_from, reserve};
 use crate::world::World;
 use ar_base::Items;
 use ar_message::{Address, Message, Outgoing};
 use ar_names::NameView;
+use ar_nodes::sending::{enter, pooled_from, reserve};
+use ar_nodes::{Pool, WorldFault};
 use ar_statement::{Party, Role};
 use owner_check::OwnerCheck;
 use report_text::Happening;

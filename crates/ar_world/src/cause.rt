@@ -1,5 +1,5 @@
-use crate::fault::WorldFault;
 use ar_lines::Reason;
+use ar_nodes::WorldFault;
 
 /// Why a line of a script is refused.
 #[derive(Clone, Copy, Debug, PartialEq, Eq)]

@@ -1,168 +1,23 @@
 //! Deliveries: the line `deliver`, and which delivery is the next of a `flush`.
 
-ghost use Rattle.std.specs.Prelude.{◌≡◌, ◌&&◌, not, true, is_some, length, find, IfOk, OnOk, Err};
+ghost use Rattle.std.specs.Prelude.{◌≡◌, ◌&&◌, not, true, is_some, length, find, OnOk, Err};
 ghost use Rattle.ar_statement.specs.declared.party.Role.TheVariants as roles;
 ghost use Rattle.party_keys.specs.Seen.{authority_party, log_party};
 ghost use Rattle.report_text.specs.declared.happening.Target.TheVariants as target;
-ghost use Rattle.ar_world.specs.Acting.{ActsBy, ActsBySome, ChangesAt, ChangesThere, authority_delivered, log_delivered, owner_delivered};
 ghost use Rattle.ar_world.specs.Delivering.{addressed, deliver_line, deliverable, due_from, due_to, is_due, is_sender, next_due, taker_at};
-ghost use Rattle.ar_world.specs.Finding.{honest_in};
-ghost use Rattle.ar_world.specs.Owning.{owner_party};
+ghost use Rattle.ar_nodes.specs.Finding.{honest_in};
+ghost use Rattle.ar_nodes.specs.Owners.{owner_party};
 ghost use Rattle.ar_world.specs.Step.{StepsBySome};
 
-use crate::event::LogEvent;
-use crate::fault::WorldFault;
-use crate::finding::has_owner;
-use crate::owners;
-use crate::parties::{HonestAuthority, HonestLog};
-use crate::pool::{Pool, Pooled, has_party};
-use crate::replying::{MOST_SENT, Reply, tell};
-use crate::sending::reserve;
 use crate::world::World;
 use ar_base::Items;
+use ar_nodes::finding::has_owner;
+use ar_nodes::taking::{authorities_take, logs_take, owner_takes};
+use ar_nodes::{Pooled, WorldFault, has_party};
 use ar_statement::{Party, Role};
-use log_core::LogInput;
 use owner_check::OwnerCheck;
-use owner_core::Owner;
-use report_text::{Happening, Target, What};
+use report_text::{Happening, Target};
 use std::alloc::Global;
-
-// ---- what parties make of a message
-
-/// A log takes a message of the pool.
-#[tactic(auto, unfolding(crate::specs::Acting::log_delivered))]
-fn log_takes(
-    alloc: Global,
-    pool: &mut Pool,
-    node: &mut HonestLog,
-    message: u64,
-    number: u16,
-) -> Result<Items<Happening>, WorldFault>
-    ensures { ActsBy result node.old node.new pool.old.messages pool.new.messages (log_delivered pool.old.messages message number node.old) }
-{
-    let who = Role::LogServer.party(number);
-    let said = reserve(alloc, pool, MOST_SENT)?;
-    let delivered = pool.delivered_by(alloc, message, who)?;
-    let input = LogInput::Take(pool.bytes(message));
-    let reply = node.step(alloc, LogEvent::Take(message), &input)?;
-    pool.note_delivered(message, delivered);
-    Ok(tell(alloc, pool, said, who, What::Take(message), reply))
-}
-
-/// An authority takes a message of the pool.
-#[tactic(auto, unfolding(crate::specs::Acting::authority_delivered))]
-fn authority_takes<C: OwnerCheck>(
-    alloc: Global,
-    pool: &mut Pool,
-    node: &mut HonestAuthority<C>,
-    message: u64,
-    number: u16,
-) -> Result<Items<Happening>, WorldFault>
-    ensures { ActsBySome result node.old node.new pool.old.messages pool.new.messages
-        (λ says. authority_delivered says pool.old.messages message number node.old) }
-{
-    let who = Role::Authority.party(number);
-    let said = reserve(alloc, pool, MOST_SENT)?;
-    let delivered = pool.delivered_by(alloc, message, who)?;
-    let reply = node.take(alloc, pool.bytes(message))?;
-    pool.note_delivered(message, delivered);
-    Ok(tell(alloc, pool, said, who, What::Take(message), reply))
-}
-
-/// An owner takes a message of the pool.
-#[tactic(auto, unfolding(crate::specs::Acting::owner_delivered))]
-fn owner_takes(
-    alloc: Global,
-    pool: &mut Pool,
-    owner: &mut Owner,
-    message: u64,
-    number: u16,
-) -> Result<Items<Happening>, WorldFault>
-    ensures { ActsBy result owner.old owner.new pool.old.messages pool.new.messages (owner_delivered pool.old.messages message number owner.old) }
-{
-    let who = Role::Owner.party(number);
-    let said = reserve(alloc, pool, MOST_SENT)?;
-    let delivered = pool.delivered_by(alloc, message, who)?;
-    let reply = owners::take(alloc, owner, pool.bytes(message))?;
-    pool.note_delivered(message, delivered);
-    Ok(tell(alloc, pool, said, who, What::Take(message), reply))
-}
-
-// ---- parties in their places
-
-/// A log that is honest takes a message of the pool.
-fn log_there_takes(
-    alloc: Global,
-    pool: &mut Pool,
-    slot: &mut Option<HonestLog>,
-    message: u64,
-    number: u16,
-) -> Result<Items<Happening>, WorldFault>
-    requires { is_some slot.old ≡ true }
-    ensures { ChangesThere slot.old slot.new (λ was is. ActsBy result was is pool.old.messages pool.new.messages
-        (log_delivered pool.old.messages message number was)) }
-{
-    match slot {
-        Some(node) => log_takes(alloc, pool, node, message, number),
-        None => unreachable!(),
-    }
-}
-
-/// The log with a number, which is honest, takes a message of the pool.
-#[tactic(auto, using(crate::proofs::Seats::seats))]
-fn logs_take(
-    alloc: Global,
-    pool: &mut Pool,
-    logs: &mut Vec<Option<HonestLog>>,
-    message: u64,
-    number: u16,
-) -> Result<Items<Happening>, WorldFault>
-    requires { is_some (honest_in logs.old.items number) ≡ true }
-    ensures { ChangesAt logs.old.items logs.new.items number (λ was is. ActsBy result was is pool.old.messages pool.new.messages
-        (log_delivered pool.old.messages message number was)) }
-{
-    log_there_takes(alloc, pool, &mut logs[number as usize], message, number)
-}
-
-/// An authority that is honest takes a message of the pool.
-fn authority_there_takes<C: OwnerCheck>(
-    alloc: Global,
-    pool: &mut Pool,
-    slot: &mut Option<HonestAuthority<C>>,
-    message: u64,
-    number: u16,
-) -> Result<Items<Happening>, WorldFault>
-    requires { is_some slot.old ≡ true }
-    ensures { ChangesThere slot.old slot.new (λ was is. ActsBySome result was is pool.old.messages pool.new.messages
-        (λ says. authority_delivered says pool.old.messages message number was)) }
-{
-    match slot {
-        Some(node) => authority_takes(alloc, pool, node, message, number),
-        None => unreachable!(),
-    }
-}
-
-/// The authority with a number, which is honest, takes a message of the pool.
-#[tactic(auto, using(crate::proofs::Seats::seats))]
-fn authorities_take<C: OwnerCheck>(
-    alloc: Global,
-    pool: &mut Pool,
-    authorities: &mut Vec<Option<HonestAuthority<C>>>,
-    message: u64,
-    number: u16,
-) -> Result<Items<Happening>, WorldFault>
-    requires { is_some (honest_in authorities.old.items number) ≡ true }
-    ensures { ChangesAt authorities.old.items authorities.new.items number (λ was is. ActsBySome result was is pool.old.messages pool.new.messages
-        (λ says. authority_delivered says pool.old.messages message number was)) }
-{
-    authority_there_takes(
-        alloc,
-        pool,
-        &mut authorities[number as usize],
-        message,
-        number,
-    )
-}
 
 /// Whether the party sent the message.
 fn is_sender(from: Option<Party>, who: Party) -> bool

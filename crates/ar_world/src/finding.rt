@@ -1,32 +1,17 @@
 //! What the words of a line name.
 
-ghost use Rattle.std.specs.Prelude.{◌≡◌, ◌&&◌, nat_lt, is_some, find, position};
+ghost use Rattle.std.specs.Prelude.{◌≡◌, ◌&&◌, nat_lt};
 ghost use Rattle.std.specs.List.{list_all};
 ghost use Rattle.std.specs.Option.{option_copied};
-ghost use Rattle.ar_world.specs.Finding.{draft_at, existing, is_owner, is_there, known_asks, room};
+ghost use Rattle.ar_world.specs.Finding.{draft_at, existing, is_there, known_asks, room};
 
 use crate::drafted::Drafted;
-use crate::fault::WorldFault;
-use crate::pool::numbered;
 use crate::world::World;
+use ar_nodes::finding::has_owner;
+use ar_nodes::{WorldFault, numbered};
 use ar_statement::Role;
 use owner_check::OwnerCheck;
 use owner_core::Owner;
-
-/// The place of the owner with this number.
-pub(crate) fn owner_place(owners: &[Owner], number: u16) -> Option<usize>
-    ensures { result ≡ position (is_owner number) owners.now }
-{
-    owners.iter().position(|owner| owner.number() == number)
-}
-
-/// Whether an owner has this number.
-#[tactic(auto, using(crate::proofs::Found::owner_known))]
-pub(crate) fn has_owner(owners: &[Owner], number: u16) -> bool
-    ensures { result ≡ is_some (find (is_owner number) owners.now) }
-{
-    owner_place(owners, number).is_some()
-}
 
 /// Whether all numbers are below this one, and have two bytes.
 fn all_below(numbers: &[u64], count: usize) -> bool

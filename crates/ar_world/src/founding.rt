@@ -3,20 +3,18 @@
 ghost use Rattle.std.specs.Prelude.{◌≡◌, ◌≤◌, ◌<◌, [], ◌∷◌, ◌++◌, length, slice_set, true, vec_len, vec_capacity, Ok, None, Some, IfSome, MatchOption, option_and_then};
 ghost use Rattle.ar_statement.specs.declared.party.Role.TheVariants.{Authority, LogServer};
 ghost use Rattle.report_text.specs.declared.happening.Happening.TheVariants.{Dishonest};
-ghost use Rattle.ar_world.specs.Finding.{honest_in};
-ghost use Rattle.ar_world.specs.Founded.{AreOwn, with_parties};
-ghost use Rattle.ar_world.specs.Founding.{authorities_line, dishonest_line, first_key, keys_line, led_to, logs_line, may_come, secret_line};
+ghost use Rattle.ar_nodes.specs.Finding.{honest_in};
+ghost use Rattle.ar_founding.specs.Founded.{AreOwn};
+ghost use Rattle.ar_world.specs.Founding.{authorities_line, dishonest_line, keys_line, led_to, logs_line, may_come, secret_line, with_parties};
+ghost use Rattle.ar_founding.specs.FirstKeys.{first_key};
 ghost use Rattle.ar_world.specs.Step.{StepsBy};
 ghost use Rattle.ar_world.specs.declared.phase.Phase.TheVariants as phase;
 
-use crate::fault::WorldFault;
-use crate::first_keys::{FirstKeys, make_first_keys};
-use crate::founded::{Founded, found};
-use crate::joined::{join_authorities, join_logs};
-use crate::parties::{Forger, HonestAuthority, HonestLog};
 use crate::phase::Phase;
 use crate::world::World;
 use ar_base::Items;
+use ar_founding::{FirstKeys, Founded, found, join_authorities, join_logs, make_first_keys};
+use ar_nodes::{Forger, HonestAuthority, HonestLog, WorldFault};
 use ar_statement::{Party, Role};
 use lm_ots::OtsType;
 use lms_tree::{LmsKey, type_to_make};

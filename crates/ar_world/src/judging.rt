@@ -8,12 +8,11 @@ ghost use Rattle.ar_world.specs.Judging.{accepted_with, is_accepted, is_to_clien
 ghost use Rattle.ar_world.specs.Step.{StepsBy};
 
 use crate::drafted::Judged;
-use crate::fault::WorldFault;
-use crate::pool::Pooled;
-use crate::sending::tell;
 use crate::world::World;
 use ar_base::Items;
 use ar_names::{Name, NameView};
+use ar_nodes::sending::tell;
+use ar_nodes::{Pooled, WorldFault};
 use ar_statement::Role;
 use client_rule::Judgement;
 use owner_check::OwnerCheck;

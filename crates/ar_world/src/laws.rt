@@ -5,14 +5,14 @@ ghost use Rattle.script_text.specs.declared.line.Line.{Line};
 ghost use Rattle.ar_world.specs.Examples.{no_logs, told_twice, too_early, unread};
 ghost use Rattle.ar_world.specs.Finding.{log_at, message_at};
 ghost use Rattle.ar_world.specs.Founding.{place_of};
-ghost use Rattle.ar_world.specs.Parties.{CheckParts, LogNode};
-ghost use Rattle.ar_world.specs.Pool.{Pooled, entries_from};
+ghost use Rattle.ar_nodes.specs.Parties.{CheckParts, LogNode};
+ghost use Rattle.ar_nodes.specs.Pool.{Pooled, entries_from};
 ghost use Rattle.ar_world.specs.Printed.{Tells, entries_in};
 ghost use Rattle.ar_world.specs.Records.{bytes_at, held_of, taken_at};
 ghost use Rattle.ar_world.specs.Run.{Saying, lines_of_run, run};
 ghost use Rattle.ar_world.specs.State.{World, first_world, no_directory};
 ghost use Rattle.ar_world.specs.Step.{leads_to, step};
-ghost use Rattle.ar_world.specs.declared.fault.WorldFault.TheVariants.{Order};
+ghost use Rattle.ar_nodes.specs.declared.fault.WorldFault.TheVariants.{Order};
 ghost use Rattle.ar_world.specs.declared.phase.Phase.{Phase};
 ghost use Rattle.ar_world.specs.declared.phase.Phase.TheVariants.{Running};
 

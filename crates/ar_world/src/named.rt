@@ -2,11 +2,12 @@
 
 ghost use Rattle.std.specs.Prelude.{◌≡◌, ◌+◌, ◌<◌, length, position, true, IfOk, IfErr, IfSome, OnOk, Err, Some};
 ghost use Rattle.std.specs.Result.{is_ok};
-ghost use Rattle.ar_world.specs.Finding.{draft_at, is_owner, named, owner_at};
+ghost use Rattle.ar_world.specs.Finding.{draft_at, owner_at};
+ghost use Rattle.ar_nodes.specs.Finding.{is_owner, named};
 
-use crate::fault::WorldFault;
-use crate::finding::owner_place;
 use crate::world::World;
+use ar_nodes::WorldFault;
+use ar_nodes::finding::owner_place;
 use owner_check::OwnerCheck;
 
 impl<C: OwnerCheck> World<C> {
@@ -21,7 +22,7 @@ impl<C: OwnerCheck> World<C> {
     }
 
     /// The place of the owner with this number, which the word with that number names.
-    #[tactic(auto, using(crate::proofs::Found::found_owners, crate::proofs::Refused::names_owner))]
+    #[tactic(auto, using(ar_nodes::proofs::Found::found_owners, crate::proofs::Refused::names_owner))]
     pub(crate) fn owner_named(&self, word: usize, number: u16) -> Result<usize, WorldFault>
         ensures place { IfOk result (λ place. position (is_owner number) self.now.owners ≡ Some place) }
         ensures within { IfOk result (λ place. place < length self.now.owners) }

@@ -3,11 +3,11 @@
 ghost use Rattle.std.specs.Prelude.{◌≡◌, ◌<◌, ◌≤◌, ◌^◌, length, true, All, IfOk, IfErr, OnOk, Ok, Err};
 ghost use Rattle.std.specs.Result.{is_ok};
 ghost use Rattle.ar_world.specs.Drafting.{ascend, may_wait, policy_of, terms_of};
-ghost use Rattle.ar_world.specs.Finding.{named};
+ghost use Rattle.ar_nodes.specs.Finding.{named};
 
-use crate::fault::WorldFault;
 use ar_base::Items;
 use ar_cert::Policy;
+use ar_nodes::WorldFault;
 use script_text::{Numbers, PolicyWords};
 use std::alloc::{AllocError, Global};
 

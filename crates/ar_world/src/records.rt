@@ -10,9 +10,9 @@ ghost use Rattle.ar_world.specs.Records.{HasParties, AuthorityKeepsRecord, LogKe
 
 use crate::drafted::Judged;
 use crate::order::place_of;
-use crate::parties::{Forger, HonestAuthority, HonestLog};
 use crate::world::World;
 use ar_bytes::are_bytes;
+use ar_nodes::{Forger, HonestAuthority, HonestLog};
 use ar_statement::{Party, SeenText};
 use authority_core::AuthorityRecord;
 use epoch_log::Record;

@@ -6,11 +6,11 @@ ghost use Rattle.ar_world.specs.Founding.{in_order, led_to, may_come, place_of};
 ghost use Rattle.ar_world.specs.Step.{StepsBy, StepsBySome, effect, leads_to, step};
 ghost use Rattle.ar_world.specs.declared.phase.Phase.TheVariants as phases;
 
-use crate::fault::WorldFault;
 use crate::order::{leads_to, may_come};
 use crate::phase::Phase;
 use crate::world::World;
 use ar_base::Items;
+use ar_nodes::WorldFault;
 use ar_statement::Party;
 use owner_check::OwnerCheck;
 use report_text::Happening;

@@ -1,114 +1,24 @@
 //! The lines on what becomes of drafts.
 
-ghost use Rattle.std.specs.Prelude.{◌≡◌, ◌≢◌, ◌<◌, ◌+◌, ◌^◌, ◌∷◌, [], length, position, slice_index_or, vec_capacity, IfOk, IfErr, OnOk, Ok, Err, Some, None};
-ghost use Rattle.ar_base.specs.Gives.{with_error};
+ghost use Rattle.std.specs.Prelude.{◌≡◌, ◌<◌, ◌+◌, ◌^◌, length, position, slice_index_or, IfOk, IfErr, OnOk, Ok, Err, Some};
 ghost use Rattle.ar_cert.specs.Certificate.{digest_of};
-ghost use Rattle.owner_core.specs.Rows.{handover_row, object_row, submit_row};
+ghost use Rattle.owner_core.specs.Rows.{handover_row};
 ghost use Rattle.owner_core.specs.State.{Owner as OwnerState};
-ghost use Rattle.owner_core.specs.declared.refusal.OwnerRefusal.TheVariants as refusals;
-ghost use Rattle.report_text.specs.declared.happening.Happening.TheVariants.{Step};
-ghost use Rattle.report_text.specs.declared.happening.What.TheVariants.{Object, Submit};
-ghost use Rattle.ar_world.specs.Acting.{ActsBy, acted, owner_does};
-ghost use Rattle.ar_world.specs.Codes.{owner_code};
-ghost use Rattle.ar_world.specs.Finding.{is_owner, owner_at, room};
-ghost use Rattle.ar_world.specs.Owning.{owner_party};
+ghost use Rattle.ar_nodes.specs.Finding.{is_owner};
+ghost use Rattle.ar_world.specs.Finding.{owner_at, room};
 ghost use Rattle.ar_world.specs.State.{Drafted as DraftParts};
 ghost use Rattle.ar_world.specs.Step.{StepsBy};
 ghost use Rattle.ar_world.specs.Submitting.{attached_by, handed, handover_line, object_line, submit_line};
-ghost use Rattle.ar_world.specs.declared.fault.WorldFault.TheVariants.{Memory};
 
-use crate::codes::owner_code;
-use crate::fault::WorldFault;
-use crate::owners;
-use crate::pool::Pool;
-use crate::replying::tell;
-use crate::sending::{refuses, reserve, say};
 use crate::world::World;
 use ar_base::Items;
-use ar_cert::Cert;
-use ar_statement::{Party, Role};
+use ar_nodes::WorldFault;
+use ar_nodes::submitting::{objected, refused, submitted, took};
+use ar_statement::Role;
 use owner_check::OwnerCheck;
 use owner_core::{Owner, OwnerRefusal};
 use report_text::{Happening, What};
 use std::alloc::Global;
-
-// ---- what is told of an owner
-
-/// That an owner refused is told, unless memory was wanting.
-fn refused(
-    said: Vec<Happening>,
-    owner: Party,
-    what: What,
-    refusal: OwnerRefusal,
-) -> Result<Items<Happening>, WorldFault>
-    requires none { said.items ≡ [] }
-    requires one { 0 < vec_capacity said }
-    ensures ok { IfOk result (λ told. (told ≡ Step owner what (Some (owner_code refusal)) ∷ []) × (refusal ≢ refusals.Memory)) }
-    ensures err { IfErr result (λ fault. (fault ≡ Memory) × (refusal ≡ refusals.Memory)) }
-{
-    let mut said = said;
-    match refusal {
-        OwnerRefusal::Memory => Err(WorldFault::Memory),
-        _ => {
-            refuses(&mut said, owner, what, owner_code(refusal));
-            Ok(Items::from_vec(said))
-        }
-    }
-}
-
-/// That an owner did something is told.
-fn took(said: Vec<Happening>, owner: Party, what: What) -> Items<Happening>
-    requires none { said.items ≡ [] }
-    requires one { 0 < vec_capacity said }
-    ensures { result ≡ Step owner what None ∷ [] }
-{
-    let mut said = said;
-    let step = Happening::Step {
-        party: owner,
-        what,
-        refused: None,
-    };
-    say(&mut said, step);
-    Items::from_vec(said)
-}
-
-// ---- what an owner does
-
-/// An owner objects to a certificate, and this is told.
-fn objected(
-    alloc: Global,
-    owner: &mut Owner,
-    pool: &mut Pool,
-    number: u16,
-    draft: u64,
-    cert: &Cert,
-) -> Result<Items<Happening>, WorldFault>
-    ensures { ActsBy result owner.old owner.new pool.old.messages pool.new.messages
-        (acted pool.old.messages (owner_party number) (Object draft) (owner_does owner.old (object_row owner.old cert.now))) }
-{
-    let said = reserve(alloc, pool, 1)?;
-    let reply = owners::object(alloc, owner, cert)?;
-    let party = Role::Owner.party(number);
-    Ok(tell(alloc, pool, said, party, What::Object(draft), reply))
-}
-
-/// An owner submits its draft with this certificate, and this is told.
-fn submitted(
-    alloc: Global,
-    owner: &Owner,
-    pool: &mut Pool,
-    number: u16,
-    draft: u64,
-    cert: &Cert,
-) -> Result<Items<Happening>, WorldFault>
-    ensures { ActsBy result owner.now owner.now pool.old.messages pool.new.messages
-        (acted pool.old.messages (owner_party number) (Submit draft) (owner.now, with_error owner_code (submit_row owner.now (digest_of cert.now)))) }
-{
-    let said = reserve(alloc, pool, 1)?;
-    let reply = owners::submit(alloc, owner, cert)?;
-    let party = Role::Owner.party(number);
-    Ok(tell(alloc, pool, said, party, What::Submit(draft), reply))
-}
 
 impl<C: OwnerCheck> World<C> {
     // ---- `object`

@@ -2,32 +2,19 @@
 
 ghost use Rattle.std.specs.Prelude.{◌≡◌, [], length};
 ghost use Rattle.std.specs.Option.{option_copied, option_map};
-ghost use Rattle.ar_world.specs.Parties.{checks_told};
+ghost use Rattle.ar_nodes.specs.Parties.{checks_told};
 ghost use Rattle.ar_world.specs.Records.{bytes_at, taken_at};
 ghost use Rattle.ar_world.specs.State.{first_world};
 
 use crate::drafted::{Drafted, Judged};
-use crate::event::LogEvent;
-use crate::first_keys::FirstKeys;
-use crate::parties::{Forger, HonestAuthority, HonestLog};
 use crate::phase::Phase;
-use crate::pool::Pool;
-use crate::setup::Setup;
+use ar_founding::{Directories, FirstKeys, Setup};
+use ar_nodes::{Forger, HonestAuthority, HonestLog, LogEvent, Pool};
 use ar_statement::SeenText;
 use owner_check::OwnerCheck;
 use owner_core::Owner;
-use party_keys::Directory;
 use std::alloc::Global;
 use std::marker::Model;
-
-/// What parties know of the keys of logs and authorities.
-#[derive(Drop)]
-pub(crate) struct Directories {
-    /// The first keys, with which each party begins.
-    pub(crate) genesis: Directory,
-    /// The clients' own, which all clients share.
-    pub(crate) clients: Directory,
-}
 
 /// All parties and the pool of messages, which the lines of a script move.
 ///
@@ -57,7 +44,7 @@ pub struct World<C: OwnerCheck> {
 // Clauses see the world as plain data.
 impl<C: OwnerCheck> Model for World<C> {
     ghost use Rattle.ar_world.specs.Kept.{IsKeptWorld, clients_in, genesis_in};
-    ghost use Rattle.ar_world.specs.Parties.{checks_told};
+    ghost use Rattle.ar_nodes.specs.Parties.{checks_told};
     ghost use Rattle.ar_world.specs.State.{World as State};
 
     ghost Value = { State };

@@ -14,7 +14,7 @@ use Rattle.ar_run.specs.Writing.{Writes}
 use Rattle.ar_run.specs.declared.fault.Fault.{Fault}
 use Rattle.ar_run.specs.declared.fault.Fault.TheVariants as fault
 use Rattle.owner_check.specs.declared.answer.Outcome.TheVariants.{Failed}
-use Rattle.ar_world.specs.Parties.{CheckParts}
+use Rattle.ar_nodes.specs.Parties.{CheckParts}
 use Rattle.ar_world.specs.Run.{Saying, run}
 use Rattle.run_safety.specs.Headline.{IsSafeRun}
 use Rattle.script_play.specs.Playing as playing

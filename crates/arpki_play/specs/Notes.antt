@@ -5,7 +5,7 @@ use Rattle.party_keys.specs.Directory.{Directory}
 use Rattle.party_keys.specs.Learning.{Announced, learned, learning}
 use Rattle.party_keys.specs.declared.fault.LearnFault.{LearnFault}
 use Rattle.party_keys.specs.declared.learning.Learned.{Learned}
-use Rattle.ar_world.specs.Learning.{note_of}
+use Rattle.client_rule.specs.Notes.{note_of}
 
 -- the directory behind what it learnt, new or again
 abbrev pub if_learned : Result Learned LearnFault → Directory → Announced → Option Directory

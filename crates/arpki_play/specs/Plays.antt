@@ -5,7 +5,7 @@ use Rattle.hex.specs.Hex.{encode_lower}
 use Rattle.sha2.specs.Sha256.{sha256}
 use Rattle.ar_run.specs.Answers.{Answer}
 use Rattle.ar_run.specs.Runs.{most_bytes}
-use Rattle.ar_world.specs.Parties.{CheckParts}
+use Rattle.ar_nodes.specs.Parties.{CheckParts}
 use Rattle.ar_world.specs.Run as world
 use Rattle.script_make.specs.Script.{last_epoch, script}
 use Rattle.ar_world.specs.declared.cause.Cause.{Cause}

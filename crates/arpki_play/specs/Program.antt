@@ -5,7 +5,7 @@ use Rattle.ar_io.specs.Wrote.{Appended, AppendedFront, Unchanged}
 use Rattle.ar_run.specs.Answers.{Answer, written_of}
 use Rattle.ar_run.specs.Runs as runs
 use Rattle.ar_run.specs.declared.fault.Fault.{Fault}
-use Rattle.ar_world.specs.Parties.{CheckParts}
+use Rattle.ar_nodes.specs.Parties.{CheckParts}
 use Rattle.ar_world.specs.Run.{Saying, run}
 use Rattle.run_safety.specs.Headline.{IsSafeRun}
 use Rattle.script_make.specs.Script.{script}

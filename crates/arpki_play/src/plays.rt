@@ -5,7 +5,7 @@ ghost use Rattle.ar_base.specs.Faults.{HasRisen};
 ghost use Rattle.ar_io.specs.Wrote.{AppendedFront, Unchanged};
 ghost use Rattle.ar_run.specs.Answers.{written_of};
 ghost use Rattle.ar_run.specs.Runs.{IsInput, TakesAtMost, most_bytes};
-ghost use Rattle.ar_world.specs.Parties.{CheckParts, checks_told};
+ghost use Rattle.ar_nodes.specs.Parties.{CheckParts, checks_told};
 ghost use Rattle.ar_world.specs.Run.{Saying};
 ghost use Rattle.script_make.specs.Script.{script};
 ghost use Rattle.arpki_play.specs.Plays.{made_answer, run_status, summary_line, summed};

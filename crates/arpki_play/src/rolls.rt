@@ -4,7 +4,7 @@ ghost use Rattle.arpki_play.specs.Inquiries.{learnt_of_hex, most_rolls, roll_at,
 ghost use Rattle.arpki_play.specs.Notes.{learnt_by, learnt_from};
 
 use ar_lines::{LineFault, Lines, Word};
-use ar_world::RollNote;
+use client_rule::RollNote;
 use party_keys::{Directory, LearnFault, Learned};
 use std::alloc::{AllocError, Global};
 

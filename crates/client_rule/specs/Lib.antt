@@ -1,3 +1,4 @@
 pub mod Meaning
+pub mod Notes
 pub mod Rule
 pub mod Views

@@ -17,7 +17,9 @@
 mod checks;
 mod judgement;
 pub mod laws;
+mod note;
 mod shown;
 
 pub use ar_message::ConfView;
 pub use judgement::{Judgement, judge};
+pub use note::RollNote;

@@ -22,12 +22,12 @@ use Rattle.ar_council.specs.Room.{HasRoom}
 use Rattle.ar_council.specs.Seen.{seen_after, seen_of}
 use Rattle.ar_council.specs.Values.{IsValue, status_claim, vote_claim}
 use Rattle.ar_council.specs.Votes.{SawVotes}
-use Rattle.epoch_log.specs.Calls.{AreEndorsers, IsProposed, IsTurn, MayDecide, MaySkip, MayState, MayVote, SignedStatus, after_ballot, after_decide, after_endorsed, after_learn, after_propose, after_skip, after_state, after_status_seen, after_vote, casting, counting_own, decision_seen, endorsements_of, fresh, is_turn, own_status_text, own_value, own_vote_text, plain_statuses, proposal_of, proposal_texts, propose_claim, proposing, seeing, stating, statuses_seen, vote_of, votes_seen}
+use Rattle.epoch_log.specs.Calls.{AreEndorsers, IsProposed, IsTurn, MayDecide, MaySkip, MayState, MayVote, SignedStatus, after_ballot, after_decide, after_endorsed, after_learn, after_propose, after_skip, after_state, after_status_seen, after_vote, casting, counting_own, decision_seen, endorsements_of, fresh, is_turn, own_status_text, own_value, own_vote_text, proposal_of, proposal_texts, propose_claim, proposing, seeing, stating, statuses_seen, vote_of, votes_seen}
 use Rattle.epoch_log.specs.Ending.{decided, may_end, skipped}
 use Rattle.epoch_log.specs.Plans.{with_ballot, with_report}
 use Rattle.epoch_log.specs.Record.{current, ending}
 use Rattle.epoch_log.specs.Right.{LeadsTo, SawEndorsements}
-use Rattle.epoch_log.specs.State.{IsKept, LogState, epoch_of, table_of}
+use Rattle.epoch_log.specs.State.{IsKept, LogState, epoch_of, reports_of, table_of}
 use Rattle.epoch_log.specs.declared.entries.Closing.{Closing}
 use Rattle.epoch_log.specs.declared.entries.Closing.TheVariants as closings
 use Rattle.epoch_log.proofs.Acting.{kept-casting, kept-proposing, kept-stating, own-value}
@@ -207,7 +207,7 @@ kept-skip s statuses kept may = by (may_end s.past) refl
     later = seen_after s.past.seen more
 
     logs-below : All (λ (x : SignedStatus). x.0 < s.council.logs) statuses
-    logs-below = All-unmap (λ (x : Status). x.0 < s.council.logs) (λ (x : SignedStatus). (x.0, x.1)) statuses (All-unmap (λ log. log < s.council.logs) (λ (x : Status). x.0) (plain_statuses statuses) may.of_logs.below)
+    logs-below = All-unmap (λ (x : Status). x.0 < s.council.logs) (λ (x : SignedStatus). (x.0, x.1)) statuses (All-unmap (λ log. log < s.council.logs) (λ (x : Status). x.0) (reports_of statuses) may.of_logs.below)
 
     saw : IsKept (seeing s more)
     saw = kept-seeing s more kept (All-map (λ (t : SeenText). IsMember s.council t.party) (λ (x : SignedStatus). seen_of (log_party x.0) (status_claim x.0 (epoch_of s) x.1)) statuses logs-below)
@@ -215,8 +215,8 @@ kept-skip s statuses kept may = by (may_end s.past) refl
     statuses-saw : All (λ (x : SignedStatus). Saw later (log_party x.0) (status_claim x.0 (epoch_of s) x.1)) statuses
     statuses-saw = All-unmap (Contains later) (λ (x : SignedStatus). seen_of (log_party x.0) (status_claim x.0 (epoch_of s) x.1)) statuses (seen-has more s.past.seen)
 
-    by : (b : Bool) → may_end s.past ≡ b → IsKept (cond b (skipped (seeing s more) (plain_statuses statuses)) (seeing s more))
-    by true room = kept-skipped (seeing s more) (plain_statuses statuses) saw (ltb-true (current s.past.ended) (2 ^ 63) room)
+    by : (b : Bool) → may_end s.past ≡ b → IsKept (cond b (skipped (seeing s more) (reports_of statuses)) (seeing s more))
+    by true room = kept-skipped (seeing s more) (reports_of statuses) saw (ltb-true (current s.past.ended) (2 ^ 63) room)
         (record {
           are_seen = record {
             of_logs = may.of_logs;

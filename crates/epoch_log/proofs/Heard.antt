@@ -9,11 +9,11 @@ use Rattle.domain_table.specs.Applying.{apply}
 use Rattle.domain_table.specs.Sound.{IsSound}
 use Rattle.domain_table.specs.Tables.{Table}
 use Rattle.domain_table.specs.Tree.{root_of}
-use Rattle.epoch_log.specs.Calls.{SignedStatus, after_decide, after_skip, decision_seen, plain_statuses, seeing, statuses_seen}
+use Rattle.epoch_log.specs.Calls.{SignedStatus, after_decide, after_skip, decision_seen, seeing, statuses_seen}
 use Rattle.epoch_log.specs.Ending.{decided, may_end, skipped}
 use Rattle.epoch_log.specs.Honest.{EndsInOrder}
 use Rattle.epoch_log.specs.Log.{IsLog, LogParts, moved, parts_of, state_in}
-use Rattle.epoch_log.specs.State.{IsKept, LogState, epoch_of, table_of}
+use Rattle.epoch_log.specs.State.{IsKept, LogState, epoch_of, reports_of, table_of}
 use Rattle.epoch_log.specs.Telling.{CanDecide, CanSkip, IsTableBehind, signed_votes}
 use Rattle.epoch_log.specs.declared.parts.Parts.{Parts}
 use Rattle.epoch_log.proofs.Applying.{sound-applied}
@@ -29,12 +29,12 @@ table-skip s statuses order = by (may_end s.past)
     saw : LogState
     saw = seeing s (statuses_seen (epoch_of s) statuses)
 
-    by : (b : Bool) → table_of (cond b (skipped saw (plain_statuses statuses)) saw) ≡ table_of s
-    by true = table-skipped saw (plain_statuses statuses) order
+    by : (b : Bool) → table_of (cond b (skipped saw (reports_of statuses)) saw) ≡ table_of s
+    by true = table-skipped saw (reports_of statuses) order
     by false = refl
 
 pub log-skip : (p q : Parts) (statuses : List SignedStatus) → parts_of q ≡ moved (parts_of p) (after_skip (state_in p) statuses) → q.table ≡ p.table → IsLog p
-    → CanSkip (state_in p) statuses → All (λ (s : Status). IfSome s.1 IsValue) (plain_statuses statuses) → IsLog q
+    → CanSkip (state_in p) statuses → All (λ (s : Status). IfSome s.1 IsValue) (reports_of statuses) → IsLog q
 log-skip p q statuses there same log can told =
     log-moved p q (after_skip (state_in p) statuses) there same log
     (kept-skip (state_in p) statuses log.kept (record { of_logs = can.of_logs; values = told; excludes = can.excludes }))

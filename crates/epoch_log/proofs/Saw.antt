@@ -8,7 +8,7 @@ use Rattle.ar_council.specs.Values.{status_claim, vote_claim}
 use Rattle.party_keys.specs.Seen.{log_party}
 use Rattle.ar_statement.specs.declared.text.SeenText.{SeenText}
 use Rattle.vote_quorum.specs.declared.value.Value.{Value}
-use Rattle.epoch_log.specs.Calls.{SignedStatus, after_ballot, after_decide, after_propose, after_skip, after_state, after_status_seen, casting, counting_own, decision_seen, is_turn, own_value, plain_statuses, proposing, seeing, stating, statuses_seen, vote_of}
+use Rattle.epoch_log.specs.Calls.{SignedStatus, after_ballot, after_decide, after_propose, after_skip, after_state, after_status_seen, casting, counting_own, decision_seen, is_turn, own_value, proposing, seeing, stating, statuses_seen, vote_of}
 use Rattle.epoch_log.specs.Ending.{closed, closed_by, closed_by_statuses, decided, excludes_all, has_quorum, may_end, own_vote, skipped, votes_for}
 use Rattle.epoch_log.specs.Plans.{with_ballot, with_report}
 use Rattle.epoch_log.specs.State.{LogState, SeesMore, epoch_of, reports_of}
@@ -85,6 +85,6 @@ skip-more s statuses = by (may_end s.past)
     saw : LogState
     saw = seeing s (statuses_seen (epoch_of s) statuses)
 
-    by : (b : Bool) → SeesMore s (cond b (skipped saw (plain_statuses statuses)) saw)
+    by : (b : Bool) → SeesMore s (cond b (skipped saw (reports_of statuses)) saw)
     by true = seeing-more s (statuses_seen (epoch_of s) statuses)
     by false = seeing-more s (statuses_seen (epoch_of s) statuses)

@@ -23,7 +23,7 @@ use Rattle.ar_council.specs.Values.{IsValue, confirm_claim, is_same_digest, stat
 use Rattle.ar_council.specs.Seen.{seen_after, seen_of}
 use Rattle.epoch_log.specs.Ending.{closed, decided, may_end, own_vote, skipped}
 use Rattle.epoch_log.specs.Right.{AppliesTo, newest_digest}
-use Rattle.epoch_log.specs.State.{CountedStatus, CountedVote, LogState, ballots_of, epoch_of, table_of}
+use Rattle.epoch_log.specs.State.{CountedStatus, CountedVote, LogState, ballots_of, epoch_of, reports_of, table_of}
 use Rattle.epoch_log.specs.Told.{value_of}
 use Rattle.epoch_log.specs.declared.entries.Closing.{Closing}
 use Rattle.epoch_log.specs.declared.entries.Closing.TheVariants as closings
@@ -224,25 +224,21 @@ after_decide s value changes votes =
 abbrev pub SignedStatus : Type 0
 SignedStatus = ℕ × Option Value × List ℕ
 
--- the same without the signatures
-abbrev pub plain_statuses : List SignedStatus → List Status
-plain_statuses statuses = map (λ s. (s.0, s.1)) statuses
-
 -- statuses of the current epoch, as they are seen
 abbrev pub statuses_seen : ℕ → List SignedStatus → List SeenText
 statuses_seen epoch statuses = map (λ s. seen_of (log_party s.0) (status_claim s.0 epoch s.1)) statuses
 
 -- the log may end the epoch as skipped: statuses of different logs exclude each root
 pub record MaySkip (s : LogState) (statuses : List SignedStatus) : Type 0 where
-  pub of_logs : AreStatuses s.council.logs (plain_statuses statuses)
-  pub values : All (λ s. IfSome s.1 IsValue) (plain_statuses statuses)
-  pub excludes : Excludes s.council.logs s.council.quorum (plain_statuses statuses)
+  pub of_logs : AreStatuses s.council.logs (reports_of statuses)
+  pub values : All (λ s. IfSome s.1 IsValue) (reports_of statuses)
+  pub excludes : Excludes s.council.logs s.council.quorum (reports_of statuses)
 
 -- the epoch ends as skipped
 abbrev pub after_skip : LogState → List SignedStatus → LogState
 after_skip s statuses =
     if may_end s.past
-    then skipped (seeing s (statuses_seen (epoch_of s) statuses)) (plain_statuses statuses)
+    then skipped (seeing s (statuses_seen (epoch_of s) statuses)) (reports_of statuses)
     else seeing s (statuses_seen (epoch_of s) statuses)
 
 -- ---- a confirmation

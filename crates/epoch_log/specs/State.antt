@@ -49,8 +49,8 @@ table_of s = base_of s.past.ended (epoch_of s)
 abbrev pub ballots_of : List CountedVote → List Ballot
 ballots_of votes = map (λ v. (v.0, v.1)) votes
 
--- statuses without their signatures
-abbrev pub reports_of : List CountedStatus → List Status
+-- statuses without their signatures, or what else stands beside a value
+abbrev pub reports_of : {S : Type 0} → List (ℕ × Option Value × S) → List Status
 reports_of statuses = map (λ s. (s.0, s.1)) statuses
 
 -- what was decided last

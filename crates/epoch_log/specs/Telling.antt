@@ -9,9 +9,9 @@ use Rattle.domain_table.specs.Applying.{apply}
 use Rattle.domain_table.specs.Tables.{Table}
 use Rattle.domain_table.specs.Tree.{root_of}
 use Rattle.epoch_log.specs.Answers.{Reaches}
-use Rattle.epoch_log.specs.Calls.{AreEndorsers, SignedStatus, plain_statuses}
+use Rattle.epoch_log.specs.Calls.{AreEndorsers, SignedStatus}
 use Rattle.epoch_log.specs.Ending.{decided, may_end, skipped}
-use Rattle.epoch_log.specs.State.{LogState, epoch_of, table_of}
+use Rattle.epoch_log.specs.State.{LogState, epoch_of, reports_of, table_of}
 
 -- statuses of logs with their signatures
 abbrev pub statuses_in : List (ℕ × Option Value × Vec ℕ Global) → List SignedStatus
@@ -19,8 +19,8 @@ statuses_in statuses = map (λ s. (s.0, s.1, s.2.items)) statuses
 
 -- The epoch can end as skipped by these statuses: they are of different logs of the council, and exclude each root.
 pub record CanSkip (s : LogState) (statuses : List SignedStatus) : Type 0 where
-  pub of_logs : AreStatuses s.council.logs (plain_statuses statuses)
-  pub excludes : Excludes s.council.logs s.council.quorum (plain_statuses statuses)
+  pub of_logs : AreStatuses s.council.logs (reports_of statuses)
+  pub excludes : Excludes s.council.logs s.council.quorum (reports_of statuses)
 
 -- the epoch ended as skipped, unless it is the last that a statement can name
 abbrev pub skipped_if : LogState → List Status → LogState

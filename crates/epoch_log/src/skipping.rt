@@ -3,7 +3,8 @@ ghost use Rattle.std.specs.Prelude.{◌≡◌, All, IfOk, IfSome, OnOk, OnErr};
 ghost use Rattle.ar_council.specs.Seen.{seen_of};
 ghost use Rattle.ar_council.specs.Values.{IsValue, status_claim};
 ghost use Rattle.party_keys.specs.Seen.{log_party};
-ghost use Rattle.epoch_log.specs.Calls.{after_skip, plain_statuses, statuses_seen};
+ghost use Rattle.epoch_log.specs.Calls.{after_skip, statuses_seen};
+ghost use Rattle.epoch_log.specs.State.{reports_of};
 ghost use Rattle.epoch_log.specs.Log.{IsLog, moved, parts_of, state_in};
 ghost use Rattle.epoch_log.specs.Telling.{CanSkip, statuses_in};
 
@@ -15,7 +16,7 @@ use vote_quorum::Value;
 
 /// Tells a proof that the ballots that statuses report are of digests.
 fn statuses_told(statuses: &[(u16, Option<Value>, Vec<u8>)])
-    ensures { All (λ s. IfSome s.1 IsValue) (plain_statuses (statuses_in statuses.now)) }
+    ensures { All (λ s. IfSome s.1 IsValue) (reports_of (statuses_in statuses.now)) }
 {
     for status in statuses {
         ballot_told(&status.1);
@@ -27,7 +28,7 @@ fn unsigned(
     alloc: Global,
     statuses: &[(u16, Option<Value>, Vec<u8>)],
 ) -> Result<Vec<(u16, Option<Value>)>, AllocError>
-    ensures { IfOk result (λ list. list.items ≡ plain_statuses (statuses_in statuses.now)) }
+    ensures { IfOk result (λ list. list.items ≡ reports_of (statuses_in statuses.now)) }
 {
     let mut list = Vec::new(alloc);
     for status in statuses {

@@ -14,21 +14,22 @@ use Rattle.epoch_log.specs.Log.{LogParts}
 use Rattle.epoch_log.specs.State.{LogState, epoch_of}
 use Rattle.epoch_log.specs.declared.entries.Closing.{Closing}
 use Rattle.log_core.specs.Balloted.{ballot_checks, ballot_judged, ballot_reply, ballot_row}
-use Rattle.log_core.specs.Checks.{Check, by_check, first_refusal, leaves_left, not_stated}
-use Rattle.log_core.specs.Closings.{closing_drafts, closing_reply, core_after, ended_by, queue_after}
+use Rattle.log_sending.specs.Checks.{Check, first_refusal, leaves_left, not_stated}
+use Rattle.log_core.specs.Steps.{IsStep, by_check}
+use Rattle.log_sending.specs.Closings.{closing_drafts, ended_by, queue_after}
+use Rattle.log_core.specs.Replies.{closing_reply, core_after}
 use Rattle.log_core.specs.Kept.{IsKeptCore}
 use Rattle.log_core.specs.Passing.{passing_checks, passing_judged, passing_reply, passing_row, status_drafts}
-use Rattle.log_core.specs.Sending.{Composed, Draft, none_composed, sealed, unsigned_of, with_drafts}
-use Rattle.log_core.specs.Signers.{signed_by}
+use Rattle.log_sending.specs.Sending.{Composed, Draft, none_composed, sealed, unsigned_of, with_drafts}
+use Rattle.log_sending.specs.Signers.{signed_by}
 use Rattle.log_core.specs.State.{Answer, CoreState, Reply}
 use Rattle.log_core.specs.Stated.{status_checks, status_judged, status_reply, status_row}
-use Rattle.log_core.specs.Steps.{IsStep}
-use Rattle.log_core.specs.declared.refusal.LogRefusal.{LogRefusal}
-use Rattle.log_core.specs.declared.refusal.LogRefusal.TheVariants as refusals
-use Rattle.log_core.proofs.Checked.{all-hold, none-stated, same-epoch}
+use Rattle.log_sending.specs.declared.refusal.LogRefusal.{LogRefusal}
+use Rattle.log_sending.specs.declared.refusal.LogRefusal.TheVariants as refusals
+use Rattle.log_sending.proofs.Checked.{all-hold, none-stated, same-epoch}
 use Rattle.log_core.proofs.KeptRows.{of-council}
-use Rattle.log_core.proofs.Known.{first-log}
-use Rattle.log_core.proofs.Sealing.{sealed-drafts}
+use Rattle.log_sending.proofs.SignerLaws.{first-log}
+use Rattle.log_sending.proofs.Sealing.{sealed-drafts}
 
 -- a row that refuses leaves all as it was
 pub row-refused : (check : Check) (s : CoreState) (reply : Reply) (refusal : LogRefusal) → (refusal ≡ refusals.Memory) ⊎ (check ≡ Err refusal)

@@ -15,7 +15,7 @@ use Rattle.ar_council.specs.Values.{roots_of, value_of_roots}
 use Rattle.epoch_log.specs.Calls.{after_ballot, after_confirm, after_propose, after_state, after_status_seen, after_vote, is_turn, own_status_text, own_value, own_vote_text, propose_claim}
 use Rattle.epoch_log.specs.Ending.{own_vote}
 use Rattle.epoch_log.specs.State.{LogState, epoch_of, newest_value}
-use Rattle.log_core.specs.Checks.{turn_of}
+use Rattle.log_sending.specs.Checks.{turn_of}
 use Rattle.ar_message.specs.Messages.{message_in}
 use Rattle.ar_message.specs.declared.message.Message.{Message}
 use Rattle.ar_message.specs.declared.message.Message.TheVariants as messages
@@ -24,25 +24,26 @@ use Rattle.epoch_log.specs.declared.entries.Closing.{Closing}
 use Rattle.epoch_log.specs.declared.entries.Closing.TheVariants as closings
 use Rattle.epoch_log.specs.declared.entries.Newest.{Newest}
 use Rattle.log_core.specs.Balloted.{ballot_checks, ballot_reply, ballot_row}
-use Rattle.log_core.specs.Blanks.{IsDraft}
-use Rattle.log_core.specs.Closings.{changes_of_vote, closing_drafts, closing_reply, decision_drafts, ended_by, open_reply}
+use Rattle.log_sending.specs.Blanks.{IsDraft}
+use Rattle.log_sending.specs.Closings.{changes_of_vote, closing_drafts, decision_drafts, ended_by}
+use Rattle.log_core.specs.Replies.{closing_reply, open_reply}
 use Rattle.log_core.specs.Confirming.{Asked, confirm_checks, confirm_reply, confirm_row, confirmed_draft}
 use Rattle.log_core.specs.Decided.{Decision, decision_checks, decision_reply, decision_row}
 use Rattle.log_core.specs.Learning.{roll_note_checks, roll_note_reply, roll_note_row}
 use Rattle.log_core.specs.Passing.{passing_checks, passing_reply, passing_row, status_draft, status_drafts}
 use Rattle.log_core.specs.Proposed.{Proposal, ballot_draft, proposed_checks, proposed_reply, proposed_row}
-use Rattle.log_core.specs.Proposing.{proposal_draft, proposing_checks, proposing_reply, proposing_row}
+use Rattle.log_core.specs.Proposing.{proposal, proposal_draft, proposed_value, proposing_checks, proposing_reply, proposing_row}
 use Rattle.log_core.specs.Rolling.{roll_draft, rolling_checks, rolling_reply, rolling_row}
 use Rattle.log_core.specs.Row.{message_row, read_row, row}
-use Rattle.log_core.specs.Sending.{Draft}
+use Rattle.log_sending.specs.Sending.{Draft}
 use Rattle.log_core.specs.Skipped.{skip_checks, skip_reply, skip_row}
 use Rattle.log_core.specs.State.{CoreState, Input, Reply, passes, proposes, rolls, takes}
 use Rattle.log_core.specs.Stated.{status_checks, status_reply, status_row}
 use Rattle.log_core.specs.Submit.{submit_checks, submit_reply, submit_row}
-use Rattle.log_core.specs.Walk.{proposal, proposed_value}
-use Rattle.log_core.proofs.Blanks.{IsComposed, joined}
-use Rattle.log_core.proofs.Checked.{passed}
-use Rattle.log_core.proofs.Drafts.{ballot-is_draft, confirmed-is_draft, decision-is_draft, propose-draft, roll-is_draft, skip-is_draft, status-is_draft}
+use Rattle.log_sending.proofs.Blanks.{IsComposed, joined}
+use Rattle.log_core.proofs.Passed.{passed}
+use Rattle.log_sending.proofs.ZeroBytes.{ballot-is_draft, decision-is_draft, propose-draft, roll-is_draft, skip-is_draft, status-is_draft}
+use Rattle.log_core.proofs.ConfirmedDrafts.{confirmed-is_draft}
 
 -- what a reply sends is composed, with the leaves of the book behind it
 abbrev Composed : Reply → Type 0

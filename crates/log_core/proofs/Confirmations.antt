@@ -19,20 +19,20 @@ use Rattle.epoch_log.specs.Calls.{after_confirm, confirmation_text, confirmed_of
 use Rattle.epoch_log.specs.Log.{LogParts, moved}
 use Rattle.epoch_log.specs.declared.entries.Newest.{Newest}
 use Rattle.ar_council.specs.Room.{has_leaves}
-use Rattle.log_core.specs.Checks.{Check, checked, has_decision, leaves_left, unless}
-use Rattle.log_core.specs.Closings.{open_reply}
+use Rattle.log_sending.specs.Checks.{Check, book_refusal, has_decision, leaves_left, unless}
+use Rattle.log_core.specs.Steps.{IsStep, checked, given}
+use Rattle.log_core.specs.Replies.{open_reply}
 use Rattle.log_core.specs.Confirming.{Asked, confirm_reply, confirm_row, confirmation_by, confirmation_prepared, confirmed_draft, leaf_to_confirm}
 use Rattle.log_core.specs.Kept.{IsKeptCore}
-use Rattle.log_core.specs.Sendable.{AreVoices}
-use Rattle.log_core.specs.Sending.{Composed, none_composed, sealed, sent_votes, with_draft}
-use Rattle.log_core.specs.Signers.{known}
+use Rattle.log_sending.specs.Sendable.{AreVoices}
+use Rattle.log_sending.specs.Sending.{Composed, none_composed, sealed, sent_votes, with_draft}
+use Rattle.log_sending.specs.Signers.{known}
 use Rattle.log_core.specs.State.{Answer, CoreState, Reply}
-use Rattle.log_core.specs.Steps.{IsStep, book_refusal, given}
-use Rattle.log_core.specs.declared.refusal.LogRefusal.{LogRefusal}
-use Rattle.log_core.specs.declared.refusal.LogRefusal.TheVariants as refusals
+use Rattle.log_sending.specs.declared.refusal.LogRefusal.{LogRefusal}
+use Rattle.log_sending.specs.declared.refusal.LogRefusal.TheVariants as refusals
 use Rattle.log_core.proofs.KeptEndings.{kept-confirm}
-use Rattle.log_core.proofs.Sealing.{sealed-drafts}
-use Rattle.log_core.proofs.Sendable.{votes-sent}
+use Rattle.log_sending.proofs.Sealing.{sealed-drafts}
+use Rattle.log_sending.proofs.Sendable.{votes-sent}
 use Rattle.log_core.proofs.Stepping.{core-with, log-in}
 use Rattle.log_core.proofs.Submitted.{given-holds}
 

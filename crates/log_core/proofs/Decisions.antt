@@ -12,15 +12,15 @@ use Rattle.epoch_log.specs.Ending.{may_end}
 use Rattle.epoch_log.specs.Log.{LogParts, moved}
 use Rattle.epoch_log.specs.State.{LogState, epoch_of}
 use Rattle.epoch_log.specs.Telling.{CanDecide, to_root}
-use Rattle.log_core.specs.Checks.{by_check, first_refusal}
-use Rattle.log_core.specs.Closings.{still_wanted}
+use Rattle.log_core.specs.Steps.{IsStep, by_check}
+use Rattle.log_sending.specs.Checks.{first_refusal}
+use Rattle.log_sending.specs.Closings.{still_wanted}
 use Rattle.log_core.specs.Decided.{Decision, decided_epoch, decision_checks, decision_reply, decision_row, decision_state, plain_votes}
 use Rattle.log_core.specs.Kept.{IsKeptCore}
 use Rattle.log_core.specs.State.{Answer, CoreState}
-use Rattle.log_core.specs.Steps.{IsStep}
-use Rattle.log_core.specs.declared.refusal.LogRefusal.{LogRefusal}
-use Rattle.log_core.specs.declared.refusal.LogRefusal.TheVariants as refusals
-use Rattle.log_core.proofs.Checked.{all-hold}
+use Rattle.log_sending.specs.declared.refusal.LogRefusal.{LogRefusal}
+use Rattle.log_sending.specs.declared.refusal.LogRefusal.TheVariants as refusals
+use Rattle.log_sending.proofs.Checked.{all-hold}
 use Rattle.log_core.proofs.KeptEndings.{decision-may, kept-decision}
 use Rattle.log_core.proofs.Stepping.{log-in}
 

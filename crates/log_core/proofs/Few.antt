@@ -23,23 +23,24 @@ use Rattle.epoch_log.specs.declared.entries.Closing.{Closing}
 use Rattle.epoch_log.specs.declared.entries.Closing.TheVariants as closings
 use Rattle.epoch_log.specs.declared.entries.Newest.{Newest}
 use Rattle.log_core.specs.Balloted.{ballot_checks, ballot_reply, ballot_row}
-use Rattle.log_core.specs.Checks.{Check, checked}
-use Rattle.log_core.specs.Closings.{closing_drafts, closing_reply, decision_drafts}
+use Rattle.log_sending.specs.Checks.{Check}
+use Rattle.log_core.specs.Steps.{checked}
+use Rattle.log_sending.specs.Closings.{closing_drafts, decision_drafts}
+use Rattle.log_core.specs.Replies.{closing_reply}
 use Rattle.log_core.specs.Confirming.{Asked, confirm_checks, confirm_reply, confirm_row}
 use Rattle.log_core.specs.Decided.{Decision, decision_checks, decision_reply, decision_row}
 use Rattle.log_core.specs.Learning.{roll_note_checks, roll_note_reply, roll_note_row}
 use Rattle.log_core.specs.Passing.{passing_checks, passing_reply, passing_row, status_draft, status_drafts}
 use Rattle.log_core.specs.Proposed.{Proposal, proposed_checks, proposed_reply, proposed_row}
-use Rattle.log_core.specs.Proposing.{proposal_draft, proposing_checks, proposing_reply, proposing_row}
+use Rattle.log_core.specs.Proposing.{proposal, proposal_draft, proposed_value, proposing_checks, proposing_reply, proposing_row}
 use Rattle.log_core.specs.Rolling.{rolling_checks, rolling_reply, rolling_row}
 use Rattle.log_core.specs.Row.{message_row, read_row, row}
-use Rattle.log_core.specs.Sending.{Draft, letter_of}
+use Rattle.log_sending.specs.Sending.{Draft, letter_of}
 use Rattle.log_core.specs.Skipped.{skip_checks, skip_reply, skip_row}
 use Rattle.log_core.specs.State.{Answer, CoreState, Input, Reply, most_sent, passes, proposes, rolls, takes}
 use Rattle.log_core.specs.Stated.{status_checks, status_reply, status_row}
 use Rattle.log_core.specs.Submit.{submit_checks, submit_reply, submit_row}
-use Rattle.log_core.specs.Walk.{proposal, proposed_value}
-use Rattle.log_core.proofs.Checked.{passed}
+use Rattle.log_core.proofs.Passed.{passed}
 
 -- a reply sends few messages
 abbrev IsFew : Reply → Type 0

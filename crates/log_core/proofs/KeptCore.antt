@@ -20,12 +20,13 @@ use Rattle.epoch_log.specs.Told.{value_of}
 use Rattle.epoch_log.specs.declared.entries.Closing.{Closing}
 use Rattle.epoch_log.specs.declared.entries.Closing.TheVariants as closings
 use Rattle.epoch_log.specs.declared.entries.Voted.{Voted}
-use Rattle.log_core.specs.Closings.{closing_reply, core_after, open_reply, queue_after, still_wanted}
-use Rattle.log_core.specs.Sending.{Draft}
+use Rattle.log_core.specs.Replies.{closing_reply, core_after, open_reply}
+use Rattle.log_sending.specs.Closings.{queue_after, still_wanted}
+use Rattle.log_sending.specs.Sending.{Draft}
 use Rattle.log_core.specs.Kept.{IsKeptCore, WasQueued}
-use Rattle.log_core.specs.Sendable.{CanBeSent}
+use Rattle.log_sending.specs.Sendable.{CanBeSent}
 use Rattle.log_core.specs.State.{CoreState}
-use Rattle.log_core.proofs.Sendable.{closes}
+use Rattle.log_sending.proofs.Sendable.{closes}
 
 -- ---- endorsements that were seen
 

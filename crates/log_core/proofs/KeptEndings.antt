@@ -49,29 +49,31 @@ use Rattle.ar_council.specs.Values.{IsValue, value_of_roots}
 use Rattle.epoch_log.proofs.Acting.{kept-confirming, kept-rolling}
 use Rattle.epoch_log.proofs.Called.{kept-decide, kept-learn, kept-skip}
 use Rattle.epoch_log.proofs.Read.{table-skipped}
-use Rattle.epoch_log.specs.Calls.{AreEndorsers, MayDecide, MaySkip, SignedStatus, after_confirm, after_skip, confirmation_text, decision_seen, plain_statuses, seeing, statuses_seen}
+use Rattle.epoch_log.specs.Calls.{AreEndorsers, MayDecide, MaySkip, SignedStatus, after_confirm, after_skip, confirmation_text, decision_seen, seeing, statuses_seen}
 use Rattle.epoch_log.specs.Ending.{decided, may_end, skipped}
 use Rattle.epoch_log.specs.Right.{IsRightDecision, SawEndorsements}
-use Rattle.epoch_log.specs.State.{IsKept, IsNewest, IsNewestDecision, LogState, epoch_of, table_of}
+use Rattle.epoch_log.specs.State.{IsKept, IsNewest, IsNewestDecision, LogState, epoch_of, reports_of, table_of}
 use Rattle.epoch_log.specs.declared.entries.Newest.{Newest}
-use Rattle.log_core.specs.Closings.{still_wanted}
+use Rattle.log_sending.specs.Closings.{still_wanted}
 use Rattle.log_core.specs.Confirming.{Asked, confirm_checks, confirm_reply, confirm_row, confirmed_draft, leaf_to_confirm}
 use Rattle.log_core.specs.Decided.{Decision, decision_checks, decision_reply, decision_row, decision_signers, decision_state, plain_votes}
 use Rattle.log_core.specs.Learning.{is_learned, roll_note_checks, roll_note_reply, roll_note_row}
 use Rattle.log_core.specs.Row.{IsInput, message_row, read_row, row}
 use Rattle.log_core.specs.Rolling.{rolling_checks, rolling_reply, rolling_row}
-use Rattle.log_core.specs.Signers.{endorsements_in, statuses_in, votes_in}
+use Rattle.log_sending.specs.Signers.{endorsements_in, statuses_in, votes_in}
 use Rattle.log_core.specs.Skipped.{signed_statuses, skip_checks, skip_reply, skip_row}
 use Rattle.log_core.specs.Kept.{IsKeptCore, WasQueued}
 use Rattle.log_core.specs.State.{CoreState, Input, Reply, passes, proposes, rolls, takes}
-use Rattle.log_core.proofs.Ascending.{each-fits, rises}
-use Rattle.log_core.proofs.Checked.{a-quorum, its-base, none-wins, not-last, passed, room}
-use Rattle.log_core.proofs.Judged.{applied}
+use Rattle.log_sending.proofs.Ascending.{each-fits, rises}
+use Rattle.log_sending.proofs.Checked.{a-quorum, its-base, none-wins, not-last, room}
+use Rattle.log_core.proofs.Passed.{passed}
+use Rattle.log_sending.proofs.Judged.{applied}
 use Rattle.log_core.proofs.KeptCore.{core-kept, open-kept, saw-more, wanted-all, wanted-few}
 use Rattle.log_core.proofs.KeptRows.{kept-ballot_row, kept-passing, kept-proposed, kept-proposing, kept-status_row, kept-submit, of-council, root-digest}
-use Rattle.log_core.proofs.Sendable.{confirm-can, decide-can, roll-can, seeing-can, skip-can}
+use Rattle.log_sending.proofs.Sendable.{confirm-can, roll-can, seeing-can, skip-can}
+use Rattle.log_core.proofs.Decided.{decide-can}
 use Rattle.log_core.proofs.Verified.{queued-adopted, queued-learnt, verified-has}
-use Rattle.log_core.proofs.Known.{all-endorsers, each-known, split, staters, voters}
+use Rattle.log_sending.proofs.SignerLaws.{all-endorsers, each-known, split, staters, voters}
 
 abbrev KeepsReply : Reply → Type 0
 KeepsReply reply = IsKeptCore reply.after
@@ -190,11 +192,11 @@ kept-decision s d reply kept digests are votes answer = subst KeepsReply h.1 her
 -- ---- SkipNote
 
 plain-below-statuses : (n : ℕ) (statuses : List LogStatus) → AllByRecursion (λ (x : LogStatus). x.log < n) statuses
-    → AllByRecursion (λ log. log < n) (logs_of (plain_statuses (signed_statuses statuses)))
+    → AllByRecursion (λ log. log < n) (logs_of (reports_of (signed_statuses statuses)))
 plain-below-statuses n [] all = tt
 plain-below-statuses n (x ∷ statuses) all = (all.0, plain-below-statuses n statuses all.1)
 
-stated-logs : (statuses : List LogStatus) → logs_of (plain_statuses (signed_statuses statuses)) ≡ map (λ (x : LogStatus). x.log) statuses
+stated-logs : (statuses : List LogStatus) → logs_of (reports_of (signed_statuses statuses)) ≡ map (λ (x : LogStatus). x.log) statuses
 stated-logs [] = refl
 stated-logs (x ∷ statuses) = ap (λ l. x.log ∷ l) (stated-logs statuses)
 
@@ -202,7 +204,7 @@ value-digests : (value : Option (List ℕ × List ℕ)) → IfSome value AreRoot
 value-digests None are = tt
 value-digests (Some roots) are = record { base = are.0; root = are.1 }
 
-stated-values : (statuses : List LogStatus) → AllByRecursion IsStatus statuses → AllByRecursion (λ (x : Status). IfSome x.1 IsValue) (plain_statuses (signed_statuses statuses))
+stated-values : (statuses : List LogStatus) → AllByRecursion IsStatus statuses → AllByRecursion (λ (x : Status). IfSome x.1 IsValue) (reports_of (signed_statuses statuses))
 stated-values [] all = tt
 stated-values (x ∷ statuses) all = (value-digests x.value all.0.1, stated-values statuses all.1)
 
@@ -224,16 +226,16 @@ kept-skip_row s epoch statuses reply kept are answer = subst KeepsReply h.1 here
     may = record {
       of_logs = record {
         ascending = subst IsStrictlyIncreasing (sym (stated-logs statuses)) (rises (λ (x : LogStatus). x.log) IsStatus 0 statuses are.1);
-        below = of-council (λ c. All (λ log. log < c.logs) (logs_of (plain_statuses signed))) s kept
-            (All-from_recursion (λ log. log < length s.keys.logs) (logs_of (plain_statuses signed)) (plain-below-statuses (length s.keys.logs) statuses below));
+        below = of-council (λ c. All (λ log. log < c.logs) (logs_of (reports_of signed))) s kept
+            (All-from_recursion (λ log. log < length s.keys.logs) (logs_of (reports_of signed)) (plain-below-statuses (length s.keys.logs) statuses below));
       };
-      values = All-from_recursion (λ (x : Status). IfSome x.1 IsValue) (plain_statuses signed)
+      values = All-from_recursion (λ (x : Status). IfSome x.1 IsValue) (reports_of signed)
           (stated-values statuses (each-fits (λ (x : LogStatus). x.log) IsStatus 0 statuses are.1));
-      excludes = none-wins s.log.council (plain_statuses signed) h.0.1.1.0;
+      excludes = none-wins s.log.council (reports_of signed) h.0.1.1.0;
     }
 
     grows : Grows s.log (after_skip s.log signed)
-    grows = skipped-grows (may_end s.log.past) s.log (statuses_seen (epoch_of s.log) signed) (plain_statuses signed)
+    grows = skipped-grows (may_end s.log.past) s.log (statuses_seen (epoch_of s.log) signed) (reports_of signed)
 
     here : IsKeptCore (skip_reply s statuses).after
     here =
@@ -250,8 +252,8 @@ skip-leaves s epoch statuses reply kept answer =
     seen : LogState
     seen = seeing s.log (statuses_seen (epoch_of s.log) (signed_statuses statuses))
 
-    by : (b : Bool) → table_of (cond b (skipped seen (plain_statuses (signed_statuses statuses))) seen) ≡ table_of s.log
-    by true = table-skipped seen (plain_statuses (signed_statuses statuses)) kept.log.honest.ends_in_order
+    by : (b : Bool) → table_of (cond b (skipped seen (reports_of (signed_statuses statuses))) seen) ≡ table_of s.log
+    by true = table-skipped seen (reports_of (signed_statuses statuses)) kept.log.honest.ends_in_order
     by false = refl
 
 -- ---- ConfirmAsk

@@ -31,22 +31,25 @@ use Rattle.epoch_log.specs.State.{LogState, epoch_of, table_of}
 use Rattle.epoch_log.specs.declared.entries.Closing.{Closing}
 use Rattle.epoch_log.specs.declared.entries.Closing.TheVariants as closings
 use Rattle.log_core.specs.Balloted.{ballot_checks, ballot_reply, ballot_row}
-use Rattle.log_core.specs.Checks.{has_place, turn_of}
+use Rattle.log_sending.specs.Checks.{has_place, turn_of}
 use Rattle.log_core.specs.Passing.{passing_checks, passing_reply, passing_row, status_drafts}
 use Rattle.log_core.specs.Proposed.{Proposal, ballot_draft, proposal_signers, proposed_checks, proposed_reply, proposed_row}
-use Rattle.log_core.specs.Proposing.{proposal_draft, proposing_checks, proposing_reply, proposing_row}
-use Rattle.log_core.specs.Signers.{endorsements_in, signed_by}
+use Rattle.log_core.specs.Proposing.{proposal, proposal_draft, proposed_value, proposing_checks, proposing_reply, proposing_row}
+use Rattle.log_sending.specs.Signers.{endorsements_in, signed_by}
 use Rattle.log_core.specs.Stated.{status_checks, status_reply, status_row}
 use Rattle.log_core.specs.Kept.{IsKeptCore, WasQueued}
 use Rattle.log_core.specs.State.{CoreState, Reply}
-use Rattle.log_core.specs.Submit.{is_queued, queueing, submit_checks, submit_reply, submit_row}
-use Rattle.log_core.specs.Walk.{most_bytes, most_changes, proposal, proposed_value}
-use Rattle.log_core.proofs.Checked.{a-place, its-base, its-turn, none-stated, none-voted, passed, room}
-use Rattle.log_core.proofs.Judged.{applied}
+use Rattle.log_sending.specs.Queued.{is_queued}
+use Rattle.log_core.specs.Submit.{queueing, submit_checks, submit_reply, submit_row}
+use Rattle.log_sending.specs.Walk.{most_bytes, most_changes}
+use Rattle.log_sending.proofs.Checked.{a-place, its-base, its-turn, none-stated, none-voted, room}
+use Rattle.log_core.proofs.Passed.{passed}
+use Rattle.log_sending.proofs.Judged.{applied}
 use Rattle.log_core.proofs.KeptCore.{closed-kept, closed-same, closing-kept, core-kept, open-kept, saw-more}
-use Rattle.log_core.proofs.Known.{a-log, all-endorsers, each-known, first-log, its-endorsers}
-use Rattle.log_core.proofs.Sendable.{casting-can, own-can, proposing-can, seeing-can, state-can, status-can, vote-can}
-use Rattle.log_core.proofs.Walked.{proposal-fits, walk-all, walk-applies}
+use Rattle.log_sending.proofs.SignerLaws.{a-log, all-endorsers, each-known, first-log, its-endorsers}
+use Rattle.log_sending.proofs.Sendable.{casting-can, own-can, proposing-can, seeing-can, state-can, status-can, vote-can}
+use Rattle.log_core.proofs.OwnProposal.{proposal-fits}
+use Rattle.log_sending.proofs.Taken.{walk-all, walk-applies}
 
 -- a fact of the directory's council is one of the log's
 pub of-council : (P : Council → Type 0) (s : CoreState) → IsKeptCore s → P (council_of s.keys) → P s.log.council

@@ -24,7 +24,7 @@ use Rattle.lms_tree.specs.declared.public_key.LmsPublic.{LmsPublic}
 use Rattle.party_keys.specs.Learning.{Announced}
 use Rattle.party_keys.specs.Seen.{log_party}
 use Rattle.vote_quorum.specs.declared.value.Value.{Value}
-use Rattle.epoch_log.specs.Calls.{after_status_seen, casting, counting_own, confirmation_text, decision_seen, is_turn, own_status_text, own_value, own_vote_text, plain_statuses, propose_claim, proposing, seeing, stating, statuses_seen, vote_of}
+use Rattle.epoch_log.specs.Calls.{after_status_seen, casting, counting_own, confirmation_text, decision_seen, is_turn, own_status_text, own_value, own_vote_text, propose_claim, proposing, seeing, stating, statuses_seen, vote_of}
 use Rattle.epoch_log.specs.Ending.{closed, closed_by, closed_by_statuses, decided, excludes_all, has_quorum, may_end, own_vote, skipped, votes_for}
 use Rattle.epoch_log.specs.State.{LogState, epoch_of, reports_of}
 use Rattle.epoch_log.specs.Told.{value_of}
@@ -42,17 +42,17 @@ use Rattle.log_core.specs.Kept.{IsKeptCore}
 use Rattle.log_core.specs.Learning.{roll_note_checks, roll_note_reply, roll_note_row}
 use Rattle.log_core.specs.Passing.{passing_checks, passing_reply, passing_row}
 use Rattle.log_core.specs.Proposed.{Proposal, proposed_checks, proposed_reply, proposed_row}
-use Rattle.log_core.specs.Proposing.{proposing_checks, proposing_reply, proposing_row}
+use Rattle.log_core.specs.Proposing.{proposal, proposed_value, proposing_checks, proposing_reply, proposing_row}
 use Rattle.log_core.specs.Rolling.{rolling_checks, rolling_reply, rolling_row}
 use Rattle.log_core.specs.Row.{IsInput, message_row, read_row, row}
 use Rattle.log_core.specs.Skipped.{signed_statuses, skip_checks, skip_reply, skip_row}
 use Rattle.log_core.specs.State.{Answer, CoreState, Input, Reply, passes, proposes, rolls, takes}
 use Rattle.log_core.specs.Stated.{status_checks, status_reply, status_row}
-use Rattle.log_core.specs.Submit.{is_queued, queueing, submit_checks, submit_reply, submit_row}
-use Rattle.log_core.specs.Walk.{proposal, proposed_value}
-use Rattle.log_core.specs.declared.refusal.LogRefusal.{LogRefusal}
-use Rattle.log_core.proofs.Blanks.{composed-fill}
-use Rattle.log_core.proofs.Checked.{passed}
+use Rattle.log_sending.specs.Queued.{is_queued}
+use Rattle.log_core.specs.Submit.{queueing, submit_checks, submit_reply, submit_row}
+use Rattle.log_sending.specs.declared.refusal.LogRefusal.{LogRefusal}
+use Rattle.log_sending.proofs.Blanks.{composed-fill}
+use Rattle.log_core.proofs.Passed.{passed}
 use Rattle.log_core.proofs.Composed.{row-composed}
 use Rattle.log_core.proofs.KeptEndings.{kept-row}
 
@@ -199,7 +199,7 @@ skip-same s epoch statuses reply answer =
     seen : LogState
     seen = seeing s.log (statuses_seen (epoch_of s.log) (signed_statuses statuses))
 
-    by : (b : Bool) → IsSameBook s.log.past.signed (cond b (skipped seen (plain_statuses (signed_statuses statuses))) seen).past.signed
+    by : (b : Bool) → IsSameBook s.log.past.signed (cond b (skipped seen (reports_of (signed_statuses statuses))) seen).past.signed
     by true = itself s.log.past.signed
     by false = itself s.log.past.signed
 

@@ -24,22 +24,24 @@ use Rattle.epoch_log.specs.Right.{SawEndorsements}
 use Rattle.epoch_log.specs.State.{LogState, epoch_of, table_of}
 use Rattle.epoch_log.specs.declared.entries.Closing.{Closing}
 use Rattle.epoch_log.specs.declared.foreseeing.Foreseen.{Foreseen}
-use Rattle.log_core.specs.Checks.{Check, by_check, checked, first_refusal, leaves_left, turn_of}
-use Rattle.log_core.specs.Closings.{closing_drafts, closing_reply, ended_by, queue_after}
+use Rattle.log_sending.specs.Checks.{Check, first_refusal, leaves_left, turn_of}
+use Rattle.log_core.specs.Steps.{IsStep, by_check, checked, given, given_by}
+use Rattle.log_sending.specs.Closings.{closing_drafts, ended_by, queue_after}
+use Rattle.log_core.specs.Replies.{closing_reply}
 use Rattle.log_core.specs.Kept.{IsKeptCore, WasQueued}
-use Rattle.log_core.specs.Proposing.{proposal_draft, proposing_checks, proposing_judged, proposing_reply, proposing_row, turn_checks, turn_judged}
-use Rattle.log_core.specs.Sendable.{CanBeTold}
-use Rattle.log_core.specs.Sending.{Composed, Draft, none_composed, sealed, with_draft, with_drafts}
+use Rattle.log_core.specs.Proposing.{proposal, proposal_draft, proposed_value, proposing_checks, proposing_judged, proposing_reply, proposing_row, turn_checks, turn_judged}
+use Rattle.log_sending.specs.Sendable.{CanBeTold}
+use Rattle.log_sending.specs.Sending.{Composed, Draft, none_composed, sealed, with_draft, with_drafts}
 use Rattle.log_core.specs.State.{CoreState, Reply}
-use Rattle.log_core.specs.Steps.{IsStep, given, given_by}
-use Rattle.log_core.specs.Walk.{most_bytes, most_changes, proposal, proposed_value}
-use Rattle.log_core.specs.declared.refusal.LogRefusal.{LogRefusal}
-use Rattle.log_core.specs.declared.refusal.LogRefusal.TheVariants as refusals
-use Rattle.log_core.proofs.Checked.{all-hold, its-turn, none-stated, none-voted}
+use Rattle.log_sending.specs.Walk.{most_bytes, most_changes}
+use Rattle.log_sending.specs.declared.refusal.LogRefusal.{LogRefusal}
+use Rattle.log_sending.specs.declared.refusal.LogRefusal.TheVariants as refusals
+use Rattle.log_sending.proofs.Checked.{all-hold, its-turn, none-stated, none-voted}
 use Rattle.log_core.proofs.Closed.{close-step, core-of, made, row-refused}
 use Rattle.log_core.proofs.KeptRows.{kept-proposing}
-use Rattle.log_core.proofs.Sendable.{propose-can, told-can}
-use Rattle.log_core.proofs.Walked.{proposal-applies, proposal-fits, walk-all}
+use Rattle.log_sending.proofs.Sendable.{propose-can, told-can}
+use Rattle.log_core.proofs.OwnProposal.{proposal-applies, proposal-fits}
+use Rattle.log_sending.proofs.Taken.{walk-all}
 use Rattle.log_core.proofs.Submitted.{given-holds}
 
 -- ---- the checks

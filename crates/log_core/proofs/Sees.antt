@@ -24,9 +24,9 @@ use Rattle.vote_quorum.specs.declared.value.Value.{Value}
 use Rattle.ar_council.proofs.Seeing.{seen-exactly}
 use Rattle.ar_council.specs.Seen.{seen_after, seen_of}
 use Rattle.ar_council.specs.Values.{status_claim, value_of_roots, vote_claim}
-use Rattle.epoch_log.specs.Calls.{after_status_seen, casting, counting_own, counting_status, counting_vote, decision_seen, endorsements_of, is_turn, own_value, plain_statuses, proposal_of, proposing, seeing, stating, statuses_seen, vote_of, votes_seen}
+use Rattle.epoch_log.specs.Calls.{after_status_seen, casting, counting_own, counting_status, counting_vote, decision_seen, endorsements_of, is_turn, own_value, proposal_of, proposing, seeing, stating, statuses_seen, vote_of, votes_seen}
 use Rattle.epoch_log.specs.Ending.{closed, decided, may_end, skipped}
-use Rattle.epoch_log.specs.State.{LogState, epoch_of}
+use Rattle.epoch_log.specs.State.{LogState, epoch_of, reports_of}
 use Rattle.epoch_log.specs.declared.entries.Closing.{Closing}
 use Rattle.epoch_log.specs.declared.entries.Closing.TheVariants as closings
 use Rattle.epoch_log.specs.declared.entries.Newest.{Newest}
@@ -36,19 +36,20 @@ use Rattle.log_core.specs.Decided.{Decision, decision_checks, decision_reply, de
 use Rattle.log_core.specs.Learning.{roll_note_checks, roll_note_reply, roll_note_row}
 use Rattle.log_core.specs.Passing.{passing_checks, passing_reply, passing_row}
 use Rattle.log_core.specs.Proposed.{Proposal, proposal_signers, proposed_checks, proposed_reply, proposed_row}
-use Rattle.log_core.specs.Proposing.{proposing_checks, proposing_reply, proposing_row}
+use Rattle.log_core.specs.Proposing.{proposal, proposed_value, proposing_checks, proposing_reply, proposing_row}
 use Rattle.log_core.specs.Rolling.{rolling_checks, rolling_reply, rolling_row}
 use Rattle.log_core.specs.Row.{message_row, read_row, row}
 use Rattle.log_core.specs.Sees.{IsOwnOrVerified, SeesVerified}
-use Rattle.log_core.specs.Signers.{endorsements_in, signed_by, statuses_in, votes_in}
+use Rattle.log_sending.specs.Signers.{endorsements_in, signed_by, statuses_in, votes_in}
 use Rattle.log_core.specs.Skipped.{signed_statuses, skip_checks, skip_reply, skip_row}
 use Rattle.log_core.specs.State.{CoreState, Input, Reply, passes, proposes, rolls, takes}
 use Rattle.log_core.specs.Stated.{status_checks, status_reply, status_row}
-use Rattle.log_core.specs.Submit.{is_queued, queueing, submit_checks, submit_reply, submit_row}
-use Rattle.log_core.specs.Walk.{proposal, proposed_value}
-use Rattle.log_core.proofs.Checked.{passed, same-epoch}
+use Rattle.log_sending.specs.Queued.{is_queued}
+use Rattle.log_core.specs.Submit.{queueing, submit_checks, submit_reply, submit_row}
+use Rattle.log_core.proofs.Passed.{passed}
+use Rattle.log_sending.proofs.Checked.{same-epoch}
 use Rattle.log_core.proofs.KeptCore.{closed-same}
-use Rattle.log_core.proofs.Known.{split}
+use Rattle.log_sending.proofs.SignerLaws.{split}
 use Rattle.log_core.proofs.KeptEndings.{learnt-verified}
 use Rattle.log_core.proofs.Verified.{IsValidUnder, each-valid}
 
@@ -220,7 +221,7 @@ skip-sees s epoch statuses reply answer = subst (Sees s) h.1 (by (may_end s.log.
         (subst (λ n. AllByRecursion (IsOwnOrVerified s.keys s.log.me) (statuses_seen n (signed_statuses statuses))) (same-epoch s.log epoch h.0.1.0)
         (statuses-new s.keys s.log.me epoch statuses (each-valid s.keys (statuses_in epoch statuses) h.0.0)))
 
-    by : (b : Bool) → SeesVerified s.keys s.log.me s.log.past.seen (cond b (skipped (seeing s.log more) (plain_statuses (signed_statuses statuses))) (seeing s.log more)).past.seen
+    by : (b : Bool) → SeesVerified s.keys s.log.me s.log.past.seen (cond b (skipped (seeing s.log more) (reports_of (signed_statuses statuses))) (seeing s.log more)).past.seen
     by true = all
     by false = all
 

@@ -11,22 +11,23 @@ use Rattle.vote_quorum.specs.Statuses.{AreStatuses, Excludes, IsMostReported, St
 use Rattle.ar_council.specs.Council.{Council, council_of}
 use Rattle.epoch_log.proofs.Counted.{excludes-each}
 use Rattle.epoch_log.proofs.Read.{excludes-tested}
-use Rattle.epoch_log.specs.Calls.{SignedStatus, after_skip, plain_statuses}
+use Rattle.epoch_log.specs.Calls.{SignedStatus, after_skip}
+use Rattle.epoch_log.specs.State.{reports_of}
 use Rattle.epoch_log.specs.Ending.{excludes_all}
 use Rattle.epoch_log.specs.Log.{LogParts, moved}
 use Rattle.epoch_log.specs.Telling.{CanSkip}
-use Rattle.log_core.specs.Checks.{Check, by_check, none_can_win, unless}
+use Rattle.log_sending.specs.Checks.{Check, none_can_win, unless}
+use Rattle.log_core.specs.Steps.{IsStep, by_check}
 use Rattle.log_core.specs.Kept.{IsKeptCore}
-use Rattle.log_core.specs.Reported.{most_reported}
+use Rattle.log_sending.specs.Reported.{most_reported}
 use Rattle.log_core.specs.Skipped.{signed_statuses, skip_checks, skip_judged, skip_reply, skip_row, skipped_epoch}
 use Rattle.log_core.specs.State.{Answer, CoreState, Reply}
-use Rattle.log_core.specs.Steps.{IsStep}
-use Rattle.log_core.specs.declared.refusal.LogRefusal.{LogRefusal}
-use Rattle.log_core.specs.declared.refusal.LogRefusal.TheVariants as refusals
-use Rattle.log_core.proofs.Checked.{all-hold, none-wins}
+use Rattle.log_sending.specs.declared.refusal.LogRefusal.{LogRefusal}
+use Rattle.log_sending.specs.declared.refusal.LogRefusal.TheVariants as refusals
+use Rattle.log_sending.proofs.Checked.{all-hold, none-wins}
 use Rattle.log_core.proofs.KeptEndings.{kept-skip_row}
 use Rattle.log_core.proofs.KeptRows.{of-council}
-use Rattle.log_core.proofs.Reported.{most-is}
+use Rattle.log_sending.proofs.Reported.{most-is}
 use Rattle.log_core.proofs.Statuses.{are-statuses}
 use Rattle.log_core.proofs.Stepping.{core-with, log-in}
 
@@ -68,8 +69,8 @@ unfolding skip_judged
 can-skip s epoch statuses kept are is =
     let each : AllByRecursion (λ c. c ≡ Ok tt) (skip_checks s epoch statuses) = all-hold (skip_checks s epoch statuses) is in
     record {
-      of_logs = of-council (λ c. AreStatuses c.logs (plain_statuses (signed_statuses statuses))) s kept (are-statuses s.keys epoch statuses are each.0);
-      excludes = none-wins s.log.council (plain_statuses (signed_statuses statuses)) each.1.1.0;
+      of_logs = of-council (λ c. AreStatuses c.logs (reports_of (signed_statuses statuses))) s kept (are-statuses s.keys epoch statuses are each.0);
+      excludes = none-wins s.log.council (reports_of (signed_statuses statuses)) each.1.1.0;
     }
 
 skip-made : (s : CoreState) (epoch : ℕ) (statuses : List LogStatus) → skip_judged s epoch statuses ≡ Ok tt → skip_row s epoch statuses ≡ Ok (skip_reply s statuses)

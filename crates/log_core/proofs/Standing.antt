@@ -11,7 +11,7 @@ use Rattle.ar_message.specs.declared.message.Message.TheVariants as messages
 use Rattle.lms_tree.specs.declared.public_key.LmsPublic.{LmsPublic}
 use Rattle.party_keys.specs.Learning.{Announced}
 use Rattle.vote_quorum.specs.declared.value.Value.{Value}
-use Rattle.epoch_log.specs.Calls.{after_status_seen, casting, counting_own, counting_status, counting_vote, decision_seen, is_turn, own_value, plain_statuses, proposing, seeing, stating, statuses_seen, vote_of}
+use Rattle.epoch_log.specs.Calls.{after_status_seen, casting, counting_own, counting_status, counting_vote, decision_seen, is_turn, own_value, proposing, seeing, stating, statuses_seen, vote_of}
 use Rattle.epoch_log.specs.Ending.{closed, closed_by, closed_by_statuses, decided, excludes_all, has_quorum, may_end, own_vote, skipped, votes_for}
 use Rattle.epoch_log.specs.State.{LogState, epoch_of, reports_of}
 use Rattle.epoch_log.specs.Told.{value_of}
@@ -24,21 +24,22 @@ use Rattle.ar_council.specs.Values.{status_claim, vote_claim}
 use Rattle.ar_statement.specs.declared.text.SeenText.{SeenText}
 use Rattle.party_keys.specs.Seen.{log_party}
 use Rattle.log_core.specs.Balloted.{ballot_checks, ballot_reply, ballot_row}
-use Rattle.log_core.specs.Checks.{Check, checked}
+use Rattle.log_sending.specs.Checks.{Check}
+use Rattle.log_core.specs.Steps.{checked}
 use Rattle.log_core.specs.Confirming.{Asked, confirm_checks, confirm_reply, confirm_row}
 use Rattle.log_core.specs.Decided.{Decision, decision_checks, decision_reply, decision_row, plain_votes}
 use Rattle.log_core.specs.Learning.{roll_note_checks, roll_note_reply, roll_note_row}
 use Rattle.log_core.specs.Passing.{passing_checks, passing_reply, passing_row}
 use Rattle.log_core.specs.Proposed.{Proposal, proposed_checks, proposed_reply, proposed_row}
-use Rattle.log_core.specs.Proposing.{proposing_checks, proposing_reply, proposing_row}
+use Rattle.log_core.specs.Proposing.{proposal, proposed_value, proposing_checks, proposing_reply, proposing_row}
 use Rattle.log_core.specs.Rolling.{rolling_checks, rolling_reply, rolling_row}
 use Rattle.log_core.specs.Row.{message_row, read_row, row}
 use Rattle.log_core.specs.Skipped.{signed_statuses, skip_checks, skip_reply, skip_row}
 use Rattle.log_core.specs.State.{Answer, CoreState, Input, Reply, passes, proposes, rolls, takes}
 use Rattle.log_core.specs.Stated.{status_checks, status_reply, status_row}
-use Rattle.log_core.specs.Submit.{is_queued, queueing, submit_checks, submit_reply, submit_row}
-use Rattle.log_core.specs.Walk.{proposal, proposed_value}
-use Rattle.log_core.proofs.Checked.{passed}
+use Rattle.log_sending.specs.Queued.{is_queued}
+use Rattle.log_core.specs.Submit.{queueing, submit_checks, submit_reply, submit_row}
+use Rattle.log_core.proofs.Passed.{passed}
 
 -- one is the same log as another: its number is, and its council
 abbrev IsSame : LogState → LogState → Type 0
@@ -149,7 +150,7 @@ skip-stays s epoch statuses = checked-stays s (skip_checks s epoch statuses) (sk
     more : List SeenText
     more = statuses_seen (epoch_of s.log) (signed_statuses statuses)
 
-    by : (b : Bool) → IsSame s.log (cond b (skipped (seeing s.log more) (plain_statuses (signed_statuses statuses))) (seeing s.log more))
+    by : (b : Bool) → IsSame s.log (cond b (skipped (seeing s.log more) (reports_of (signed_statuses statuses))) (seeing s.log more))
     by true = (refl, refl)
     by false = (refl, refl)
 

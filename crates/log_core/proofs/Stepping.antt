@@ -23,17 +23,17 @@ use Rattle.party_keys.specs.declared.fault.LearnFault.TheVariants as learn_fault
 use Rattle.party_keys.specs.declared.learning.Learned.{Learned}
 use Rattle.epoch_log.specs.Calls.{after_learn, after_roll}
 use Rattle.epoch_log.specs.Log.{LogParts}
-use Rattle.log_core.specs.Checks.{checked, unless}
+use Rattle.log_core.specs.Steps.{IsStep, checked, learn_refusal, noted, roll_refusal}
+use Rattle.log_sending.specs.Checks.{unless}
 use Rattle.log_core.specs.Rolling.{roll_draft, rolling_reply, rolling_row}
-use Rattle.log_core.specs.Sending.{none_composed, sealed, with_draft}
+use Rattle.log_sending.specs.Sending.{none_composed, sealed, with_draft}
 use Rattle.log_core.specs.Kept.{IsKeptCore}
 use Rattle.log_core.specs.Learning.{is_learned, roll_note_reply, roll_note_row}
 use Rattle.log_core.specs.State.{Answer, CoreState}
-use Rattle.log_core.specs.Steps.{IsStep, learn_refusal, noted, roll_refusal}
-use Rattle.log_core.specs.declared.refusal.LogRefusal.{LogRefusal}
-use Rattle.log_core.specs.declared.refusal.LogRefusal.TheVariants as refusals
+use Rattle.log_sending.specs.declared.refusal.LogRefusal.{LogRefusal}
+use Rattle.log_sending.specs.declared.refusal.LogRefusal.TheVariants as refusals
 use Rattle.log_core.proofs.KeptEndings.{kept-roll_note, kept-rolling_row}
-use Rattle.log_core.proofs.Sealing.{sealed-one}
+use Rattle.log_sending.proofs.Sealing.{sealed-one}
 
 note-row : (s : CoreState) (a : Announced) (answer : Result Learned LearnFault) → learned s.keys a ≡ answer
     → roll_note_row s a ≡ checked (is_learned answer a.party a.generation ∷ []) (roll_note_reply s a)

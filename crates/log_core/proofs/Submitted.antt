@@ -6,17 +6,18 @@ use Rattle.ar_message.specs.declared.unsigned.Unsigned.{Unsigned}
 use Rattle.ar_message.specs.Filling.{nothing}
 use Rattle.epoch_log.specs.Calls.{AreEndorsers, after_endorsed}
 use Rattle.epoch_log.specs.Log.{LogParts}
-use Rattle.log_core.specs.Checks.{Check, by_check, first_refusal}
+use Rattle.log_sending.specs.Checks.{Check, first_refusal}
+use Rattle.log_core.specs.Steps.{IsStep, by_check, given_by}
 use Rattle.log_core.specs.Kept.{IsKeptCore}
-use Rattle.log_core.specs.Signers.{endorsements_in}
+use Rattle.log_sending.specs.Signers.{endorsements_in}
 use Rattle.log_core.specs.State.{Answer, CoreState, Reply}
-use Rattle.log_core.specs.Steps.{IsStep, given_by}
-use Rattle.log_core.specs.Submit.{is_queued, queueing, submit_checks, submit_judged, submit_reply, submit_row}
-use Rattle.log_core.specs.declared.refusal.LogRefusal.{LogRefusal}
-use Rattle.log_core.specs.declared.refusal.LogRefusal.TheVariants as refusals
-use Rattle.log_core.proofs.Checked.{all-hold}
+use Rattle.log_sending.specs.Queued.{is_queued}
+use Rattle.log_core.specs.Submit.{queueing, submit_checks, submit_judged, submit_reply, submit_row}
+use Rattle.log_sending.specs.declared.refusal.LogRefusal.{LogRefusal}
+use Rattle.log_sending.specs.declared.refusal.LogRefusal.TheVariants as refusals
+use Rattle.log_sending.proofs.Checked.{all-hold}
 use Rattle.log_core.proofs.KeptRows.{kept-submit, of-council}
-use Rattle.log_core.proofs.Known.{each-known, its-endorsers}
+use Rattle.log_sending.proofs.SignerLaws.{each-known, its-endorsers}
 
 abbrev value-or : {A : Type 0} → Result A LogRefusal → A → A
 value-or (Ok a) other = a

@@ -24,9 +24,9 @@ use Rattle.party_keys.specs.declared.fault.VerifyFault.TheVariants as verify_fau
 use Rattle.party_keys.proofs.Growing.{lasts}
 use Rattle.ar_council.proofs.Lists.{found}
 use Rattle.log_core.specs.Kept.{IsKeptCore, WasQueued}
-use Rattle.log_core.specs.Signers.{by_signers, endorsements_in, signed_by, signers}
+use Rattle.log_sending.specs.Signers.{by_signers, endorsements_in, signed_by, signers}
 use Rattle.log_core.specs.State.{CoreState}
-use Rattle.log_core.specs.Submit.{is_queued}
+use Rattle.log_sending.specs.Queued.{is_queued}
 
 -- ---- each signature is valid
 

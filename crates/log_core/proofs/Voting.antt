@@ -20,17 +20,17 @@ use Rattle.epoch_log.specs.Answers.{IsOpenTo, voted}
 use Rattle.epoch_log.specs.Calls.{IsProposed, MayVote, after_vote, own_vote_text}
 use Rattle.epoch_log.specs.Log.{LogParts, moved}
 use Rattle.epoch_log.specs.State.{epoch_of}
-use Rattle.log_core.specs.Checks.{by_check, first_refusal, turn_of}
+use Rattle.log_core.specs.Steps.{IsStep, by_check}
+use Rattle.log_sending.specs.Checks.{book_refusal, first_refusal, turn_of}
 use Rattle.log_core.specs.Kept.{IsKeptCore}
 use Rattle.log_core.specs.Proposed.{Proposal, ballot_draft, proposed_checks, proposed_judged, proposed_reply, proposed_row}
-use Rattle.log_core.specs.Sending.{Composed, none_composed, sealed, with_draft}
+use Rattle.log_sending.specs.Sending.{Composed, none_composed, sealed, with_draft}
 use Rattle.log_core.specs.State.{Answer, CoreState}
-use Rattle.log_core.specs.Steps.{IsStep, book_refusal}
-use Rattle.log_core.specs.declared.refusal.LogRefusal.{LogRefusal}
-use Rattle.log_core.specs.declared.refusal.LogRefusal.TheVariants as refusals
-use Rattle.log_core.proofs.Checked.{all-hold, holds}
+use Rattle.log_sending.specs.declared.refusal.LogRefusal.{LogRefusal}
+use Rattle.log_sending.specs.declared.refusal.LogRefusal.TheVariants as refusals
+use Rattle.log_sending.proofs.Checked.{all-hold, holds}
 use Rattle.log_core.proofs.KeptRows.{kept-proposed, proposed-is, proposed-may}
-use Rattle.log_core.proofs.Sealing.{sealed-one}
+use Rattle.log_sending.proofs.Sealing.{sealed-one}
 use Rattle.log_core.proofs.Stepping.{core-with, log-in}
 use Rattle.log_core.proofs.Submitted.{given-holds, given-refused}
 

@@ -1,34 +1,24 @@
 -- The row of ConfirmAsk: the log confirms what a name has behind the newest decided epoch.
-use Rattle.std.specs.Prelude.{ℕ, ◌+◌, ◌-◌, List, [], ◌∷◌, ◌++◌, flat_map, length, Option, Some, None, Result, Ok}
-use Rattle.hash_tree.specs.Path.{steps_of}
-use Rattle.tree_proof.specs.Path.{found_of}
-use Rattle.tree_proof.specs.declared.path.Bottom.TheVariants.{Empty}
-use Rattle.tree_proof.specs.declared.path.Found.{Found}
-use Rattle.tree_proof.specs.declared.path.Found.TheVariants as found
-use Rattle.ar_names.specs.Names.{name_digest_of}
-use Rattle.ar_cert.specs.Certificate.{Certificate}
+use Rattle.std.specs.Prelude.{ℕ, ◌+◌, ◌-◌, List, [], ◌∷◌, ◌++◌, length, Option, Some, None, Result, Ok}
 use Rattle.ar_message.specs.Messages.{message_text}
 use Rattle.ar_message.specs.declared.address.Address.TheVariants.{One}
-use Rattle.ar_message.specs.declared.message.Body.{Body}
-use Rattle.ar_message.specs.declared.message.Body.TheVariants.{Absent, Present}
 use Rattle.ar_message.specs.declared.message.Confirming.{Confirming}
 use Rattle.ar_message.specs.declared.message.Message.TheVariants.{LogConfirmed}
 use Rattle.ar_message.specs.Filling.{nothing, zeros}
 use Rattle.party_keys.specs.Seen.{authority_party}
-use Rattle.domain_table.specs.Tables.{Table, chain_of, newest}
-use Rattle.domain_table.specs.Tree.{tree_entries}
 use Rattle.ar_council.specs.Values.{vote_claim}
 use Rattle.epoch_log.specs.Calls.{after_confirm, confirmation_text}
 use Rattle.epoch_log.specs.State.{LogState, newest_value, table_of}
 use Rattle.ar_statement.specs.Claims.{text_of}
 use Rattle.epoch_log.specs.declared.entries.Newest.{Newest}
-use Rattle.log_core.specs.Checks.{Check, checked, has_decision, leaves_left}
-use Rattle.log_core.specs.Closings.{open_reply}
-use Rattle.log_core.specs.Sending.{Composed, Draft, Place, none_composed, own_votes, place_for, sent_votes, with_draft}
-use Rattle.log_core.specs.Signers.{known}
+use Rattle.log_sending.specs.Checks.{Check, has_decision, leaves_left}
+use Rattle.log_core.specs.Steps.{checked, given}
+use Rattle.log_core.specs.Replies.{open_reply}
+use Rattle.log_sending.specs.Showing.{body_of}
+use Rattle.log_sending.specs.Sending.{Composed, Draft, Place, none_composed, own_votes, place_for, sent_votes, with_draft}
+use Rattle.log_sending.specs.Signers.{known}
 use Rattle.log_core.specs.State.{Answer, CoreState, Reply}
-use Rattle.log_core.specs.Steps.{given}
-use Rattle.log_core.specs.declared.refusal.LogRefusal.{LogRefusal}
+use Rattle.log_sending.specs.declared.refusal.LogRefusal.{LogRefusal}
 
 -- what a client asks: to confirm a name, by two authorities of the client's choice
 pub record Asked : Type 0 where
@@ -36,24 +26,6 @@ pub record Asked : Type 0 where
   pub name : List ℕ
   pub first : ℕ
   pub second : ℕ
-
--- ---- what is confirmed
-
--- what stands at the foot of the path of a name that has no certificate, with the path; where another name has its key
--- in the tree, which takes a collision, it is empty and there are no steps
-abbrev pub absence : Found → List (List ℕ) → Body
-absence (found.Absent bottom) steps = Absent bottom (flat_map (λ step. step) steps)
-absence (found.Present value) steps = Absent Empty []
-
--- a name's certificate, or its absence, with the path that shows it
-abbrev pub body_by : Option Certificate → Found → List (List ℕ) → Body
-body_by (Some certificate) at_key steps = Present certificate (flat_map (λ step. step) steps)
-body_by None at_key steps = absence at_key steps
-
--- what a table has for a name, with its path
-abbrev pub body_of : Table → List ℕ → Body
-body_of table name =
-    body_by (newest (chain_of table name)) (found_of (name_digest_of name) (tree_entries table)) (steps_of (name_digest_of name) (tree_entries table))
 
 -- ---- the message
 

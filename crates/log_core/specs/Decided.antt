@@ -7,11 +7,13 @@ use Rattle.vote_quorum.specs.declared.value.Value.{Value}
 use Rattle.epoch_log.specs.Calls.{after_decide}
 use Rattle.epoch_log.specs.Ending.{may_end}
 use Rattle.epoch_log.specs.State.{LogState, epoch_of, table_of}
-use Rattle.log_core.specs.Checks.{Check, all_taken, checked, enough, in_epoch, same_base, same_root}
-use Rattle.log_core.specs.Closings.{core_after, still_wanted}
-use Rattle.log_core.specs.Judged.{judged}
-use Rattle.log_core.specs.Sending.{unsigned_of}
-use Rattle.log_core.specs.Signers.{endorsements_in, signers, votes_in}
+use Rattle.log_sending.specs.Checks.{Check, all_taken, enough, in_epoch, same_base, same_root}
+use Rattle.log_core.specs.Steps.{checked}
+use Rattle.log_core.specs.Replies.{core_after}
+use Rattle.log_sending.specs.Closings.{still_wanted}
+use Rattle.log_sending.specs.Judged.{judged}
+use Rattle.log_sending.specs.Sending.{unsigned_of}
+use Rattle.log_sending.specs.Signers.{endorsements_in, signers, votes_in}
 use Rattle.log_core.specs.State.{Answer, CoreState, Reply}
 
 -- a decision of an epoch

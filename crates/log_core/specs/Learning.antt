@@ -8,9 +8,10 @@ use Rattle.party_keys.specs.declared.fault.LearnFault.{LearnFault}
 use Rattle.party_keys.specs.declared.fault.LearnFault.TheVariants as learn_fault
 use Rattle.party_keys.specs.declared.learning.Learned.{Learned}
 use Rattle.epoch_log.specs.Calls.{after_learn}
-use Rattle.log_core.specs.Checks.{Check, checked}
+use Rattle.log_sending.specs.Checks.{Check}
+use Rattle.log_core.specs.Steps.{checked}
 use Rattle.log_core.specs.State.{Answer, CoreState, Reply}
-use Rattle.log_core.specs.declared.refusal.LogRefusal.TheVariants as refusals
+use Rattle.log_sending.specs.declared.refusal.LogRefusal.TheVariants as refusals
 
 -- the signer has signed, and no other key is known as its next
 abbrev pub is_learned : Result Learned LearnFault → Party → ℕ → Check

@@ -8,9 +8,10 @@ use Rattle.party_keys.specs.Seen.{log_party}
 use Rattle.ar_council.specs.Values.{roots_of}
 use Rattle.epoch_log.specs.Calls.{after_state, is_turn, own_status_text, own_value}
 use Rattle.epoch_log.specs.State.{epoch_of}
-use Rattle.log_core.specs.Checks.{Check, checked, first_refusal, leaves_left, not_stated, turn_of}
-use Rattle.log_core.specs.Closings.{closing_reply}
-use Rattle.log_core.specs.Sending.{Draft, draft_with}
+use Rattle.log_sending.specs.Checks.{Check, first_refusal, leaves_left, not_stated, turn_of}
+use Rattle.log_core.specs.Steps.{checked}
+use Rattle.log_core.specs.Replies.{closing_reply}
+use Rattle.log_sending.specs.Sending.{Draft, draft_with}
 use Rattle.log_core.specs.State.{Answer, CoreState, Reply}
 
 -- it has not stated in the epoch, and there is a leaf for its status

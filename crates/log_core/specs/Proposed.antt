@@ -10,14 +10,14 @@ use Rattle.party_keys.specs.Signers.{Claimed}
 use Rattle.vote_quorum.specs.declared.value.Value.{Value}
 use Rattle.epoch_log.specs.Calls.{after_vote, own_vote_text}
 use Rattle.epoch_log.specs.State.{LogState, epoch_of, table_of}
-use Rattle.log_core.specs.Checks.{Check, all_taken, checked, leaves_left, in_epoch, in_turn, not_stated, not_voted, same_base, same_root, turn_of}
-use Rattle.log_core.specs.Closings.{open_reply}
-use Rattle.log_core.specs.Judged.{judged}
-use Rattle.log_core.specs.Sending.{Composed, Draft, draft_with, none_composed, with_draft}
-use Rattle.log_core.specs.Signers.{endorsements_in, signed_by, signers}
+use Rattle.log_sending.specs.Checks.{Check, all_taken, leaves_left, in_epoch, in_turn, not_stated, not_voted, same_base, same_root, turn_of}
+use Rattle.log_core.specs.Steps.{checked, given}
+use Rattle.log_core.specs.Replies.{open_reply}
+use Rattle.log_sending.specs.Judged.{judged}
+use Rattle.log_sending.specs.Sending.{Composed, Draft, draft_with, none_composed, with_draft}
+use Rattle.log_sending.specs.Signers.{endorsements_in, signed_by, signers}
 use Rattle.log_core.specs.State.{Answer, CoreState, Reply}
-use Rattle.log_core.specs.Steps.{given}
-use Rattle.log_core.specs.declared.refusal.LogRefusal.{LogRefusal}
+use Rattle.log_sending.specs.declared.refusal.LogRefusal.{LogRefusal}
 
 -- a proposal of a log in an epoch
 pub record Proposal : Type 0 where

@@ -1,20 +1,34 @@
--- The row of the order to propose.
-use Rattle.std.specs.Prelude.{List, [], ◌∷◌, ◌++◌, Result}
+-- The row of the order to propose, and what a log proposes.
+use Rattle.std.specs.Prelude.{List, [], ◌∷◌, ◌++◌, Result, unwrap_or}
 use Rattle.ar_cert.specs.Changes.{Change}
 use Rattle.ar_message.specs.declared.address.Address.TheVariants.{Logs}
 use Rattle.ar_message.specs.declared.message.Message.TheVariants.{Propose}
 use Rattle.ar_message.specs.Filling.{zeros}
 use Rattle.ar_statement.specs.Claims.{text_of}
 use Rattle.vote_quorum.specs.declared.value.Value.{Value}
+use Rattle.domain_table.specs.Applying.{apply, ripen}
+use Rattle.domain_table.specs.Tree.{root_of}
 use Rattle.epoch_log.specs.Calls.{after_propose, proposal_texts, propose_claim}
-use Rattle.epoch_log.specs.State.{epoch_of}
-use Rattle.log_core.specs.Checks.{Check, checked, first_refusal, in_turn, leaves_left, not_stated, not_voted}
-use Rattle.log_core.specs.Closings.{closing_reply}
-use Rattle.log_core.specs.Sending.{Draft, draft_with}
+use Rattle.epoch_log.specs.State.{epoch_of, table_of}
+use Rattle.log_sending.specs.Checks.{Check, first_refusal, in_turn, leaves_left, not_stated, not_voted}
+use Rattle.log_core.specs.Steps.{checked, given}
+use Rattle.log_core.specs.Replies.{closing_reply}
+use Rattle.log_sending.specs.Sending.{Draft, draft_with}
 use Rattle.log_core.specs.State.{Answer, CoreState, Reply}
-use Rattle.log_core.specs.Steps.{given}
-use Rattle.log_core.specs.Walk.{proposal, proposed_value}
-use Rattle.log_core.specs.declared.refusal.LogRefusal.{LogRefusal}
+use Rattle.log_sending.specs.Walk.{most_bytes, most_changes, walk}
+use Rattle.log_sending.specs.declared.refusal.LogRefusal.{LogRefusal}
+
+-- the changes that the log proposes
+abbrev pub proposal : CoreState → List Change
+proposal s = walk (epoch_of s.log) (ripen (table_of s.log) (epoch_of s.log)) most_changes most_bytes s.queue
+
+-- what it proposes to go to, from the root of its table as it is before it ripens: the root of the table behind the
+-- changes, which has ripened also where there is no change
+abbrev pub proposed_value : CoreState → Value
+proposed_value s = record {
+  base = root_of (table_of s.log);
+  root = root_of (unwrap_or (apply (table_of s.log) (epoch_of s.log) (proposal s)) (table_of s.log));
+}
 
 -- it is the log's turn, and it has not voted and stated nothing in the epoch
 abbrev pub turn_checks : CoreState → List Check

@@ -9,8 +9,9 @@ use Rattle.key_roll.specs.Entry.{roll_text}
 use Rattle.party_keys.specs.Learning.{after_adopting}
 use Rattle.party_keys.specs.Seen.{log_party}
 use Rattle.epoch_log.specs.Calls.{after_roll}
-use Rattle.log_core.specs.Checks.{Check, checked, has_next}
-use Rattle.log_core.specs.Sending.{Draft, draft_with, unsigned_of}
+use Rattle.log_sending.specs.Checks.{Check, has_next}
+use Rattle.log_core.specs.Steps.{checked}
+use Rattle.log_sending.specs.Sending.{Draft, draft_with, unsigned_of}
 use Rattle.log_core.specs.State.{Answer, CoreState, Reply}
 
 -- the newest generation is not the last

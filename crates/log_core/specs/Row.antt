@@ -20,7 +20,7 @@ use Rattle.log_core.specs.Skipped.{skip_row}
 use Rattle.log_core.specs.State.{Answer, CoreState, Input, passes, proposes, rolls, takes}
 use Rattle.log_core.specs.Stated.{status_row}
 use Rattle.log_core.specs.Submit.{submit_row}
-use Rattle.log_core.specs.declared.refusal.LogRefusal.TheVariants as refusals
+use Rattle.log_sending.specs.declared.refusal.LogRefusal.TheVariants as refusals
 
 -- the row of a message beside those of changes, proposals, ballots and statuses: how an epoch ended, a request to confirm,
 -- and a next key; no other is for a log

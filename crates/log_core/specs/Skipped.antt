@@ -1,13 +1,14 @@
 -- The row of SkipNote: the log ends the epoch as skipped.
 use Rattle.std.specs.Prelude.{ℕ, List, [], ◌∷◌, map, Option, Some, None, if◌then◌else◌}
 use Rattle.ar_message.specs.declared.lists.LogStatus.{LogStatus}
-use Rattle.epoch_log.specs.Calls.{SignedStatus, after_skip, plain_statuses}
+use Rattle.epoch_log.specs.Calls.{SignedStatus, after_skip}
 use Rattle.epoch_log.specs.Ending.{may_end}
-use Rattle.epoch_log.specs.State.{LogState, epoch_of}
-use Rattle.log_core.specs.Checks.{Check, checked, first_refusal, in_epoch, none_can_win}
-use Rattle.log_core.specs.Closings.{core_after}
-use Rattle.log_core.specs.Sending.{unsigned_of}
-use Rattle.log_core.specs.Signers.{signers, status_value, statuses_in}
+use Rattle.epoch_log.specs.State.{LogState, epoch_of, reports_of}
+use Rattle.log_sending.specs.Checks.{Check, first_refusal, in_epoch, none_can_win}
+use Rattle.log_core.specs.Steps.{checked}
+use Rattle.log_core.specs.Replies.{core_after}
+use Rattle.log_sending.specs.Sending.{unsigned_of}
+use Rattle.log_sending.specs.Signers.{signers, status_value, statuses_in}
 use Rattle.log_core.specs.State.{Answer, CoreState, Reply}
 
 -- the statuses of a message, as the log keeps them
@@ -19,7 +20,7 @@ abbrev pub skip_checks : CoreState → ℕ → List LogStatus → List Check
 skip_checks s epoch statuses =
     signers s.keys (statuses_in epoch statuses)
     ∷ in_epoch s.log epoch
-    ∷ none_can_win s.log.council (plain_statuses (signed_statuses statuses))
+    ∷ none_can_win s.log.council (reports_of (signed_statuses statuses))
     ∷ []
 
 -- the epoch that ends as skipped, unless it is the last that a statement can name

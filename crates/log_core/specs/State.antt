@@ -5,7 +5,7 @@ use Rattle.ar_cert.specs.Changes.{Change}
 use Rattle.ar_message.specs.declared.unsigned.Unsigned.{Unsigned}
 use Rattle.party_keys.specs.Directory.{Directory}
 use Rattle.epoch_log.specs.State.{LogState}
-use Rattle.log_core.specs.declared.refusal.LogRefusal.{LogRefusal}
+use Rattle.log_sending.specs.declared.refusal.LogRefusal.{LogRefusal}
 
 -- Where the log stands: its record, what it has counted and its newest decision; the keys that it knows; the changes
 -- that wait to be proposed, the oldest first; and how many bytes each of its signatures has.

@@ -5,9 +5,10 @@ use Rattle.vote_quorum.specs.declared.value.Value.{Value}
 use Rattle.ar_council.specs.Values.{status_claim}
 use Rattle.epoch_log.specs.Calls.{after_status_seen}
 use Rattle.epoch_log.specs.State.{epoch_of}
-use Rattle.log_core.specs.Checks.{Check, checked, first_refusal, in_epoch, in_turn}
-use Rattle.log_core.specs.Closings.{closing_reply}
-use Rattle.log_core.specs.Signers.{signed_by, signers}
+use Rattle.log_sending.specs.Checks.{Check, first_refusal, in_epoch, in_turn}
+use Rattle.log_core.specs.Steps.{checked}
+use Rattle.log_core.specs.Replies.{closing_reply}
+use Rattle.log_sending.specs.Signers.{signed_by, signers}
 use Rattle.log_core.specs.State.{Answer, CoreState, Reply}
 
 -- the log has signed; it is of this log's epoch, behind which is its turn

@@ -3,17 +3,23 @@ use Rattle.std.specs.Prelude.{◌≡◌, ◌⊎◌, ℕ, List, Result, Ok, Err}
 use Rattle.ar_message.specs.declared.unsigned.Unsigned.{Unsigned}
 use Rattle.ar_message.specs.Filling.{nothing}
 use Rattle.ar_statement.specs.declared.party.Party.{Party}
-use Rattle.key_roll.specs.declared.fault.BookFault.{BookFault}
-use Rattle.key_roll.specs.declared.fault.BookFault.TheVariants as book_fault
 use Rattle.key_roll.specs.declared.fault.RollFault.{RollFault}
 use Rattle.key_roll.specs.declared.fault.RollFault.TheVariants as roll_fault
 use Rattle.party_keys.specs.declared.fault.LearnFault.{LearnFault}
 use Rattle.party_keys.specs.declared.fault.LearnFault.TheVariants as learn_fault
 use Rattle.party_keys.specs.declared.learning.Learned.{Learned}
-use Rattle.log_core.specs.Checks.{Check, first_refusal}
-use Rattle.log_core.specs.State.{Answer, CoreState}
-use Rattle.log_core.specs.declared.refusal.LogRefusal.{LogRefusal}
-use Rattle.log_core.specs.declared.refusal.LogRefusal.TheVariants as refusals
+use Rattle.log_sending.specs.Checks.{Check, first_refusal}
+use Rattle.log_core.specs.State.{Answer, CoreState, Reply}
+use Rattle.log_sending.specs.declared.refusal.LogRefusal.{LogRefusal}
+use Rattle.log_sending.specs.declared.refusal.LogRefusal.TheVariants as refusals
+
+-- a row: the first check that refuses, or else what the step makes
+abbrev pub by_check : Check → Reply → Answer
+by_check (Ok _) reply = Ok reply
+by_check (Err refusal) reply = Err refusal
+
+abbrev pub checked : List Check → Reply → Answer
+checked checks reply = by_check (first_refusal checks) reply
 
 -- The row answers with what is sent and with the log as it is behind the step. After an error the log is as it was, and it
 -- is the row's refusal, or want of memory.
@@ -46,8 +52,3 @@ noted (Err fault) party generation = Err (learn_refusal fault party generation)
 abbrev pub roll_refusal : RollFault → LogRefusal
 roll_refusal roll_fault.Last = refusals.LastGeneration
 roll_refusal roll_fault.Memory = refusals.Memory
-
--- the refusal of a statement that is not entered
-abbrev pub book_refusal : BookFault → LogRefusal
-book_refusal book_fault.Spent = refusals.Spent
-book_refusal book_fault.Memory = refusals.Memory

@@ -1,34 +1,25 @@
 -- The row of Submit: a change is queued.
-use Rattle.std.specs.Prelude.{Bool, not, ◌++◌, List, filter, [], ◌∷◌, Result, Ok, Err, if◌then◌else◌}
-use Rattle.std.specs.List.{list_any}
-use Rattle.std.specs.Str.{bytes_eq}
+use Rattle.std.specs.Prelude.{Bool, ◌++◌, List, [], ◌∷◌, Result, Ok, Err, if◌then◌else◌}
 use Rattle.ar_message.specs.Filling.{nothing}
-use Rattle.ar_cert.specs.Changes.{Change, change_text}
+use Rattle.ar_cert.specs.Changes.{Change}
 use Rattle.cert_policy.specs.declared.manner.Manner.{Manner}
 use Rattle.domain_table.specs.declared.refusal.ChangeRefusal.{ChangeRefusal}
 use Rattle.domain_table.specs.Applying.{judge}
 use Rattle.epoch_log.specs.Calls.{after_endorsed}
 use Rattle.epoch_log.specs.State.{epoch_of, table_of}
-use Rattle.log_core.specs.Checks.{Check, checked, has_place}
-use Rattle.log_core.specs.Signers.{endorsements_in, signers}
+use Rattle.log_sending.specs.Checks.{Check, has_place}
+use Rattle.log_core.specs.Steps.{checked, given}
+use Rattle.log_sending.specs.Signers.{endorsements_in, signers}
 use Rattle.log_core.specs.State.{Answer, CoreState, Reply}
-use Rattle.log_core.specs.Closings.{core_after}
-use Rattle.log_core.specs.Steps.{given}
-use Rattle.log_core.specs.declared.refusal.LogRefusal.{LogRefusal}
-use Rattle.log_core.specs.declared.refusal.LogRefusal.TheVariants as refusals
+use Rattle.log_sending.specs.Queued.{is_queued}
+use Rattle.log_core.specs.Replies.{core_after}
+use Rattle.log_sending.specs.declared.refusal.LogRefusal.{LogRefusal}
+use Rattle.log_sending.specs.declared.refusal.LogRefusal.TheVariants as refusals
 
 -- the change is taken, by how it is judged; it is the only one, with the index 0
 abbrev pub taken_alone : Result Manner ChangeRefusal → Check
 taken_alone (Ok manner) = Ok tt
 taken_alone (Err refusal) = Err (refusals.BadChange 0 refusal)
-
--- whether an equal change is queued, with the same signatures
-abbrev pub is_queued : List Change → Change → Bool
-is_queued queue change = list_any (λ other. bytes_eq (change_text other) (change_text change)) queue
-
--- the changes of which no equal one is queued
-abbrev pub unqueued : List Change → List Change → List Change
-unqueued queue changes = filter (λ change. not (is_queued queue change)) changes
 
 -- there is a place for the change, or it is queued already
 abbrev pub can_queue : List Change → Change → Check

@@ -7,25 +7,23 @@ ghost use Rattle.ar_message.specs.Messages.{message_text};
 ghost use Rattle.ar_message.specs.declared.message.Message.TheVariants.{LogConfirmed};
 ghost use Rattle.ar_statement.specs.Claims.{claim_of, text_of};
 ghost use Rattle.epoch_log.specs.Calls.{confirmation_text};
-ghost use Rattle.log_core.specs.Checks.{has_decision};
+ghost use Rattle.log_sending.specs.Checks.{has_decision};
 ghost use Rattle.log_core.specs.Confirming.{confirm_row, confirmation_prepared, confirmed_draft, confirmed_places, confirming_of};
-ghost use Rattle.log_core.specs.Sending.{none_composed, sent_votes, with_draft};
+ghost use Rattle.log_sending.specs.Sending.{none_composed, sent_votes, with_draft};
 ghost use Rattle.log_core.specs.Steps.{IsStep};
-ghost use Rattle.log_core.specs.declared.refusal.LogRefusal.TheVariants as refusals;
+ghost use Rattle.log_sending.specs.declared.refusal.LogRefusal.TheVariants as refusals;
 
 use crate::LogRefusal;
-use crate::checks::book_refusal;
 use crate::log_core::LogCore;
-use crate::own_places::{own_votes, sent_votes};
-use crate::sending::{Drafts, OwnPlace, Ready, written};
-use crate::showing::body_of;
-use crate::signers::known;
 use ar_message::{Address, Confirming, Message, Signature, Unsigned};
 use ar_names::{Name, NameView};
 use ar_statement::{Role, Statement};
 use domain_table::Table;
 use epoch_log::{EpochLog, Newest, confirm_statement, newest_digest};
 use key_roll::forgo;
+use log_sending::{
+    Drafts, OwnPlace, Ready, body_of, book_refusal, known, own_votes, sent_votes, written,
+};
 use std::alloc::{AllocError, Global};
 use std::marker::Model;
 use vote_quorum::Value;
@@ -149,7 +147,7 @@ impl LogCore {
     }
 
     /// The message to the first authority.
-    #[tactic(auto, using(crate::proofs::Drafts::confirmed_within))]
+    #[tactic(auto, using(crate::proofs::ConfirmedDrafts::confirmed_within))]
     fn confirmed_draft<'a>(
         &self,
         alloc: Global,

@@ -1,6 +1,5 @@
 //! Laws on the rows, over the definitions alone: each is the contract of a function with an empty body.
-ghost use Rattle.std.specs.Prelude.{◌≡◌, ◌≤◌, ◌<◌, ◌^◌, ◌++◌, ◌∷◌, [], ℕ, List, All, Option, Some, Ok, Err, length, slice_get, take, filter, flat_map, not};
-ghost use Rattle.std.specs.Result.{result_ok};
+ghost use Rattle.std.specs.Prelude.{◌≡◌, ◌≤◌, ◌<◌, ◌^◌, ◌++◌, ◌∷◌, List, ℕ, All, Some, Ok, Err, length, filter, flat_map, not};
 ghost use Rattle.key_roll.specs.Ring.{AreKeysOf};
 ghost use Rattle.ar_cert.specs.Changes.{Change, IsChange};
 ghost use Rattle.party_keys.specs.Signers.{Claimed};
@@ -8,26 +7,24 @@ ghost use Rattle.ar_message.specs.Filling.{CanFill};
 ghost use Rattle.ar_message.specs.declared.lists.LogStatus.{LogStatus};
 ghost use Rattle.lms_tree.specs.KeyParts.{KeyParts};
 ghost use Rattle.lms_tree.specs.declared.public_key.LmsPublic.{LmsPublic};
-ghost use Rattle.vote_quorum.specs.Statuses.{IsMostReported, Status};
-ghost use Rattle.domain_table.specs.Applying.{apply, judge_ripe};
+ghost use Rattle.domain_table.specs.Applying.{apply};
 ghost use Rattle.domain_table.specs.Tables.{Table};
 ghost use Rattle.domain_table.specs.Tree.{root_of};
-ghost use Rattle.domain_table.specs.declared.refusal.ChangeRefusal.{ChangeRefusal};
 ghost use Rattle.epoch_log.specs.State.{epoch_of, table_of};
-ghost use Rattle.log_core.specs.Blanks.{IsZero};
-ghost use Rattle.log_core.specs.Checks.{Check, checked};
-ghost use Rattle.log_core.specs.Judged.{judged};
+ghost use Rattle.log_sending.specs.Blanks.{IsZero};
+ghost use Rattle.log_sending.specs.Checks.{Check};
+ghost use Rattle.log_core.specs.Steps.{checked};
 ghost use Rattle.log_core.specs.Kept.{IsKeptCore};
-ghost use Rattle.log_core.specs.Reported.{most_reported};
 ghost use Rattle.log_core.specs.Rolling.{rolling_row};
 ghost use Rattle.log_core.specs.Row.{IsInput, row};
 ghost use Rattle.log_core.specs.Sees.{SeesVerified};
-ghost use Rattle.log_core.specs.Signers.{endorsements_in, signers};
+ghost use Rattle.log_sending.specs.Signers.{endorsements_in, signers};
 ghost use Rattle.log_core.specs.Skipped.{skip_row};
 ghost use Rattle.log_core.specs.State.{CoreState, Input, Reply, most_sent};
-ghost use Rattle.log_core.specs.Submit.{is_queued};
-ghost use Rattle.log_core.specs.Walk.{StandIn, bytes_of, proposal, proposed_value};
-ghost use Rattle.log_core.specs.declared.refusal.LogRefusal.{LogRefusal};
+ghost use Rattle.log_sending.specs.Queued.{is_queued};
+ghost use Rattle.log_sending.specs.Walk.{StandIn, bytes_of};
+ghost use Rattle.log_core.specs.Proposing.{proposal, proposed_value};
+ghost use Rattle.log_sending.specs.declared.refusal.LogRefusal.{LogRefusal};
 
 /// The first check of a row that refuses is its answer, whatever stands behind it; where none does, the answer is what the
 /// step makes.
@@ -35,16 +32,6 @@ pub fn the_first_refusal_is_the_answer()
     ensures refused { (holding behind : List Check) (refusal : LogRefusal) (reply : Reply) → All (λ c. c ≡ Ok tt) holding
         → checked (holding ++ Err refusal ∷ behind) reply ≡ Err refusal }
     ensures made { (checks : List Check) (reply : Reply) → All (λ c. c ≡ Ok tt) checks → checked checks reply ≡ Ok reply }
-{}
-
-/// A list of changes is judged as it is applied: where none is refused they apply, and else the first is refused that the
-/// table behind those before it does not take.
-pub fn changes_are_judged_as_they_apply()
-    ensures applied { (table : Table) (epoch : ℕ) (changes : List Change) → result_ok (judged table epoch changes) ≡ apply table epoch changes }
-    ensures refused { (table : Table) (epoch : ℕ) (changes : List Change) (index : ℕ) (refusal : ChangeRefusal)
-        → judged table epoch changes ≡ Err (index, refusal)
-        → (before : Table) × (change : Change) × (apply table epoch (take index changes) ≡ Some before)
-        × (slice_get changes index ≡ Some change) × (judge_ripe before change ≡ Err refusal) }
 {}
 
 /// What a log proposes are changes of its queue, in their order, that its table takes one behind the other, from its root
@@ -56,13 +43,6 @@ pub fn a_proposal_is_of_the_queue()
     ensures in_order { (s : CoreState) → StandIn (proposal s) s.queue }
     ensures few { (s : CoreState) → length (proposal s) ≤ 64 }
     ensures short { (s : CoreState) → bytes_of (proposal s) ≤ 4000000 }
-{}
-
-/// The root that a refused skip tells, with its count, is the one that the most statuses report, the least by bytes among
-/// equals; or none and 0 where none is reported.
-pub fn a_refused_skip_tells_the_most_reported()
-    ensures { (statuses : List Status) (most : Option (List ℕ)) (count : ℕ) → IsMostReported statuses most count
-        → most_reported statuses ≡ (most, count) }
 {}
 
 /// A skip that another log tells of leaves the table as it is, also what is ripe in it, and the queue.

@@ -14,8 +14,8 @@ ghost use Rattle.log_core.specs.Rolling.{rolling_row};
 ghost use Rattle.log_core.specs.Row.{IsInput, row};
 ghost use Rattle.log_core.specs.State.{most_sent, rolls};
 
+use crate::LogRefusal;
 use crate::log_core::LogCore;
-use crate::refusal::LogRefusal;
 use crate::step::LogInput;
 use ar_bytes::are_bytes;
 use ar_council::key_told;

@@ -3,21 +3,19 @@
 ghost use Rattle.std.specs.Prelude.{◌≡◌, ◌++◌, IfOk, OnOk};
 ghost use Rattle.ar_statement.specs.Claims.{claim_of, text_of};
 ghost use Rattle.epoch_log.specs.Calls.{after_state, own_status_text};
-ghost use Rattle.log_core.specs.Closings.{closing_drafts};
+ghost use Rattle.log_sending.specs.Closings.{closing_drafts};
 ghost use Rattle.log_core.specs.Passing.{passing_judged, passing_row, status_draft, status_drafts};
-ghost use Rattle.log_core.specs.Sending.{none_composed, with_draft, with_drafts};
+ghost use Rattle.log_sending.specs.Sending.{none_composed, with_draft, with_drafts};
 ghost use Rattle.log_core.specs.Steps.{IsStep};
 
 use crate::LogRefusal;
-use crate::checks::{leaf_left, not_stated, turn_of};
-use crate::closing::{add_closing, close};
 use crate::log_core::LogCore;
-use crate::sending::{Drafts, Ready};
 use ar_council::{roots_of, status_statement};
 use ar_message::{Address, Message, Signature, Unsigned};
 use ar_statement::{Role, Statement};
 use epoch_log::EpochLog;
 use key_roll::forgo;
+use log_sending::{Drafts, Ready, add_closing, close, leaf_left, not_stated, turn_of};
 use std::alloc::{AllocError, Global};
 
 /// The log's own status.

@@ -4,24 +4,24 @@ ghost use Rattle.std.specs.Prelude.{◌≡◌, All, IfOk};
 ghost use Rattle.ar_base.specs.Gives.{GivesUnless};
 ghost use Rattle.ar_cert.specs.Changes.{IsChange};
 ghost use Rattle.ar_message.specs.Lists.{AreChanges};
-ghost use Rattle.log_core.specs.Checks.{first_refusal};
+ghost use Rattle.log_sending.specs.Checks.{first_refusal};
 ghost use Rattle.log_core.specs.Proposed.{ballot_draft, proposal_signers, proposed_checks, proposed_judged, proposed_row, voting_checks};
-ghost use Rattle.log_core.specs.Sending.{none_composed, with_draft};
-ghost use Rattle.log_core.specs.Signers.{signers};
+ghost use Rattle.log_sending.specs.Sending.{none_composed, with_draft};
+ghost use Rattle.log_sending.specs.Signers.{signers};
 ghost use Rattle.log_core.specs.Steps.{IsStep};
-ghost use Rattle.log_core.specs.declared.refusal.LogRefusal.TheVariants as refusals;
+ghost use Rattle.log_sending.specs.declared.refusal.LogRefusal.TheVariants as refusals;
 
 use crate::LogRefusal;
-use crate::checks::{book_refusal, in_epoch, in_turn, leaf_left, not_stated, not_voted, turn_of};
-use crate::judging::leads;
 use crate::log_core::LogCore;
-use crate::sending::{Drafts, Ready};
-use crate::signers::Signers;
 use ar_cert::Change;
 use ar_council::{propose_statement, value_told, vote_statement};
 use ar_message::{Address, Message, Signature, Unsigned};
 use ar_statement::Role;
 use key_roll::forgo;
+use log_sending::{
+    Drafts, Ready, Signers, book_refusal, in_epoch, in_turn, leads, leaf_left, not_stated,
+    not_voted, turn_of,
+};
 use std::alloc::{AllocError, Global};
 use vote_quorum::Value;
 

@@ -8,25 +8,23 @@ ghost use Rattle.ar_message.specs.declared.message.Message.TheVariants.{Propose}
 ghost use Rattle.ar_message.specs.Filling.{zeros};
 ghost use Rattle.ar_statement.specs.Claims.{propose, text_of};
 ghost use Rattle.epoch_log.specs.Calls.{after_propose, proposal_texts};
-ghost use Rattle.log_core.specs.Checks.{leaves_left};
-ghost use Rattle.log_core.specs.Closings.{closing_drafts};
-ghost use Rattle.log_core.specs.Proposing.{proposal_draft, proposing_judged, proposing_row, turn_judged};
-ghost use Rattle.log_core.specs.Sending.{draft_with, none_composed, with_draft, with_drafts};
+ghost use Rattle.log_sending.specs.Checks.{leaves_left};
+ghost use Rattle.log_sending.specs.Closings.{closing_drafts};
+ghost use Rattle.log_core.specs.Proposing.{proposal, proposal_draft, proposed_value, proposing_judged, proposing_row, turn_judged};
+ghost use Rattle.log_sending.specs.Sending.{draft_with, none_composed, with_draft, with_drafts};
 ghost use Rattle.log_core.specs.Steps.{IsStep};
-ghost use Rattle.log_core.specs.Walk.{proposal, proposed_value};
-ghost use Rattle.log_core.specs.declared.refusal.LogRefusal.TheVariants as refusals;
+ghost use Rattle.log_sending.specs.declared.refusal.LogRefusal.TheVariants as refusals;
 
 use crate::LogRefusal;
-use crate::checks::{in_turn, leaves_left, not_stated, not_voted};
-use crate::closing::{add_closing, close};
 use crate::log_core::LogCore;
-use crate::sending::{Drafts, Ready};
-use crate::walking::Walked;
 use ar_cert::Change;
 use ar_council::{propose_statement, vote_statement};
 use ar_message::{Address, Changes, Message, Signature, Unsigned};
 use epoch_log::copies;
 use key_roll::forgo;
+use log_sending::{
+    Drafts, Ready, Walked, add_closing, close, in_turn, leaves_left, not_stated, not_voted, walk,
+};
 use std::alloc::{AllocError, Global};
 use vote_quorum::Value;
 
@@ -78,6 +76,15 @@ fn add_proposal(
 }
 
 impl LogCore {
+    /// The changes that the log proposes, and to which root they lead.
+    fn walk(&self, alloc: Global) -> Result<Walked, AllocError>
+        ensures changes { IfOk result (λ w. w.changes.items ≡ proposal self.now) }
+        ensures value { IfOk result (λ w. w.value ≡ proposed_value self.now) }
+    {
+        self.log.told();
+        walk(alloc, self.log.epoch(), self.log.table(), &self.queue)
+    }
+
     /// That it is the log's turn, and that it has not voted and stated nothing in the epoch.
     #[tactic(auto, unfolding(crate::specs::Proposing::turn_judged))]
     fn judge_turn(&self) -> Result<(), LogRefusal>

@@ -3,17 +3,17 @@
 ghost use Rattle.std.specs.Prelude.{◌≡◌, Err, IfOk};
 ghost use Rattle.key_roll.specs.declared.fault.RollFault.TheVariants as roll_fault;
 ghost use Rattle.log_core.specs.Rolling.{roll_draft, rolling_row};
-ghost use Rattle.log_core.specs.Sending.{none_composed, with_draft};
+ghost use Rattle.log_sending.specs.Sending.{none_composed, with_draft};
 ghost use Rattle.log_core.specs.Steps.{IsStep, roll_refusal};
 
 use crate::LogRefusal;
 use crate::log_core::LogCore;
-use crate::sending::{Drafts, Ready};
 use ar_council::key_told;
 use ar_message::{Address, Message, Signature, Unsigned};
 use ar_statement::{Role, Statement};
 use key_roll::{RollFault, forgo};
 use lms_tree::LmsPublic;
+use log_sending::{Drafts, Ready};
 use std::alloc::{AllocError, Global};
 
 /// Why a log does not go on to a key, as a refusal.

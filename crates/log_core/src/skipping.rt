@@ -1,58 +1,25 @@
 //! The row of a SkipNote: the log ends its epoch as skipped.
 
-ghost use Rattle.std.specs.Prelude.{◌≡◌, ◌++◌, IfOk, OnOk, length};
+ghost use Rattle.std.specs.Prelude.{◌≡◌, IfOk, length};
 ghost use Rattle.ar_base.specs.Gives.{GivesUnless};
 ghost use Rattle.ar_council.specs.Council.{council_of};
-ghost use Rattle.epoch_log.specs.Calls.{plain_statuses};
+ghost use Rattle.epoch_log.specs.State.{reports_of};
 ghost use Rattle.epoch_log.specs.Telling as telling;
-ghost use Rattle.log_core.specs.Checks.{none_can_win};
-ghost use Rattle.log_core.specs.Signers.{signers, status_value, statuses_in};
+ghost use Rattle.log_sending.specs.Checks.{none_can_win};
+ghost use Rattle.log_sending.specs.Signers.{signers, statuses_in};
 ghost use Rattle.log_core.specs.Skipped.{signed_statuses, skip_judged, skip_row, skipped_epoch};
 ghost use Rattle.log_core.specs.Steps.{IsStep};
-ghost use Rattle.log_core.specs.declared.refusal.LogRefusal.TheVariants as refusals;
+ghost use Rattle.log_sending.specs.declared.refusal.LogRefusal.TheVariants as refusals;
 ghost use Rattle.vote_quorum.specs.Statuses.{AreStatuses};
 
 use crate::LogRefusal;
-use crate::checks::in_epoch;
 use crate::log_core::LogCore;
-use crate::signers::Signers;
-use ar_council::status_statement;
 use ar_message::{LogStatus, Statuses, Unsigned};
 use epoch_log::{EpochLog, LAST_EPOCH};
+use log_sending::{Signers, in_epoch, status_value};
 use party_keys::Directory;
 use std::alloc::{AllocError, Global};
 use vote_quorum::{Value, excluded};
-
-/// What a status says that its log voted for.
-fn value_of(status: &LogStatus) -> Option<Value>
-    ensures { result ≡ status_value status.now }
-{
-    match &status.value {
-        Some(roots) => {
-            let (base, root) = *roots;
-            Some(Value { base, root })
-        }
-        None => None,
-    }
-}
-
-impl<'a> Signers<'a> {
-    /// The statuses of an epoch, in their order.
-    pub(crate) fn add_statuses(
-        &mut self,
-        epoch: u64,
-        statuses: &'a [LogStatus],
-    ) -> Result<(), AllocError>
-        ensures { OnOk result (self.new ≡ self.old ++ statuses_in epoch statuses.now) }
-    {
-        if let [status, rest @ ..] = statuses {
-            let statement = status_statement(status.log, epoch, &value_of(status));
-            self.add(&statement, status.signature.as_slice())?;
-            self.add_statuses(epoch, rest)?;
-        }
-        Ok(())
-    }
-}
 
 /// Whether the logs have signed their statuses of an epoch.
 fn check_statuses(
@@ -69,15 +36,15 @@ fn check_statuses(
 }
 
 /// The statuses without their signatures.
-fn plain_statuses(
+fn reports_of(
     alloc: Global,
     statuses: &[LogStatus],
 ) -> Result<Vec<(u16, Option<Value>)>, AllocError>
-    ensures { IfOk result (λ list. list.items ≡ plain_statuses (signed_statuses statuses.now)) }
+    ensures { IfOk result (λ list. list.items ≡ reports_of (signed_statuses statuses.now)) }
 {
     let mut list = Vec::new(alloc);
     for status in statuses {
-        list.push((status.log, value_of(status)))?;
+        list.push((status.log, status_value(status)))?;
     }
     Ok(list)
 }
@@ -92,7 +59,7 @@ fn signed_statuses(
     let mut list = Vec::new(alloc);
     for status in statuses {
         let signature = Vec::from_slice(alloc, status.signature.as_slice())?;
-        list.push((status.log, value_of(status), signature))?;
+        list.push((status.log, status_value(status), signature))?;
     }
     Ok(list)
 }
@@ -130,7 +97,7 @@ impl LogCore {
         let list = statuses.list.as_slice();
         check_statuses(alloc, directory, epoch, list)?;
         in_epoch(&self.log, epoch)?;
-        let plain = plain_statuses(alloc, list)?;
+        let plain = reports_of(alloc, list)?;
         none_can_win(directory, plain.as_slice())
     }
 

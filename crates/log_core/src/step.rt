@@ -8,7 +8,7 @@ ghost use Rattle.ar_message.specs.Messages.{message_in};
 ghost use Rattle.log_core.specs.Inputs.{input_of};
 ghost use Rattle.log_core.specs.Row.{message_row, other_row, read_row, row};
 ghost use Rattle.log_core.specs.Steps.{IsStep};
-ghost use Rattle.log_core.specs.declared.refusal.LogRefusal.TheVariants as refusals;
+ghost use Rattle.log_sending.specs.declared.refusal.LogRefusal.TheVariants as refusals;
 
 use crate::LogRefusal;
 use crate::log_core::LogCore;

@@ -5,19 +5,18 @@ ghost use Rattle.ar_base.specs.Gives.{GivesUnless};
 ghost use Rattle.cert_policy.specs.declared.manner.Manner.{Manner};
 ghost use Rattle.domain_table.specs.Applying.{answer_of};
 ghost use Rattle.domain_table.specs.declared.refusal.ChangeRefusal.{ChangeRefusal};
-ghost use Rattle.log_core.specs.Checks.{has_place};
-ghost use Rattle.log_core.specs.Signers.{endorsements_in, signers};
+ghost use Rattle.log_sending.specs.Checks.{has_place};
+ghost use Rattle.log_sending.specs.Signers.{endorsements_in, signers};
 ghost use Rattle.log_core.specs.Steps.{IsStep};
 ghost use Rattle.log_core.specs.Submit.{queueing, submit_judged, submit_row, taken_alone};
-ghost use Rattle.log_core.specs.declared.refusal.LogRefusal.TheVariants as refusals;
+ghost use Rattle.log_sending.specs.declared.refusal.LogRefusal.TheVariants as refusals;
 
 use crate::LogRefusal;
 use crate::log_core::LogCore;
-use crate::queued::is_queued;
-use crate::signers::Signers;
 use ar_cert::Change;
 use ar_message::Unsigned;
 use domain_table::ChangeRefusal;
+use log_sending::{Signers, is_queued};
 use party_keys::Directory;
 use std::alloc::{AllocError, Global};
 

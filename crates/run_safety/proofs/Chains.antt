@@ -1,8 +1,8 @@
 -- What holds of each value of a chain of steps, and what is known where a step goes on.
 use Rattle.std.specs.Prelude.{◌≡◌, ℕ, refl, Bool, true, false, Option, Some, None, Result, Ok, Err, IfOk}
 use Rattle.ar_base.specs.Chaining.{◌>>=◌}
-use Rattle.ar_world.specs.Finding.{named, need}
-use Rattle.ar_world.specs.declared.fault.WorldFault.{WorldFault}
+use Rattle.ar_nodes.specs.Finding.{named, need}
+use Rattle.ar_nodes.specs.declared.fault.WorldFault.{WorldFault}
 
 -- where each value of the first step leads to one that has the property, so does the chain
 pub if-chained : {A B E : Type 0} (r : Result A E) (f : A → Result B E) (P : B → Type 0) → ((x : A) → r ≡ Ok x → IfOk (f x) P) → IfOk (r >>= f) P

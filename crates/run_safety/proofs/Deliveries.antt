@@ -13,17 +13,19 @@ use Rattle.ar_message.specs.declared.unsigned.Unsigned.{Unsigned}
 use Rattle.ar_statement.specs.declared.party.Party.{Party}
 use Rattle.ar_statement.specs.declared.party.Role.{Role}
 use Rattle.ar_statement.specs.declared.party.Role.TheVariants as role
-use Rattle.ar_world.specs.Authorities.{authority_answers, authority_reply, authority_takes, node_behind, says_to}
+use Rattle.ar_world.specs.Authorities.{authority_answers, authority_takes}
+use Rattle.ar_nodes.specs.Authorities.{authority_reply, node_behind, says_to}
 use Rattle.ar_world.specs.Delivering.{Taker, a_log, an_authority, an_owner, delivery, noted, taker_at, taker_in}
-use Rattle.ar_world.specs.Finding.{authority_at, honest_in, is_owner, log_at, set_if, with_owner}
+use Rattle.ar_world.specs.Finding.{authority_at, log_at, with_owner}
+use Rattle.ar_nodes.specs.Finding.{honest_in, is_owner, set_if}
 use Rattle.ar_world.specs.Logs.{log_answers, log_steps}
-use Rattle.ar_world.specs.Owning.{owner_party}
-use Rattle.ar_world.specs.Parties.{AuthorityNode, LogNode}
-use Rattle.ar_world.specs.Pool.{Pooled, pooled_from}
+use Rattle.ar_nodes.specs.Owners.{owner_party}
+use Rattle.ar_nodes.specs.Parties.{AuthorityNode, LogNode}
+use Rattle.ar_nodes.specs.Pool.{Pooled, pooled_from}
 use Rattle.ar_world.specs.State.{World, with_authority, with_log}
 use Rattle.ar_world.specs.Submitting.{owner_answers}
-use Rattle.ar_world.specs.declared.event.LogEvent.{LogEvent}
-use Rattle.ar_world.specs.declared.event.LogEvent.TheVariants as events
+use Rattle.ar_nodes.specs.declared.event.LogEvent.{LogEvent}
+use Rattle.ar_nodes.specs.declared.event.LogEvent.TheVariants as events
 use Rattle.authority_core.proofs.Few as authority
 use Rattle.authority_core.specs.Row.{asked_in}
 use Rattle.authority_core.specs.State as authority_state

@@ -5,14 +5,17 @@ use Rattle.std.proofs.lemmas.Bool.{and_parts, ltb-true}
 use Rattle.std.proofs.lemmas.Option.{same_Some}
 use Rattle.ar_base.specs.Chaining.{◌>>=◌}
 use Rattle.ar_statement.specs.declared.party.Party.{Party}
-use Rattle.ar_world.specs.Delivering.{can_deliver, deliver_line, delivered_to, delivery, due_from, due_or, due_to, next_due, noted, taker_at}
-use Rattle.ar_world.specs.Finding.{Effect, has_room, message_at, most_bytes, most_messages, need, room}
+use Rattle.ar_world.specs.Delivering.{can_deliver, deliver_line, delivery, due_from, due_or, due_to, next_due, noted, taker_at}
+use Rattle.ar_nodes.specs.Pool.{delivered_to}
+use Rattle.ar_world.specs.Finding.{Effect, has_room, message_at, room}
+use Rattle.ar_nodes.specs.Pool.{most_bytes, most_messages}
+use Rattle.ar_nodes.specs.Finding.{need}
 use Rattle.ar_world.specs.Founding.{led_to, may_come}
-use Rattle.ar_world.specs.Pool.{Pooled, bytes_in, numbered, set_numbered}
+use Rattle.ar_nodes.specs.Pool.{Pooled, bytes_in, numbered, set_numbered}
 use Rattle.ar_world.specs.Run.{Progress, delivering, flushed, most_deliveries, progress_of, taken, then_on}
 use Rattle.ar_world.specs.State.{World, silent}
 use Rattle.ar_world.specs.Step.{effect}
-use Rattle.ar_world.specs.declared.fault.WorldFault.TheVariants.{Limit, Order}
+use Rattle.ar_nodes.specs.declared.fault.WorldFault.TheVariants.{Limit, Order}
 use Rattle.ar_world.specs.declared.phase.Phase.TheVariants.{Running}
 use Rattle.owner_check.specs.declared.answer.Outcome.{Outcome}
 use Rattle.script_text.specs.declared.line.Line.TheVariants as line

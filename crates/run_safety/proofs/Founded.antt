@@ -11,10 +11,13 @@ use Rattle.ar_statement.specs.Claims.{is_party}
 use Rattle.ar_statement.specs.declared.party.Party.{Party}
 use Rattle.ar_statement.specs.declared.party.Role.{Role}
 use Rattle.ar_statement.specs.declared.party.Role.TheVariants as role
-use Rattle.ar_world.specs.Finding.{honest_in}
-use Rattle.ar_world.specs.Finding.{named}
-use Rattle.ar_world.specs.Founding.{authorities_line, fresh_log, fresh_logs, genesis_of, key_made, keys_made, new_authorities, new_authority, peopled}
-use Rattle.ar_world.specs.State.{Setup, World, key_for, keys_for}
+use Rattle.ar_nodes.specs.Finding.{honest_in}
+use Rattle.ar_nodes.specs.Finding.{named}
+use Rattle.ar_world.specs.Founding.{authorities_line, peopled}
+use Rattle.ar_founding.specs.Founding.{fresh_log, fresh_logs, genesis_of, new_authorities, new_authority}
+use Rattle.ar_founding.specs.FirstKeys.{key_made, keys_made}
+use Rattle.ar_founding.specs.FirstKeys.{Setup, key_for, keys_for}
+use Rattle.ar_world.specs.State.{World}
 use Rattle.lms_tree.specs.Key.{public_of}
 use Rattle.lms_tree.specs.KeyParts.{KeyParts}
 use Rattle.lms_tree.specs.declared.public_key.LmsPublic.{LmsPublic}

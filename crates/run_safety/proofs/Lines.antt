@@ -17,27 +17,34 @@ use Rattle.ar_statement.specs.Claims.{party}
 use Rattle.ar_statement.specs.declared.party.Party.{Party}
 use Rattle.ar_statement.specs.declared.party.Role.{Role}
 use Rattle.ar_statement.specs.declared.party.Role.TheVariants as role
-use Rattle.ar_world.specs.Finding.{honest_in}
+use Rattle.ar_nodes.specs.Finding.{honest_in}
 use Rattle.ar_world.specs.Asking.{ask_line, question}
-use Rattle.ar_world.specs.Codes.{owner_code}
+use Rattle.ar_nodes.specs.Codes.{owner_code}
 use Rattle.ar_world.specs.Delivering.{Taker, a_log, an_authority, an_owner, can_deliver, deliver_line, delivery, noted, taker_at, taker_in}
 use Rattle.ar_world.specs.Drafting.{begun, draft_if, draft_room, drafted, first_certificate, next_certificate, policy_of, register_line, revoke_line, update_line}
-use Rattle.ar_world.specs.Finding.{authority_at, checking_at, draft_at, existing, forger_at, is_forger, known_asks, log_at, message_at, named, need, owner_at, room, set_if, with_check, with_owner}
-use Rattle.ar_world.specs.Forging.{composed_in, forged, inject_line, receiver_in, sign_line, signing_if}
-use Rattle.ar_world.specs.Founding.{dishonest_line, first_key, honest_key, key_made, keys_line, keys_made, leaves_of, logs_line, place_of, turned}
+use Rattle.ar_world.specs.Finding.{authority_at, checking_at, draft_at, existing, forger_at, known_asks, log_at, message_at, owner_at, room, with_owner}
+use Rattle.ar_nodes.specs.Finding.{is_forger, named, need, set_if, with_check}
+use Rattle.ar_world.specs.Forging.{composed_in, inject_line, receiver_in, sign_line, signing_if}
+use Rattle.ar_nodes.specs.Forging.{forged}
+use Rattle.ar_world.specs.Founding.{dishonest_line, honest_key, keys_line, logs_line, place_of, turned}
+use Rattle.ar_founding.specs.FirstKeys.{first_key, key_made, keys_made}
+use Rattle.ar_nodes.specs.Parties.{leaves_of}
 use Rattle.ar_world.specs.Judging.{judge_line, judged_number}
-use Rattle.ar_world.specs.Learning.{learn_line, note_of}
-use Rattle.ar_world.specs.Logs.{next_of}
+use Rattle.ar_world.specs.Learning.{learn_line}
+use Rattle.client_rule.specs.Notes.{note_of}
+use Rattle.ar_nodes.specs.Parties.{next_of}
 use Rattle.ar_world.specs.Ordering.{log_order, roll_line, roll_of}
-use Rattle.ar_world.specs.Owning.{check_line, known_key, owner_key, owner_line, owner_party, retire_line, retold}
-use Rattle.ar_world.specs.Parties.{AuthorityNode, CheckParts, Forger, LogNode}
-use Rattle.ar_world.specs.Pool.{Pooled, raw}
+use Rattle.ar_world.specs.Owning.{check_line, owner_key, owner_line, retire_line}
+use Rattle.ar_nodes.specs.Owners.{known_key, owner_party}
+use Rattle.ar_nodes.specs.Teaching.{retold}
+use Rattle.ar_nodes.specs.Parties.{AuthorityNode, CheckParts, Forger, LogNode}
+use Rattle.ar_nodes.specs.Pool.{Pooled, raw}
 use Rattle.ar_world.specs.State.{Drafted, World}
 use Rattle.ar_world.specs.Submitting.{attached, attached_by, handed, handover_line, object_line, submit_line}
-use Rattle.ar_world.specs.declared.event.LogEvent.{LogEvent}
-use Rattle.ar_world.specs.declared.event.LogEvent.TheVariants as events
-use Rattle.ar_world.specs.declared.fault.WorldFault.{WorldFault}
-use Rattle.ar_world.specs.declared.fault.WorldFault.TheVariants.{Absent}
+use Rattle.ar_nodes.specs.declared.event.LogEvent.{LogEvent}
+use Rattle.ar_nodes.specs.declared.event.LogEvent.TheVariants as events
+use Rattle.ar_nodes.specs.declared.fault.WorldFault.{WorldFault}
+use Rattle.ar_nodes.specs.declared.fault.WorldFault.TheVariants.{Absent}
 use Rattle.lm_ots.specs.OtsKind.{type_of_number}
 use Rattle.lms_tree.specs.Key.{type_to_make}
 use Rattle.lms_tree.specs.KeyParts.{KeyParts}

@@ -8,18 +8,20 @@ use Rattle.ar_message.specs.Messages.{message_in}
 use Rattle.ar_message.specs.declared.sent.Sent.{Sent}
 use Rattle.ar_message.specs.declared.unsigned.Unsigned.{Unsigned}
 use Rattle.ar_statement.specs.declared.party.Party.{Party}
-use Rattle.ar_world.specs.Authorities.{authority_answers, authority_reply, authority_rolled, authority_rolls, authority_takes, node_behind, says_to}
-use Rattle.ar_world.specs.Codes.{authority_code, log_code, owner_code}
+use Rattle.ar_world.specs.Authorities.{authority_answers, authority_rolled, authority_rolls, authority_takes}
+use Rattle.ar_nodes.specs.Authorities.{authority_reply, node_behind, says_to}
+use Rattle.ar_nodes.specs.Codes.{authority_code, log_code, owner_code}
 use Rattle.ar_world.specs.Finding.{authority_at, log_at}
 use Rattle.ar_world.specs.Logs.{log_answers, log_rolls, log_steps}
-use Rattle.ar_world.specs.Owning.{owner_party}
-use Rattle.ar_world.specs.Parties.{AuthorityNode, LogNode}
-use Rattle.ar_world.specs.Pool.{Pooled, entries_from, pooled_from}
-use Rattle.ar_world.specs.Sending.{ending_of, posted}
+use Rattle.ar_nodes.specs.Owners.{owner_party}
+use Rattle.ar_nodes.specs.Parties.{AuthorityNode, LogNode}
+use Rattle.ar_nodes.specs.Pool.{Pooled, entries_from, pooled_from}
+use Rattle.ar_nodes.specs.Sending.{ending_of}
+use Rattle.ar_world.specs.Sending.{posted}
 use Rattle.ar_world.specs.State.{World, with_authority, with_log}
 use Rattle.ar_world.specs.Submitting.{owner_answers, submitted}
-use Rattle.ar_world.specs.declared.event.LogEvent.{LogEvent}
-use Rattle.ar_world.specs.declared.event.LogEvent.TheVariants as events
+use Rattle.ar_nodes.specs.declared.event.LogEvent.{LogEvent}
+use Rattle.ar_nodes.specs.declared.event.LogEvent.TheVariants as events
 use Rattle.authority_core.proofs.Standing as authority
 use Rattle.authority_core.specs.RollRows.{roll_row}
 use Rattle.authority_core.specs.Row.{asked_in}

@@ -7,7 +7,7 @@ use Rattle.std.proofs.lemmas.List.Folds.{list_any-append}
 use Rattle.ar_statement.specs.Claims.{is_party, party}
 use Rattle.ar_statement.specs.declared.party.Party.{Party}
 use Rattle.ar_statement.specs.declared.party.Role.{Role}
-use Rattle.ar_world.specs.Finding.{honest_in}
+use Rattle.ar_nodes.specs.Finding.{honest_in}
 use Rattle.run_safety.specs.Seats.{AreSeated, honest_count}
 
 -- ---- places of a list

@@ -11,17 +11,18 @@ use Rattle.ar_lines.specs.declared.refusal.Reason.TheVariants as reason
 use Rattle.ar_safety.specs.Held.{IsTaken, verdict_on}
 use Rattle.ar_statement.specs.declared.party.Party.{Party}
 use Rattle.ar_world.specs.Delivering.{deliver_line, next_due}
-use Rattle.ar_world.specs.Finding.{Effect, need}
+use Rattle.ar_world.specs.Finding.{Effect}
+use Rattle.ar_nodes.specs.Finding.{need}
 use Rattle.ar_world.specs.Founding.{led_to, may_come, place_of}
-use Rattle.ar_world.specs.Parties.{CheckParts}
+use Rattle.ar_nodes.specs.Parties.{CheckParts}
 use Rattle.ar_world.specs.Records.{held_of}
 use Rattle.ar_world.specs.Run.{Progress, Run, Saying, delivering, flushed, follows, line_taken, most_deliveries, most_lines, progress_of, refusing, run, run_behind, run_from, taken, taken_as, then_if, then_on}
 use Rattle.ar_world.specs.State.{Moved, World, first_world, no_directory}
 use Rattle.ar_world.specs.Step.{effect, leads_to, step, stepped}
 use Rattle.ar_world.specs.declared.cause.Cause.{Cause}
 use Rattle.ar_world.specs.declared.cause.Cause.TheVariants.{Unread}
-use Rattle.ar_world.specs.declared.event.LogEvent.TheVariants as events
-use Rattle.ar_world.specs.declared.fault.WorldFault.TheVariants.{Order}
+use Rattle.ar_nodes.specs.declared.event.LogEvent.TheVariants as events
+use Rattle.ar_nodes.specs.declared.fault.WorldFault.TheVariants.{Order}
 use Rattle.ar_world.specs.declared.phase.Phase.{Phase}
 use Rattle.ar_world.specs.declared.phase.Phase.TheVariants as phase
 use Rattle.log_core.specs.State.{passes, proposes}

@@ -1,7 +1,7 @@
 -- A run is safe, whose parties keep their records.
 use Rattle.std.specs.Prelude.{ℕ, List}
 use Rattle.ar_safety.proofs.Held.{run-safe}
-use Rattle.ar_world.specs.Parties.{CheckParts}
+use Rattle.ar_nodes.specs.Parties.{CheckParts}
 use Rattle.ar_world.specs.Records.{HasParties, KeepsRecords, held_of}
 use Rattle.ar_world.specs.Run.{Saying, run}
 use Rattle.run_safety.specs.Headline.{IsSafeRun}

@@ -9,8 +9,9 @@ use Rattle.std.proofs.lemmas.List.Sums.{count_by-le-length, length-filter, sum_b
 use Rattle.std.proofs.lemmas.Option.{get_or_from_slice_get, same_Some, slice_get_within}
 use Rattle.ar_statement.specs.Claims.{is_party, role_number}
 use Rattle.ar_statement.specs.declared.party.Party.{Party}
-use Rattle.ar_world.specs.Delivering.{addressed, delivered_to, is_sender}
-use Rattle.ar_world.specs.Pool.{Pooled}
+use Rattle.ar_world.specs.Delivering.{addressed, is_sender}
+use Rattle.ar_nodes.specs.Pool.{delivered_to}
+use Rattle.ar_nodes.specs.Pool.{Pooled}
 use Rattle.party_keys.specs.Seen.{log_party}
 use Rattle.report_text.specs.declared.happening.Target.{Target}
 use Rattle.report_text.specs.declared.happening.Target.TheVariants as target

@@ -2,7 +2,7 @@
 ghost use Rattle.std.specs.Prelude.{◌≡◌, ◌≤◌, ℕ, List, length, map};
 ghost use Rattle.std.specs.List.{filter_map};
 ghost use Rattle.ar_safety.specs.Held.{AreKept};
-ghost use Rattle.ar_world.specs.Parties.{CheckParts};
+ghost use Rattle.ar_nodes.specs.Parties.{CheckParts};
 ghost use Rattle.ar_world.specs.Records.{HasParties, KeepsRecords, held_of};
 ghost use Rattle.ar_world.specs.Run.{Saying, flushed, most_deliveries, run, taken};
 ghost use Rattle.ar_world.specs.State.{World};

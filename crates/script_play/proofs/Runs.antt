@@ -10,7 +10,7 @@ use Rattle.ar_run.specs.declared.fault.Fault.{Fault}
 use Rattle.owner_check.specs.declared.answer.Outcome.{Outcome}
 use Rattle.owner_check.specs.declared.answer.Outcome.TheVariants.{Failed}
 use Rattle.report_text.specs.Lines.{line_of}
-use Rattle.ar_world.specs.Parties.{CheckParts}
+use Rattle.ar_nodes.specs.Parties.{CheckParts}
 use Rattle.ar_world.specs.Records.{HasParties, KeepsRecords}
 use Rattle.ar_world.specs.Run.{Progress, Refused, Run, Saying, behind_run, line_taken, refused_lines, run, run_behind, run_from}
 use Rattle.ar_world.specs.State.{World, first_world}

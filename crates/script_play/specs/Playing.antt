@@ -7,14 +7,14 @@ use Rattle.ar_run.specs.declared.fault.Fault.{Fault}
 use Rattle.ar_run.specs.declared.fault.Fault.TheVariants as fault
 use Rattle.report_text.specs.Lines.{line_of}
 use Rattle.report_text.specs.declared.happening.Happening.{Happening}
-use Rattle.ar_world.specs.Parties.{CheckParts}
+use Rattle.ar_nodes.specs.Parties.{CheckParts}
 use Rattle.ar_world.specs.Run.{Progress, Refused, Run, Saying, lines_of_run, refused_lines, run}
 use Rattle.run_safety.specs.Headline.{IsSafeRun}
 use Rattle.ar_world.specs.State.{World}
 use Rattle.ar_world.specs.declared.cause.Cause.{Cause}
 use Rattle.ar_world.specs.declared.cause.Cause.TheVariants.{Untaken}
-use Rattle.ar_world.specs.declared.fault.WorldFault.{WorldFault}
-use Rattle.ar_world.specs.declared.fault.WorldFault.TheVariants as world_fault
+use Rattle.ar_nodes.specs.declared.fault.WorldFault.{WorldFault}
+use Rattle.ar_nodes.specs.declared.fault.WorldFault.TheVariants as world_fault
 use Rattle.script_play.specs.Counts.{counted_from, no_counts}
 use Rattle.script_play.specs.declared.counts.Counts.{Counts}
 

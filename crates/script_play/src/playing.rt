@@ -3,7 +3,7 @@
 ghost use Rattle.std.specs.Prelude.{ℕ};
 ghost use Rattle.owner_check.specs.declared.answer.Outcome.{Outcome};
 ghost use Rattle.ar_lines.specs.Lines.{lines_of};
-ghost use Rattle.ar_world.specs.Parties.{checks_told};
+ghost use Rattle.ar_nodes.specs.Parties.{checks_told};
 ghost use Rattle.ar_world.specs.Run.{follows, line_taken, progress_of, run_from, taken};
 ghost use Rattle.ar_world.specs.Step.{step};
 ghost use Rattle.script_play.specs.Playing.{Plays, PlaysAll, PlaysLines, PlaysSome};

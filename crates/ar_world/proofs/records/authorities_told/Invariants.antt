@@ -1,6 +1,6 @@
 use Rattle.std.proofs.Common.{take}
 use Rattle.std.specs.Prelude.{All, IfSome, Option}
-use Rattle.ar_world.specs.Parties.{AuthorityNode}
+use Rattle.ar_nodes.specs.Parties.{AuthorityNode}
 use Rattle.ar_world.specs.Records.{AuthorityKeepsRecord}
 use Rattle.ar_world.proofs.records.authorities_told.Given as goal
 

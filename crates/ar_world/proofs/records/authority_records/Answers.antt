@@ -3,7 +3,7 @@ use Rattle.std.specs.List.{filter_map}
 use Rattle.std.specs.Option.{option_map}
 use Rattle.std.specs.Prelude.{Option}
 use Rattle.std.proofs.Math.Seq.{take-length}
-use Rattle.ar_world.specs.Parties.{AuthorityNode}
+use Rattle.ar_nodes.specs.Parties.{AuthorityNode}
 use Rattle.ar_world.proofs.Remembered.{more-told}
 use Rattle.ar_world.proofs.records.authority_records.Goals as goal
 

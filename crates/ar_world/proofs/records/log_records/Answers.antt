@@ -4,7 +4,7 @@ use Rattle.std.specs.Option.{option_map}
 use Rattle.std.specs.Prelude.{Option}
 use Rattle.std.proofs.Math.Seq.{take-length}
 use Rattle.epoch_log.specs.Log.{record_of}
-use Rattle.ar_world.specs.Parties.{LogNode}
+use Rattle.ar_nodes.specs.Parties.{LogNode}
 use Rattle.ar_world.proofs.Remembered.{more-told}
 use Rattle.ar_world.proofs.records.log_records.Goals as goal
 

@@ -2,7 +2,7 @@ use Rattle.std.proofs.Common.{◌≡◌, length, take, arith, ap, sym, subst, �
 use Rattle.std.specs.Prelude.{IfSome, Option}
 use Rattle.std.proofs.Math.Seq.{take-length}
 use Rattle.std.proofs.lemmas.List.Elements.{All-more, All-same}
-use Rattle.ar_world.specs.Parties.{LogNode}
+use Rattle.ar_nodes.specs.Parties.{LogNode}
 use Rattle.ar_world.specs.Records.{LogKeepsRecord}
 use Rattle.ar_world.proofs.records.logs_told.Goals as goal
 

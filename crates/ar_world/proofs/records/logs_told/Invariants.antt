@@ -1,6 +1,6 @@
 use Rattle.std.proofs.Common.{take}
 use Rattle.std.specs.Prelude.{All, IfSome, Option}
-use Rattle.ar_world.specs.Parties.{LogNode}
+use Rattle.ar_nodes.specs.Parties.{LogNode}
 use Rattle.ar_world.specs.Records.{LogKeepsRecord}
 use Rattle.ar_world.proofs.records.logs_told.Given as goal
 

@@ -1,4 +1,4 @@
-use Rattle.log_core.proofs.Walked.{proposal-applies, proposal-fits, proposal-stands}
+use Rattle.log_core.proofs.OwnProposal.{proposal-applies, proposal-fits, proposal-stands}
 use Rattle.log_core.proofs.laws.a_proposal_is_of_the_queue.Goals as goal
 
 pub returns-clause-applies : goal.returns-clause-applies

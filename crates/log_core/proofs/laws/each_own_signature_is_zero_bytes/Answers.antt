@@ -1,4 +1,4 @@
-use Rattle.log_core.proofs.Blanks.{composed-zero}
+use Rattle.log_sending.proofs.Blanks.{composed-zero}
 use Rattle.log_core.proofs.Composed.{row-composed}
 use Rattle.log_core.proofs.laws.each_own_signature_is_zero_bytes.Goals as goal
 

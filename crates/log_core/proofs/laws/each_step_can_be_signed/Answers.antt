@@ -1,4 +1,4 @@
-use Rattle.log_core.proofs.Blanks.{composed-fill}
+use Rattle.log_sending.proofs.Blanks.{composed-fill}
 use Rattle.log_core.proofs.Composed.{row-composed}
 use Rattle.log_core.proofs.KeptEndings.{kept-row}
 use Rattle.log_core.proofs.laws.each_step_can_be_signed.Goals as goal

@@ -1,4 +1,4 @@
-use Rattle.log_core.proofs.Checked.{first-refused, none-refused}
+use Rattle.log_core.proofs.Passed.{first-refused, none-refused}
 use Rattle.log_core.proofs.laws.the_first_refusal_is_the_answer.Goals as goal
 
 pub returns-clause-refused : goal.returns-clause-refused

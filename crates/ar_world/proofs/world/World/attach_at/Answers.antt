@@ -1,6 +1,6 @@
 use Rattle.std.proofs.Common.{◌≡◌, Some, sym, subst}
 use Rattle.std.specs.Prelude.{position}
-use Rattle.ar_world.specs.Finding.{is_owner}
+use Rattle.ar_nodes.specs.Finding.{is_owner}
 use Rattle.ar_world.specs.State.{World}
 use Rattle.ar_world.proofs.Answered.{unattached}
 use Rattle.ar_world.proofs.world.World.attach_at.Goals as goal

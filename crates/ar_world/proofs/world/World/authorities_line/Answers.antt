@@ -1,7 +1,8 @@
 use Rattle.std.proofs.Common.{rules, ◌≡◌}
-use Rattle.ar_world.specs.Founded.{AreOwn}
+use Rattle.ar_founding.specs.Founded.{AreOwn}
 use Rattle.ar_world.specs.declared.phase.Phase.TheVariants as phase
-use Rattle.ar_world.proofs.FirstParties.{founded-own, logs-made}
+use Rattle.ar_founding.proofs.FirstParties.{founded-own}
+use Rattle.ar_world.proofs.FirstParties.{logs-made}
 use Rattle.ar_world.proofs.world.World.authorities_line.Goals as goal
 
 pub people-requires-clause-phase : goal.people-requires-clause-phase

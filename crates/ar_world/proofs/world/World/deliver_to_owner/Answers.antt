@@ -1,5 +1,5 @@
 use Rattle.std.proofs.Common.{◌≡◌, get_or, is_some, true, sym}
-use Rattle.ar_world.specs.Pool.{numbered}
+use Rattle.ar_nodes.specs.Pool.{numbered}
 use Rattle.ar_world.proofs.Deliveries.{delivered_to_owner}
 use Rattle.ar_world.proofs.world.World.deliver_to_owner.Goals as goal
 

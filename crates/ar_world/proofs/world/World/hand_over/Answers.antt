@@ -1,6 +1,6 @@
 use Rattle.std.proofs.Common.{◌≡◌, ◌<◌, length, get_or, Some, sym, subst}
 use Rattle.std.specs.Prelude.{position}
-use Rattle.ar_world.specs.Finding.{is_owner}
+use Rattle.ar_nodes.specs.Finding.{is_owner}
 use Rattle.ar_world.specs.State.{World}
 use Rattle.ar_world.proofs.Answered.{hands_done, hands_refused}
 use Rattle.ar_world.proofs.world.World.hand_over.Goals as goal

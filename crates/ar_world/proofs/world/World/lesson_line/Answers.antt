@@ -1,8 +1,8 @@
 use Rattle.std.proofs.Common.{rules, ◌≡◌, true, is_some, find, Some}
 use Rattle.std.specs.Option.{option_map}
 use Rattle.std.proofs.lemmas.List.{with_items_is}
-use Rattle.ar_world.specs.Finding.{checking_in, is_owner}
-use Rattle.ar_world.specs.Owning.{known_key}
+use Rattle.ar_nodes.specs.Finding.{checking_in, is_owner}
+use Rattle.ar_nodes.specs.Owners.{known_key}
 use Rattle.ar_world.proofs.Retold.{lesson_steps}
 use Rattle.ar_world.proofs.world.World.lesson_line.Goals as goal
 

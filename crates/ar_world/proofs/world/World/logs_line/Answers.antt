@@ -1,4 +1,4 @@
-use Rattle.ar_world.proofs.FirstParties.{logs-kept}
+use Rattle.ar_founding.proofs.FirstParties.{logs-kept}
 use Rattle.ar_world.proofs.world.World.logs_line.Goals as goal
 
 pub invariant_of-self : goal.invariant_of-self

@@ -1,6 +1,6 @@
 use Rattle.std.proofs.Common.{rules, ◌∙◌, sym, ap}
 use Rattle.std.specs.Prelude.{position}
-use Rattle.ar_world.specs.Finding.{is_forger}
+use Rattle.ar_nodes.specs.Finding.{is_forger}
 use Rattle.ar_world.specs.State.{World}
 use Rattle.ar_world.proofs.Forgers.{sign_uncomposed}
 use Rattle.ar_world.proofs.world.World.may_sign.Goals as goal

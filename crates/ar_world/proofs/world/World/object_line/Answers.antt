@@ -2,9 +2,10 @@ use Rattle.std.proofs.Common.{◌≡◌, ◌<◌, length, Some, Ok, sym, subst}
 use Rattle.std.specs.Prelude.{position}
 use Rattle.owner_core.specs.Rows.{object_row}
 use Rattle.report_text.specs.declared.happening.What.TheVariants.{Object}
-use Rattle.ar_world.specs.Acting.{ActsBy, acted, owner_does}
-use Rattle.ar_world.specs.Finding.{is_owner, room}
-use Rattle.ar_world.specs.Owning.{owner_party}
+use Rattle.ar_nodes.specs.Acting.{ActsBy, acted, owner_does}
+use Rattle.ar_nodes.specs.Finding.{is_owner}
+use Rattle.ar_world.specs.Finding.{room}
+use Rattle.ar_nodes.specs.Owners.{owner_party}
 use Rattle.ar_world.specs.State.{Drafted, World}
 use Rattle.ar_world.proofs.Answered.{objected_there}
 use Rattle.ar_world.proofs.world.World.object_line.Goals as goal

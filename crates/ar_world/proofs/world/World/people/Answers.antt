@@ -1,11 +1,12 @@
 use Rattle.std.proofs.Common.{rules, refl, ap, ◌≡◌, ◌∙◌}
 use Rattle.std.specs.Vec.{vec_items}
 use Rattle.ar_statement.specs.declared.party.Role.TheVariants.{LogServer}
-use Rattle.ar_world.specs.FirstKeys.{FirstKeys, first_of}
-use Rattle.ar_world.specs.Parties.{checks_told}
-use Rattle.ar_world.specs.State.{keys_for}
+use Rattle.ar_founding.specs.FirstKeys.{FirstKeys, first_of}
+use Rattle.ar_nodes.specs.Parties.{checks_told}
+use Rattle.ar_founding.specs.FirstKeys.{keys_for}
 use Rattle.ar_world.specs.declared.phase.Phase.TheVariants as phase
-use Rattle.ar_world.proofs.FirstParties.{few-kept, joined-world, put-first}
+use Rattle.ar_founding.proofs.FirstParties.{few-kept, put-first}
+use Rattle.ar_world.proofs.FirstParties.{joined-world}
 use Rattle.ar_world.proofs.world.World.people.Goals as goal
 
 pub invariant_of-self : goal.invariant_of-self

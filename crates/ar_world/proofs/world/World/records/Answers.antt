@@ -4,7 +4,7 @@ use Rattle.std.specs.List.{filter_map}
 use Rattle.std.specs.Option.{option_map}
 use Rattle.std.specs.Prelude.{Option}
 use Rattle.ar_world.specs.Kept.{clients_in}
-use Rattle.ar_world.specs.Parties.{AuthorityNode, Forger, LogNode}
+use Rattle.ar_nodes.specs.Parties.{AuthorityNode, Forger, LogNode}
 use Rattle.ar_world.specs.State.{World}
 use Rattle.ar_world.proofs.Remembered.{held-so}
 use Rattle.ar_world.proofs.world.World.records.Goals as goal

@@ -1,6 +1,6 @@
 use Rattle.std.proofs.Common.{rules, ◌≡◌, true, is_some}
 use Rattle.std.proofs.lemmas.List.{with_items_is}
-use Rattle.ar_world.specs.Finding.{checking_in}
+use Rattle.ar_nodes.specs.Finding.{checking_in}
 use Rattle.ar_world.proofs.Retold.{retire_steps}
 use Rattle.ar_world.proofs.world.World.retire_line.Goals as goal
 

@@ -5,7 +5,7 @@ use Rattle.ar_base.specs.Bytes.{AreBytes}
 use Rattle.ar_safety.specs.Held.{Taken}
 use Rattle.party_keys.specs.Directory.{IsDirectory}
 use Rattle.ar_world.specs.Kept.{clients_in}
-use Rattle.ar_world.specs.Parties.{AuthorityNode, LogNode}
+use Rattle.ar_nodes.specs.Parties.{AuthorityNode, LogNode}
 use Rattle.ar_world.specs.Records.{AuthorityKeepsRecord, KeepsRecords, LogKeepsRecord}
 use Rattle.ar_world.proofs.Remembered.{kept-at}
 use Rattle.ar_world.proofs.world.World.told.Goals as goal

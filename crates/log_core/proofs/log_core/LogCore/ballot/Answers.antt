@@ -3,11 +3,11 @@ use Rattle.std.proofs.Common.{◌≡◌, ◌⊎◌, List, ℕ, Ok, Err, subst, s
 use Rattle.ar_cert.specs.Changes.{IsSignature}
 use Rattle.epoch_log.specs.Calls.{after_ballot}
 use Rattle.log_core.specs.Balloted.{ballot_judged, ballot_row}
-use Rattle.log_core.specs.Closings.{closing_drafts}
+use Rattle.log_sending.specs.Closings.{closing_drafts}
 use Rattle.log_core.specs.Kept.{IsKeptCore}
-use Rattle.log_core.specs.Sending.{none_composed, with_drafts}
+use Rattle.log_sending.specs.Sending.{none_composed, with_drafts}
 use Rattle.log_core.specs.State.{CoreState}
-use Rattle.log_core.specs.declared.refusal.LogRefusal.TheVariants as refusals
+use Rattle.log_sending.specs.declared.refusal.LogRefusal.TheVariants as refusals
 use Rattle.log_core.proofs.Closed.{ballot-member, ballot-refused, ballot-step, core-of, made}
 use Rattle.log_core.proofs.KeptRows.{kept-ballot_row}
 use Rattle.log_core.proofs.log_core.LogCore.ballot.Goals as goal

@@ -1,7 +1,7 @@
 use Rattle.std.proofs.Common.{◌<◌, subst, sym}
 use Rattle.epoch_log.specs.Calls.{after_ballot}
 use Rattle.log_core.specs.State.{CoreState}
-use Rattle.log_core.proofs.Sendable.{ballot-can, told-can}
+use Rattle.log_sending.proofs.Sendable.{ballot-can, told-can}
 use Rattle.log_core.proofs.log_core.LogCore.ballot_drafts.Goals as goal
 
 pub add_closing-requires : goal.add_closing-requires

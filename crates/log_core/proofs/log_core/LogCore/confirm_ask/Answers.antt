@@ -3,7 +3,7 @@ use Rattle.ar_message.specs.declared.unsigned.Unsigned.{Unsigned}
 use Rattle.log_core.specs.Confirming.{Asked, confirm_row, confirmation_prepared}
 use Rattle.log_core.specs.State.{CoreState}
 use Rattle.log_core.specs.Steps.{IsStep}
-use Rattle.log_core.specs.declared.refusal.LogRefusal.{LogRefusal}
+use Rattle.log_sending.specs.declared.refusal.LogRefusal.{LogRefusal}
 use Rattle.log_core.proofs.Confirmations.{confirm-keeps, confirm-made, confirm-refused, confirm-spent, has-newest}
 use Rattle.log_core.proofs.Stepping.{core-with}
 use Rattle.log_core.proofs.log_core.LogCore.confirm_ask.Goals as goal

@@ -6,10 +6,10 @@ use Rattle.ar_message.specs.declared.lists.Vote.{Vote}
 use Rattle.ar_message.specs.Filling.{only_ended}
 use Rattle.epoch_log.specs.Ending.{may_end}
 use Rattle.epoch_log.specs.Telling.{votes_in}
-use Rattle.log_core.specs.Checks.{first_refusal}
+use Rattle.log_sending.specs.Checks.{first_refusal}
 use Rattle.log_core.specs.Decided.{Decision, decision_checks}
 use Rattle.log_core.specs.State.{CoreState}
-use Rattle.log_core.specs.declared.refusal.LogRefusal.TheVariants as refusals
+use Rattle.log_sending.specs.declared.refusal.LogRefusal.TheVariants as refusals
 use Rattle.log_core.proofs.Decisions.{can-decide, decision-ends, decision-keeps, decision-refused, is-decided, log-decided, queue-if, queue-is}
 use Rattle.log_core.proofs.log_core.LogCore.decision.Goals as goal
 

@@ -4,7 +4,7 @@ use Rattle.ar_statement.specs.Claims.{claim_of, propose, text_of}
 use Rattle.vote_quorum.specs.declared.value.Value.{Value}
 use Rattle.epoch_log.specs.Calls.{own_vote_text, propose_claim, proposal_texts}
 use Rattle.epoch_log.specs.Record.{LogRecord}
-use Rattle.log_core.specs.Checks.{leaves_left}
+use Rattle.log_sending.specs.Checks.{leaves_left}
 use Rattle.log_core.specs.State.{CoreState}
 use Rattle.log_core.proofs.log_core.LogCore.judge_leaves.Goals as goal
 

@@ -1,6 +1,6 @@
 use Rattle.std.proofs.Common.{◌≡◌, [], ◌∷◌, subst, sym, ap, ◌∙◌}
 use Rattle.ar_statement.specs.Claims.{claim_of, text_of}
-use Rattle.log_core.specs.Checks.{leaves_left}
+use Rattle.log_sending.specs.Checks.{leaves_left}
 use Rattle.log_core.specs.Passing.{passing_judged}
 use Rattle.log_core.specs.State.{CoreState}
 use Rattle.log_core.proofs.Closed.{passing-judges}

@@ -2,9 +2,9 @@ use Rattle.std.proofs.Common.{◌≡◌, ◌∷◌, List, Ok, subst, sym}
 use Rattle.ar_cert.specs.Changes.{Change}
 use Rattle.vote_quorum.specs.declared.value.Value.{Value}
 use Rattle.epoch_log.specs.Calls.{after_propose}
-use Rattle.log_core.specs.Closings.{closing_drafts}
+use Rattle.log_sending.specs.Closings.{closing_drafts}
 use Rattle.log_core.specs.Proposing.{proposal_draft, proposing_judged, proposing_row}
-use Rattle.log_core.specs.Sending.{none_composed, with_drafts}
+use Rattle.log_sending.specs.Sending.{none_composed, with_drafts}
 use Rattle.log_core.specs.State.{CoreState}
 use Rattle.log_core.proofs.Closed.{core-of, made}
 use Rattle.log_core.proofs.Proposals.{may-propose, propose-keeps, propose-made}

@@ -1,9 +1,9 @@
 -- The step is the row's: what was composed before it is sent, and the log is as the row leaves it.
 use Rattle.std.proofs.Common.{◌≡◌, ◌++◌, Ok, inr, subst, sym}
 use Rattle.epoch_log.specs.Calls.{after_state}
-use Rattle.log_core.specs.Closings.{closing_drafts}
+use Rattle.log_sending.specs.Closings.{closing_drafts}
 use Rattle.log_core.specs.Passing.{passing_judged, passing_row, status_drafts}
-use Rattle.log_core.specs.Sending.{none_composed, with_drafts}
+use Rattle.log_sending.specs.Sending.{none_composed, with_drafts}
 use Rattle.log_core.specs.State.{CoreState}
 use Rattle.log_core.proofs.Closed.{core-of, made, passing-may, passing-refused, passing-step, stated-closing}
 use Rattle.log_core.proofs.KeptRows.{kept-passing}

@@ -1,11 +1,11 @@
 use Rattle.std.proofs.Common.{◌≡◌, ◌++◌, IfOk, subst, sym, ap, ◌∙◌}
 use Rattle.epoch_log.specs.Calls.{after_state}
-use Rattle.log_core.specs.Closings.{closing_drafts}
+use Rattle.log_sending.specs.Closings.{closing_drafts}
 use Rattle.log_core.specs.Passing.{status_drafts}
-use Rattle.log_core.specs.Sending.{Composed, none_composed, with_drafts}
+use Rattle.log_sending.specs.Sending.{Composed, none_composed, with_drafts}
 use Rattle.log_core.specs.State.{CoreState}
-use Rattle.log_core.proofs.Sealing.{drafts-append}
-use Rattle.log_core.proofs.Sendable.{state-can, told-can}
+use Rattle.log_sending.proofs.Sealing.{drafts-append}
+use Rattle.log_sending.proofs.Sendable.{state-can, told-can}
 use Rattle.log_core.proofs.log_core.LogCore.passing_drafts.Goals as goal
 
 pub add_closing-requires : goal.add_closing-requires

@@ -1,6 +1,6 @@
 use Rattle.std.proofs.Common.{subst}
 use Rattle.ar_message.specs.Lists.{AreVotes}
-use Rattle.log_core.specs.Sending.{sent_votes}
+use Rattle.log_sending.specs.Sending.{sent_votes}
 use Rattle.log_core.specs.State.{CoreState}
 use Rattle.log_core.proofs.Confirmations.{its-votes}
 use Rattle.log_core.proofs.log_core.LogCore.prepare_confirmation.Goals as goal

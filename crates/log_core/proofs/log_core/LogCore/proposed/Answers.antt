@@ -5,8 +5,8 @@ use Rattle.ar_message.specs.declared.unsigned.Unsigned.{Unsigned}
 use Rattle.log_core.specs.Proposed.{Proposal, proposed_judged, proposed_row}
 use Rattle.log_core.specs.State.{CoreState}
 use Rattle.log_core.specs.Steps.{IsStep}
-use Rattle.log_core.specs.declared.refusal.LogRefusal.{LogRefusal}
-use Rattle.log_core.specs.declared.refusal.LogRefusal.TheVariants as refusals
+use Rattle.log_sending.specs.declared.refusal.LogRefusal.{LogRefusal}
+use Rattle.log_sending.specs.declared.refusal.LogRefusal.TheVariants as refusals
 use Rattle.log_core.proofs.Stepping.{core-with}
 use Rattle.log_core.proofs.Voting.{may-propose, may-vote, vote-keeps, vote-refused, vote-sends, vote-wants}
 use Rattle.log_core.proofs.log_core.LogCore.proposed.Goals as goal

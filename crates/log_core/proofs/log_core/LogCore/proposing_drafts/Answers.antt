@@ -7,9 +7,9 @@ use Rattle.ar_message.specs.Filling.{zeros}
 use Rattle.ar_statement.specs.Claims.{propose, text_of}
 use Rattle.vote_quorum.specs.declared.value.Value.{Value}
 use Rattle.epoch_log.specs.Calls.{after_propose}
-use Rattle.log_core.specs.Closings.{closing_drafts}
+use Rattle.log_sending.specs.Closings.{closing_drafts}
 use Rattle.log_core.specs.Proposing.{proposal_draft, proposing_judged}
-use Rattle.log_core.specs.Sending.{Draft, draft_with, none_composed, with_draft, with_drafts}
+use Rattle.log_sending.specs.Sending.{Draft, draft_with, none_composed, with_draft, with_drafts}
 use Rattle.log_core.specs.State.{CoreState}
 use Rattle.log_core.proofs.Proposals.{MayPropose, may-propose, propose-told, ready-composed}
 use Rattle.log_core.proofs.log_core.LogCore.proposing_drafts.Goals as goal

@@ -2,10 +2,10 @@ use Rattle.std.proofs.Common.{◌≡◌, ◌∙◌, ap, Ok, Err, None, Result, s
 use Rattle.ar_message.specs.declared.unsigned.Unsigned.{Unsigned}
 use Rattle.lms_tree.specs.declared.public_key.LmsPublic.{LmsPublic}
 use Rattle.log_core.specs.Rolling.{roll_draft, rolling_row}
-use Rattle.log_core.specs.Sending.{Composed, none_composed, sealed, with_draft}
+use Rattle.log_sending.specs.Sending.{Composed, none_composed, sealed, with_draft}
 use Rattle.log_core.specs.State.{CoreState}
 use Rattle.log_core.specs.Steps.{IsStep}
-use Rattle.log_core.specs.declared.refusal.LogRefusal.{LogRefusal}
+use Rattle.log_sending.specs.declared.refusal.LogRefusal.{LogRefusal}
 use Rattle.log_core.proofs.Stepping.{core-with, roll-keeps, roll-sends, roll-step}
 use Rattle.log_core.proofs.log_core.LogCore.roll.Goals as goal
 use Rattle.log_core.proofs.log_core.LogCore.roll.Goals.{in-Ok, in-Err}

@@ -1,7 +1,7 @@
 use Rattle.std.proofs.Common.{◌<◌, Some, subst, sym}
 use Rattle.epoch_log.specs.Calls.{after_status_seen}
 use Rattle.log_core.specs.State.{CoreState}
-use Rattle.log_core.proofs.Sendable.{status-seen-can, told-can}
+use Rattle.log_sending.proofs.Sendable.{status-seen-can, told-can}
 use Rattle.log_core.proofs.log_core.LogCore.status_drafts.Goals as goal
 
 pub add_closing-requires : goal.add_closing-requires

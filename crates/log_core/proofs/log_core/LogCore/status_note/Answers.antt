@@ -3,11 +3,11 @@ use Rattle.std.proofs.Common.{◌≡◌, ◌⊎◌, List, ℕ, Some, Ok, Err, su
 use Rattle.ar_cert.specs.Changes.{IsSignature}
 use Rattle.epoch_log.specs.Calls.{after_status_seen}
 use Rattle.log_core.specs.Stated.{status_judged, status_row}
-use Rattle.log_core.specs.Closings.{closing_drafts}
+use Rattle.log_sending.specs.Closings.{closing_drafts}
 use Rattle.log_core.specs.Kept.{IsKeptCore}
-use Rattle.log_core.specs.Sending.{none_composed, with_drafts}
+use Rattle.log_sending.specs.Sending.{none_composed, with_drafts}
 use Rattle.log_core.specs.State.{CoreState}
-use Rattle.log_core.specs.declared.refusal.LogRefusal.TheVariants as refusals
+use Rattle.log_sending.specs.declared.refusal.LogRefusal.TheVariants as refusals
 use Rattle.log_core.proofs.Closed.{status-member, status-refused, status-step, core-of, made}
 use Rattle.log_core.proofs.KeptRows.{kept-status_row}
 use Rattle.log_core.proofs.log_core.LogCore.status_note.Goals as goal

@@ -1,0 +1,92 @@
+-- Logs and authorities before they are there: where each begins, and its first key.
+use Rattle.std.specs.Prelude.{ℕ, ◌<◌, ◌^◌, List, [], ◌∷◌, drop, length, map, slice_get, Option, Some, Ok, Result}
+use Rattle.std.specs.List.{range_with_len}
+use Rattle.ar_base.specs.Chaining.{◌>>=◌}
+use Rattle.ar_statement.specs.declared.party.Role.TheVariants.{LogServer, Authority}
+use Rattle.authority_core.specs.Keyed as authority
+use Rattle.authority_core.specs.State.{AuthorityState}
+use Rattle.key_roll.specs.Ring.{RingParts}
+use Rattle.log_core.specs.Keyed as log
+use Rattle.log_core.specs.State.{CoreState}
+use Rattle.party_keys.specs.Directory.{Directory}
+use Rattle.report_text.specs.declared.happening.Happening.{Happening}
+use Rattle.ar_nodes.specs.Finding.{named}
+use Rattle.ar_nodes.specs.Parties.{AuthorityNode, CheckParts, LogNode}
+use Rattle.ar_nodes.specs.declared.fault.WorldFault.{WorldFault}
+use Rattle.ar_founding.specs.FirstKeys.{first_ring, keys_made, Setup, key_for, keys_for}
+use Rattle.ar_founding.specs.Founding.{fresh_core, fresh_state, genesis_of}
+
+-- where all logs begin, and so many authorities
+abbrev pub fresh_cores : Setup → Directory → List CoreState
+fresh_cores setup genesis = map (λ number. fresh_core genesis number (key_for setup LogServer number)) (range_with_len 0 setup.logs)
+
+abbrev pub fresh_states : Setup → Directory → ℕ → List AuthorityState
+fresh_states setup genesis count = map (λ number. fresh_state genesis number (key_for setup Authority number)) (range_with_len 0 count)
+
+-- what the line `authorities` makes: the directory with which all begin, where each log and each authority begins, the rings
+-- of the authorities, and what is printed
+pub record Founded : Type 0 where
+  pub genesis : Directory
+  pub cores : List CoreState
+  pub states : List AuthorityState
+  pub rings : List RingParts
+  pub said : List Happening
+
+abbrev pub founded_with : Setup → ℕ → Directory → Founded
+founded_with setup count genesis = record {
+  genesis = genesis;
+  cores = fresh_cores setup genesis;
+  states = fresh_states setup genesis count;
+  rings = map first_ring (keys_for setup Authority count);
+  said = keys_made setup Authority count;
+}
+
+abbrev pub founded_of : Setup → ℕ → Result Founded WorldFault
+founded_of setup count = do
+  genesis ← named 1 (genesis_of setup count)
+  Ok (founded_with setup count genesis)
+
+-- ---- the parties of these
+
+-- a log that stands here, with its ring
+abbrev pub log_node : CoreState → RingParts → LogNode
+log_node core ring = record { core = core; keys = ring.keys; taken = [] }
+
+-- each log with its ring
+abbrev pub logs_of : List CoreState → List RingParts → List (Option LogNode)
+logs_of [] rings = []
+logs_of (core ∷ cores) [] = []
+logs_of (core ∷ cores) (ring ∷ rings) = Some (log_node core ring) ∷ logs_of cores rings
+
+-- each ring is that of its log's book
+abbrev pub AreRingsOf : List CoreState → List RingParts → Type 0
+AreRingsOf [] rings = Unit {0}
+AreRingsOf (core ∷ cores) [] = ⊥
+AreRingsOf (core ∷ cores) (ring ∷ rings) = log.IsRingOf core ring.keys × AreRingsOf cores rings
+
+-- an authority that stands here, with its ring and its check
+abbrev pub authority_node : AuthorityState → RingParts → Option CheckParts → AuthorityNode
+authority_node state ring check = record { state = state; keys = ring.keys; check = check }
+
+-- each authority with its ring, and the checks in order while there are any
+abbrev pub authorities_of : List AuthorityState → List RingParts → List CheckParts → List (Option AuthorityNode)
+authorities_of [] rings checks = []
+authorities_of (state ∷ states) [] checks = []
+authorities_of (state ∷ states) (ring ∷ rings) checks =
+    Some (authority_node state ring (slice_get checks 0)) ∷ authorities_of states rings (drop 1 checks)
+
+-- each ring is that of its authority's book
+abbrev pub HaveRings : List AuthorityState → List RingParts → Type 0
+HaveRings [] rings = Unit {0}
+HaveRings (state ∷ states) [] = ⊥
+HaveRings (state ∷ states) (ring ∷ rings) = authority.IsRingOf state ring.keys × HaveRings states rings
+
+-- the rings of the logs, whose keys were made before
+abbrev pub log_rings : Setup → List RingParts
+log_rings setup = map first_ring (keys_for setup LogServer setup.logs)
+
+-- each has the ring of its book, and each log a number that a party can have
+pub record AreOwn (setup : Setup) (founded : Founded) : Type 0 where
+  pub logs : AreRingsOf founded.cores (log_rings setup)
+  pub authorities : HaveRings founded.states founded.rings
+  pub few : length founded.cores < 2 ^ 16

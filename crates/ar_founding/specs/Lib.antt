@@ -1,0 +1,3 @@
+pub mod FirstKeys
+pub mod Founded
+pub mod Founding

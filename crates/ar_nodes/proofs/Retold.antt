@@ -1,0 +1,48 @@
+-- What an authority is whose check tells something else of itself.
+use Rattle.std.proofs.Common.{◌≡◌, ◌∙◌, ◌<◌, ℕ, zero, suc, List, [], ◌∷◌, length, get_or, Option, Some, None, IfSome, is_none, is_some, refl, ap, true, arith}
+use Rattle.std.specs.Prelude.{option_and_then}
+use Rattle.std.specs.Option.{option_map}
+use Rattle.owner_check.specs.Answers.{Told}
+use Rattle.owner_check.specs.declared.answer.Answer.{Answer}
+use Rattle.ar_nodes.specs.Finding.{checking_in, with_check}
+use Rattle.ar_nodes.specs.Parties.{AuthorityNode, check_told}
+use Rattle.ar_nodes.specs.Teaching.{retelling}
+
+-- the check that tells this
+pub check_retold : {X : Type 0} (told : X → Option Told) (answers : X → List Answer) (tells : Told → Told) (old new : Option X) → is_none new ≡ is_none old
+    → IfSome old (λ o. IfSome new (λ n. told n ≡ option_map tells (told o))) → IfSome old (λ o. IfSome new (λ n. answers n ≡ answers o))
+    → option_map (check_told told answers) new ≡ option_map (retelling tells) (option_map (check_told told answers) old)
+check_retold told answers tells (Some o) (Some n) there says keeps = ap (λ t. Some (record { told = t; answers = answers n })) says
+    ∙ ap (λ a. Some (record { told = option_map tells (told o); answers = a })) keeps
+check_retold told answers tells (Some o) None there says keeps = absurd (cc)
+check_retold told answers tells None (Some n) there says keeps = absurd (cc)
+check_retold told answers tells None None there says keeps = refl
+
+-- the check that tells what it told
+pub check_kept : {X : Type 0} (told : X → Option Told) (answers : X → List Answer) (old new : Option X) → is_none new ≡ is_none old
+    → IfSome old (λ o. IfSome new (λ n. told n ≡ told o)) → IfSome old (λ o. IfSome new (λ n. answers n ≡ answers o))
+    → option_map (check_told told answers) new ≡ option_map (check_told told answers) old
+check_kept told answers (Some o) (Some n) there says keeps = ap (λ t. Some (record { told = t; answers = answers n })) says
+    ∙ ap (λ a. Some (record { told = told o; answers = a })) keeps
+check_kept told answers (Some o) None there says keeps = absurd (cc)
+check_kept told answers None (Some n) there says keeps = absurd (cc)
+check_kept told answers None None there says keeps = refl
+
+pub ruleset retellings = (check_retold, check_kept)
+
+-- ---- places
+
+-- an authority that checks is within the list
+pub checking_within : (authorities : List (Option AuthorityNode)) (number : ℕ) → is_some (checking_in authorities number) ≡ true → number < length authorities
+checking_within [] number there = absurd (cc)
+checking_within (a ∷ more) zero there = omega arith
+checking_within (a ∷ more) (suc number) there = let h = checking_within more number there in omega arith
+
+-- and it is what stands there
+pub checking_spot : (authorities : List (Option AuthorityNode)) (number : ℕ) (slot : Option AuthorityNode) → is_some (checking_in authorities number) ≡ true
+    → get_or authorities number slot ≡ slot → checking_in authorities number ≡ option_and_then with_check slot
+checking_spot [] number slot there is = absurd (cc)
+checking_spot (a ∷ more) zero slot there is = ap (option_and_then with_check) is
+checking_spot (a ∷ more) (suc number) slot there is = checking_spot more number slot there is
+
+pub ruleset checking_spots = (checking_within, checking_spot)

@@ -1,0 +1,27 @@
+use Rattle.std.proofs.Common.{rules, Ok, Err, Result, sym, ap, ◌∙◌, subst}
+use Rattle.ar_message.specs.Messages.{message_in}
+use Rattle.authority_core.specs.Row.{asked_in}
+use Rattle.authority_core.specs.declared.refusal.AuthorityRefusal.{AuthorityRefusal}
+use Rattle.ar_nodes.specs.Acting.{RepliesBySome, Reply, authority_took}
+use Rattle.ar_nodes.specs.Parties.{AuthorityNode}
+use Rattle.ar_nodes.specs.declared.fault.WorldFault.{WorldFault}
+use Rattle.ar_nodes.proofs.Nodes.{ChecksBy, authority-with, reply_of, sent_some, refused_some, took_nothing, took_so}
+use Rattle.ar_nodes.proofs.parties.HonestAuthority.take.Goals.{in-Ok, in-Err-Memory, in-Err}
+use Rattle.ar_nodes.proofs.parties.HonestAuthority.take.Goals as goal
+
+pub returns-clause-row : goal.returns-clause-row
+returns-clause-row g c =
+    let old : AuthorityNode = authority-with g.C.OwnerCheck.told g.C.OwnerCheck.answers c.self.inside.authority.state c.self.inside.authority.ring.keys c.self.inside.authority.check in
+    let new : AuthorityNode = authority-with g.C.OwnerCheck.told g.C.OwnerCheck.answers c.step.new.self.state c.step.new.self.ring.keys c.step.new.self.check in
+    let checks : ChecksBy g.C.OwnerCheck.told g.C.OwnerCheck.answers c.self.inside.authority.check c.step.new.self.check (asked_in (message_in c.args.bytes.now)) c.step.result =
+    record { retired = c.step.ensures.retired; kept = c.step.ensures.answers; same = c.step.ensures.told; by = c.step.ensures.by } in
+    subst (λ (n : AuthorityNode). RepliesBySome c.match-step.result n new (λ says. authority_took says n c.args.bytes.now)) c.self.view_is
+    (elim c.match-step.branch [
+      | in-Ok w ↦ subst (λ (r : Result Reply WorldFault). RepliesBySome r old new (λ says. authority_took says old c.args.bytes.now)) (sym w.result-is)
+          (took_so _ _ _ _ _ _ _ _ _ c.step.result (Ok w.in-Ok.sent) checks (sent_some c.step.result w.in-Ok.sent w.in-Ok.is) c.step.ensures.row (ap (λ r. r.keys) c.step.ensures.ring) (ap reply_of (sym w.in-Ok.is)))
+      | in-Err-Memory w ↦ subst (λ (r : Result Reply WorldFault). RepliesBySome r old new (λ says. authority_took says old c.args.bytes.now)) (sym w.result-is)
+          (took_nothing _ _ _ _ _ _ _ _ _ c.step.result checks (w.in-Err-Memory.is ∙ ap (λ (r : AuthorityRefusal). Err r) w.in-Err-Memory.field-0-is) c.step.ensures.row (ap (λ r. r.keys) c.step.ensures.ring))
+      | in-Err w ↦ subst (λ (r : Result Reply WorldFault). RepliesBySome r old new (λ says. authority_took says old c.args.bytes.now)) (sym w.result-is)
+          (took_so _ _ _ _ _ _ _ _ _ c.step.result (Err w.authority_code.result) checks (refused_some c.step.result w.in-Err.refusal w.in-Err.is (search rules)) c.step.ensures.row
+          (ap (λ r. r.keys) c.step.ensures.ring) (rw w.authority_code.ensures (ap reply_of (sym w.in-Err.is))))
+    ])

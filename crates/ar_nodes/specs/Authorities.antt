@@ -1,0 +1,37 @@
+-- What an honest authority answers, by what its check says.
+use Rattle.std.specs.Prelude.{ℕ, is_none, unwrap_or, Option, Some, None, Result}
+use Rattle.std.specs.Option.{option_map}
+use Rattle.ar_message.specs.declared.message.Message.{Message}
+use Rattle.authority_core.specs.Row.{answers_behind, asked_in, row}
+use Rattle.authority_core.specs.State.{Answer}
+use Rattle.authority_core.specs.declared.entries.Asked.{Asked}
+use Rattle.owner_check.specs.Answers.{outcome_of}
+use Rattle.owner_check.specs.declared.answer.Outcome as said
+use Rattle.owner_check.specs.declared.answer.Outcome.TheVariants.{No}
+use Rattle.ar_nodes.specs.Parties.{AuthorityNode, CheckParts}
+
+-- ---- what checks answer
+
+-- what a check answers: by its book and failing numbers, where it tells them, and else what it says
+abbrev pub check_says : said.Outcome → CheckParts → Asked → said.Outcome
+check_says says check asked = unwrap_or (option_map (λ told. outcome_of told check.answers asked.name asked.key) check.told) says
+
+-- what is answered to a message that asks the check; of one that does not, the row does not look at it
+abbrev pub says_to : said.Outcome → Option CheckParts → Option Asked → said.Outcome
+says_to says (Some check) (Some asked) = check_says says check asked
+says_to says (Some check) None = No
+says_to says None asked = No
+
+-- a check behind a step that came to this answer
+abbrev pub check_behind : Option Asked → Answer → CheckParts → CheckParts
+check_behind asked answer check = record check { answers = answers_behind check.answers asked answer }
+
+-- ---- what an authority answers
+
+-- an authority's answer to a message, by what its check answers
+abbrev pub authority_reply : said.Outcome → AuthorityNode → Result Message ℕ → Answer
+authority_reply says node message = row node.state (is_none node.check) message (says_to says node.check (asked_in message))
+
+-- an authority with its check behind an answer to a message
+abbrev pub node_behind : AuthorityNode → Result Message ℕ → Answer → AuthorityNode
+node_behind node message answer = record node { check = option_map (check_behind (asked_in message) answer) node.check }

@@ -1,0 +1,11 @@
+pub mod Acting
+pub mod Authorities
+pub mod Codes
+pub mod Composing
+pub mod Finding
+pub mod Forging
+pub mod Owners
+pub mod Parties
+pub mod Pool
+pub mod Sending
+pub mod Teaching

@@ -1,0 +1,135 @@
+//! What logs and authorities make of an order.
+
+ghost use Rattle.std.specs.Prelude.{◌≡◌, ◌<◌, ◌++◌, ◌∷◌, [], is_some, true, Some};
+ghost use Rattle.authority_core.specs.RollRows.{roll_row};
+ghost use Rattle.lms_tree.specs.Key.{public_of};
+ghost use Rattle.lms_tree.specs.KeyParts.{KeyParts};
+ghost use Rattle.log_core.specs.Inputs.{input_of};
+ghost use Rattle.log_core.specs.Keyed.{IsPlain};
+ghost use Rattle.log_core.specs.Row.{row};
+ghost use Rattle.log_core.specs.State.{rolls};
+ghost use Rattle.party_keys.specs.Seen.{authority_party, log_party};
+ghost use Rattle.report_text.specs.declared.happening.What.TheVariants as whats;
+ghost use Rattle.ar_nodes.specs.Acting.{ActsBy, ChangesThere, acted, authority_turned, log_does};
+ghost use Rattle.ar_nodes.specs.Parties.{next_of};
+ghost use Rattle.ar_nodes.specs.declared.event.LogEvent.TheVariants as events;
+
+use crate::event::LogEvent;
+use crate::fault::WorldFault;
+use crate::parties::{HonestAuthority, HonestLog};
+use crate::pool::Pool;
+use crate::replying::{MOST_SENT, tell};
+use crate::sending::reserve;
+use ar_base::Items;
+use ar_statement::Role;
+use log_core::LogInput;
+use owner_check::OwnerCheck;
+use report_text::{Happening, What};
+use std::alloc::Global;
+
+/// A log does what it is asked, which is not to go on to a key.
+fn log_obeys(
+    alloc: Global,
+    pool: &mut Pool,
+    node: &mut HonestLog,
+    number: u16,
+    what: What,
+    event: LogEvent,
+    input: &LogInput,
+) -> Result<Items<Happening>, WorldFault>
+    requires { IsPlain (input_of input.now) }
+    ensures { ActsBy result node.old node.new pool.old.messages pool.new.messages
+        (acted pool.old.messages (log_party number) what (log_does node.old node.old.keys event (row node.old.core (input_of input.now)))) }
+{
+    let said = reserve(alloc, pool, MOST_SENT)?;
+    let reply = node.step(alloc, event, input)?;
+    let party = Role::LogServer.party(number);
+    Ok(tell(alloc, pool, said, party, what, reply))
+}
+
+/// A log goes on to its next key.
+fn log_rolls(
+    alloc: Global,
+    pool: &mut Pool,
+    node: &mut HonestLog,
+    number: u16,
+) -> Result<Items<Happening>, WorldFault>
+    ensures { (next : KeyParts) → next_of node.old.keys ≡ Some next → ActsBy result node.old node.new pool.old.messages pool.new.messages
+        (acted pool.old.messages (log_party number) whats.Roll (log_does node.old (node.old.keys ++ next ∷ []) events.Roll (row node.old.core (rolls (public_of next))))) }
+{
+    let said = reserve(alloc, pool, MOST_SENT)?;
+    let reply = node.roll(alloc)?;
+    let party = Role::LogServer.party(number);
+    Ok(tell(alloc, pool, said, party, What::Roll, reply))
+}
+
+/// An authority goes on to its next key.
+fn authority_rolls<C: OwnerCheck>(
+    alloc: Global,
+    pool: &mut Pool,
+    node: &mut HonestAuthority<C>,
+    number: u16,
+) -> Result<Items<Happening>, WorldFault>
+    ensures { (next : KeyParts) → next_of node.old.keys ≡ Some next → ActsBy result node.old node.new pool.old.messages pool.new.messages
+        (acted pool.old.messages (authority_party number) whats.Roll (authority_turned node.old next (roll_row node.old.state (public_of next)))) }
+{
+    let said = reserve(alloc, pool, MOST_SENT)?;
+    let reply = node.roll(alloc)?;
+    let party = Role::Authority.party(number);
+    Ok(tell(alloc, pool, said, party, What::Roll, reply))
+}
+
+/// A log in its place does what it is asked.
+pub fn log_obeys_there(
+    alloc: Global,
+    pool: &mut Pool,
+    slot: &mut Option<HonestLog>,
+    number: u16,
+    what: What,
+    event: LogEvent,
+    input: &LogInput,
+) -> Result<Items<Happening>, WorldFault>
+    requires plain { IsPlain (input_of input.now) }
+    requires there { is_some slot.old ≡ true }
+    ensures { ChangesThere slot.old slot.new (λ was is. ActsBy result was is pool.old.messages pool.new.messages
+        (acted pool.old.messages (log_party number) what (log_does was was.keys event (row was.core (input_of input.now))))) }
+{
+    match slot {
+        Some(node) => log_obeys(alloc, pool, node, number, what, event, input),
+        None => unreachable!(),
+    }
+}
+
+/// A log in its place goes on to its next key.
+pub fn log_rolls_there(
+    alloc: Global,
+    pool: &mut Pool,
+    slot: &mut Option<HonestLog>,
+    number: u16,
+) -> Result<Items<Happening>, WorldFault>
+    requires { is_some slot.old ≡ true }
+    ensures { ChangesThere slot.old slot.new (λ was is. (next : KeyParts) → next_of was.keys ≡ Some next → ActsBy result was is pool.old.messages pool.new.messages
+        (acted pool.old.messages (log_party number) whats.Roll (log_does was (was.keys ++ next ∷ []) events.Roll (row was.core (rolls (public_of next)))))) }
+{
+    match slot {
+        Some(node) => log_rolls(alloc, pool, node, number),
+        None => unreachable!(),
+    }
+}
+
+/// An authority in its place goes on to its next key.
+pub fn authority_rolls_there<C: OwnerCheck>(
+    alloc: Global,
+    pool: &mut Pool,
+    slot: &mut Option<HonestAuthority<C>>,
+    number: u16,
+) -> Result<Items<Happening>, WorldFault>
+    requires { is_some slot.old ≡ true }
+    ensures { ChangesThere slot.old slot.new (λ was is. (next : KeyParts) → next_of was.keys ≡ Some next → ActsBy result was is pool.old.messages pool.new.messages
+        (acted pool.old.messages (authority_party number) whats.Roll (authority_turned was next (roll_row was.state (public_of next))))) }
+{
+    match slot {
+        Some(node) => authority_rolls(alloc, pool, node, number),
+        None => unreachable!(),
+    }
+}

@@ -1,5 +1,0 @@
-use Rattle.std.proofs.Common.{length}
-use Rattle.log_core.proofs.own_places.+add_own_statuses.Given as goal
-
-abbrev pub decreases-add_own_statuses : goal.decreases-add_own_statuses
-decreases-add_own_statuses l = length l.statuses.now

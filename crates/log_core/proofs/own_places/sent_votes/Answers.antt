@@ -1,7 +1,0 @@
-use Rattle.ar_message.specs.Lists.{IsVote}
-use Rattle.log_core.specs.Sending.{sent_votes}
-use Rattle.log_core.proofs.Ascending.{each-fits}
-use Rattle.log_core.proofs.own_places.sent_votes.Goals as goal
-
-pub add_votes-requires : goal.add_votes-requires
-add_votes-requires c = each-fits (λ x. x.log) IsVote 0 (sent_votes c.args.len c.args.votes.now) c.requires.1

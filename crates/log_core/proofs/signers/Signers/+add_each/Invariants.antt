@@ -1,5 +1,0 @@
-use Rattle.std.proofs.Common.{length}
-use Rattle.log_core.proofs.signers.Signers.+add_each.Given as goal
-
-abbrev pub decreases-add_each : goal.decreases-add_each
-decreases-add_each l = length l.endorsements.now

@@ -1,8 +1,0 @@
-use Rattle.std.proofs.Common.{◌≡◌, take}
-use Rattle.epoch_log.specs.Calls.{plain_statuses}
-use Rattle.log_core.specs.Skipped.{signed_statuses}
-use Rattle.log_core.proofs.skipping.plain_statuses.Given as goal
-
--- the statuses so far
-abbrev pub invariant-loop-status : goal.invariant-loop-status
-invariant-loop-status l = l.list.items ≡ plain_statuses (signed_statuses (take l.status-index l.statuses))

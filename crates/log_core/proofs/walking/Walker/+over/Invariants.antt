@@ -1,5 +1,0 @@
-use Rattle.std.proofs.Common.{length}
-use Rattle.log_core.proofs.walking.Walker.+over.Given as goal
-
-abbrev pub decreases-over : goal.decreases-over
-decreases-over l = length l.queue.now

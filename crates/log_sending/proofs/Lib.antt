@@ -1,0 +1,14 @@
+pub mod Ascending
+pub mod Blanks
+pub mod Checked
+pub mod Judged
+pub mod Leading
+pub mod OwnPlaces
+pub mod Reported
+pub mod Sealing
+pub mod Sendable
+pub mod SignerLaws
+pub mod Taken
+pub mod TwoNames
+pub mod Walks
+pub mod ZeroBytes

@@ -1,0 +1,12 @@
+pub mod Blanks
+pub mod Checks
+pub mod Closings
+pub mod Judged
+pub mod Leading
+pub mod Queued
+pub mod Reported
+pub mod Sendable
+pub mod Sending
+pub mod Showing
+pub mod Signers
+pub mod Walk
