@@ -1,4 +1,5 @@
 ghost use Rattle.std.specs.Prelude.{◌≡◌, ◌∷◌, ◌++◌};
+ghost use Rattle.std.specs.Int.{w64, to_be_bytes};
 ghost use Rattle.sha2.specs.Sha256.{sha256};
 ghost use Rattle.hash_tree.specs.Strings as strings;
 
@@ -46,10 +47,7 @@ pub fn node_digest(left: &[u8; 32], right: &[u8; 32]) -> [u8; 32]
 pub fn value_digest(serial: u64, certificate: &[u8; 32]) -> [u8; 32]
     ensures { result ≡ strings.value_digest serial certificate.now }
 {
-    let mut bytes = [0x03; 41];
-    bytes[1..9].copy_from_slice(&serial.to_be_bytes());
-    bytes[9..].copy_from_slice(certificate);
-    Sha256::digest(&bytes)
+    numbered_digest(0x03, serial, certificate)
 }
 
 /// The value of a pending certificate in the tree: SHA-256 of the byte 0x04, the epoch since which it
@@ -57,10 +55,7 @@ pub fn value_digest(serial: u64, certificate: &[u8; 32]) -> [u8; 32]
 pub fn pending_digest(since: u64, certificate: &[u8; 32]) -> [u8; 32]
     ensures { result ≡ strings.pending_digest since certificate.now }
 {
-    let mut bytes = [0x04; 41];
-    bytes[1..9].copy_from_slice(&since.to_be_bytes());
-    bytes[9..].copy_from_slice(certificate);
-    Sha256::digest(&bytes)
+    numbered_digest(0x04, since, certificate)
 }
 
 /// The key that the pending certificate of a name has in the tree: SHA-256 of the byte 0x12 and the
@@ -72,6 +67,17 @@ pub fn pending_key(name: &[u8]) -> [u8; 32]
     hasher.update(&[0x12]);
     hasher.update(name);
     hasher.finalize()
+}
+
+// SHA-256 of a tag byte, a number as 8 bytes, the highest first, and a certificate's digest.
+#[inline(always)]
+fn numbered_digest(tag: u8, number: u64, certificate: &[u8; 32]) -> [u8; 32]
+    ensures { result ≡ sha256 (tag ∷ to_be_bytes w64 number ++ certificate.now) }
+{
+    let mut bytes = [tag; 41];
+    bytes[1..9].copy_from_slice(&number.to_be_bytes());
+    bytes[9..].copy_from_slice(certificate);
+    Sha256::digest(&bytes)
 }
 
 // SHA-256 of a tag byte and two digests.
