@@ -97,3 +97,7 @@ abbrev pub rolled : RollBook → List ℕ → Result DueParts RollFault
 rolled book text =
     if book.newest == last_generation then Err Last
     else Ok (record { generation = book.newest; leaf = book.leaves - 1; text = text; leaves = book.leaves })
+
+-- what the Roll gives by which a party announces its next key
+abbrev pub announced : RollBook → Party → LmsPublic → Result DueParts RollFault
+announced book party next = rolled book (roll_text party book.newest next)

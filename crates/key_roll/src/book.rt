@@ -3,7 +3,7 @@ ghost use Rattle.ar_base.specs.Gives.{GivesOrWants};
 ghost use Rattle.ar_base.specs.Places.{place_of};
 ghost use Rattle.ar_statement.specs.Claims.{claim_of, text_of};
 ghost use Rattle.key_roll.specs.Book.{IsRollBook, texts_of};
-ghost use Rattle.key_roll.specs.Entry.{after_entry, due_at, due_of, entered, entered_new, roll_text, rolled, with_roll, with_text};
+ghost use Rattle.key_roll.specs.Entry.{after_entry, announced, due_at, due_of, entered, entered_new, roll_text, rolled, with_roll, with_text};
 ghost use Rattle.key_roll.specs.Rolls.{is_roll, named_generation, plain_count};
 ghost use Rattle.key_roll.specs.declared.fault.BookFault.TheVariants as book_fault;
 ghost use Rattle.key_roll.specs.declared.fault.RollFault.TheVariants as roll_fault;
@@ -118,7 +118,7 @@ impl RollBook {
         next: &LmsPublic,
     ) -> Result<RollDue, RollFault>
         // The generation and the leaf, and when there is no next.
-        ensures answer { GivesOrWants roll_fault.Memory (λ due. due) result (rolled self.old.book (roll_text party self.old.book.newest next.now)) }
+        ensures answer { GivesOrWants roll_fault.Memory (λ due. due) result (announced self.old.book party next.now) }
         // When memory may be wanting.
         ensures memory { result ≡ Err roll_fault.Memory → self.old.room ≡ 0 }
         // What it leaves.
@@ -154,13 +154,9 @@ impl RollBook {
             generation: self.newest,
             text,
         };
-        match self.list.push(entry) {
-            Ok(()) => {
-                self.room = self.room.saturating_sub(1);
-                Ok(RollDue::new(self.newest, leaf as u32, text, self.leaves))
-            }
-            Err(_) => unreachable!(),
-        }
+        self.list.push_reserved(entry);
+        self.room = self.room.saturating_sub(1);
+        Ok(RollDue::new(self.newest, leaf as u32, text, self.leaves))
     }
 
     // Enters a text as the Roll of the newest generation, behind which is the next.
@@ -178,14 +174,10 @@ impl RollBook {
         }
         self.list.reserve(1)?;
         let generation = self.newest;
-        match self.list.push(Signed { generation, text }) {
-            Ok(()) => {
-                self.room = self.room.saturating_sub(1);
-                self.newest += 1;
-                Ok(RollDue::new(generation, self.leaves - 1, text, self.leaves))
-            }
-            Err(_) => unreachable!(),
-        }
+        self.list.push_reserved(Signed { generation, text });
+        self.room = self.room.saturating_sub(1);
+        self.newest += 1;
+        Ok(RollDue::new(generation, self.leaves - 1, text, self.leaves))
     }
 
     // What is due for the entry at a place.

@@ -9,11 +9,11 @@ overflow_sub-self-inside c = omega (arith, c.self.invariant.0.within 0)
 pub new-requires : goal.new-requires
 new-requires c = omega (arith, c.self.invariant.0.within 0)
 
-pub invariant_of-self-in-Ok : goal.invariant_of-self-in-Ok
-invariant_of-self-in-Ok c =
+pub invariant_of-self-2 : goal.invariant_of-self-2
+invariant_of-self-2 c =
     let book : RollBook = record { leaves = c.self.inside.leaves; newest = c.self.inside.newest; list = c.self.inside.list.items } in
     let sound : IsRollBook book = c.self.invariant.0 in
-    let pushed = c.in-Ok.ensures in
+    let pushed = c.push_reserved.ensures in
     let reserved = c.in_ok-reserve.ensures in
     let names = c.requires.named ∙ sym (ap (λ k. k.book.newest) c.self.view_is) in
     let last = c.if-self-eq-LAST_GENERATION.false in

@@ -32,11 +32,11 @@ returns-in_err-reserve-clause-spent c =
     let is = wants-is _ _ c.from_residual.ensures in
     (λ e. absurd cc, λ e. absurd (omega (arith, count, leaves, c.if-leaf-self.false, e)))
 
-pub invariant_of-self-in-Ok : goal.invariant_of-self-in-Ok
-invariant_of-self-in-Ok c =
+pub invariant_of-self-2 : goal.invariant_of-self-2
+invariant_of-self-2 c =
     let book : RollBook = record { leaves = c.self.inside.leaves; newest = c.self.inside.newest; list = c.self.inside.list.items } in
     let sound : IsRollBook book = c.self.invariant.0 in
-    let pushed = c.in-Ok.ensures in
+    let pushed = c.push_reserved.ensures in
     let reserved = c.in_ok-reserve.ensures in
     let new : place_of (texts_of book) c.args.text ≡ None = ap (λ k. place_of (texts_of k.book) c.args.text) c.self.view_is ∙ c.requires.new in
     let count = c.plain_count-leaf.ensures ∙ ap (plain_count c.self.inside.newest) c.deref.ensures.value in
