@@ -4,7 +4,7 @@ ghost use Rattle.std.specs.Option.{option_map};
 ghost use Rattle.epoch_log.specs.Calls.{with_status, with_vote};
 
 use crate::counting::{count_status, count_vote};
-use crate::parts::{CountedStatus, CountedVote};
+use crate::parts::{Counted, CountedStatus, CountedVote};
 use ar_base::Items;
 use std::alloc::{AllocError, Global};
 use vote_quorum::Value;
@@ -29,30 +29,16 @@ fn kept_copy(alloc: Global, signature: &Option<Items<u8>>) -> Result<Option<Item
     }
 }
 
-/// Copies of the counted ballots.
-pub(crate) fn vote_copies(
+/// Copies of what is counted.
+pub(crate) fn counted_copies<V: Copy>(
     alloc: Global,
-    votes: &[CountedVote],
-) -> Result<Vec<CountedVote>, AllocError>
-    ensures { IfOk result (λ list. list.items ≡ votes.now) }
+    counted: &[Counted<V>],
+) -> Result<Vec<Counted<V>>, AllocError>
+    ensures { IfOk result (λ list. list.items ≡ counted.now) }
 {
     let mut list = Vec::new(alloc);
-    for vote in votes {
-        list.push((vote.0, vote.1, kept_copy(alloc, &vote.2)?))?;
-    }
-    Ok(list)
-}
-
-/// Copies of the counted statuses.
-pub(crate) fn status_copies(
-    alloc: Global,
-    statuses: &[CountedStatus],
-) -> Result<Vec<CountedStatus>, AllocError>
-    ensures { IfOk result (λ list. list.items ≡ statuses.now) }
-{
-    let mut list = Vec::new(alloc);
-    for status in statuses {
-        list.push((status.0, status.1, kept_copy(alloc, &status.2)?))?;
+    for one in counted {
+        list.push((one.0, one.1, kept_copy(alloc, &one.2)?))?;
     }
     Ok(list)
 }
@@ -68,7 +54,7 @@ pub(crate) fn votes_with(
     ensures { IfOk result (λ list. list.items ≡ with_vote votes.now (log, value.now, option_map (λ s. s.now) signature.entry)) }
 {
     let signature = signature_copy(alloc, signature)?;
-    let mut list = vote_copies(alloc, votes)?;
+    let mut list = counted_copies(alloc, votes)?;
     list.reserve(1)?;
     count_vote(&mut list, (log, *value, signature));
     Ok(list)
@@ -85,7 +71,7 @@ pub(crate) fn statuses_with(
     ensures { IfOk result (λ list. list.items ≡ with_status statuses.now (log, value.now, option_map (λ s. s.now) signature.entry)) }
 {
     let signature = signature_copy(alloc, signature)?;
-    let mut list = status_copies(alloc, statuses)?;
+    let mut list = counted_copies(alloc, statuses)?;
     list.reserve(1)?;
     count_status(&mut list, (log, *value, signature));
     Ok(list)

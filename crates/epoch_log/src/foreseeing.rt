@@ -11,7 +11,7 @@ ghost use Rattle.epoch_log.specs.State.{ballots_of, epoch_of, reports_of};
 ghost use Rattle.epoch_log.specs.declared.foreseeing.Foreseen.TheVariants as foreseen;
 
 use crate::closing::{Verdict, verdict_on};
-use crate::copying::{status_copies, statuses_with, vote_copies, votes_with};
+use crate::copying::{counted_copies, statuses_with, votes_with};
 use crate::counting::{ballots, ballots_with, reports, reports_with};
 use crate::ending::LAST_EPOCH;
 use crate::finishing::{own_vote, votes_for};
@@ -155,7 +155,7 @@ impl Parts {
                 decided_by_own(alloc, self.epoch(), own, counted)
             }
             Verdict::Skipped => {
-                let counted = status_copies(alloc, &self.statuses)?;
+                let counted = counted_copies(alloc, &self.statuses)?;
                 Ok(Foreseen::Skipped(Items::from_vec(counted)))
             }
         }
@@ -179,7 +179,7 @@ impl Parts {
         match self.verdict_with_status(alloc, own, log, value)? {
             Verdict::Open => Ok(Foreseen::Open),
             Verdict::Decided => {
-                let counted = vote_copies(alloc, &self.votes)?;
+                let counted = counted_copies(alloc, &self.votes)?;
                 decided_by_own(alloc, self.epoch(), own, counted)
             }
             Verdict::Skipped => {

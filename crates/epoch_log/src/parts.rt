@@ -14,12 +14,15 @@ use party_keys::Directory;
 use std::alloc::{AllocError, Global};
 use vote_quorum::Value;
 
-/// A ballot that is counted: the log, what it votes for, and its signature; `None` stands for the log's own ballot, which
-/// was counted without one.
-pub(crate) type CountedVote = (u16, Value, Option<Items<u8>>);
+/// What is counted of a log: its number, what it says, and its signature; `None` stands for what is the log's own, which was
+/// counted without one.
+pub(crate) type Counted<V> = (u16, V, Option<Items<u8>>);
 
-/// A status that is counted: the log, what it states, and its signature; `None` stands for the log's own.
-pub(crate) type CountedStatus = (u16, Option<Value>, Option<Items<u8>>);
+/// A ballot that is counted.
+pub(crate) type CountedVote = Counted<Value>;
+
+/// A status that is counted.
+pub(crate) type CountedStatus = Counted<Option<Value>>;
 
 /// What a log holds. Where it stands by that is `state_in`, and what it keeps is `IsLog`.
 #[derive(Drop)]
