@@ -104,13 +104,9 @@ impl SignBook {
             return Err(BookFault::Spent);
         }
         self.texts.reserve(1)?;
-        match self.texts.push(text) {
-            Ok(()) => {
-                self.room = self.room.saturating_sub(1);
-                Ok(Due::new(leaf, text, self.leaves))
-            }
-            Err(_) => unreachable!(),
-        }
+        self.texts.push_reserved(text);
+        self.room = self.room.saturating_sub(1);
+        Ok(Due::new(leaf, text, self.leaves))
     }
 
     /// How many leaves serve no statement yet.

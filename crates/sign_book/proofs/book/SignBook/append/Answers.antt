@@ -5,11 +5,11 @@ use Rattle.ar_base.specs.Places.{place_of}
 use Rattle.sign_book.proofs.Entries.{sound-push}
 use Rattle.sign_book.proofs.book.SignBook.append.Goals as goal
 
-pub invariant_of-self-in-Ok : goal.invariant_of-self-in-Ok
-invariant_of-self-in-Ok c =
+pub invariant_of-self-2 : goal.invariant_of-self-2
+invariant_of-self-2 c =
     let book : Book = record { texts = c.self.inside.texts.items; leaves = c.self.inside.leaves; room = c.self.inside.room } in
     let sound : IsSound book = c.self.invariant.0 in
-    let pushed = c.in-Ok.ensures in
+    let pushed = c.push_reserved.ensures in
     let reserved = c.in_ok-reserve.ensures in
     let none : place_of book.texts c.args.text ≡ None =
     ap (λ b. place_of b.texts c.args.text) c.self.view_is ∙ c.requires in
