@@ -30,10 +30,10 @@ pub(crate) fn answer<C: Core>(
         return Err((input, AllocError));
     }
     match node.core.step(alloc, &input) {
-        Ok((reply, note)) => match node.history.push((input, note)) {
-            Ok(()) => Ok(reply),
-            Err(_) => unreachable!(),
-        },
+        Ok((reply, note)) => {
+            node.history.push_reserved((input, note));
+            Ok(reply)
+        }
         Err(error) => Err((input, error)),
     }
 }
