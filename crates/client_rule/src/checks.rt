@@ -1,6 +1,5 @@
 ghost use Rattle.std.specs.Prelude.{◌≡◌, ◌-◌};
-ghost use Rattle.ar_statement.specs.Claims.{party, text_of};
-ghost use Rattle.ar_statement.specs.declared.party.Role.TheVariants.{LogServer, Authority};
+ghost use Rattle.ar_statement.specs.Claims.{text_of};
 ghost use Rattle.ar_message.specs.Shown.{is_shown};
 ghost use Rattle.client_rule.specs.Rule.{claim_on, confirms, has_parties, is_current, is_live, is_young, refusal_of};
 ghost use Rattle.client_rule.specs.Views.{body_of, HasDigest};
@@ -60,33 +59,6 @@ fn confirms(
 {
     let text = text_on(view, shown, signer);
     directory.verify(signer, text.as_bytes(), signature).is_ok()
-}
-
-// Whether the log signed what the confirmation says.
-fn log_confirms(directory: &Directory, view: &ConfView, shown: &Shown) -> bool
-    requires { HasDigest shown.now }
-    ensures { result ≡ confirms directory.now view.now.about (body_of shown.now) (party LogServer view.now.log.number) view.now.log.signature }
-{
-    let log = Role::LogServer.party(view.log());
-    confirms(directory, view, shown, log, view.log_signature())
-}
-
-// Whether the first authority signed what the confirmation says.
-fn first_confirms(directory: &Directory, view: &ConfView, shown: &Shown) -> bool
-    requires { HasDigest shown.now }
-    ensures { result ≡ confirms directory.now view.now.about (body_of shown.now) (party Authority view.now.first.number) view.now.first.signature }
-{
-    let first = Role::Authority.party(view.first());
-    confirms(directory, view, shown, first, view.first_signature())
-}
-
-// Whether the second authority signed what the confirmation says.
-fn second_confirms(directory: &Directory, view: &ConfView, shown: &Shown) -> bool
-    requires { HasDigest shown.now }
-    ensures { result ≡ confirms directory.now view.now.about (body_of shown.now) (party Authority view.now.second.number) view.now.second.signature }
-{
-    let second = Role::Authority.party(view.second());
-    confirms(directory, view, shown, second, view.second_signature())
 }
 
 // Whether the table with the root has this for the name.
@@ -161,13 +133,16 @@ pub(crate) fn refusal(
     if !has_parties(directory, view) {
         return Err(3);
     }
-    if !log_confirms(directory, view, shown) {
+    let log = Role::LogServer.party(view.log());
+    if !confirms(directory, view, shown, log, view.log_signature()) {
         return Err(4);
     }
-    if !first_confirms(directory, view, shown) {
+    let first = Role::Authority.party(view.first());
+    if !confirms(directory, view, shown, first, view.first_signature()) {
         return Err(5);
     }
-    if !second_confirms(directory, view, shown) {
+    let second = Role::Authority.party(view.second());
+    if !confirms(directory, view, shown, second, view.second_signature()) {
         return Err(6);
     }
     if !is_shown(view, shown) {
