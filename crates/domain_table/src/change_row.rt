@@ -55,10 +55,7 @@ fn grow(row: &mut Row, change: Change, marks: Marks)
     requires { vec_len row.old.chain < vec_capacity row.old.chain }
     ensures { data_of row.new ≡ with_row (data_of row.old) ((data_of row.old).chain ++ change ∷ []) None marks }
 {
-    match row.chain.push(change) {
-        Ok(()) => {}
-        Err(_) => unreachable!(),
-    }
+    row.chain.push_reserved(change);
     row.waiting = None;
     row.marks = marks;
 }

@@ -80,10 +80,7 @@ fn row_with(name: Vec<u8>, chain: Vec<Change>, change: Change, marks: Marks) -> 
     ensures { data_of result ≡ first_row name.items change marks }
 {
     let mut chain = chain;
-    match chain.push(change) {
-        Ok(()) => {}
-        Err(_) => unreachable!(),
-    }
+    chain.push_reserved(change);
     Row {
         name,
         chain,
