@@ -79,10 +79,7 @@ pub(crate) fn to_logs(room: Vec<Outgoing>, text: Vec<u8>) -> Sent
     ensures { result ≡ sent (record { to = Logs; bytes = text.items } ∷ []) }
 {
     let mut messages = room;
-    match messages.push(Outgoing::new(Address::Logs, text)) {
-        Ok(()) => {}
-        Err(_) => unreachable!(),
-    }
+    messages.push_reserved(Outgoing::new(Address::Logs, text));
     Sent {
         messages: Items::from_vec(messages),
         ended: None,
