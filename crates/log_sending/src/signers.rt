@@ -90,10 +90,8 @@ impl<'a> Signers<'a> {
         self.parties.reserve(1)?;
         self.claims
             .push(Claimed::new(party, Text::of(statement), signature))?;
-        match self.parties.push(party) {
-            Ok(()) => Ok(()),
-            Err(_) => unreachable!(),
-        }
+        self.parties.push_reserved(party);
+        Ok(())
     }
 
     /// Whether each signer is known, and then each signature is valid; else the first refusal of these.
