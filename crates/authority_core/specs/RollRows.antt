@@ -7,7 +7,7 @@ use Rattle.ar_message.specs.declared.message.Message.{Message}
 use Rattle.ar_message.specs.declared.message.Message.TheVariants.{RollNote}
 use Rattle.ar_message.specs.Filling.{nothing, zeros}
 use Rattle.key_roll.specs.Due.{DueParts}
-use Rattle.key_roll.specs.Entry.{roll_text, rolled}
+use Rattle.key_roll.specs.Entry.{announced}
 use Rattle.key_roll.specs.declared.fault.RollFault.{RollFault}
 use Rattle.lms_tree.specs.PublicKey.{key_text}
 use Rattle.lms_tree.specs.declared.public_key.LmsPublic.{LmsPublic}
@@ -55,7 +55,7 @@ roll_by s next (Ok due) =
 roll_by s next (Err fault) = Err (of_roll fault)
 
 unfoldable pub roll_row : AuthorityState → LmsPublic → Answer
-roll_row s next = roll_by s next (rolled s.past.signed (roll_text (authority_party s.me) s.past.signed.newest next))
+roll_row s next = roll_by s next (announced s.past.signed (authority_party s.me) next)
 
 -- ---- the record's part of them
 
@@ -69,7 +69,7 @@ LearnsBy (Err refusal) old new keys keys' a =
 -- the authority's Roll is entered and its next key known; or it is refused, or memory was wanting, and all is as before
 abbrev pub RollsBy : Result DueParts AuthorityRefusal → AuthorityRecord → AuthorityRecord → Directory → Directory → ℕ → LmsPublic → Type 0
 RollsBy (Ok due) old new keys keys' me next =
-    (rolled old.signed (roll_text (authority_party me) old.signed.newest next) ≡ Ok due)
+    (announced old.signed (authority_party me) next ≡ Ok due)
     × (new ≡ after_roll me old (key_text next)) × (keys' ≡ after_adopting keys (authority_party me) old.signed.newest next)
 RollsBy (Err refusal) old new keys keys' me next =
-    (new ≡ old) × (keys' ≡ keys) × ((refusal ≡ Memory) ⊎ (with_error of_roll (rolled old.signed (roll_text (authority_party me) old.signed.newest next)) ≡ Err refusal))
+    (new ≡ old) × (keys' ≡ keys) × ((refusal ≡ Memory) ⊎ (with_error of_roll (announced old.signed (authority_party me) next) ≡ Err refusal))

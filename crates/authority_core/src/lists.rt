@@ -27,12 +27,8 @@ pub(crate) fn put_asked(asked: &mut Vec<Asked>, a: Asked)
     requires { vec_len asked.old < vec_capacity asked.old }
     ensures { asked.new.items ≡ with_asked asked.old.items a }
 {
-    if has_asked(asked, &a) {
-        return;
-    }
-    match asked.push(a) {
-        Ok(()) => {}
-        Err(_) => unreachable!(),
+    if !has_asked(asked, &a) {
+        asked.push_reserved(a);
     }
 }
 
@@ -94,11 +90,7 @@ pub(crate) fn put_kept(kept: &mut Vec<Kept>, k: Kept)
     requires { vec_len kept.old < vec_capacity kept.old }
     ensures { kept.new.items ≡ with_kept kept.old.items k }
 {
-    if has_kept(kept, &k) {
-        return;
-    }
-    match kept.push(k) {
-        Ok(()) => {}
-        Err(_) => unreachable!(),
+    if !has_kept(kept, &k) {
+        kept.push_reserved(k);
     }
 }
