@@ -9,19 +9,19 @@ use Rattle.ar_statement.specs.Claims.{roll}
 use Rattle.ar_statement.specs.Ranges.{IsKeyText}
 use Rattle.ar_statement.specs.declared.text.SeenText.{SeenText}
 use Rattle.key_roll.specs.Due.{DueParts}
-use Rattle.key_roll.specs.Entry.{roll_text, rolled}
+use Rattle.key_roll.specs.Entry.{announced}
 use Rattle.key_roll.specs.declared.fault.RollFault.{RollFault}
 use Rattle.key_roll.specs.declared.fault.RollFault.TheVariants as roll_fault
 use Rattle.lms_tree.specs.PublicKey.{HasWidths, key_text}
 use Rattle.lms_tree.specs.declared.public_key.LmsPublic.{LmsPublic}
 use Rattle.party_keys.specs.Directory.{Directory}
-use Rattle.party_keys.specs.Learning.{Announced, after_adopting, after_learning, learned}
+use Rattle.party_keys.specs.Learning.{Announced, learned}
 use Rattle.party_keys.specs.Seen.{log_party}
 use Rattle.party_keys.specs.declared.learning.Learned.{Learned}
 use Rattle.domain_table.specs.Sound.{IsSound}
 use Rattle.domain_table.specs.Tables.{no_table}
 use Rattle.domain_table.proofs.Applied.{none_sound}
-use Rattle.epoch_log.specs.Calls.{after_learn, after_roll, fresh}
+use Rattle.epoch_log.specs.Calls.{after_learn, after_roll, fresh, learning, rolling}
 use Rattle.epoch_log.specs.Log.{IsLog, LogParts, moved, parts_of, state_in}
 use Rattle.epoch_log.specs.Record.{base_of, ending}
 use Rattle.epoch_log.specs.State.{IsKept, LogState, table_of}
@@ -64,7 +64,7 @@ log-fresh p me keys leaves parts table small some =
 -- ---- keys
 
 pub log-learned : (p q : Parts) (a : Announced) (l : Learned) → learned p.directory a ≡ Ok l
-    → parts_of q ≡ record { state = after_learn (state_in p) a.party a.generation (key_text a.key); keys = after_learning p.directory a }
+    → parts_of q ≡ learning (parts_of p) a
     → q.table ≡ p.table → IsLog p → IsLog q
 log-learned p q a l is there same log =
     let one : SeenText = seen_of a.party (roll a.party a.generation (key_text a.key)) in
@@ -77,8 +77,7 @@ not-last : (newest : ℕ) (text : List ℕ) (answer : Result DueParts RollFault)
 not-last newest text answer due is same = let last : cond (eqb newest 999) (Err roll_fault.Last) answer ≡ Err roll_fault.Last = ap (λ b. cond b (Err roll_fault.Last) answer) (eq-eqb newest 999 same) in absurd cc
 
 pub log-rolled : (p q : Parts) (next : LmsPublic) (due : DueParts) → IsKeyText (key_text next) → HasWidths next
-    → rolled (state_in p).past.signed (roll_text (log_party (state_in p).me) (state_in p).past.signed.newest next) ≡ Ok due
-    → parts_of q ≡ record { state = after_roll (state_in p) (key_text next); keys = after_adopting p.directory (log_party (state_in p).me) (state_in p).past.signed.newest next }
+    → announced (state_in p).past.signed (log_party (state_in p).me) next ≡ Ok due → parts_of q ≡ rolling (parts_of p) next
     → q.table ≡ p.table → IsLog p → IsLog q
 log-rolled p q next due text widths is there same log =
     let other = not-last (state_in p).past.signed.newest (key_text next) _ due is in

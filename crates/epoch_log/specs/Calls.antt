@@ -12,6 +12,9 @@ use Rattle.ar_statement.specs.declared.party.Party.{Party}
 use Rattle.ar_statement.specs.declared.text.SeenText.{SeenText}
 use Rattle.ar_statement.specs.Claims.{Claim, endorse, propose, roll, text_of}
 use Rattle.key_roll.specs.Entry.{after_entry, with_roll}
+use Rattle.lms_tree.specs.PublicKey.{key_text}
+use Rattle.lms_tree.specs.declared.public_key.LmsPublic.{LmsPublic}
+use Rattle.party_keys.specs.Learning.{Announced, after_adopting, after_learning}
 use Rattle.party_keys.specs.Seen.{authority_party, log_party}
 use Rattle.vote_quorum.specs.Ballots.{has_ballot}
 use Rattle.vote_quorum.specs.Statuses.{AreStatuses, Excludes, Status}
@@ -22,6 +25,7 @@ use Rattle.ar_council.specs.Council.{Council}
 use Rattle.ar_council.specs.Values.{IsValue, confirm_claim, is_same_digest, status_claim, vote_claim}
 use Rattle.ar_council.specs.Seen.{seen_after, seen_of}
 use Rattle.epoch_log.specs.Ending.{closed, decided, may_end, own_vote, skipped}
+use Rattle.epoch_log.specs.Log.{LogParts}
 use Rattle.epoch_log.specs.Right.{AppliesTo, newest_digest}
 use Rattle.epoch_log.specs.State.{CountedStatus, CountedVote, LogState, ballots_of, epoch_of, reports_of, table_of}
 use Rattle.epoch_log.specs.Told.{value_of}
@@ -288,6 +292,17 @@ after_learn s party generation key = seeing s (seen_of party (roll party generat
 abbrev pub after_roll : LogState → List ℕ → LogState
 after_roll s key = record s {
   past = record s.past { signed = with_roll s.past.signed (text_of (roll (log_party s.me) s.past.signed.newest key)) };
+}
+
+-- the log knows the key that another party announces, and saw the Roll
+abbrev pub learning : LogParts → Announced → LogParts
+learning log a = record { state = after_learn log.state a.party a.generation (key_text a.key); keys = after_learning log.keys a }
+
+-- the log signed its Roll of this key, and knows the key as its own next
+abbrev pub rolling : LogParts → LmsPublic → LogParts
+rolling log next = record {
+  state = after_roll log.state (key_text next);
+  keys = after_adopting log.keys (log_party log.state.me) log.state.past.signed.newest next;
 }
 
 -- ---- the beginning

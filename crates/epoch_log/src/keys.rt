@@ -1,13 +1,12 @@
 //! What a log sees, and the keys that it learns.
 ghost use Rattle.std.specs.Prelude.{◌≡◌, OnOk, OnErr};
 ghost use Rattle.ar_base.specs.Gives.{GivesUnless};
-ghost use Rattle.key_roll.specs.Entry.{roll_text, rolled};
+ghost use Rattle.key_roll.specs.Entry.{announced};
 ghost use Rattle.key_roll.specs.declared.fault.RollFault.TheVariants as roll_fault;
-ghost use Rattle.lms_tree.specs.PublicKey.{key_text};
-ghost use Rattle.party_keys.specs.Learning.{after_adopting, after_learning, learned};
+ghost use Rattle.party_keys.specs.Learning.{learned};
 ghost use Rattle.party_keys.specs.Seen.{log_party};
 ghost use Rattle.party_keys.specs.declared.fault.LearnFault.TheVariants as learn_fault;
-ghost use Rattle.epoch_log.specs.Calls.{AreEndorsers, after_endorsed, after_learn, after_roll};
+ghost use Rattle.epoch_log.specs.Calls.{AreEndorsers, after_endorsed, learning, rolling};
 ghost use Rattle.epoch_log.specs.Log.{IsLog, moved, parts_of, state_in};
 
 use crate::parts::Parts;
@@ -58,10 +57,7 @@ impl Parts {
     ) -> Result<Learned, LearnFault>
         ensures answer { GivesUnless learn_fault.Memory (λ learned. learned) result
             (learned self.old.directory (record { party = party; generation = generation; key = key; signature = signature.now })) }
-        ensures ok { OnOk result (parts_of self.new ≡ record {
-          state = after_learn (state_in self.old) party generation (key_text key);
-          keys = after_learning self.old.directory (record { party = party; generation = generation; key = key; signature = signature.now });
-        }) }
+        ensures ok { OnOk result (parts_of self.new ≡ learning (parts_of self.old) (record { party = party; generation = generation; key = key; signature = signature.now })) }
         ensures err { OnErr result (parts_of self.new ≡ parts_of self.old) }
         ensures table { self.new.table ≡ self.old.table }
     {
@@ -90,10 +86,7 @@ impl Parts {
         requires { IsLog self.old }
         ensures answer { GivesUnless learn_fault.Memory (λ learned. learned) result
             (learned self.old.directory (record { party = party; generation = generation; key = key; signature = signature.now })) }
-        ensures ok { OnOk result (parts_of self.new ≡ record {
-          state = after_learn (state_in self.old) party generation (key_text key);
-          keys = after_learning self.old.directory (record { party = party; generation = generation; key = key; signature = signature.now });
-        }) }
+        ensures ok { OnOk result (parts_of self.new ≡ learning (parts_of self.old) (record { party = party; generation = generation; key = key; signature = signature.now })) }
         ensures err { OnErr result (parts_of self.new ≡ parts_of self.old) }
         ensures kept { IsLog self.new }
     {
@@ -105,12 +98,8 @@ impl Parts {
 
     /// Announces the next key, and adopts it.
     fn announce(&mut self, alloc: Global, next: &LmsPublic) -> Result<RollDue, RollFault>
-        ensures answer { GivesUnless roll_fault.Memory (λ due. due) result
-            (rolled (state_in self.old).past.signed (roll_text (log_party (state_in self.old).me) (state_in self.old).past.signed.newest next.now)) }
-        ensures ok { OnOk result (parts_of self.new ≡ record {
-          state = after_roll (state_in self.old) (key_text next.now);
-          keys = after_adopting self.old.directory (log_party (state_in self.old).me) (state_in self.old).past.signed.newest next.now;
-        }) }
+        ensures answer { GivesUnless roll_fault.Memory (λ due. due) result (announced (state_in self.old).past.signed (log_party (state_in self.old).me) next.now) }
+        ensures ok { OnOk result (parts_of self.new ≡ rolling (parts_of self.old) next.now) }
         ensures err { OnErr result (parts_of self.new ≡ parts_of self.old) }
         ensures table { self.new.table ≡ self.old.table }
     {
@@ -125,12 +114,8 @@ impl Parts {
     /// `EpochLog::roll`.
     pub(crate) fn roll(&mut self, alloc: Global, next: &LmsPublic) -> Result<RollDue, RollFault>
         requires { IsLog self.old }
-        ensures answer { GivesUnless roll_fault.Memory (λ due. due) result
-            (rolled (state_in self.old).past.signed (roll_text (log_party (state_in self.old).me) (state_in self.old).past.signed.newest next.now)) }
-        ensures ok { OnOk result (parts_of self.new ≡ record {
-          state = after_roll (state_in self.old) (key_text next.now);
-          keys = after_adopting self.old.directory (log_party (state_in self.old).me) (state_in self.old).past.signed.newest next.now;
-        }) }
+        ensures answer { GivesUnless roll_fault.Memory (λ due. due) result (announced (state_in self.old).past.signed (log_party (state_in self.old).me) next.now) }
+        ensures ok { OnOk result (parts_of self.new ≡ rolling (parts_of self.old) next.now) }
         ensures err { OnErr result (parts_of self.new ≡ parts_of self.old) }
         ensures kept { IsLog self.new }
     {

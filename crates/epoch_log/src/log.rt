@@ -3,16 +3,15 @@ ghost use Rattle.std.specs.Option.{option_map};
 ghost use Rattle.ar_base.specs.Gives.{GivesOrWants, GivesUnless};
 ghost use Rattle.ar_council.specs.Council.{council_of};
 ghost use Rattle.ar_statement.specs.Claims.{claim_of, text_of};
-ghost use Rattle.key_roll.specs.Entry.{due_of, roll_text, rolled};
+ghost use Rattle.key_roll.specs.Entry.{announced, due_of};
 ghost use Rattle.key_roll.specs.declared.fault.BookFault.TheVariants as book_fault;
 ghost use Rattle.key_roll.specs.declared.fault.RollFault.TheVariants as roll_fault;
-ghost use Rattle.lms_tree.specs.PublicKey.{key_text};
-ghost use Rattle.party_keys.specs.Learning.{after_adopting, after_learning, learned};
+ghost use Rattle.party_keys.specs.Learning.{learned};
 ghost use Rattle.party_keys.specs.Seen.{log_party};
 ghost use Rattle.party_keys.specs.declared.fault.LearnFault.TheVariants as learn_fault;
 ghost use Rattle.domain_table.specs.Sound.{IsSound};
 ghost use Rattle.epoch_log.specs.Answers.{IsOpenTo, confirmed, proposed, stated, voted};
-ghost use Rattle.epoch_log.specs.Calls.{AreEndorsers, IsProposed, IsTurn, MayState, after_ballot, after_confirm, after_decide, after_endorsed, after_learn, after_propose, after_roll, after_skip, after_state, after_status_seen, after_vote, fresh, is_turn, own_value};
+ghost use Rattle.epoch_log.specs.Calls.{AreEndorsers, IsProposed, IsTurn, MayState, after_ballot, after_confirm, after_decide, after_endorsed, after_propose, after_skip, after_state, after_status_seen, after_vote, fresh, is_turn, learning, own_value, rolling};
 ghost use Rattle.epoch_log.specs.Foreseeing.{IsForeseen};
 ghost use Rattle.epoch_log.specs.Log.{moved, record_of};
 ghost use Rattle.epoch_log.specs.Right.{SawEndorsements};
@@ -290,10 +289,7 @@ impl EpochLog {
     ) -> Result<Learned, LearnFault>
         ensures answer { GivesUnless learn_fault.Memory (λ learned. learned) result
             (learned self.old.keys (record { party = party; generation = generation; key = key; signature = signature.now })) }
-        ensures ok { OnOk result (self.new ≡ record {
-          state = after_learn self.old.state party generation (key_text key);
-          keys = after_learning self.old.keys (record { party = party; generation = generation; key = key; signature = signature.now });
-        }) }
+        ensures ok { OnOk result (self.new ≡ learning self.old (record { party = party; generation = generation; key = key; signature = signature.now })) }
         ensures err { OnErr result (self.new ≡ self.old) }
     {
         self.parts.learn(alloc, party, generation, key, signature)
@@ -302,12 +298,8 @@ impl EpochLog {
     /// Announces the log's next key, which the log knows then. It gives the leaf of the Roll, and is `Last` exactly where
     /// the newest generation is 999, but that `Memory` may come in place of it.
     pub fn roll(&mut self, alloc: Global, next: &LmsPublic) -> Result<RollDue, RollFault>
-        ensures answer { GivesUnless roll_fault.Memory (λ due. due) result
-            (rolled self.old.state.past.signed (roll_text (log_party self.old.state.me) self.old.state.past.signed.newest next.now)) }
-        ensures ok { OnOk result (self.new ≡ record {
-          state = after_roll self.old.state (key_text next.now);
-          keys = after_adopting self.old.keys (log_party self.old.state.me) self.old.state.past.signed.newest next.now;
-        }) }
+        ensures answer { GivesUnless roll_fault.Memory (λ due. due) result (announced self.old.state.past.signed (log_party self.old.state.me) next.now) }
+        ensures ok { OnOk result (self.new ≡ rolling self.old next.now) }
         ensures err { OnErr result (self.new ≡ self.old) }
     {
         self.parts.roll(alloc, next)

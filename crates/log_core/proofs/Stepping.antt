@@ -9,19 +9,18 @@ use Rattle.ar_message.specs.declared.unsigned.Unsigned.{Unsigned}
 use Rattle.ar_message.specs.Filling.{nothing, zeros}
 use Rattle.ar_statement.specs.Ranges.{IsKeyText}
 use Rattle.key_roll.specs.Due.{DueParts}
-use Rattle.key_roll.specs.Entry.{roll_text, rolled}
+use Rattle.key_roll.specs.Entry.{announced, roll_text}
 use Rattle.key_roll.specs.declared.fault.RollFault.{RollFault}
 use Rattle.key_roll.specs.declared.fault.RollFault.TheVariants as roll_fault
 use Rattle.lms_tree.specs.PublicKey.{HasWidths}
 use Rattle.lms_tree.specs.declared.public_key.LmsPublic.{LmsPublic}
-use Rattle.party_keys.specs.Learning.{after_adopting}
 use Rattle.party_keys.specs.Seen.{log_party}
 use Rattle.lms_tree.specs.PublicKey.{key_text}
-use Rattle.party_keys.specs.Learning.{Announced, after_learning, learned}
+use Rattle.party_keys.specs.Learning.{Announced, learned}
 use Rattle.party_keys.specs.declared.fault.LearnFault.{LearnFault}
 use Rattle.party_keys.specs.declared.fault.LearnFault.TheVariants as learn_fault
 use Rattle.party_keys.specs.declared.learning.Learned.{Learned}
-use Rattle.epoch_log.specs.Calls.{after_learn, after_roll}
+use Rattle.epoch_log.specs.Calls.{after_roll, learning, rolling}
 use Rattle.epoch_log.specs.Log.{LogParts}
 use Rattle.log_core.specs.Steps.{IsStep, checked, learn_refusal, noted, roll_refusal}
 use Rattle.log_sending.specs.Checks.{unless}
@@ -63,26 +62,22 @@ core-with s log = record { log = log.state; keys = log.keys; queue = s.queue; si
 abbrev pub log-in : CoreState → LogParts
 log-in s = record { state = s.log; keys = s.keys }
 
--- what the log is behind a note of a Roll that was learnt
-abbrev log-after : CoreState → Announced → LogParts
-log-after s a = record { state = after_learn s.log a.party a.generation (key_text a.key); keys = after_learning s.keys a }
-
 abbrev quiet : CoreState → Answer
 quiet s = Ok (record { unsigned = nothing; after = s })
 
 pub note-keeps : (s : CoreState) (a : Announced) (r : Result Learned LearnFault) (new : LogParts) → IsKeptCore s
-    → GivesUnless learn_fault.Memory (λ (how : Learned). how) r (learned s.keys a) → OnOk r (new ≡ log-after s a) → OnErr r (new ≡ log-in s) → IsKeptCore (core-with s new)
+    → GivesUnless learn_fault.Memory (λ (how : Learned). how) r (learned s.keys a) → OnOk r (new ≡ learning (log-in s) a) → OnErr r (new ≡ log-in s) → IsKeptCore (core-with s new)
 note-keeps s a (Ok how) new kept gives ok err = subst (λ (n : LogParts). IsKeptCore (core-with s n)) (sym ok) (note-kept s a how kept gives)
 note-keeps s a (Err fault) new kept gives ok err = subst (λ (n : LogParts). IsKeptCore (core-with s n)) (sym err) kept
 
 note-step-by : (s : CoreState) (a : Announced) (r : Result Learned LearnFault) (new : LogParts)
-    → GivesUnless learn_fault.Memory (λ (how : Learned). how) r (learned s.keys a) → OnOk r (new ≡ log-after s a) → OnErr r (new ≡ log-in s)
+    → GivesUnless learn_fault.Memory (λ (how : Learned). how) r (learned s.keys a) → OnOk r (new ≡ learning (log-in s) a) → OnErr r (new ≡ log-in s)
     → IsStep (noted r a.party a.generation) s (core-with s new) (roll_note_row s a)
 note-step-by s a (Ok how) new gives ok err = note-learnt s a how gives ∙ ap (λ (n : LogParts). quiet (core-with s n)) (sym ok)
 note-step-by s a (Err fault) new gives ok err = (ap (λ (n : LogParts). core-with s n) err, note-refused s a fault gives)
 
 pub note-step : (s : CoreState) (a : Announced) (r : Result Learned LearnFault) (new : LogParts) (out : Result Unsigned LogRefusal) → out ≡ noted r a.party a.generation
-    → GivesUnless learn_fault.Memory (λ (how : Learned). how) r (learned s.keys a) → OnOk r (new ≡ log-after s a) → OnErr r (new ≡ log-in s)
+    → GivesUnless learn_fault.Memory (λ (how : Learned). how) r (learned s.keys a) → OnOk r (new ≡ learning (log-in s) a) → OnErr r (new ≡ log-in s)
     → IsStep out s (core-with s new) (roll_note_row s a)
 note-step s a r new out is gives ok err =
     subst (λ (o : Result Unsigned LogRefusal). IsStep o s (core-with s new) (roll_note_row s a)) (sym is) (note-step-by s a r new gives ok err)
@@ -95,7 +90,7 @@ unfolding rolling_row
 rolled-row s key last is = ap (λ b. checked (unless (not b) refusals.LastGeneration ∷ []) (rolling_reply s key)) is
 
 abbrev roll-due : CoreState → LmsPublic → Result DueParts RollFault
-roll-due s key = rolled s.log.past.signed (roll_text (log_party s.log.me) s.log.past.signed.newest key)
+roll-due s key = announced s.log.past.signed (log_party s.log.me) key
 
 -- the entry of a Roll
 abbrev roll-entry : CoreState → LmsPublic → DueParts
@@ -124,12 +119,8 @@ roll-refused s key roll_fault.Last (inr is) = inr (by (s.log.past.signed.newest 
     by true last given = rolled-row s key true last
     by false last given = absurd cc
 
--- what the log is behind a Roll
-abbrev log-rolled : CoreState → LmsPublic → LogParts
-log-rolled s key = record { state = after_roll s.log (key_text key); keys = after_adopting s.keys (log_party s.log.me) s.log.past.signed.newest key }
-
 pub roll-keeps : (s : CoreState) (key : LmsPublic) (r : Result DueParts RollFault) (new : LogParts) → IsKeptCore s → IsKeyText (key_text key) → HasWidths key
-    → GivesUnless roll_fault.Memory (λ (due : DueParts). due) r (roll-due s key) → OnOk r (new ≡ log-rolled s key) → OnErr r (new ≡ log-in s) → IsKeptCore (core-with s new)
+    → GivesUnless roll_fault.Memory (λ (due : DueParts). due) r (roll-due s key) → OnOk r (new ≡ rolling (log-in s) key) → OnErr r (new ≡ log-in s) → IsKeptCore (core-with s new)
 roll-keeps s key (Ok due) new kept is-key widths gives ok err =
     subst (λ (n : LogParts). IsKeptCore (core-with s n)) (sym ok) (kept-rolling_row s key (rolling_reply s key) kept is-key (readable key widths) (roll-made s key due gives))
 roll-keeps s key (Err fault) new kept is-key widths gives ok err = subst (λ (n : LogParts). IsKeptCore (core-with s n)) (sym err) kept
@@ -138,7 +129,7 @@ roll-keeps s key (Err fault) new kept is-key widths gives ok err = subst (λ (n 
 abbrev quiet-with : Unsigned → CoreState → Answer
 quiet-with unsigned after = Ok (record { unsigned = unsigned; after = after })
 
-pub roll-sends : (s : CoreState) (key : LmsPublic) (due : DueParts) (new : LogParts) (unsigned : Unsigned) → roll-due s key ≡ Ok due → new ≡ log-rolled s key
+pub roll-sends : (s : CoreState) (key : LmsPublic) (due : DueParts) (new : LogParts) (unsigned : Unsigned) → roll-due s key ≡ Ok due → new ≡ rolling (log-in s) key
     → unsigned ≡ sealed new.state.past.signed (with_draft none_composed (roll_draft s key)) None
     → rolling_row s key ≡ Ok (record { unsigned = unsigned; after = core-with s new })
 roll-sends s key due new unsigned is news sends =
