@@ -81,10 +81,8 @@ impl LogCore {
         change.told();
         self.queue.reserve(1)?;
         self.log.endorsed(alloc, &change)?;
-        match self.queue.push(change) {
-            Ok(()) => Ok(()),
-            Err(_) => unreachable!(),
-        }
+        self.queue.push_reserved(change);
+        Ok(())
     }
 
     /// Takes a change that is submitted: it is the last of the queue, unless an equal one is queued.

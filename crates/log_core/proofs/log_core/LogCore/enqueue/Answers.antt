@@ -15,5 +15,5 @@ pub invariant_of-self-2 : goal.invariant_of-self-2
 invariant_of-self-2 c =
     let was : CoreState = record { log = c.self.inside.log.state; keys = c.self.inside.log.keys; queue = c.self.inside.queue.items; signature_len = c.self.inside.signature_len } in
     let judged : submit_judged was c.args.change ≡ Ok false = subst (λ (s : CoreState). submit_judged s c.args.change ≡ Ok false) (sym c.self.view_is) c.requires in
-    enqueued-keeps was c.args.change c.endorsed.new.self c.push.new.self.items c.self.invariant c.told.ensures judged c.in_ok-endorsed.ensures.ok
-    (c.in-Ok.ensures.items ∙ ap (λ (q : List Change). q ++ c.args.change ∷ []) c.in_ok-reserve.ensures.items)
+    enqueued-keeps was c.args.change c.endorsed.new.self c.push_reserved.new.self.items c.self.invariant c.told.ensures judged c.in_ok-endorsed.ensures.ok
+    (c.push_reserved.ensures.items ∙ ap (λ (q : List Change). q ++ c.args.change ∷ []) c.in_ok-reserve.ensures.items)
