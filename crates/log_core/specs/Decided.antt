@@ -6,12 +6,12 @@ use Rattle.party_keys.specs.Signers.{Claimed}
 use Rattle.vote_quorum.specs.declared.value.Value.{Value}
 use Rattle.epoch_log.specs.Calls.{after_decide}
 use Rattle.epoch_log.specs.Ending.{may_end}
-use Rattle.epoch_log.specs.State.{LogState, epoch_of, table_of}
-use Rattle.log_sending.specs.Checks.{Check, all_taken, enough, in_epoch, same_base, same_root}
+use Rattle.epoch_log.specs.State.{LogState, epoch_of}
+use Rattle.log_sending.specs.Checks.{Check, enough, in_epoch}
+use Rattle.log_sending.specs.Leading.{leading_checks}
 use Rattle.log_core.specs.Steps.{checked}
 use Rattle.log_core.specs.Replies.{core_after}
 use Rattle.log_sending.specs.Closings.{still_wanted}
-use Rattle.log_sending.specs.Judged.{judged}
 use Rattle.log_sending.specs.Sending.{unsigned_of}
 use Rattle.log_sending.specs.Signers.{endorsements_in, signers, votes_in}
 use Rattle.log_core.specs.State.{Answer, CoreState, Reply}
@@ -27,17 +27,12 @@ pub record Decision : Type 0 where
 abbrev pub decision_signers : Decision → List Claimed
 decision_signers d = votes_in d.epoch d.value d.votes ++ flat_map endorsements_in d.changes
 
--- The signers; it is of the log's epoch and for its base, the table accepts each change behind those before it, and they
--- lead to the root; and the votes are a quorum.
+-- The signers; it is of the log's epoch, the changes lead to the value, and the votes are a quorum.
 abbrev pub decision_checks : CoreState → Decision → List Check
 decision_checks s d =
     signers s.keys (decision_signers d)
     ∷ in_epoch s.log d.epoch
-    ∷ same_base s.log d.value.base
-    ∷ all_taken (judged (table_of s.log) (epoch_of s.log) d.changes)
-    ∷ same_root (judged (table_of s.log) (epoch_of s.log) d.changes) d.value.root
-    ∷ enough s.log.council (length d.votes)
-    ∷ []
+    ∷ leading_checks s.log d.value d.changes ++ enough s.log.council (length d.votes) ∷ []
 
 -- the votes as the log keeps them
 abbrev pub plain_votes : List Vote → List (ℕ × List ℕ)

@@ -1,5 +1,5 @@
 -- The row of Propose: the log votes for another log's proposal.
-use Rattle.std.specs.Prelude.{ℕ, List, [], ◌∷◌, flat_map, Result}
+use Rattle.std.specs.Prelude.{ℕ, List, [], ◌∷◌, ◌++◌, flat_map, Result}
 use Rattle.ar_cert.specs.Changes.{Change}
 use Rattle.ar_message.specs.declared.address.Address.TheVariants.{One}
 use Rattle.ar_message.specs.declared.message.Message.TheVariants.{Ballot}
@@ -9,11 +9,11 @@ use Rattle.party_keys.specs.Seen.{log_party}
 use Rattle.party_keys.specs.Signers.{Claimed}
 use Rattle.vote_quorum.specs.declared.value.Value.{Value}
 use Rattle.epoch_log.specs.Calls.{after_vote, own_vote_text}
-use Rattle.epoch_log.specs.State.{LogState, epoch_of, table_of}
-use Rattle.log_sending.specs.Checks.{Check, all_taken, leaves_left, in_epoch, in_turn, not_stated, not_voted, same_base, same_root, turn_of}
+use Rattle.epoch_log.specs.State.{LogState, epoch_of}
+use Rattle.log_sending.specs.Checks.{Check, leaves_left, in_epoch, in_turn, not_stated, not_voted, turn_of}
+use Rattle.log_sending.specs.Leading.{leading_checks}
 use Rattle.log_core.specs.Steps.{checked, given}
 use Rattle.log_core.specs.Replies.{open_reply}
-use Rattle.log_sending.specs.Judged.{judged}
 use Rattle.log_sending.specs.Sending.{Composed, Draft, draft_with, none_composed, with_draft}
 use Rattle.log_sending.specs.Signers.{endorsements_in, signed_by, signers}
 use Rattle.log_core.specs.State.{Answer, CoreState, Reply}
@@ -32,32 +32,19 @@ abbrev pub proposal_signers : Proposal → List Claimed
 proposal_signers p =
     signed_by (log_party p.log) (propose p.log p.epoch p.value.base p.value.root) p.signature ∷ flat_map endorsements_in p.changes
 
--- The signers; it is of the log's epoch, by the log whose turn it is; the log has not voted and not stated; the proposal
--- is for its base, the table accepts each change behind those before it, and they lead to the root; and there is a leaf
--- for the vote.
+-- Whether the log may vote for a value: it has not voted and not stated, the changes lead to the value, and there is a leaf for
+-- the vote.
+abbrev pub voting_checks : LogState → Value → List Change → List Check
+voting_checks s value changes =
+    not_voted s ∷ not_stated s ∷ leading_checks s value changes ++ leaves_left s.past.signed (own_vote_text s value ∷ []) ∷ []
+
+-- The signers; it is of the log's epoch, by the log whose turn it is; and the log may vote for it.
 abbrev pub proposed_checks : CoreState → Proposal → List Check
 proposed_checks s p =
     signers s.keys (proposal_signers p)
     ∷ in_epoch s.log p.epoch
     ∷ in_turn s.log.council (epoch_of s.log) p.log
-    ∷ not_voted s.log
-    ∷ not_stated s.log
-    ∷ same_base s.log p.value.base
-    ∷ all_taken (judged (table_of s.log) (epoch_of s.log) p.changes)
-    ∷ same_root (judged (table_of s.log) (epoch_of s.log) p.changes) p.value.root
-    ∷ leaves_left s.log.past.signed (own_vote_text s.log p.value ∷ [])
-    ∷ []
-
--- those behind the turn: whether the log may vote for the value
-abbrev pub voting_checks : LogState → Value → List Change → List Check
-voting_checks s value changes =
-    not_voted s
-    ∷ not_stated s
-    ∷ same_base s value.base
-    ∷ all_taken (judged (table_of s) (epoch_of s) changes)
-    ∷ same_root (judged (table_of s) (epoch_of s) changes) value.root
-    ∷ leaves_left s.past.signed (own_vote_text s value ∷ [])
-    ∷ []
+    ∷ voting_checks s.log p.value p.changes
 
 -- the ballot goes to the log whose turn it is
 abbrev pub ballot_draft : CoreState → Value → Draft

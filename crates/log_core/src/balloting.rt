@@ -1,42 +1,23 @@
 //! The row of Ballot: a ballot is counted by the log whose turn it is.
 
-ghost use Rattle.std.specs.Prelude.{◌≡◌, ◌∷◌, [], ◌<◌, IfOk, Ok};
+ghost use Rattle.std.specs.Prelude.{◌≡◌, ◌<◌, IfOk, Ok};
 ghost use Rattle.ar_base.specs.Gives.{GivesUnless};
 ghost use Rattle.ar_cert.specs.Changes.{IsSignature};
-ghost use Rattle.ar_council.specs.Values.{vote_claim};
 ghost use Rattle.epoch_log.specs.Calls.{after_ballot};
 ghost use Rattle.log_core.specs.Balloted.{ballot_judged, ballot_row};
 ghost use Rattle.log_sending.specs.Closings.{closing_drafts};
 ghost use Rattle.log_sending.specs.Sending.{none_composed, with_drafts};
-ghost use Rattle.log_sending.specs.Signers.{signed_by, signers};
 ghost use Rattle.log_core.specs.Steps.{IsStep};
 ghost use Rattle.log_sending.specs.declared.refusal.LogRefusal.TheVariants as refusals;
-ghost use Rattle.party_keys.specs.Seen.{log_party};
 
 use crate::LogRefusal;
 use crate::log_core::LogCore;
+use crate::verifying::has_signed;
 use ar_council::vote_statement;
 use ar_message::{Signature, Unsigned};
-use log_sending::{Drafts, Ready, Signers, add_closing, close, in_epoch, in_turn};
-use party_keys::Directory;
+use log_sending::{Drafts, Ready, add_closing, close, in_epoch, in_turn};
 use std::alloc::{AllocError, Global};
 use vote_quorum::Value;
-
-/// Whether the log has signed its ballot.
-fn check_voter(
-    alloc: Global,
-    directory: &Directory,
-    log: u16,
-    epoch: u64,
-    value: &Value,
-    signature: &[u8],
-) -> Result<(), LogRefusal>
-    ensures { GivesUnless refusals.Memory (λ u. u) result (signers directory.now (signed_by (log_party log) (vote_claim log epoch value.now) signature.now ∷ [])) }
-{
-    let mut signers = Signers::new(alloc);
-    signers.add(&vote_statement(log, epoch, value), signature)?;
-    signers.check(directory)
-}
 
 impl LogCore {
     /// The checks of a Ballot, in their order.
@@ -51,7 +32,8 @@ impl LogCore {
     ) -> Result<(), LogRefusal>
         ensures { GivesUnless refusals.Memory (λ u. u) result (ballot_judged self.now log epoch value.now signature.now) }
     {
-        check_voter(alloc, self.log.directory(), log, epoch, value, signature)?;
+        let statement = vote_statement(log, epoch, value);
+        has_signed(alloc, self.log.directory(), &statement, signature)?;
         in_epoch(&self.log, epoch)?;
         self.log.told();
         in_turn(self.log.directory(), self.log.epoch(), self.log.number())

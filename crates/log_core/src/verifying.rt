@@ -1,16 +1,34 @@
-//! Who signed a proposal or a decision, beside the endorsers of its changes.
+//! Who signed a statement, and who a proposal or a decision beside the endorsers of its changes.
 
-ghost use Rattle.std.specs.Prelude.{◌++◌, All, flat_map};
+ghost use Rattle.std.specs.Prelude.{◌++◌, ◌∷◌, [], All, flat_map};
 ghost use Rattle.ar_base.specs.Gives.{GivesUnless};
 ghost use Rattle.ar_cert.specs.Changes.{IsChange};
-ghost use Rattle.log_sending.specs.Signers.{endorsements_in, signers};
+ghost use Rattle.ar_statement.specs.Claims.{claim_of, signer_of};
+ghost use Rattle.log_sending.specs.Signers.{endorsements_in, signed_by, signers};
 ghost use Rattle.log_sending.specs.declared.refusal.LogRefusal.TheVariants as refusals;
 
 use crate::LogRefusal;
 use crate::log_core::LogCore;
 use ar_cert::Change;
+use ar_statement::Statement;
 use log_sending::Signers;
+use party_keys::Directory;
 use std::alloc::Global;
+
+/// That the signer of a statement has signed it.
+pub(crate) fn has_signed(
+    alloc: Global,
+    directory: &Directory,
+    statement: &Statement,
+    signature: &[u8],
+) -> Result<(), LogRefusal>
+    ensures { GivesUnless refusals.Memory (λ unit. unit) result
+        (signers directory.now (signed_by (signer_of (claim_of statement.now)) (claim_of statement.now) signature.now ∷ [])) }
+{
+    let mut signers = Signers::new(alloc);
+    signers.add(statement, signature)?;
+    signers.check(directory)
+}
 
 impl LogCore {
     /// That these have signed, and then the endorsers of the changes. The endorsements of a change that is queued were
