@@ -1,7 +1,6 @@
 //! The steps of honest logs.
 
-ghost use Rattle.std.specs.Prelude.{◌≡◌, ◌<◌, ◌≤◌, ◌++◌, ◌∷◌, [], length, slice_get, vec_len, vec_capacity, Some, IfOk};
-ghost use Rattle.key_roll.specs.Ring.{IsNext};
+ghost use Rattle.std.specs.Prelude.{◌≡◌, ◌<◌, ◌≤◌, ◌++◌, ◌∷◌, [], length, Some, IfOk};
 ghost use Rattle.lms_tree.specs.Key.{public_of};
 ghost use Rattle.lms_tree.specs.KeyParts.{KeyParts};
 ghost use Rattle.log_core.specs.Inputs.{input_of};
@@ -19,17 +18,6 @@ use crate::parties::HonestLog;
 use crate::replying::Reply;
 use log_core::{LogInput, LogRefusal};
 use std::alloc::Global;
-
-/// Notes what a log did, for which there is room.
-fn note(taken: &mut Vec<LogEvent>, event: LogEvent)
-    requires { vec_len taken.old < vec_capacity taken.old }
-    ensures { taken.new.items ≡ taken.old.items ++ event ∷ [] }
-{
-    match taken.push(event) {
-        Ok(()) => {}
-        Err(_) => unreachable!(),
-    }
-}
 
 impl HonestLog {
     /// Tells a proof that the log has a next key. It does nothing.
@@ -55,7 +43,7 @@ impl HonestLog {
         self.taken.reserve(1)?;
         match self.log.step(alloc, input) {
             Ok(sent) => {
-                note(&mut self.taken, event);
+                self.taken.push_reserved(event);
                 Ok(Ok(sent))
             }
             Err(LogRefusal::Memory) => Err(WorldFault::Memory),
@@ -73,7 +61,7 @@ impl HonestLog {
         self.taken.reserve(1)?;
         match self.log.roll(alloc) {
             Ok(sent) => {
-                note(&mut self.taken, LogEvent::Roll);
+                self.taken.push_reserved(LogEvent::Roll);
                 Ok(Ok(sent))
             }
             Err(LogRefusal::Memory) => Err(WorldFault::Memory),

@@ -140,10 +140,7 @@ impl Pool {
     {
         self.left = self.left.saturating_sub(message.bytes.len());
         self.room -= 1;
-        match self.messages.push(message) {
-            Ok(()) => {}
-            Err(_) => unreachable!(),
-        }
+        self.messages.push_reserved(message);
     }
 
     /// The bytes of a message; none where there is no such message.

@@ -18,9 +18,9 @@ pub returns-in-Ok-clause-row : goal.returns-in-Ok-clause-row
 returns-in-Ok-clause-row c =
     let old : LogNode = log-of c.self.inside.log.core c.self.inside.log.ring.keys c.self.inside.taken.items
     in subst (λ (n : LogNode). (next : KeyParts) → next_of n.keys ≡ Some next
-    → log_does n (n.keys ++ next ∷ []) events.Roll (row n.core (rolls (public_of next))) ≡ (log-of c.roll.new.self.core c.roll.new.self.ring.keys c.note.new.taken.items, Ok c.in-Ok.sent))
+    → log_does n (n.keys ++ next ∷ []) events.Roll (row n.core (rolls (public_of next))) ≡ (log-of c.roll.new.self.core c.roll.new.self.ring.keys c.push_reserved.new.self.items, Ok c.in-Ok.sent))
     c.self.view_is
-    (λ next e. log_rolled_so old next c.roll.new.self.core c.roll.new.self.ring.keys c.note.new.taken.items c.in-Ok.sent e c.in-Ok.ensures.row c.in-Ok.ensures.ok (search rules))
+    (λ next e. log_rolled_so old next c.roll.new.self.core c.roll.new.self.ring.keys c.push_reserved.new.self.items c.in-Ok.sent e c.in-Ok.ensures.row c.in-Ok.ensures.ok (search rules))
 
 pub returns-in-Err-Memory-clause-row : goal.returns-in-Err-Memory-clause-row
 returns-in-Err-Memory-clause-row c =
