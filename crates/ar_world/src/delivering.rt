@@ -145,9 +145,12 @@ impl<C: OwnerCheck> World<C> {
         WorldFault::Absent(2)
     }
 
-    /// The line `deliver`: the message goes to the party, whoever it is addressed to, and however often it was delivered.
+    /// Delivers a message to a party, whoever it is addressed to, and however often it was delivered: what happens, in order.
+    ///
+    /// It is what a line `deliver` does, where that may come. The errors are those of `can_deliver`, and want of memory; then
+    /// nothing has changed.
     #[tactic(auto, using(crate::proofs::Deliveries::roles))]
-    pub(crate) fn deliver_line(
+    pub fn deliver(
         &mut self,
         alloc: Global,
         message: u64,

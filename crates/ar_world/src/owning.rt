@@ -9,7 +9,7 @@ ghost use Rattle.ar_founding.specs.FirstKeys.{key_made};
 ghost use Rattle.ar_nodes.specs.Owners.{owner_party};
 ghost use Rattle.ar_nodes.specs.Parties.{leaves_of};
 ghost use Rattle.ar_world.specs.Founding.{place_of};
-ghost use Rattle.ar_world.specs.Owning.{forget_line, lesson_line, owner_key, owner_line, retire_line, teach_line};
+ghost use Rattle.ar_world.specs.Owning.{lesson_line, owner_key, owner_line, retire_line};
 ghost use Rattle.ar_world.specs.Step.{StepsBy};
 ghost use Rattle.ar_nodes.specs.declared.fault.WorldFault.TheVariants.{Memory};
 
@@ -108,9 +108,9 @@ impl<C: OwnerCheck> World<C> {
         Ok(said)
     }
 
-    /// The check of an authority takes a lesson on a name, and on the key of an owner.
+    /// The lines `teach` and `forget`: the check of an authority learns that a name is an owner's, or forgets it.
     #[tactic(auto, using(crate::proofs::Retold::lesson_refusals))]
-    fn lesson_line(
+    pub(crate) fn lesson_line(
         &mut self,
         alloc: Global,
         lesson: Lesson,
@@ -127,32 +127,6 @@ impl<C: OwnerCheck> World<C> {
             return Err(WorldFault::Absent(3));
         };
         instructed(alloc, &mut self.authorities, authority, lesson, name, &key)
-    }
-
-    /// The line `teach`: the check of an authority learns that a name is an owner's.
-    pub(crate) fn teach_line(
-        &mut self,
-        alloc: Global,
-        authority: u16,
-        name: &NameView<'_>,
-        owner: u16,
-    ) -> Result<Items<Happening>, WorldFault>
-        ensures { StepsBy result self.old self.new (teach_line self.old authority name.now owner) }
-    {
-        self.lesson_line(alloc, Lesson::Learn, authority, name, owner)
-    }
-
-    /// The line `forget`: the check of an authority forgets that a name is an owner's.
-    pub(crate) fn forget_line(
-        &mut self,
-        alloc: Global,
-        authority: u16,
-        name: &NameView<'_>,
-        owner: u16,
-    ) -> Result<Items<Happening>, WorldFault>
-        ensures { StepsBy result self.old self.new (forget_line self.old authority name.now owner) }
-    {
-        self.lesson_line(alloc, Lesson::Forget, authority, name, owner)
     }
 
     /// The line `retire`: an authority drops its check.

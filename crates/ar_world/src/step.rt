@@ -1,7 +1,6 @@
 //! The step of a line.
 
 ghost use Rattle.std.specs.Prelude.{◌≡◌, ◌≢◌, nat_le, true, Some, OnOk};
-ghost use Rattle.ar_world.specs.Delivering.{deliver_line};
 ghost use Rattle.ar_world.specs.Founding.{in_order, led_to, may_come, place_of};
 ghost use Rattle.ar_world.specs.Step.{StepsBy, StepsBySome, effect, leads_to, step};
 ghost use Rattle.ar_world.specs.declared.phase.Phase.TheVariants as phases;
@@ -10,8 +9,7 @@ use crate::order::{leads_to, may_come};
 use crate::phase::Phase;
 use crate::world::World;
 use ar_base::Items;
-use ar_nodes::WorldFault;
-use ar_statement::Party;
+use ar_nodes::{Lesson, WorldFault};
 use owner_check::OwnerCheck;
 use report_text::Happening;
 use script_text::Line;
@@ -68,12 +66,12 @@ impl<C: OwnerCheck> World<C> {
                 authority,
                 name,
                 owner,
-            } => self.teach_line(alloc, *authority, name, *owner),
+            } => self.lesson_line(alloc, Lesson::Learn, *authority, name, *owner),
             Line::Forget {
                 authority,
                 name,
                 owner,
-            } => self.forget_line(alloc, *authority, name, *owner),
+            } => self.lesson_line(alloc, Lesson::Forget, *authority, name, *owner),
             Line::Retire { authority } => self.retire_line(alloc, *authority),
             Line::Register {
                 owner,
@@ -102,7 +100,7 @@ impl<C: OwnerCheck> World<C> {
                 second,
                 client,
             } => self.ask_line(alloc, *log, name, (*first, *second), *client),
-            Line::Deliver { message, party } => self.deliver_line(alloc, *message, *party),
+            Line::Deliver { message, party } => self.deliver(alloc, *message, *party),
             Line::Flush => Ok(Items::new(alloc)),
             Line::Judge {
                 message,
@@ -173,20 +171,5 @@ impl<C: OwnerCheck> World<C> {
             return Err(WorldFault::Order);
         }
         self.next_line(alloc, line, next)
-    }
-
-    /// Delivers a message to a party, whoever it is addressed to: what happens, in order.
-    ///
-    /// It is what a line `deliver` does, where that may come. The errors are those of `can_deliver`, and want of memory; then
-    /// nothing has changed.
-    pub fn deliver(
-        &mut self,
-        alloc: Global,
-        message: u64,
-        party: Party,
-    ) -> Result<Items<Happening>, WorldFault>
-        ensures { StepsBySome result self.old self.new (λ says. deliver_line says self.old message party) }
-    {
-        self.deliver_line(alloc, message, party)
     }
 }

@@ -6,8 +6,8 @@ use Rattle.ar_world.proofs.world.World.later_line.Goals as goal
 
 pub returns-in-Deliver : goal.returns-in-Deliver
 returns-in-Deliver g c =
-    deliver-some c.deliver_line.result c.args.self.now c.deliver_line.new.self c.args.line.now c.in-Deliver.message c.in-Deliver.party c.in-Deliver.is
-    c.deliver_line.ensures
+    deliver-some c.deliver.result c.args.self.now c.deliver.new.self c.args.line.now c.in-Deliver.message c.in-Deliver.party c.in-Deliver.is
+    c.deliver.ensures
 
 pub returns-in-Flush : goal.returns-in-Flush
 returns-in-Flush g c =
