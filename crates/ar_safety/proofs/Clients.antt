@@ -220,13 +220,13 @@ accepted-newest r honest few forged clean j certificate there is-present =
     presence (tree_entries t) key value steps (holds_digests t fine.sound) (name-fits c.about.name) (clean-path r clean t fine path (λ s within. in-body s (inr (inr within)))) on in
     let entry = entry_at (hashed r) (apart (hashed r) clean.strings) t fine.listed c.about.name (name-hashed r j there) in
     let chain = mapped value_of (get t.chains c.about.name) value (sym entry ∙ found) in
-    let last = newest-by-value r clean t fine c.about.name chain.0 chain.1.0 certificate fits (in-body (certificate_string certificate) (inr (inl refl))) (in-body (value_string certificate.serial (digest_of certificate)) (inl refl)) chain.1.1 in
+    let last = newest-by-value r clean t fine c.about.name chain.0 chain.1 certificate fits (in-body (certificate_string certificate) (inr (inl refl))) (in-body (value_string certificate.serial (digest_of certificate)) (inl refl)) chain.2 in
     record {
       table = t;
       agreed = a.agreed;
       is_root = a.is_root;
       chain = chain.0;
-      there = subst (λ n. get t.chains n ≡ Some chain.0) is.passes.holds.0 chain.1.0;
+      there = subst (λ n. get t.chains n ≡ Some chain.0) is.passes.holds.0 chain.1;
       is_chain = last.0;
       last = last.1;
     }
