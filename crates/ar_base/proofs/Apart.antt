@@ -1,10 +1,11 @@
 -- What follows where no two strings of a list collide, and where a string of joined lists stands.
-use Rattle.std.proofs.Common.{◌≡◌, ℕ, List, [], ◌∷◌, ◌++◌, Bool, true, false, ◌&&◌, refl, ap, ◌∙◌, ◌⊎◌, inl, inr, ⊎_elim}
+use Rattle.std.proofs.Common.{◌≡◌, ℕ, List, [], ◌∷◌, ◌++◌, Bool, true, refl, ap, ◌∙◌, ◌⊎◌, inl, inr, ⊎_elim}
 use Rattle.std.specs.Prelude.{IsTrue}
 use Rattle.std.specs.List.{list_all}
 use Rattle.std.specs.Str.{bytes_eq}
 use Rattle.sha2.specs.Sha256.{sha256}
 use Rattle.std.proofs.lemmas.Slice.Eq.{bytes_eq-Decides}
+use Rattle.std.proofs.lemmas.Bool.{and_parts}
 use Rattle.ar_base.specs.Apart.{are_apart, none_collide, IsIn, Apart}
 
 pub in_front : (xs ys : List (List ℕ)) (x : List ℕ) → IsIn xs x → IsIn (xs ++ ys) x
@@ -22,18 +23,10 @@ in_both (z ∷ xs) ys x (inl e) = inl (inl e)
 in_both (z ∷ xs) ys x (inr h) =
     ⊎_elim (λ (i : IsIn xs x). inl (inr i)) (λ (i : IsIn ys x). inr i) (in_both xs ys x h)
 
-both-first : (a b : Bool) → (a && b) ≡ true → a ≡ true
-both-first true b h = refl
-both-first false b h = h
-
-both-second : (a b : Bool) → (a && b) ≡ true → b ≡ true
-both-second true b h = h
-both-second false b h = absurd (cc)
-
 all_in : (p : List ℕ → Bool) (xs : List (List ℕ)) (x : List ℕ) → list_all p xs ≡ true → IsIn xs x → p x ≡ true
 all_in p [] x h i = absurd i
-all_in p (y ∷ ys) x h (inl e) = ap p e ∙ both-first _ _ h
-all_in p (y ∷ ys) x h (inr i) = all_in p ys x (both-second _ _ h) i
+all_in p (y ∷ ys) x h (inl e) = ap p e ∙ (and_parts _ _ h).0
+all_in p (y ∷ ys) x h (inr i) = all_in p ys x (and_parts _ _ h).1 i
 
 apart_strings : (x y : List ℕ) → are_apart x y ≡ true → sha256 x ≡ sha256 y → x ≡ y
 apart_strings x y h e =
@@ -43,7 +36,8 @@ apart_strings x y h e =
 pub apart : (strings : List (List ℕ)) → IsTrue (none_collide strings) → Apart strings
 apart strings h x y ix iy e = apart_strings x y (all_in _ strings y (all_in _ strings x h ix) iy) e
 
-all_from : (p : List ℕ → Bool) (xs : List (List ℕ)) → ((x : List ℕ) → IsIn xs x → p x ≡ true) → list_all p xs ≡ true
+-- a test that each string of a list passes
+pub all_from : (p : List ℕ → Bool) (xs : List (List ℕ)) → ((x : List ℕ) → IsIn xs x → p x ≡ true) → list_all p xs ≡ true
 all_from p [] h = refl
 all_from p (x ∷ xs) h = rw (h x (inl refl)) (all_from p xs (λ y i. h y (inr i)))
 

@@ -25,20 +25,27 @@ fails_at_place {E} (c ∷ cs) error h =
       earlier c cs place e before zero d l = e
       earlier c cs place e before (suc k) d l = before k d (omega arith)
 
-pub all_hold : {E : Type 0} (tests : List (E × Bool)) → (first_failing tests ≡ Ok tt) ↔ All (λ t. IsTrue t.1) tests
-all_hold {E} tests =
-    ((λ h. All-from_recursion (λ t. IsTrue t.1) tests (each tests h)), (λ all. none tests (recursion_from_All (λ t. IsTrue t.1) tests all))) where
-      each : {E : Type 0} (cs : List (E × Bool)) → first_failing cs ≡ Ok tt → AllByRecursion (λ t. IsTrue t.1) cs
-      each [] h = tt
-      each (c ∷ cs) h =
-          elim (c.1) as (λ b. c.1 ≡ b → cond b (first_failing cs) (Err c.0) ≡ Ok tt → AllByRecursion (λ t. IsTrue t.1) (c ∷ cs)) [
-            | true ↦ λ e h. (e, each cs h)
-            | false ↦ λ e h. absurd (cc)
-          ] refl h
+-- each of tests of which none fails holds
+pub each_holds : {E : Type 0} (tests : List (E × Bool)) → first_failing tests ≡ Ok tt → AllByRecursion (λ t. IsTrue t.1) tests
+each_holds [] h = tt
+each_holds (c ∷ cs) h =
+    elim (c.1) as (λ b. c.1 ≡ b → cond b (first_failing cs) (Err c.0) ≡ Ok tt → AllByRecursion (λ t. IsTrue t.1) (c ∷ cs)) [
+      | true ↦ λ e h. (e, each_holds cs h)
+      | false ↦ λ e h. absurd (cc)
+    ] refl h
 
-      none : {E : Type 0} (cs : List (E × Bool)) → AllByRecursion (λ t. IsTrue t.1) cs → first_failing cs ≡ Ok tt
-      none [] all = refl
-      none (c ∷ cs) all = ap (λ b. cond b (first_failing cs) (Err c.0)) all.0 ∙ none cs all.1
+-- and none fails of tests that each hold
+pub none_fails : {E : Type 0} (tests : List (E × Bool)) → AllByRecursion (λ t. IsTrue t.1) tests → first_failing tests ≡ Ok tt
+none_fails [] all = refl
+none_fails (c ∷ cs) all = ap (λ b. cond b (first_failing cs) (Err c.0)) all.0 ∙ none_fails cs all.1
+
+-- the first of tests of which none fails
+pub first-holds : {E : Type 0} (fault : E) (test : Bool) (tests : List (E × Bool)) → first_failing ((fault, test) ∷ tests) ≡ Ok tt → test ≡ true
+first-holds fault test tests h = (each_holds ((fault, test) ∷ tests) h).0
+
+pub all_hold : {E : Type 0} (tests : List (E × Bool)) → (first_failing tests ≡ Ok tt) ↔ All (λ t. IsTrue t.1) tests
+all_hold tests =
+    ((λ h. All-from_recursion (λ t. IsTrue t.1) tests (each_holds tests h)), (λ all. none_fails tests (recursion_from_All (λ t. IsTrue t.1) tests all)))
 
 -- ---- tests that decide conditions
 

@@ -1,6 +1,7 @@
 -- Answers of calls that take memory only for a value.
-use Rattle.std.proofs.Common.{◌≡◌, Result, Ok, Err, inl, inr}
-use Rattle.ar_base.specs.Gives.{GivesOrWants, GivesUnless}
+use Rattle.std.proofs.Common.{◌≡◌, Result, Ok, Err, inl, inr, ap}
+use Rattle.ar_base.specs.Gives.{GivesOrWants, GivesUnless, with_error}
+use Rattle.ar_base.proofs.Shown.{ok_is}
 
 pub refused : {T V E : Type 0} (memory : E) (view : T → V) (result : Result T E) (expected : Result V E) (error : E) → GivesOrWants memory view result expected → expected ≡ Err error → result ≡ Err error
 refused memory view (Ok value) (Ok v) error h e = absurd cc
@@ -13,3 +14,8 @@ pub given : {T V E : Type 0} (memory : E) (view : T → V) (result : Result T E)
 given memory view (Ok value) expected h = h
 given memory view (Err x) expected (inl wants) = inl wants.0
 given memory view (Err x) expected (inr is) = inr is
+
+-- a value that stands behind an error's other name
+pub no-error : {A E F : Type 0} (f : E → F) (r : Result A E) (x : A) → with_error f r ≡ Ok x → r ≡ Ok x
+no-error f (Ok y) x e = ap Ok (ok_is y x e)
+no-error f (Err fault) x e = absurd cc

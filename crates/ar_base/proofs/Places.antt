@@ -1,5 +1,5 @@
 -- What the place of a text in a list says.
-use Rattle.std.proofs.Common.{◌≡◌, ◌≢◌, ℕ, ◌<◌, ◌↔◌, List, [], ◌∷◌, ◌++◌, length, length-append, get_or, refl, sym, ap, ◌∙◌, arith, Bool, true, false, cond, nat_lt, Option, Some, None}
+use Rattle.std.proofs.Common.{◌≡◌, ◌≢◌, ℕ, ◌<◌, ◌↔◌, List, [], ◌∷◌, ◌++◌, length, length-append, get_or, refl, sym, ap, ◌∙◌, arith, Bool, true, false, nat_lt, Option, Some, None}
 use Rattle.std.specs.Prelude.{bytes_eq, Contains, IsTrue, is_some}
 use Rattle.std.proofs.lemmas.Bool.{ltb-true, lt-ltb}
 use Rattle.std.proofs.Math.Seq.{get_or-append_seam}
@@ -8,6 +8,7 @@ use Rattle.std.proofs.lemmas.List.Sums.{fails_before_first}
 use Rattle.std.proofs.lemmas.Slice.Eq.{bytes_eq-Decides}
 use Rattle.std.specs.List.{position_or_len}
 use Rattle.ar_base.specs.Places.{place_of, HasNoneTwice}
+use Rattle.ar_base.proofs.Shown.{cond_none}
 
 pub not-less : (a b : ℕ) → nat_lt a b ≡ false → a < b → ⊥
 not-less a b never lt = let less : nat_lt a b ≡ true = lt-ltb a b lt in cc
@@ -26,16 +27,12 @@ stands texts text k d at =
     let p = position-Some (bytes_eq text) texts k d at in
     (p.0, sym ((bytes_eq-Decides text (get_or texts k d)).0 p.1))
 
-none-cond : (b : Bool) (k : ℕ) → cond b (Some k) None ≡ None → b ≡ false
-none-cond true k e = cc
-none-cond false k e = refl
-
 -- a text without a place stands nowhere
 pub absent : (texts : List (List ℕ)) (text : List ℕ) → place_of texts text ≡ None
     → (k : ℕ) (d : List ℕ) → k < length texts → get_or texts k d ≢ text
 absent texts text none k d within e =
     let first = position_or_len (bytes_eq text) texts in
-    let past : nat_lt first (length texts) ≡ false = none-cond (nat_lt first (length texts)) first none in
+    let past : nat_lt first (length texts) ≡ false = cond_none (nat_lt first (length texts)) first none in
     let before : k < first = omega (arith, not-less first (length texts) past) in
     let no : bytes_eq text (get_or texts k d) ≡ false = fails_before_first (bytes_eq text) texts k d before in
     let yes : bytes_eq text (get_or texts k d) ≡ true = (bytes_eq-Decides text (get_or texts k d)).1 (sym e) in

@@ -1,14 +1,15 @@
 -- Fields that are joined: what was put is read again, and what is read is spelled so, where that holds of
 -- each of them.
-use Rattle.std.proofs.Common.{◌≡◌, ℕ, Bool, true, false, cond, List, ◌++◌, Option, Some, None, Ok, refl, sym, subst}
+use Rattle.std.proofs.Common.{◌≡◌, ℕ, Bool, true, false, cond, List, ◌++◌, Option, Some, None, Ok, refl, subst}
 use Rattle.std.specs.Prelude.{IfSome}
 use Rattle.ar_base.specs.Bytes.{AreBytes}
 use Rattle.ar_base.specs.Chaining.{◌>>=◌}
+use Rattle.ar_base.proofs.Shown.{bind_ok, ok_is}
 use Rattle.ar_bytes.specs.Reading.{Cursor, Reading}
 use Rattle.ar_bytes.specs.RoundTrip.{Passes, ReadsBack, IsSpelledBy}
 use Rattle.ar_bytes.specs.Tested.{flag_at, flag_text}
 use Rattle.ar_bytes.specs.Joined.{pair_at, optional_at, optional_text, mapped_at}
-use Rattle.ar_bytes.proofs.Steps.{bind_ok, ok_is, between, Passes-then, Passes-first, Passes-second, AreBytes-behind}
+use Rattle.ar_bytes.proofs.Steps.{between, Passes-then, Passes-first, Passes-second, AreBytes-behind}
 use Rattle.ar_bytes.proofs.TestedFields.{flag_again, flag_pass}
 
 -- ---- one behind the other

@@ -5,8 +5,9 @@ use Rattle.std.proofs.lemmas.List.{append-nil}
 use Rattle.ar_base.specs.Chaining.{◌>>=◌}
 use Rattle.ar_bytes.specs.Reading.{Cursor, Reading, all_of, start_of, bytes_at, such_that, part_at, within, whole}
 use Rattle.ar_base.specs.Bytes.{AreBytes}
+use Rattle.ar_base.proofs.Shown.{bind_ok, ok_is}
 use Rattle.ar_bytes.specs.RoundTrip.{Passes, ReadsBack, IsSpelledBy}
-use Rattle.ar_bytes.proofs.Steps.{bind_ok, test_ok, ok_is, all_ok}
+use Rattle.ar_bytes.proofs.Steps.{test_ok, all_ok}
 use Rattle.ar_bytes.proofs.Passing.{bytes_again, bytes_pass, AreBytes-front}
 
 -- ---- a value that passes a test

@@ -6,8 +6,9 @@ use Rattle.std.proofs.lemmas.List.{take_at, drop_at, take-append-drop, length-ap
 use Rattle.std.proofs.lemmas.Nat.{be_bytes_2, be_bytes_4, be_bytes_8, from_be_bytes-to_be_bytes_2, from_be_bytes-to_be_bytes_4, from_be_bytes-to_be_bytes_8}
 use Rattle.ar_bytes.specs.Reading.{Cursor, behind, bytes_at, number_at, counted_at}
 use Rattle.ar_base.specs.Bytes.{AreBytes}
+use Rattle.ar_base.proofs.Shown.{bind_ok, ok_is}
 use Rattle.ar_bytes.specs.RoundTrip.{Passes, number_text, counted_text}
-use Rattle.ar_bytes.proofs.Steps.{bind_ok, guard_ok, ok_is, between, Passes-then, Passes-first, Passes-second}
+use Rattle.ar_bytes.proofs.Steps.{guard_ok, between, Passes-then, Passes-first, Passes-second}
 
 -- ---- plain bytes
 

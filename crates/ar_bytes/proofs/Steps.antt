@@ -1,16 +1,10 @@
 -- Steps of a reading that did not fail, and what a cursor passed.
-use Rattle.std.proofs.Common.{◌≡◌, ℕ, ◌+◌, Bool, true, false, cond, eqb, List, [], ◌++◌, length, Result, Ok, Err, refl, sym, ap, ◌∙◌, append_assoc, arith}
+use Rattle.std.proofs.Common.{◌≡◌, ℕ, ◌+◌, Bool, true, false, cond, eqb, List, [], ◌++◌, length, Ok, Err, refl, sym, ap, ◌∙◌, append_assoc, arith}
 use Rattle.std.proofs.lemmas.Bool.{eqb-true}
 use Rattle.std.proofs.lemmas.List.{length-append, get_or-append-add, nil_from_length}
-use Rattle.ar_base.specs.Chaining.{◌>>=◌}
 use Rattle.ar_bytes.specs.Reading.{Cursor, all_of}
 use Rattle.ar_base.specs.Bytes.{AreBytes}
 use Rattle.ar_bytes.specs.RoundTrip.{Passes}
-
--- the step before one that did not fail did not fail
-pub bind_ok : {A B : Type 0} (r : Result A ℕ) (f : A → Result B ℕ) (y : B) → (r >>= f) ≡ Ok y → (x : A) × (r ≡ Ok x) × (f x ≡ Ok y)
-bind_ok (Ok x) f y e = (x, refl, e)
-bind_ok (Err place) f y e = absurd cc
 
 -- a test of what fails that did not fail
 pub guard_ok : {A : Type 0} (b : Bool) (place : ℕ) (x y : A) → cond b (Err place) (Ok x) ≡ Ok y → (b ≡ false) × (x ≡ y)
@@ -21,12 +15,6 @@ guard_ok false place x y e = (refl, cc)
 pub test_ok : {A : Type 0} (b : Bool) (place : ℕ) (x y : A) → cond b (Ok x) (Err place) ≡ Ok y → (b ≡ true) × (x ≡ y)
 test_ok true place x y e = (refl, cc)
 test_ok false place x y e = absurd cc
-
-abbrev done : {A : Type 0} → A → Result A ℕ
-done x = Ok x
-
-pub ok_is : {A : Type 0} (x y : A) → done x ≡ done y → x ≡ y
-ok_is x y e = cc
 
 -- a reading that took all there was
 pub all_ok : {A : Type 0} (x : A × Cursor) (y : A) → all_of x ≡ Ok y → (x.0 ≡ y) × (x.1.ahead ≡ [])

@@ -4,7 +4,8 @@ use Rattle.std.specs.Int.{Width, byte_len, from_be_bytes}
 use Rattle.std.proofs.lemmas.Bool.{ltb-false}
 use Rattle.std.proofs.lemmas.List.{length-drop}
 use Rattle.ar_bytes.specs.Reading.{Cursor, behind, bytes_at, number_at}
-use Rattle.ar_bytes.proofs.Steps.{bind_ok, guard_ok, ok_is}
+use Rattle.ar_bytes.proofs.Steps.{guard_ok}
+use Rattle.ar_base.proofs.Shown.{bind_ok, ok_is}
 
 -- the value is the front of what was ahead, and the rest is ahead then
 pub record Took {A : Type 0} (at new : Cursor) (n : ℕ) (read : List ℕ → A) (x : A) : Type 0 where

@@ -5,9 +5,9 @@ use Rattle.std.proofs.lemmas.Bool.{le-leb, leb-true, eqb-true}
 use Rattle.ar_bytes.specs.Reading.{Cursor, number_at}
 use Rattle.ar_bytes.specs.RoundTrip.{Passes, ReadsBack, IsSpelledBy, number_text}
 use Rattle.ar_bytes.specs.Tested.{byte_at, count_at, flag_at, flag_text}
-use Rattle.ar_bytes.proofs.Steps.{bind_ok, ok_is}
 use Rattle.ar_bytes.proofs.Passing.{number_again, number_pass, wide8}
 use Rattle.ar_bytes.proofs.Parts.{such_that_again, such_that_pass}
+use Rattle.ar_base.proofs.Shown.{bind_ok, ok_is}
 
 pub byte_again : (value : ℕ) → value < 2 ^ 8 → ReadsBack (byte_at value) value (number_text w8 value)
 byte_again value lt =

@@ -8,6 +8,7 @@ use Rattle.std.proofs.lemmas.List.Elements.{All-from_recursion, recursion_from_A
 use Rattle.std.proofs.lemmas.Slice.Eq.{bytes_eq-Decides}
 use Rattle.ar_base.specs.FirstFailing.{first_failing}
 use Rattle.ar_base.proofs.Failing.{all_hold}
+use Rattle.ar_base.proofs.Shown.{none_from}
 use Rattle.cert_policy.specs.declared.refusal.PolicyRefusal.{PolicyRefusal}
 use Rattle.cert_policy.specs.declared.refusal.PolicyRefusal.TheVariants.{Previous}
 use Rattle.cert_policy.specs.Refusals.{number_of}
@@ -18,11 +19,6 @@ use Rattle.cert_policy.proofs.Meaning.{registration_facts, update_facts, update_
 use Rattle.ar_cert.specs.Certificate.{Certificate, digest_of}
 use Rattle.ar_cert.specs.Changes.{Change}
 use Rattle.ar_cert.specs.Judging.{cert_terms_of, endorsers_of, is_handed_over, judgement, by_objection, with_fourth_failed, is_pending, objection_clauses, update_judgement, IsRegistration, IsObjection, IsTaken, IsAccepted, IsChain}
-
--- where there is no objection
-none_from : (o : Option (List ℕ)) → is_some o ≡ false → IsNone o
-none_from None h = refl
-none_from (Some x) h = absurd (cc)
 
 none_test : (o : Option (List ℕ)) → IsNone o → is_some o ≡ false
 none_test None h = refl

@@ -7,8 +7,9 @@ use Rattle.std.specs.Int.{w8, w16}
 use Rattle.ar_base.specs.Chaining.{◌>>=◌}
 use Rattle.ar_bytes.specs.Reading.{Cursor, Reading, counted_at, whole}
 use Rattle.ar_base.specs.Bytes.{AreBytes}
+use Rattle.ar_base.proofs.Shown.{bind_ok, ok_is}
 use Rattle.ar_bytes.specs.RoundTrip.{Passes, ReadsBack, IsSpelledBy, number_text, counted_text}
-use Rattle.ar_bytes.proofs.Steps.{bind_ok, ok_is, Passes-then}
+use Rattle.ar_bytes.proofs.Steps.{Passes-then}
 use Rattle.ar_bytes.proofs.Passing.{counted_again, counted_pass}
 use Rattle.ar_bytes.proofs.Parts.{whole_again, whole_pass}
 use Rattle.ar_bytes.specs.Tested.{count_at}

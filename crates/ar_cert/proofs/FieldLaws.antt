@@ -1,15 +1,15 @@
 -- The key of a certificate: what was put is read again, and what is read is spelled so.
-use Rattle.std.proofs.Common.{◌≡◌, ℕ, Option, Some, None, Ok, refl, subst}
+use Rattle.std.proofs.Common.{refl, subst}
 use Rattle.std.specs.Option.{option_map, ok_or}
 use Rattle.ar_bytes.specs.Reading.{Cursor, bytes_at}
 use Rattle.ar_bytes.specs.RoundTrip.{Passes, ReadsBack, IsSpelledBy}
-use Rattle.ar_bytes.proofs.Steps.{bind_ok}
 use Rattle.ar_bytes.proofs.Passing.{bytes_again, bytes_pass, AreBytes-front}
 use Rattle.ar_statement.proofs.Statements.{some_ok}
 use Rattle.lms_tree.specs.declared.public_key.LmsPublic.{LmsPublic}
 use Rattle.lms_tree.specs.PublicKey.{HasWidths, key_text, key_of_text}
 use Rattle.lms_tree.proofs.KeyLemmas.{key_of_text-key_text, key_text-key_of_text, length-key_text}
 use Rattle.ar_cert.specs.Certificate.{key_at}
+use Rattle.ar_base.proofs.Shown.{bind_ok}
 
 pub key_again : (key : LmsPublic) → HasWidths key → ReadsBack key_at key (key_text key)
 unfolding key_at

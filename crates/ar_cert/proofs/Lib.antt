@@ -1,4 +1,5 @@
 pub mod Accepted
+pub mod Digests
 pub mod Numbers
 pub mod Endorsements
 pub mod Lengths

@@ -5,4 +5,5 @@ pub mod Needs
 pub mod Readable
 pub mod Seeing
 pub mod Texts
+pub mod Values
 pub mod Votes

@@ -5,37 +5,17 @@ use Rattle.std.specs.List.{list_any}
 use Rattle.std.proofs.lemmas.Bool.{and_parts, eqb-true}
 use Rattle.std.proofs.lemmas.Slice.Eq.{bytes_eq-Decides}
 use Rattle.std.proofs.lemmas.List.Elements.{All-cons, All-contains, All-contains_itself, All-weaker, All-head, All-nil, All-push, All-tail, Contains-append_left, Contains-push}
-use Rattle.ar_statement.specs.declared.party.Role.{Role}
-use Rattle.ar_statement.specs.declared.party.Role.TheVariants.{LogServer, Authority, Owner, Client}
 use Rattle.ar_statement.specs.declared.party.Party.{Party}
 use Rattle.ar_statement.specs.declared.text.SeenText.{SeenText}
 use Rattle.ar_statement.specs.Claims.{is_party, role_number}
+use Rattle.ar_statement.proofs.Statements.{same_role}
 use Rattle.ar_council.specs.Seen.{seen_after, with_seen}
 use Rattle.ar_council.proofs.Lists.{Within, found}
-
--- one number, one role
-one_role : (r s : Role) → role_number r ≡ role_number s → r ≡ s
-one_role LogServer LogServer e = refl
-one_role LogServer Authority e = absurd cc
-one_role LogServer Owner e = absurd cc
-one_role LogServer Client e = absurd cc
-one_role Authority LogServer e = absurd cc
-one_role Authority Authority e = refl
-one_role Authority Owner e = absurd cc
-one_role Authority Client e = absurd cc
-one_role Owner LogServer e = absurd cc
-one_role Owner Authority e = absurd cc
-one_role Owner Owner e = refl
-one_role Owner Client e = absurd cc
-one_role Client LogServer e = absurd cc
-one_role Client Authority e = absurd cc
-one_role Client Owner e = absurd cc
-one_role Client Client e = refl
 
 pub one_party : (p r : Party) → is_party p r ≡ true → p ≡ r
 one_party p r e =
     let two = and_parts (eqb (role_number p.role) (role_number r.role)) (eqb p.number r.number) e in
-    let role : p.role ≡ r.role = one_role p.role r.role (eqb-true (role_number p.role) (role_number r.role) two.0) in
+    let role : p.role ≡ r.role = same_role p.role r.role (eqb-true (role_number p.role) (role_number r.role) two.0) in
     let number : p.number ≡ r.number = eqb-true p.number r.number two.1 in
     λ i. record { role = role i; number = number i }
 

@@ -6,8 +6,10 @@ use Rattle.std.proofs.lemmas.List.{take_all}
 use Rattle.std.proofs.lemmas.List.Elements.{All-from_get_or}
 use Rattle.std.proofs.lemmas.List.Splits.{slice_split_first, slice_split_none}
 use Rattle.std.proofs.lemmas.List.Sums.{fails_before_first}
+use Rattle.std.proofs.lemmas.Option.{cond_some}
 use borrow.Author.Tests.{ltb-true, ltb-false}
 use Rattle.ar_lines.specs.Lines.{is_newline, lines_of, lines_of_pieces}
+use Rattle.ar_base.proofs.Shown.{cond_none}
 
 -- a cut gives at least one piece
 abbrev pub AtLeastOne : List (List ℕ) → Type 0
@@ -29,15 +31,6 @@ pieces_are_some ends (byte ∷ input) = cut_some (ends byte) byte (slice_split e
 pub line_before : (line : List ℕ) (pieces : List (List ℕ)) → AtLeastOne pieces → lines_of_pieces (line ∷ pieces) ≡ line ∷ lines_of_pieces pieces
 line_before line pieces some = rw some.2 refl
 
--- what a test chose
-found_at : (b : Bool) (n end : ℕ) → cond b (Some n) None ≡ Some end → (b ≡ true) × (n ≡ end)
-found_at true n end h = (refl, cc)
-found_at false n end h = cc
-
-found_not : (b : Bool) (n : ℕ) → cond b (Some n) None ≡ None → b ≡ false
-found_not true n h = cc
-found_not false n h = refl
-
 pub lines_of-empty : (input : List ℕ) → length input ≡ 0 → lines_of input ≡ []
 unfolding lines_of
 lines_of-empty [] h = refl
@@ -47,7 +40,7 @@ lines_of-empty (byte ∷ input) h = absurd (omega arith)
 pub cut_at : (ends : ℕ → Bool) (text : List ℕ) (end : ℕ) → position ends text ≡ Some end → slice_split ends text ≡ take end text ∷ slice_split ends (take (length text - (end + 1)) (drop (end + 1) text))
 cut_at ends text end h =
     let at = position_or_len ends text in
-    let found = found_at (nat_lt at (length text)) at end h in
+    let found = cond_some (nat_lt at (length text)) at end h in
     let within : at < length text = ltb-true at (length text) found.0 in
     let rest : take (length text - (end + 1)) (drop (end + 1) text) ≡ drop (at + 1) text =
     take_all (length text - (end + 1)) (drop (end + 1) text) (omega (arith, length-drop (end + 1) text)) ∙ ap (λ n. drop (n + 1) text) (sym found.1) in
@@ -59,7 +52,7 @@ cut_at ends text end h =
 pub uncut : (ends : ℕ → Bool) (text : List ℕ) → position ends text ≡ None → slice_split ends text ≡ text ∷ []
 uncut ends text h =
     let at = position_or_len ends text in
-    let none : length text ≤ at = ltb-false at (length text) (found_not (nat_lt at (length text)) at h) in
+    let none : length text ≤ at = ltb-false at (length text) (cond_none (nat_lt at (length text)) at h) in
     let fails = All-from_get_or (λ byte. ends byte ≡ false) text 0 (λ k lt. fails_before_first ends text k 0 (omega arith)) in
     slice_split_none ends text fails
 

@@ -6,11 +6,12 @@ use Rattle.std.proofs.lemmas.Option.{same_Some}
 use Rattle.ar_lines.specs.Forms.{number_in}
 use Rattle.ar_lines.specs.Parties.{letter_of, member_word, party_in, party_of, party_word, role_of}
 use Rattle.ar_lines.specs.Written.{IsReadAsWritten, Writes}
-use Rattle.ar_lines.proofs.Respelled.{mapped, number_in_writes, stepped}
+use Rattle.ar_lines.proofs.Respelled.{number_in_writes, stepped}
 use Rattle.ar_lines.proofs.Spelled.{number_of-decimal}
 use Rattle.ar_statement.specs.Claims.{party}
 use Rattle.ar_statement.specs.declared.party.Role.{Role}
 use Rattle.ar_statement.specs.declared.party.Role.TheVariants.{LogServer, Authority, Owner, Client}
+use Rattle.ar_base.proofs.Shown.{mapped}
 
 -- a test of a letter
 letter_is : (test : Bool) (r found : Role) (rest : Option Role) → cond test (Some r) rest ≡ Some found → ((test ≡ true) × (r ≡ found)) ⊎ (rest ≡ Some found)

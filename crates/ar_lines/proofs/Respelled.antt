@@ -1,6 +1,6 @@
 -- A word that spells a value is what is written of this value.
 use Rattle.std.proofs.Common.{◌≡◌, ℕ, ◌+◌, ◌*◌, ◌/◌, ◌%◌, ◌<◌, ◌^◌, Bool, true, false, ◌&&◌, ◌||◌, not, cond, eqb, leb, ltb, List, [], ◌∷◌, length, get_or, Option, Some, None, unwrap_or, Result, Ok, Err, refl, sym, ap, ◌∙◌, inl, inr, arith}
-use Rattle.std.specs.Prelude.{option_and_then, option_map}
+use Rattle.std.specs.Prelude.{option_and_then}
 use Rattle.std.specs.Char.{is_ascii_digit}
 use Rattle.std.specs.Fmt.{decimal}
 use Rattle.std.specs.List.{list_all}
@@ -8,7 +8,7 @@ use Rattle.std.specs.Result.{result_ok, result_unwrap_or}
 use Rattle.std.specs.Str.Parse.{digits_value}
 use Rattle.std.proofs.lemmas.Bool.{agree_below_at, and_parts, eqb-true, leb-true, ltb-true, or_cases}
 use Rattle.std.proofs.lemmas.Fmt.{decimal-digits_value}
-use Rattle.std.proofs.lemmas.Option.{cond_some, same_Some}
+use Rattle.std.proofs.lemmas.Option.{cond_some}
 use Rattle.hex.specs.Hex.{IsBytes, decode_of, decode_pairs, digit_or_error, encode_lower, encode_with, hex_digit_value, lower_digits, pair_value, value_at, ◌>>=◌}
 use Rattle.hex.specs.declared.error.FromHexError.{FromHexError}
 use Rattle.hex.proofs.HexLemmas.{decode_of-even, decode_of-ok}
@@ -18,6 +18,7 @@ use Rattle.lms_tree.proofs.KeyLemmas.{key_text-key_of_text}
 use Rattle.ar_lines.specs.Forms.{bytes_of_hex, is_lower_hex_digit, is_numeral, key_of_hex, name_of, number_in, number_of, passing, sized_of_hex}
 use Rattle.ar_lines.specs.Written.{Writes, hex_of_key}
 use Rattle.ar_lines.proofs.Numerals.{numeral_digits, own}
+use Rattle.ar_base.proofs.Shown.{gave}
 
 -- ---- what a value shows
 
@@ -30,15 +31,6 @@ kept false o y e = absurd cc
 pub stepped : {A B : Type 0} (f : A → Option B) (o : Option A) (y : B) → option_and_then f o ≡ Some y → (x : A) × (o ≡ Some x) × (f x ≡ Some y)
 stepped f (Some x) y e = (x, refl, e)
 stepped f None y e = absurd cc
-
--- the value that was mapped
-pub mapped : {A B : Type 0} (f : A → B) (o : Option A) (y : B) → option_map f o ≡ Some y → (x : A) × (o ≡ Some x) × (f x ≡ y)
-mapped f (Some x) y h = (x, refl, same_Some (f x) y h)
-mapped f None y h = absurd cc
-
-gave : {A E : Type 0} (r : Result A E) (y : A) → result_ok r ≡ Some y → r ≡ Ok y
-gave (Ok x) y e = ap Ok (same_Some x y e)
-gave (Err f) y e = absurd cc
 
 pub passing_some : {T : Type 0} (test : T → Bool) (o : Option T) (y : T) → passing test o ≡ Some y → (o ≡ Some y) × (test y ≡ true)
 passing_some test (Some x) y e =

@@ -5,10 +5,10 @@ use Rattle.std.specs.Str.{bytes_eq}
 use Rattle.std.proofs.lemmas.List.Splits.{join_with_byte-slice_split}
 use Rattle.std.proofs.lemmas.Slice.Eq.{bytes_eq-Decides}
 use Rattle.hex.specs.Hex.{encode_lower}
-use Rattle.ar_base.specs.Chaining.{◌>>=◌}
+use Rattle.ar_base.proofs.Shown.{bind_ok, ok_is}
 use Rattle.ar_lines.specs.Forms.{bytes_of_hex}
 use Rattle.ar_lines.specs.Lines.{is_text, words_of}
-use Rattle.ar_lines.specs.Readings.{LineCursor, LineReading, WordAt, line_at, next_of, no_line_of, spelled, word_at}
+use Rattle.ar_lines.specs.Readings.{LineCursor, WordAt, line_at, next_of, no_line_of, spelled, word_at}
 use Rattle.ar_lines.specs.Rows.{Row, both_of, field_at, no_row_of, only_of, row_at, row_of, two_fields_at, value_at}
 use Rattle.ar_lines.specs.Written.{Writes, named}
 use Rattle.ar_lines.specs.declared.refusal.Refusal.{Refusal}
@@ -16,16 +16,8 @@ use Rattle.ar_lines.proofs.Respelled.{hex_own}
 
 -- ---- steps that were not refused
 
--- the step before one that was not refused was not refused
-pub bind_ok : {A B : Type 0} (r : Result A Refusal) (f : A → Result B Refusal) (y : B) → (r >>= f) ≡ Ok y → (x : A) × (r ≡ Ok x) × (f x ≡ Ok y)
-bind_ok (Ok x) f y e = (x, refl, e)
-bind_ok (Err refusal) f y e = absurd cc
-
 abbrev pub done : {A : Type 0} → A → Result A Refusal
 done x = Ok x
-
-pub ok_is : {A : Type 0} (x y : A) → done x ≡ done y → x ≡ y
-ok_is x y e = cc
 
 pub spelled_some : {T : Type 0} (word : WordAt) (o : Option T) (value : T) → spelled word o ≡ Ok value → o ≡ Some value
 spelled_some word (Some x) value e = ap Some (ok_is x value e)

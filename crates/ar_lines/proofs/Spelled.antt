@@ -1,13 +1,13 @@
 -- What is written as a word is what the word spells, and the word is text without a space.
-use Rattle.std.proofs.Common.{◌≡◌, ℕ, zero, suc, ◌+◌, ◌/◌, ◌%◌, ◌<◌, ◌^◌, inl, inr, Bool, true, false, ◌&&◌, ◌||◌, not, eqb, List, [], ◌∷◌, ◌++◌, length, get_or, take, drop, Some, refl, ◌∙◌, eq-eqb, ne_eqb, lt-ltb, arith}
+use Rattle.std.proofs.Common.{◌≡◌, ℕ, zero, suc, ◌+◌, ◌/◌, ◌%◌, ◌<◌, ◌^◌, inl, inr, Bool, true, false, ◌&&◌, ◌||◌, not, eqb, List, [], ◌∷◌, length, get_or, Some, refl, ◌∙◌, ne_eqb, lt-ltb, arith}
 use Rattle.std.specs.Char.{is_ascii_digit}
 use Rattle.std.specs.Fmt.{decimal}
-use Rattle.std.specs.Int.{w32, to_be_bytes}
 use Rattle.std.specs.List.{list_all}
 use Rattle.std.proofs.lemmas.Bool.{and_parts, cases_lt, eqb-true, not-false, or_parts}
 use Rattle.std.proofs.lemmas.Fmt.{decimal_digit, digits_decimal, digits_value-decimal, first_decimal, decimal_nonempty}
 use Rattle.std.proofs.lemmas.List.Elements.{All-from_get_or}
 use Rattle.std.proofs.lemmas.List.Sums.{list_all-from_AllPass}
+use Rattle.std.proofs.Math.Bool.{or-true}
 use Rattle.hex.specs.Hex.{IsBytes, encode_lower, encode_with, lower_digits}
 use Rattle.hex.proofs.HexLemmas.{decode_of-encode_lower}
 use Rattle.ar_names.specs.Names.{IsName, is_label_byte, is_wrong_at}
@@ -49,10 +49,6 @@ hex_digits (byte ∷ bytes) h =
     let low : byte % 16 < 16 = omega arith in
     rw (digit_passes (byte / 16) high, digit_passes (byte % 16) low) (hex_digits bytes (λ k. h (suc k)))
 
-or_true : (b : Bool) → (b || true) ≡ true
-or_true true = refl
-or_true false = refl
-
 pub bytes_of_hex-encode : (bytes : List ℕ) → IsBytes bytes → bytes_of_hex (encode_lower bytes) ≡ Some bytes
 bytes_of_hex-encode bytes h = rw (hex_digits bytes h, decode_of-encode_lower bytes h) refl
 
@@ -91,7 +87,7 @@ no_leading_zero n h =
       | inr more ↦
           let first = first_decimal n (omega arith) h in
           let other : eqb (get_or (decimal n) 0 0) 48 ≡ false = ne_eqb _ _ (λ e. omega arith) in
-          rw other (or_true (eqb (length (decimal n)) 1))
+          rw other (or-true (eqb (length (decimal n)) 1))
     ]
 
 decimal_is_numeral : (n : ℕ) → n < 2 ^ 64 → is_numeral (decimal n) ≡ true

@@ -5,10 +5,11 @@ use Rattle.std.proofs.lemmas.Bool.{and_parts, le-leb, leb-true, le-ltb, ltb-fals
 use Rattle.std.proofs.lemmas.List.{take_at, drop_at, take-append-drop, length-take}
 use Rattle.ar_base.specs.Bytes.{AreBytes, IsDigest}
 use Rattle.ar_base.specs.Ranges.{is_from_to}
+use Rattle.ar_base.proofs.Shown.{ok_is}
 use Rattle.ar_bytes.specs.Reading.{Cursor, Reading, behind, counted_at, number_at, such_that}
 use Rattle.ar_bytes.specs.RoundTrip.{Passes, ReadsBack, IsSpelledBy, number_text, counted_text}
 use Rattle.ar_bytes.specs.Tested.{byte_at, flag_at, flag_text}
-use Rattle.ar_bytes.proofs.Steps.{guard_ok, ok_is, Passes-then}
+use Rattle.ar_bytes.proofs.Steps.{guard_ok, Passes-then}
 use Rattle.ar_bytes.proofs.Passing.{counted_again, counted_pass, number_again, number_pass, wide8, wide16}
 use Rattle.ar_bytes.proofs.Parts.{such_that_again, such_that_pass}
 use Rattle.ar_bytes.proofs.TestedFields.{byte_again, byte_pass, flag_again, flag_pass}

@@ -3,9 +3,10 @@ use Rattle.std.proofs.Common.{◌≡◌, ℕ, ◌^◌, ◌<◌, Bool, List, ◌+
 use Rattle.std.specs.Int.{w16}
 use Rattle.ar_base.specs.Bytes.{AreBytes, IsDigest}
 use Rattle.ar_base.specs.Chaining.{◌>>=◌}
+use Rattle.ar_base.proofs.Shown.{ok_is}
 use Rattle.ar_bytes.specs.Reading.{Cursor, Reading, number_at}
 use Rattle.ar_bytes.specs.RoundTrip.{Passes, ReadsBack, IsSpelledBy, number_text}
-use Rattle.ar_bytes.proofs.Steps.{ok_is, Passes-then}
+use Rattle.ar_bytes.proofs.Steps.{Passes-then}
 use Rattle.ar_bytes.proofs.Passing.{number_again, number_pass, wide16}
 use Rattle.ar_statement.specs.Fields.{digest_at}
 use Rattle.ar_statement.proofs.FieldLaws.{digest_again, digest_pass}

@@ -1,12 +1,14 @@
 -- What signing the blanks of messages does to their lengths and to how many they are, and in which order blanks may be signed.
-use Rattle.std.proofs.Common.{◌≡◌, ℕ, ◌<◌, ◌∙◌, ap, sym, subst, refl, get_or, set, length, List, [], ◌∷◌, ◌++◌, Option, Some, None}
+use Rattle.std.proofs.Common.{◌≡◌, ℕ, ◌<◌, ◌∙◌, ap, sym, subst, refl, get_or, set, length, List, [], ◌∷◌, ◌++◌, Option, Some, None, ◌≤◌}
 use Rattle.std.specs.Prelude.{slice_get}
 use Rattle.std.proofs.lemmas.List.{get_or-map, length-map, length-set, map-set, set-get_or}
 use Rattle.std.proofs.lemmas.Option.{slice_get_within}
 use Rattle.lms_tree.specs.KeyParts.{KeyParts}
 use Rattle.ar_message.specs.declared.unsigned.Blank.{Blank}
+use Rattle.ar_message.specs.declared.unsigned.Unsigned.{Unsigned}
+use Rattle.ar_message.specs.declared.sent.Sent.{Sent}
 use Rattle.ar_message.specs.Sending.{Letter}
-use Rattle.ar_message.specs.Filling.{lengths, signed, signed_at, signed_in, with_signature}
+use Rattle.ar_message.specs.Filling.{lengths, signed, signed_at, signed_in, with_signature, filled}
 
 abbrev pub length_of : Letter → ℕ
 length_of l = length l.bytes
@@ -46,3 +48,10 @@ pub same_count : (keys : List KeyParts) (blanks : List Blank) (letters : List Le
 unfolding signed
 same_count keys [] letters = refl
 same_count keys (blank ∷ blanks) letters = one_count keys blank (signed keys blanks letters) ∙ same_count keys blanks letters
+
+-- as many messages are sent once they are signed
+pub filled-few : (most : ℕ) (keys : List KeyParts) (unsigned : Unsigned) (sent : Sent) → length unsigned.sent.messages ≤ most → sent ≡ filled keys unsigned
+    → length sent.messages ≤ most
+filled-few most keys unsigned sent few is =
+    let many : length (filled keys unsigned).messages ≡ length unsigned.sent.messages = same_count keys unsigned.blanks unsigned.sent.messages in
+    subst (λ (s : Sent). length s.messages ≤ most) (sym is) (subst (λ n. n ≤ most) (sym many) few)

@@ -4,12 +4,13 @@ use Rattle.std.specs.Prelude.{IfSome}
 use Rattle.std.specs.List.{flat_map, AllByRecursion}
 use Rattle.std.specs.Int.{w8, w16}
 use Rattle.ar_base.specs.Chaining.{◌>>=◌}
+use Rattle.ar_base.proofs.Shown.{bind_ok, ok_is}
 use Rattle.ar_bytes.specs.Reading.{Cursor, Reading, counted_at}
 use Rattle.ar_bytes.specs.RoundTrip.{Passes, ReadsBack, IsSpelledBy, number_text, counted_text}
 use Rattle.ar_bytes.specs.Tested.{count_at}
 use Rattle.ar_bytes.specs.Ascending.{number_from, Ascend}
 use Rattle.ar_bytes.specs.Joined.{optional_at, optional_text}
-use Rattle.ar_bytes.proofs.Steps.{bind_ok, ok_is, between, Passes-then, Passes-first, Passes-second, AreBytes-behind}
+use Rattle.ar_bytes.proofs.Steps.{between, Passes-then, Passes-first, Passes-second, AreBytes-behind}
 use Rattle.ar_bytes.proofs.Passing.{counted_again, counted_pass}
 use Rattle.ar_bytes.proofs.TestedFields.{count_again, count_pass}
 use Rattle.ar_bytes.proofs.Ascending.{same-cursor, ascending_again, ascending_pass, number_from_again, number_from_pass}
@@ -17,7 +18,7 @@ use Rattle.ar_bytes.proofs.JoinedFields.{optional_again, optional_pass}
 use Rattle.ar_statement.specs.Claims.{Roots, roots_text}
 use Rattle.ar_statement.specs.Ranges.{AreRoots}
 use Rattle.ar_statement.specs.Texts.{roots_at}
-use Rattle.ar_statement.proofs.FieldsByKind.{roots_again, roots_pass, values_again}
+use Rattle.ar_statement.proofs.FieldsByKind.{roots_pass, values_again}
 use Rattle.ar_cert.specs.Changes.{Change, IsChange, IsSignature, change_at, change_text}
 use Rattle.ar_cert.proofs.CertificateLaws.{split, next}
 use Rattle.ar_cert.proofs.ChangeLaws.{change_again, change_pass}

@@ -4,11 +4,8 @@ use Rattle.std.specs.List.{list_any}
 use Rattle.std.proofs.lemmas.Bool.{cases_lt, cases_eq, eq-eqb, ne_eqb, le-leb, lt-leb}
 use Rattle.std.proofs.lemmas.List.{length-take, length-drop, get_or-take, get_or-drop}
 use Rattle.std.proofs.lemmas.List.Folds.{list_any_at}
+use Rattle.std.proofs.Math.Bool.{or-false}
 use Rattle.ar_names.specs.Names.{dot, is_label_byte, is_first_in_label, is_after_full_label, is_wrong_at, StandBefore}
-
-or_false : (b : Bool) → (b || false) ≡ b
-or_false true = refl
-or_false false = refl
 
 none_of : (p : ℕ → Bool) (xs : List ℕ) → ((i : ℕ) → i < length xs → p (get_or xs i 0) ≡ false) → list_any p xs ≡ false
 none_of p [] none = refl
@@ -66,7 +63,7 @@ at_dot text k zero near is s = rw (is, lt-leb 253 k near, first_at text k 0 s) r
 at_dot text k (suc n) near is s =
     let later : eqb k 0 ≡ false = ne_eqb k 0 (λ e. omega (arith, s.within)) in
     let more : eqb (suc n) 0 ≡ false = ne_eqb (suc n) 0 (λ e. omega arith) in
-    rw (is, lt-leb 253 k near, first_at text k (suc n) s, later, more) (or_false (eqb (get_or text (k - 1) 0) 45))
+    rw (is, lt-leb 253 k near, first_at text k (suc n) s, later, more) (or-false (eqb (get_or text (k - 1) 0) 45))
 
 pub at_dash : (text : List ℕ) (k n : ℕ) → k < 253 → k < length text → get_or text k 0 ≡ 45 → StandBefore text k n → is_wrong_at text k ≡ (eqb n 0 || leb 63 n)
 unfolding is_wrong_at

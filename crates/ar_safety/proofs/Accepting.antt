@@ -1,11 +1,11 @@
 -- What an honest authority sends to a client, as the second of two, the client accepts.
-use Rattle.std.proofs.Common.{◌≡◌, ℕ, zero, suc, ◌+◌, ◌^◌, ◌<◌, ◌≤◌, Bool, true, false, cond, inl, List, [], ◌∷◌, length, get_or, take, Option, Some, None, Ok, refl, sym, ap, ◌∙◌, subst, arith, eqb, eq-eqb}
-use Rattle.std.specs.Prelude.{Contains, slice_get, count_by, ◌==◌}
+use Rattle.std.proofs.Common.{◌≡◌, ℕ, ◌+◌, ◌^◌, ◌<◌, ◌≤◌, Bool, true, false, inl, List, [], length, get_or, take, Option, Some, None, Ok, refl, sym, ap, ◌∙◌, subst, arith, eqb, eq-eqb}
+use Rattle.std.specs.Prelude.{Contains, slice_get, ◌==◌}
 use Rattle.std.proofs.lemmas.List.Elements.{All-get_or}
-use Rattle.std.proofs.lemmas.List.Sums.{count_by_more_yes, sum_by-take-le}
-use Rattle.std.proofs.lemmas.Option.{get_or_from_slice_get, slice_get_within}
+use Rattle.std.proofs.lemmas.Option.{slice_get_within}
 use Rattle.ar_base.specs.Places.{place_of}
 use Rattle.ar_base.proofs.Places.{not-contained}
+use Rattle.ar_base.proofs.Lists.{has-item}
 use Rattle.ar_bytes.proofs.Parts.{whole_again}
 use Rattle.lms_tree.specs.Key.{public_of}
 use Rattle.lms_tree.specs.KeyParts.{KeyParts}
@@ -19,7 +19,7 @@ use Rattle.key_roll.specs.Due.{DueParts}
 use Rattle.key_roll.specs.Entry.{after_entry, due_of, has_room}
 use Rattle.key_roll.specs.Ring.{ring_signature_len, signature_by}
 use Rattle.key_roll.specs.Rolls.{is_plain_of, is_roll, plain_count}
-use Rattle.key_roll.proofs.Books.{after_entry_keeps, due-plain, entry-at, is_roll-kind}
+use Rattle.key_roll.proofs.Books.{after_entry_keeps, due-plain, entry-at, is_roll-kind, counted-whole}
 use Rattle.party_keys.specs.Directory.{keys_of}
 use Rattle.party_keys.specs.Seen.{authority_party, log_party}
 use Rattle.party_keys.specs.Signatures.{rolls_from, verified}
@@ -40,14 +40,6 @@ use Rattle.ar_safety.proofs.Clients.{claim-is, valid-body}
 use Rattle.ar_safety.proofs.Verifying.{authority-known, carried-over, log-known, signature-fits, signature-length, signed-verified}
 
 -- ---- what is due
-
--- an entry that counts is counted behind its place
-counted : (p : Signed → Bool) (list : List Signed) (k : ℕ) (s : Signed) → slice_get list k ≡ Some s → p s ≡ true → count_by p (take k list) + 1 ≤ count_by p list
-counted p list k s at holds =
-    let within = slice_get_within list k s at in
-    let is = get_or_from_slice_get list k s s at in
-    let more = count_by_more_yes p list k s within (ap p is ∙ holds) in
-    omega (arith, more, sum_by-take-le (λ (x : Signed). cond (p x) 1 0) list (k + 1))
 
 plain-yes : (s : Signed) → is_roll s.text ≡ false → is_plain_of s.generation s ≡ true
 plain-yes s fails = let e : eqb s.generation s.generation ≡ true = eq-eqb _ _ refl in rw (e, fails) refl
@@ -71,7 +63,7 @@ due-there book text sound plain there = by (place_of (texts_of book) text) refl
         let s : Signed = get_or book.list k nobody in
         let within = slice_get_within book.list k s e.0 in
         let fails : is_roll s.text ≡ false = ap is_roll e.1 ∙ plain in
-        let one = counted (is_plain_of s.generation) book.list k s e.0 (plain-yes s fails) in
+        let one = counted-whole (is_plain_of s.generation) book.list k s e.0 (plain-yes s fails) in
         record {
           due = record { generation = s.generation; leaf = plain_count s.generation (take k book.list); text = s.text; leaves = book.leaves };
           is = rw at (due-plain book k s e.0 fails);
@@ -123,11 +115,6 @@ own-valid a part first_signature is =
     let fits : IsConfirmation c = is-confirmation a part first_signature [] is (omega arith) in
     subst IsValid (sym (claim-is c (authority_party a.me))) (valid-body c (authority_party a.me) fits fits.second.0 refl c.body fits.body)
 
-there-is : {X : Type 0} (xs : List X) (k : ℕ) → k < length xs → (x : X) × (slice_get xs k ≡ Some x)
-there-is [] k less = absurd (omega (arith, less))
-there-is (x ∷ xs) zero less = (x, refl)
-there-is (x ∷ xs) (suc k) less = there-is xs k (omega (arith, less))
-
 -- what is due for the authority's own statement, with the key of its generation
 record OwnDue (a : Confirmer) (part : Confirming) : Type 0 where
   due : DueParts
@@ -147,7 +134,7 @@ own-due a part first_signature honest is =
     let plain : is_roll text ≡ false = is_roll-kind (claim_on (about_in part) (shown_in part.body) (authority_party a.me)) ∙ is-plain c (authority_party a.me) (shown_in part.body) in
     let d : HasDue book text = due-there book text (after_entry_keeps a.past.signed text honest.honest.sound (inl plain)) plain (entry-has a.past.signed text is.room) in
     let keys = same-keys a.past.signed text in
-    let own = there-is a.ring d.due.generation (omega (arith, d.generation, keys.1, honest.each)) in
+    let own = has-item a.ring d.due.generation (omega (arith, d.generation, keys.1, honest.each)) in
     let known = honest.known d.due.generation own.0 own.1 in
     record {
       due = d.due;

@@ -14,6 +14,7 @@ use Rattle.epoch_log.specs.Told.{HasVoted}
 use Rattle.epoch_log.specs.declared.entries.Voted.{Voted}
 use Rattle.ar_safety.specs.Agreed.{Backed, Backs, backing, has_vote}
 use Rattle.ar_safety.specs.Records.{Records, is_dishonest}
+use Rattle.ar_council.proofs.Lists as lists
 
 -- ---- votes, as a test
 
@@ -30,15 +31,6 @@ any-there p (w ∷ vs) v there is = by there.0 there.1 there.2 (p w) refl (λ k 
     by zero less same false gives rest = let wrong : false ≡ true = sym gives ∙ ap p same ∙ is in absurd cc
     by (suc k) less same false gives rest = rest k (omega (arith, less)) same
 
-any-is : (p : Voted → Bool) (vs : List Voted) → list_any p vs ≡ true → (v : Voted) × (Contains vs v × (p v ≡ true))
-any-is p [] is = absurd cc
-any-is p (w ∷ vs) is = by (p w) refl is (any-is p vs)
-  where
-    by : (b : Bool) → p w ≡ b → (b || list_any p vs) ≡ true → (list_any p vs ≡ true → (v : Voted) × (Contains vs v × (p v ≡ true)))
-        → (v : Voted) × (Contains (w ∷ vs) v × (p v ≡ true))
-    by true here holds rest = (w, ((0, omega arith, refl), here))
-    by false here holds rest = let r = rest holds in (r.0, ((suc r.1.0.0, omega (arith, r.1.0.1), r.1.0.2), r.1.1))
-
 voted-test : (vs : List Voted) (epoch : ℕ) (from to : List ℕ) → HasVoted vs epoch (record { base = from; root = to }) → has_vote vs epoch to ≡ true
 voted-test vs epoch from to has =
     any-there (is_for epoch to) vs has.0 has.1.0
@@ -49,7 +41,7 @@ valued from to = record { base = from; root = to }
 
 test-voted : (vs : List Voted) (epoch : ℕ) (to : List ℕ) → has_vote vs epoch to ≡ true → (from : List ℕ) × HasVoted vs epoch (record { base = from; root = to })
 test-voted vs epoch to is =
-    let found = any-is (is_for epoch to) vs is in
+    let found = lists.found (is_for epoch to) vs is in
     let v : Voted = found.0 in
     let two = and_parts (eqb v.epoch epoch) (bytes_eq v.root to) found.1.1 in
     let root : v.root ≡ to = (bytes_eq-Decides v.root to).0 two.1 in

@@ -1,29 +1,28 @@
 -- What a client accepted is in the table that is agreed.
-use Rattle.std.proofs.Common.{◌≡◌, ℕ, zero, suc, ◌<◌, ◌≤◌, ◌^◌, inl, inr, List, [], ◌∷◌, ◌++◌, length, get_or, drop, refl, sym, ap, ◌∙◌, subst, arith, true, false, Option, Some, None}
+use Rattle.std.proofs.Common.{◌≡◌, ℕ, zero, suc, ◌<◌, ◌^◌, inl, inr, List, [], ◌∷◌, ◌++◌, length, get_or, drop, refl, sym, ap, ◌∙◌, subst, arith, true, false, Option, Some, None}
 use Rattle.std.specs.Prelude.{Contains, IsTrue, unwrap_or}
 use Rattle.std.specs.FinMap.{get}
 use Rattle.std.specs.Int.{w64, to_be_bytes}
 use Rattle.std.specs.List.{list_any, flat_map}
 use Rattle.std.specs.Option.{option_map}
 use Rattle.std.specs.Cmp.Derive.{both_true}
-use Rattle.std.proofs.lemmas.Bool.{le-leb}
 use Rattle.std.proofs.lemmas.List.Elements.{All-contains}
-use Rattle.std.proofs.lemmas.Option.{same_Some}
-use Rattle.authority_core.proofs.Keeping.{digest-fits}
+use Rattle.authority_core.proofs.Keeping.{epoch-test}
 use Rattle.ar_base.specs.Apart.{Apart, IsIn, none_collide}
 use Rattle.ar_base.specs.Bytes.{IsDigest}
 use Rattle.ar_base.proofs.Apart.{apart, in_both, in_front, in_rest, none_collide-part}
 use Rattle.ar_base.proofs.Digests.{sha256-IsDigest}
+use Rattle.ar_base.proofs.Shown.{mapped}
 use Rattle.ar_names.specs.Names.{name_digest_of}
 use Rattle.ar_cert.specs.Certificate.{Certificate, IsCertificate, digest_of}
 use Rattle.ar_cert.specs.Changes.{Change}
 use Rattle.ar_cert.specs.Judging.{IsChain}
 use Rattle.ar_cert.proofs.ChangeLaws.{only_text}
+use Rattle.ar_cert.proofs.Digests.{digest-fits}
 use Rattle.ar_message.specs.Confirmation.{Body, Confirmation, IsBody, IsBottom, IsConfirmation, absent, confirmation_at, confirmation_text, present}
 use Rattle.ar_message.proofs.ConfirmationLaws.{confirmation_again, confirmation_pass}
 use Rattle.ar_statement.specs.declared.party.Role.TheVariants.{LogServer, Authority}
 use Rattle.ar_statement.specs.declared.party.Party.{Party}
-use Rattle.ar_statement.specs.Fields.{is_epoch}
 use Rattle.ar_statement.specs.Claims.{is_party, text_of}
 use Rattle.ar_statement.specs.Ranges.{IsValid, is_witness}
 use Rattle.party_keys.specs.Seen.{authority_party, log_party}
@@ -68,9 +67,6 @@ claim-is c p = by c.body
 
 is-read : (council : Council) (j : Judged) → IsJudged council j → IsConfirmation j.confirmation
 is-read council j is = ((only_text confirmation_at confirmation_text IsConfirmation confirmation_again confirmation_pass j.bytes j.confirmation is.bytes).0 is.passes.is_read).0
-
-epoch-test : (e : ℕ) → 1 ≤ e → e ≤ 2 ^ 63 → is_epoch e ≡ true
-epoch-test e least most = both_true (le-leb 1 e least) (le-leb e (2 ^ 63) most)
 
 pub valid-body : (c : Confirmation) (p : Party) → IsConfirmation c → p.number < 2 ^ 16 → is_witness p.role ≡ true → (b : Body) → IsBody b
     → IsValid (confirmation_by p c.about.epoch c.about.name (digest_in b) c.about.root)
@@ -176,10 +172,6 @@ clean-path r clean t fine path within =
 name-fits : (name : List ℕ) → IsDigest (name_digest_of name)
 name-fits name = sha256-IsDigest _
 
-mapped : {A B : Type 0} (f : A → B) (o : Option A) (y : B) → option_map f o ≡ Some y → (x : A) × ((o ≡ Some x) × (f x ≡ y))
-mapped f None y e = absurd cc
-mapped f (Some x) y e = (x, (refl, same_Some (f x) y e))
-
 mapped-none : {A B : Type 0} (f : A → B) (o : Option A) → option_map f o ≡ None → o ≡ None
 mapped-none f None e = refl
 mapped-none f (Some x) e = absurd cc
@@ -228,13 +220,13 @@ accepted-newest r honest few forged clean j certificate there is-present =
     presence (tree_entries t) key value steps (holds_digests t fine.sound) (name-fits c.about.name) (clean-path r clean t fine path (λ s within. in-body s (inr (inr within)))) on in
     let entry = entry_at (hashed r) (apart (hashed r) clean.strings) t fine.listed c.about.name (name-hashed r j there) in
     let chain = mapped value_of (get t.chains c.about.name) value (sym entry ∙ found) in
-    let last = newest-by-value r clean t fine c.about.name chain.0 chain.1.0 certificate fits (in-body (certificate_string certificate) (inr (inl refl))) (in-body (value_string certificate.serial (digest_of certificate)) (inl refl)) chain.1.1 in
+    let last = newest-by-value r clean t fine c.about.name chain.0 chain.1 certificate fits (in-body (certificate_string certificate) (inr (inl refl))) (in-body (value_string certificate.serial (digest_of certificate)) (inl refl)) chain.2 in
     record {
       table = t;
       agreed = a.agreed;
       is_root = a.is_root;
       chain = chain.0;
-      there = subst (λ n. get t.chains n ≡ Some chain.0) is.passes.holds.0 chain.1.0;
+      there = subst (λ n. get t.chains n ≡ Some chain.0) is.passes.holds.0 chain.1;
       is_chain = last.0;
       last = last.1;
     }

@@ -1,9 +1,10 @@
 -- What an honest party confirms is backed by a quorum, and so is what a client accepts.
-use Rattle.std.proofs.Common.{◌≡◌, ◌≢◌, ℕ, zero, suc, ◌+◌, ◌<◌, ◌≤◌, ◌^◌, ◌⊎◌, inl, inr, List, [], ◌∷◌, length, get_or, refl, sym, ap, ◌∙◌, subst, arith, Bool, true, false, nat_le, Option, Some, None}
+use Rattle.std.proofs.Common.{◌≡◌, ◌≢◌, ℕ, zero, suc, ◌+◌, ◌<◌, ◌≤◌, ◌^◌, ◌⊎◌, inl, inr, List, length, get_or, refl, sym, ap, ◌∙◌, subst, arith, Bool, true, false, nat_le, Option, Some, None}
 use Rattle.std.specs.Prelude.{Contains}
 use Rattle.std.specs.List.{list_any}
 use Rattle.std.proofs.lemmas.Bool.{and_parts, cases_eq, leb-true}
 use Rattle.std.proofs.lemmas.List.Elements.{All-contains}
+use Rattle.std.proofs.lemmas.List.{get_or_default}
 use Rattle.ar_base.specs.Bytes.{IsDigest}
 use Rattle.ar_statement.specs.declared.party.Role.{Role}
 use Rattle.ar_statement.specs.declared.party.Role.TheVariants.{LogServer, Authority, Owner, Client}
@@ -125,11 +126,6 @@ one-confirmed r honest few forged p q is_p is_q e one other a b =
 
 -- ---- one of three is honest
 
-default : {X : Type 0} (xs : List X) (k : ℕ) (d e : X) → k < length xs → get_or xs k d ≡ get_or xs k e
-default [] k d e within = absurd (omega (arith, within))
-default (x ∷ xs) zero d e within = refl
-default (x ∷ xs) (suc k) d e within = default xs k d e (omega (arith, within))
-
 -- of three different parties one is not among two
 pub one-of-three : (parties : List Party) (a b c : Party) → length parties ≤ 2 → a ≢ b → a ≢ c → b ≢ c
     → (list_any (is_party a) parties ≡ false) ⊎ ((list_any (is_party b) parties ≡ false) ⊎ (list_any (is_party c) parties ≡ false))
@@ -139,7 +135,7 @@ one-of-three parties a b c few ab ac bc = by (list_any (is_party a) parties) (li
     among p is = let f = found (is_party p) parties is in subst (Contains parties) (sym (one_party p f.0 f.1.1)) f.1.0
 
     same : (p q : Party) (x : Contains parties p) (y : Contains parties q) → x.0 ≡ y.0 → p ≡ q
-    same p q x y place = sym x.2 ∙ default parties x.0 p q x.1 ∙ ap (λ k. get_or parties k q) place ∙ y.2
+    same p q x y place = sym x.2 ∙ get_or_default parties x.0 p q x.1 ∙ ap (λ k. get_or parties k q) place ∙ y.2
 
     apart : (x : Contains parties a) (y : Contains parties b) (z : Contains parties c) → ⊥
     apart x y z = elim (cases_eq x.0 y.0) [

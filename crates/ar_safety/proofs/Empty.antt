@@ -1,13 +1,15 @@
 -- The table without names: nothing applied leaves it as it is, and one string is hashed for it.
-use Rattle.std.proofs.Common.{◌≡◌, ℕ, zero, suc, inl, inr, List, [], ◌∷◌, length, refl, sym, ap, ◌∙◌, subst, arith, Bool, true, false, cond, Option, Some, None}
-use Rattle.std.specs.Prelude.{All, flat_map, ◌||◌}
+use Rattle.std.proofs.Common.{◌≡◌, ℕ, zero, suc, inl, inr, List, [], ◌∷◌, refl, sym, ap, ◌∙◌, subst, arith, Bool, true, false, cond, Option, Some, None}
+use Rattle.std.specs.Prelude.{All, flat_map}
 use Rattle.std.specs.FinMap.{empty, entries, get, get-empty, len-empty, len-entries, same_map}
 use Rattle.std.specs.List.{list_all}
 use Rattle.std.specs.Option.{option_map}
 use Rattle.std.specs.Str.{bytes_eq}
 use Rattle.std.proofs.lemmas.Slice.Eq.{bytes_eq-Decides}
+use Rattle.std.proofs.lemmas.List.{nil_from_length}
+use Rattle.std.proofs.lemmas.Bool.{or_right}
 use Rattle.ar_base.specs.Apart.{IsIn, are_apart, none_collide}
-use Rattle.ar_base.proofs.Apart.{in_both}
+use Rattle.ar_base.proofs.Apart.{in_both, all_from}
 use Rattle.ar_cert.specs.Changes.{Change}
 use Rattle.hash_tree.specs.Entries.{Entries, key_cmp}
 use Rattle.hash_tree.specs.Root.{string_below, strings_below, strings_of}
@@ -19,12 +21,13 @@ use Rattle.domain_table.proofs.Maps.{get-ripen, waiting-ripen}
 
 -- ---- the table without names
 
-none-length : {X : Type 0} (xs : List X) → length xs ≡ 0 → xs ≡ []
-none-length [] e = refl
-none-length (x ∷ xs) e = absurd (omega (arith, e))
-
 pub no-entries : (V : Type 0) → entries (empty {X = V} {R = key_cmp}) ≡ []
-no-entries V = none-length (entries (empty {X = V} {R = key_cmp})) (sym (len-entries (empty {X = V} {R = key_cmp})) ∙ len-empty key_cmp V)
+no-entries V = nil_from_length (entries (empty {X = V} {R = key_cmp})) (sym (len-entries (empty {X = V} {R = key_cmp})) ∙ len-empty key_cmp V)
+
+-- nothing is left of what is not there
+pub either : {A : Type 0} (b : Bool) (o : Option A) → o ≡ None → cond b None o ≡ None
+either true o e = refl
+either false o e = e
 
 -- it stays so where nothing is applied
 pub ripe-none : ripen no_table 1 ≡ no_table
@@ -34,10 +37,6 @@ ripe-none =
     let waiting : (ripen no_table 1).waiting ≡ empty = same_map total exact (ripen no_table 1).waiting empty (λ name. waits name) in
     λ i. record { chains = chains i; waiting = waiting i }
   where
-    either : {A : Type 0} (b : Bool) (o : Option A) → o ≡ None → cond b None o ≡ None
-    either true o e = refl
-    either false o e = e
-
     waits : (name : List ℕ) → get (ripen no_table 1).waiting name ≡ get no_table.waiting name
     waits name = waiting-ripen no_table 1 name ∙ either _ (get no_table.waiting name) (get-empty key_cmp name) ∙ sym (get-empty key_cmp name)
 
@@ -78,13 +77,5 @@ tables-string (t ∷ tables) all x is = elim (in_both (table_strings t) (flat_ma
 ]
 
 -- equal strings do not collide
-pub all-true : (p : List ℕ → Bool) (xs : List (List ℕ)) → ((x : List ℕ) → IsIn xs x → p x ≡ true) → list_all p xs ≡ true
-all-true p [] h = refl
-all-true p (x ∷ xs) h = rw (h x (inl refl)) (all-true p xs (λ y i. h y (inr i)))
-
-pub or-second : (a b : Bool) → b ≡ true → (a || b) ≡ true
-or-second true b e = refl
-or-second false b e = e
-
 pub one-apart : (one : List ℕ) (xs : List (List ℕ)) → ((x : List ℕ) → IsIn xs x → x ≡ one) → none_collide xs ≡ true
-one-apart one xs same = all-true (λ x. list_all (λ y. are_apart x y) xs) xs (λ x here. all-true (λ y. are_apart x y) xs (λ y there. or-second _ (bytes_eq x y) ((bytes_eq-Decides x y).1 (same x here ∙ sym (same y there)))))
+one-apart one xs same = all_from (λ x. list_all (λ y. are_apart x y) xs) xs (λ x here. all_from (λ y. are_apart x y) xs (λ y there. or_right _ (bytes_eq x y) ((bytes_eq-Decides x y).1 (same x here ∙ sym (same y there)))))

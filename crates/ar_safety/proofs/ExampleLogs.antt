@@ -14,6 +14,7 @@ use Rattle.vote_quorum.specs.Numbers.{distinct_count}
 use Rattle.vote_quorum.specs.Statuses.{Status}
 use Rattle.domain_table.specs.Tables.{no_table}
 use Rattle.domain_table.specs.Tree.{root_of}
+use Rattle.domain_table.proofs.Trees.{root-digest}
 use Rattle.ar_council.proofs.Books.{empty-book}
 use Rattle.ar_council.proofs.Texts.{own-text}
 use Rattle.ar_council.specs.Council.{IsMember}
@@ -33,7 +34,6 @@ use Rattle.epoch_log.proofs.Endings.{ending-within}
 use Rattle.epoch_log.proofs.Texts.{plain-status, plain-vote, valid-status, valid-vote}
 use Rattle.authority_core.proofs.Growing.{map-has}
 use Rattle.ar_safety.specs.Examples.{book_with, deciding_log, five, seen_statuses, seen_votes, skipping_log, unchanged}
-use Rattle.ar_safety.proofs.Votes.{root-digest}
 use Rattle.ar_safety.proofs.Empty.{applied-none}
 
 -- ---- one log

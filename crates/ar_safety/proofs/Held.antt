@@ -2,7 +2,7 @@
 use Rattle.std.proofs.Common.{◌≡◌, ℕ, zero, suc, ◌+◌, ◌<◌, inl, inr, Bool, true, false, cond, List, [], ◌∷◌, ◌++◌, length, get_or, Option, Some, None, Result, Ok, refl, sym, ap, ◌∙◌, subst, arith}
 use Rattle.std.specs.Prelude.{All, Contains}
 use Rattle.std.proofs.lemmas.Bool.{cases_lt}
-use Rattle.std.proofs.lemmas.List.{length-append}
+use Rattle.std.proofs.lemmas.List.{length-append, get_or_append_left}
 use Rattle.std.specs.List.{cons_option, filter_map, list_any}
 use Rattle.std.specs.Option.{option_map}
 use Rattle.std.specs.Result.{result_ok}
@@ -132,11 +132,6 @@ at-end [] x d (suc k) is = absurd (omega (arith, is))
 at-end (y ∷ xs) x d zero is = absurd (omega (arith, is))
 at-end (y ∷ xs) x d (suc k) is = at-end xs x d k (omega (arith, is))
 
-in-front : {X : Type 0} (xs ys : List X) (d : X) (k : ℕ) → k < length xs → get_or (xs ++ ys) k d ≡ get_or xs k d
-in-front [] ys d k less = absurd (omega (arith, less))
-in-front (x ∷ xs) ys d zero less = refl
-in-front (x ∷ xs) ys d (suc k) less = in-front xs ys d k (omega (arith, less))
-
 -- an honest party's place is below the count
 place-below : (party : ℕ → Party) (dishonest : List Party) (n m : ℕ) → m < n → list_any (is_party (party m)) dishonest ≡ false
     → honest_below party dishonest m < honest_below party dishonest n
@@ -177,7 +172,7 @@ own-record {X} party dishonest record_of none (suc n) m less honest =
     by b is rest = elim (cases_lt m n) [
       | inl before ↦
           let inside : place < length front = omega (arith, place-below party dishonest n m before honest, honest-count party dishonest record_of n) in
-          in-front front (cond b [] (record_of n ∷ [])) none place inside ∙ rest before
+          get_or_append_left front (cond b [] (record_of n ∷ [])) none place inside ∙ rest before
       | inr least ↦
           let same : m ≡ n = omega (arith, less, least) in
           let good : b ≡ false = sym is ∙ ap (λ k. list_any (is_party (party k)) dishonest) (sym same) ∙ honest in

@@ -1,5 +1,5 @@
 -- The table with one name alone: how it comes to be, its one entry, and the strings that are hashed for it.
-use Rattle.std.proofs.Common.{◌≡◌, ℕ, zero, suc, ◌+◌, ◌≤◌, ◌⊎◌, inl, inr, List, [], ◌∷◌, ◌++◌, length, refl, sym, ap, ◌∙◌, subst, arith, Bool, true, false, cond, Option, Some, None, Ok}
+use Rattle.std.proofs.Common.{◌≡◌, ℕ, zero, suc, ◌+◌, ◌≤◌, ◌⊎◌, inl, inr, List, [], ◌∷◌, ◌++◌, length, refl, sym, ap, ◌∙◌, subst, arith, Option, Some, None, Ok}
 use Rattle.std.specs.Prelude.{All, flat_map, map, sum, unwrap_or}
 use Rattle.std.specs.FinMap.{empty, entries, entries-insert, get, get-empty, get-entries, get-remove, remove, same_map}
 use Rattle.std.specs.FinMap as maps
@@ -23,7 +23,7 @@ use Rattle.domain_table.specs.Applying.{after_answer, apply, apply_each, judge_r
 use Rattle.domain_table.specs.Tables.{Pending, Table, chain_of, newest, no_table, size}
 use Rattle.domain_table.specs.Tree.{certificate_string, chain_strings, keyed, pending_strings, pending_value, root_of, table_strings, tagged, tree_entries, value_of}
 use Rattle.ar_safety.specs.RegisteredRun.{a_name, first_certificate, one_table, registration}
-use Rattle.ar_safety.proofs.Empty.{no-entries, ripe-none}
+use Rattle.ar_safety.proofs.Empty.{no-entries, ripe-none, either}
 use Rattle.ar_safety.proofs.Examples.{one-more}
 
 -- ---- the registration is applied
@@ -70,10 +70,6 @@ one-chain =
     entries-insert total no_table.chains a_name (chain_of no_table a_name ++ registration ∷ [])
     ∙ ap (maps.put key_cmp a_name (chain_of no_table a_name ++ registration ∷ [])) (no-entries (List Change))
     ∙ ap (λ (c : List Change). (a_name, c ++ registration ∷ []) ∷ []) none-chain
-
-either : {A : Type 0} (b : Bool) (o : Option A) → o ≡ None → cond b None o ≡ None
-either true o e = refl
-either false o e = e
 
 pub no-waiting : entries one_table.waiting ≡ []
 unfolding taken

@@ -1,12 +1,12 @@
 -- The run in which a client accepts a certificate meets the premises.
-use Rattle.std.proofs.Common.{◌≡◌, ◌≢◌, ℕ, zero, suc, ◌+◌, ◌<◌, ◌≤◌, ◌^◌, inl, inr, List, [], ◌∷◌, ◌++◌, length, get_or, refl, sym, ap, ◌∙◌, subst, arith, Bool, true, false, cond, not, ◌||◌, Option, Some, None, Ok}
+use Rattle.std.proofs.Common.{◌≡◌, ◌≢◌, ℕ, zero, suc, ◌+◌, ◌<◌, ◌≤◌, ◌^◌, inl, inr, List, [], ◌∷◌, ◌++◌, length, get_or, refl, sym, ap, ◌∙◌, subst, arith, Bool, true, false, cond, not, Option, Some, None, Ok}
 use Rattle.std.specs.Prelude.{All, Contains, IfSome, count_by, flat_map, is_some, map, nat_lt, replicate, slice_get, slice_index, unwrap_or}
 use Rattle.std.specs.Int.{w8, w16, w64}
 use Rattle.std.specs.List.{list_all}
 use Rattle.std.specs.Option.{option_map}
 use Rattle.std.specs.Str.{bytes_eq}
 use Rattle.std.proofs.lemmas.List.Elements.{All-append, All-cons, All-contains, All-map, All-nil, Contains-append_left, Contains-append_right}
-use Rattle.std.proofs.lemmas.Bool.{and_parts, cases_eq, ltb-true}
+use Rattle.std.proofs.lemmas.Bool.{and_parts, cases_eq, ltb-true, or_left, or_right}
 use Rattle.std.proofs.lemmas.Slice.Eq.{bytes_eq-Decides}
 use Rattle.std.specs.FinMap as maps
 use Rattle.std.specs.FinMap.{get, get-entries}
@@ -15,8 +15,8 @@ use Rattle.sha2.specs.Sha256.{compress, digest_bytes, first_words, hash_after, r
 use Rattle.ar_base.specs.Apart.{IsIn, are_apart}
 use Rattle.ar_base.specs.Bytes.{IsDigest}
 use Rattle.ar_base.specs.Places.{place_of}
-use Rattle.ar_base.proofs.Apart.{in_both}
-use Rattle.ar_base.proofs.Digests.{bytes_by_recursion, sha256-IsDigest}
+use Rattle.ar_base.proofs.Apart.{in_both, all_from}
+use Rattle.ar_base.proofs.Digests.{bytes_by_recursion, sha256-IsDigest, AllBytes, at_each, joined}
 use Rattle.ar_bytes.specs.RoundTrip.{number_text}
 use Rattle.ar_bytes.proofs.Parts.{whole_again}
 use Rattle.lms_tree.specs.Key.{public_of}
@@ -46,6 +46,7 @@ use Rattle.client_rule.proofs.Meanings.{accepted}
 use Rattle.hash_tree.specs.Entries.{key_cmp}
 use Rattle.domain_table.specs.Tables.{Table, certificates, certificates_of, newest, no_table, pair_of, pairs}
 use Rattle.domain_table.specs.Tree.{certificate_string, root_of, table_strings}
+use Rattle.domain_table.proofs.Trees.{root-digest}
 use Rattle.epoch_log.specs.Calls as calls
 use Rattle.ar_council.proofs.Books.{entry-has, entry-keeps}
 use Rattle.ar_council.proofs.Seeing.{seen-all}
@@ -55,7 +56,6 @@ use Rattle.ar_council.specs.Room.{HasRoom}
 use Rattle.ar_council.specs.Seen.{seen_of}
 use Rattle.ar_council.specs.Values.{IsValue, confirm_claim, vote_claim}
 use Rattle.ar_council.specs.Votes.{SawVotes}
-use Rattle.epoch_log.specs.Calls.{endorsements_of}
 use Rattle.epoch_log.specs.Honest.{HonestLog}
 use Rattle.epoch_log.specs.Record.{base_of, ending}
 use Rattle.epoch_log.specs.Right.{IsRightDecision, IsRightVote, LeadsTo, SawEndorsements, newest_digest}
@@ -76,13 +76,11 @@ use Rattle.ar_safety.specs.Hashed.{StandsIn, hashed, judged_strings, log_tables,
 use Rattle.ar_safety.specs.Records.{AreSigned, IsHonest, IsJudged, Judged, carried, signed_by}
 use Rattle.ar_safety.specs.RegisteredRun.{a_name, all_five, asked_for, asked_in_one, confirmation, confirming_authority, confirming_log, decided_log, directory_of_five, due_for, first_certificate, first_decision, judged_one, kept_one, key_for, one_table, registered, registered_run, registering_log, registration, says, seen_by_all, signed_for}
 use Rattle.ar_safety.specs.Theorem.{AreHonest, Few, NoCollision, NoForgery}
-use Rattle.ar_safety.proofs.Empty.{all-true, or-second}
 use Rattle.ar_safety.proofs.ExampleLogs.{base-one, first-ending, first-is, first-order, one-book, only, single}
 use Rattle.ar_safety.proofs.Examples.{all-below, five-many, five-quorums, signed-of}
 use Rattle.ar_safety.proofs.OneName.{IsOne, NameKey, NameValue, applied-one, chain-is, no-waiting, one-chain, root-is, tables-of}
-use Rattle.ar_safety.proofs.Spelled.{Spelled, joined, number-spelled, signature-spelled, spelled-bytes}
+use Rattle.ar_safety.proofs.Spelled.{number-spelled, signature-spelled}
 use Rattle.ar_safety.proofs.Verifying.{signature-fits, signed-verified}
-use Rattle.ar_safety.proofs.Votes.{root-digest}
 
 -- ---- the certificate has a text
 
@@ -91,9 +89,9 @@ unfolding first_fault_of is_wrong_at is_open
 is-name = refl
 
 zeros-digest : IsDigest (replicate 32 0)
-zeros-digest = record { len = refl; bytes = spelled-bytes (replicate 32 0) (zeros 32) }
+zeros-digest = record { len = refl; bytes = at_each (replicate 32 0) (zeros 32) }
   where
-    zeros : (n : ℕ) → Spelled (replicate n 0)
+    zeros : (n : ℕ) → AllBytes (replicate n 0)
     zeros zero = tt
     zeros (suc n) = (omega arith, zeros n)
 
@@ -414,17 +412,13 @@ differ x y none = by (bytes_eq x y) refl
     by true is = absurd (none ((bytes_eq-Decides x y).0 is))
     by false is = refl
 
-or-first : (a b : Bool) → a ≡ true → (a || b) ≡ true
-or-first true b e = refl
-or-first false b e = absurd cc
-
 equal-apart : (x y s : List ℕ) → x ≡ s → y ≡ s → are_apart x y ≡ true
-equal-apart x y s a b = or-second (not (bytes_eq (sha256 x) (sha256 y))) (bytes_eq x y) ((bytes_eq-Decides x y).1 (a ∙ sym b))
+equal-apart x y s a b = or_right (not (bytes_eq (sha256 x) (sha256 y))) (bytes_eq x y) ((bytes_eq-Decides x y).1 (a ∙ sym b))
 
 heads-apart : (x y : List ℕ) (m n : ℕ) → first-of x ≡ m → first-of y ≡ n → m ≢ n → are_apart x y ≡ true
 unfolding first-of
 heads-apart x y m n a b other =
-    or-first (not (bytes_eq (sha256 x) (sha256 y))) (bytes_eq x y) (differ (sha256 x) (sha256 y) (λ e. other (sym a ∙ ap (λ d. slice_index d 0) e ∙ b)))
+    or_left (not (bytes_eq (sha256 x) (sha256 y))) (bytes_eq x y) (differ (sha256 x) (sha256 y) (λ e. other (sym a ∙ ap (λ d. slice_index d 0) e ∙ b)))
 
 -- a string with the first byte of its digest, one of the four
 record IsHeaded (x s : List ℕ) (n : ℕ) : Type 0 where
@@ -528,8 +522,8 @@ stands-one table is name certificate (inr waits) = absurd (none-waits name certi
 
 collision-free : NoCollision registered_run
 collision-free = record {
-  strings = all-true (λ x. list_all (λ y. are_apart x y) (hashed registered_run)) (hashed registered_run)
-      (λ x here. all-true (λ y. are_apart x y) (hashed registered_run) (λ y there. pair-apart x y (hashed-one x here) (hashed-one y there)));
+  strings = all_from (λ x. list_all (λ y. are_apart x y) (hashed registered_run)) (hashed registered_run)
+      (λ x here. all_from (λ y. are_apart x y) (hashed registered_run) (λ y there. pair-apart x y (hashed-one x here) (hashed-one y there)));
   asked = λ authority is a there table listed name certificate stands same.
       let one : table ≡ one_table = All-contains (λ t. t ≡ one_table) (tables_below registered_run 5) table (tables-below 5) listed in
       let this : certificate ≡ first_certificate = stands-one table one name certificate stands in
@@ -539,13 +533,13 @@ collision-free = record {
 
 -- ---- the client
 
-signed-spelled : (role : Role) (number : ℕ) → Spelled (signed_text (signed_for role number))
+signed-spelled : (role : Role) (number : ℕ) → AllBytes (signed_text (signed_for role number))
 signed-spelled role number =
     joined (number_text w16 number) (number_text w16 (length (signed_for role number).signature) ++ (signed_for role number).signature) (number-spelled w16 number)
     (joined (number_text w16 (length (signed_for role number).signature)) (signed_for role number).signature (number-spelled w16 (length (signed_for role number).signature))
     (signature-spelled (key_for role number) (due_for (party role number))))
 
-subject-spelled : Spelled (subject_text confirmation.about)
+subject-spelled : AllBytes (subject_text confirmation.about)
 unfolding subject_text
 subject-spelled =
     joined (number_text w16 0) (number_text w64 1 ++ ((number_text w8 1 ++ a_name) ++ root_of one_table)) (number-spelled w16 0)
@@ -553,15 +547,15 @@ subject-spelled =
     (joined (number_text w8 1 ++ a_name) (root_of one_table) (joined (number_text w8 1) a_name (number-spelled w8 1) (omega arith, tt)) (bytes_by_recursion (root_of one_table) (root-digest one_table).bytes)))
 
 -- what a test on each says
-tested : (xs : List ℕ) → list_all (λ b. nat_lt b 256) xs ≡ true → Spelled xs
+tested : (xs : List ℕ) → list_all (λ b. nat_lt b 256) xs ≡ true → AllBytes xs
 tested [] e = tt
 tested (b ∷ xs) e = let two = and_parts (nat_lt b 256) (list_all (λ c. nat_lt c 256) xs) e in (ltb-true b 256 two.0, tested xs two.1)
 
-body-spelled : Spelled (body_text confirmation.body)
+body-spelled : AllBytes (body_text confirmation.body)
 unfolding body_text certificate_text front_text rules_text wait_text key_text number_text
 body-spelled = tested (body_text confirmation.body) refl
 
-text-spelled : Spelled (confirmation_text confirmation)
+text-spelled : AllBytes (confirmation_text confirmation)
 unfolding confirmation_text confirmation_fields_text
 text-spelled =
     joined (number_text w8 12) (number_text w8 1 ++ (subject ++ (body ++ (path ++ signers)))) (number-spelled w8 12)
@@ -638,7 +632,7 @@ run-honest = record {
   quorums = five-quorums;
   logs = λ log is. log-honest log is.known;
   authorities = λ authority is. authority-honest authority is.known;
-  judged = only (IsJudged five) judged_one (record { bytes = spelled-bytes (confirmation_text confirmation) text-spelled; passes = one-passes; same_council = refl });
+  judged = only (IsJudged five) judged_one (record { bytes = at_each (confirmation_text confirmation) text-spelled; passes = one-passes; same_council = refl });
 }
 
 pub run-premises : Few registered_run × (NoForgery registered_run × NoCollision registered_run)

@@ -16,13 +16,10 @@ use Rattle.party_keys.specs.Directory.{Directory, keys_at, keys_of, role_keys}
 use Rattle.party_keys.specs.Learning.{Announced, after_adopting, after_all, with_next, with_next_of}
 use Rattle.party_keys.proofs.Growing.{all_grows}
 use Rattle.ar_safety.specs.Accepting.{KnowsRing}
+use Rattle.ar_safety.proofs.Verifying.{known-number}
+use Rattle.ar_base.proofs.Lists.{get-more}
 
 -- ---- lists
-
-get-more : {A : Type 0} (xs ys : List A) (k : ℕ) (x : A) → slice_get xs k ≡ Some x → slice_get (xs ++ ys) k ≡ Some x
-get-more [] ys k x e = absurd cc
-get-more (y ∷ xs) ys zero x e = e
-get-more (y ∷ xs) ys (suc k) x e = get-more xs ys k x e
 
 get-front : {A : Type 0} (xs ys : List A) (m k : ℕ) (x : A) → k < m → slice_get xs k ≡ Some x → slice_get (take m xs ++ ys) k ≡ Some x
 get-front xs ys zero k x less e = absurd (omega (arith, less))
@@ -49,16 +46,11 @@ put-at [] n keys less = absurd (omega (arith, less))
 put-at (x ∷ lists) zero keys less = refl
 put-at (x ∷ lists) (suc n) keys less = put-at lists n keys (omega (arith, less))
 
-some-at : (lists : List (List LmsPublic)) (n g : ℕ) (key : LmsPublic) → slice_get (keys_at lists n) g ≡ Some key → n < length lists
-some-at [] n g key is = absurd cc
-some-at (keys ∷ lists) zero g key is = omega arith
-some-at (keys ∷ lists) (suc n) g key is = let rest = some-at lists n g key is in omega (arith, rest)
-
 -- behind the adopted key a party has the keys up to the generation, and this one
 next-keys : (role : Role) (keys : Directory) (n g : ℕ) (known key : LmsPublic) → slice_get (keys_at (role_keys keys role) n) g ≡ Some known
     → keys_at (role_keys (with_next_of role keys n g key) role) n ≡ take (g + 1) (keys_at (role_keys keys role) n) ++ key ∷ []
-next-keys LogServer keys n g known key is = put-at keys.logs n (take (g + 1) (keys_at keys.logs n) ++ key ∷ []) (some-at keys.logs n g known is)
-next-keys Authority keys n g known key is = put-at keys.authorities n (take (g + 1) (keys_at keys.authorities n) ++ key ∷ []) (some-at keys.authorities n g known is)
+next-keys LogServer keys n g known key is = put-at keys.logs n (take (g + 1) (keys_at keys.logs n) ++ key ∷ []) (known-number keys.logs n g known is)
+next-keys Authority keys n g known key is = put-at keys.authorities n (take (g + 1) (keys_at keys.authorities n) ++ key ∷ []) (known-number keys.authorities n g known is)
 next-keys Owner keys n g known key is = absurd cc
 next-keys Client keys n g known key is = absurd cc
 

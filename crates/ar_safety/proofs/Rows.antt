@@ -11,6 +11,8 @@ use Rattle.ar_bytes.specs.RoundTrip.{number_text}
 use Rattle.ar_base.specs.FirstFailing.{first_failing}
 use Rattle.ar_base.specs.Gives.{with_error}
 use Rattle.ar_base.specs.Places.{place_of}
+use Rattle.ar_base.proofs.Giving.{no-error}
+use Rattle.ar_base.proofs.Failing.{first-holds}
 use Rattle.ar_council.specs.Room.{HasRoom}
 use Rattle.ar_council.specs.Values.{confirmation_by}
 use Rattle.ar_statement.specs.declared.party.Party.{Party}
@@ -54,24 +56,16 @@ use Rattle.authority_core.specs.State.{Answer, AuthorityState, entering, if_due,
 use Rattle.authority_core.specs.declared.refusal.AuthorityRefusal.{AuthorityRefusal}
 use Rattle.authority_core.specs.declared.refusal.AuthorityRefusal.TheVariants.{BadPath, FewVotes, NotForAuthority, SameAuthority}
 use Rattle.authority_core.proofs.Growing.{map-has}
-use Rattle.authority_core.proofs.Keeping.{order-first, order-then, passed-many, passed-shown}
+use Rattle.authority_core.proofs.Keeping.{order-first, order-then, passed-many, passed-shown, both-first}
 use Rattle.ar_safety.specs.Accepting.{IsHalfConfirmed, IsInTime, IsWithRing, KnowsSigners, bytes_to_client, confirmer_of, own_signature, own_text, signature_for}
 use Rattle.ar_safety.proofs.Accepting.{own-length, sent-absent, sent-accepted}
 use Rattle.ar_safety.proofs.Verifying.{authority-known, log-known}
 
 -- ---- signatures
 
-with-first : (one other : Result (Unit {0}) SignerFault) → and_then one other ≡ Ok tt → one ≡ Ok tt
-with-first (Ok u) other is = refl
-with-first (Err fault) other is = absurd cc
-
 with-second : (one other : Result (Unit {0}) SignerFault) → and_then one other ≡ Ok tt → other ≡ Ok tt
 with-second (Ok u) other is = is
 with-second (Err fault) other is = absurd cc
-
-no-error : {A E F : Type 0} (f : E → F) (r : Result A E) (x : A) → with_error f r ≡ Ok x → r ≡ Ok x
-no-error f (Ok y) x is = let same : y ≡ x = cc in ap Ok same
-no-error f (Err fault) x is = absurd cc
 
 -- each signature of the list is verified
 each-verified : (keys : Directory) (claims : List Claimed) → all_signed keys claims ≡ Ok tt → (c : Claimed) → Contains claims c → verified keys c.party c.text c.signature ≡ Ok tt
@@ -80,7 +74,7 @@ each-verified keys (d ∷ claims) is c there =
     by there.0 there.1 there.2 (λ k less same. each-verified keys claims (with-second (signed_as keys d) (all_signed keys claims) is) c (k, less, same))
   where
     first : verified keys d.party d.text d.signature ≡ Ok tt
-    first = no-error (signer_fault d.party) (verified keys d.party d.text d.signature) tt (with-first (signed_as keys d) (all_signed keys claims) is)
+    first = no-error (signer_fault d.party) (verified keys d.party d.text d.signature) tt (both-first (signed_as keys d) (all_signed keys claims) is)
 
     by : (k : ℕ) → k < length (d ∷ claims) → get_or (d ∷ claims) k c ≡ c → ((m : ℕ) → m < length claims → get_or claims m c ≡ c → verified keys c.party c.text c.signature ≡ Ok tt)
         → verified keys c.party c.text c.signature ≡ Ok tt
@@ -97,10 +91,6 @@ abbrev behind-me : AuthorityState → Confirming → List ℕ → Result (Unit {
 behind-me s part first_signature =
     in_order (with_error of_signers (signers_answer s.keys (parties_of part part.first) (half_claims part first_signature))) (first_failing (content_tests s.keys.quorum part))
 
-one-holds : {E : Type 0} (fault : E) (test : Bool) (tests : List (E × Bool)) → first_failing ((fault, test) ∷ tests) ≡ Ok tt → test ≡ true
-one-holds fault true tests is = refl
-one-holds fault false tests is = absurd cc
-
 rest-holds : {E : Type 0} (fault : E) (test : Bool) (tests : List (E × Bool)) → first_failing ((fault, test) ∷ tests) ≡ Ok tt → first_failing tests ≡ Ok tt
 rest-holds fault true tests is = is
 rest-holds fault false tests is = absurd cc
@@ -108,7 +98,7 @@ rest-holds fault false tests is = absurd cc
 for-me : (s : AuthorityState) (part : Confirming) (first_signature : List ℕ) → Checks s part first_signature ≡ Ok tt → part.second ≡ s.me
 unfolding confirming_checks
 for-me s part first_signature is =
-    eqb-true part.second s.me (one-holds NotForAuthority (part.second == s.me) [] (order-first (first_failing (meant_for s.me part.second)) (behind-me s part first_signature) tt is))
+    eqb-true part.second s.me (first-holds NotForAuthority (part.second == s.me) [] (order-first (first_failing (meant_for s.me part.second)) (behind-me s part first_signature) tt is))
 
 behind : (s : AuthorityState) (part : Confirming) (first_signature : List ℕ) → Checks s part first_signature ≡ Ok tt
     → behind-me s part first_signature ≡ Ok tt
@@ -127,7 +117,7 @@ are-two s part first_signature is =
     let tests = order-then (with_error of_signers signers) (first_failing (content_tests s.keys.quorum part)) tt (behind s part first_signature is) in
     let third = rest-holds BadPath (shows part) ((SameAuthority, not (part.first == part.second)) ∷ [])
     (rest-holds (FewVotes (vote_count part)) (nat_le s.keys.quorum (vote_count part)) ((BadPath, shows part) ∷ ((SameAuthority, not (part.first == part.second)) ∷ [])) tests) in
-    let other : not (part.first == part.second) ≡ true = one-holds SameAuthority (not (part.first == part.second)) [] third in
+    let other : not (part.first == part.second) ≡ true = first-holds SameAuthority (not (part.first == part.second)) [] third in
     λ e. by (eqb part.first part.second) (eq-eqb part.first part.second e) other
   where
     by : (b : Bool) → b ≡ true → not b ≡ true → ⊥

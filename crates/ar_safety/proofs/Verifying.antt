@@ -69,7 +69,7 @@ carried-over one other p text signature knows is =
     verified-by (keys_of other p) p text signature v.g v.key v.named (knows v.g v.key v.named v.known) v.answer
 
 -- a number at which there is a key is that of a party
-known-number : (lists : List (List LmsPublic)) (n g : ℕ) (key : LmsPublic) → slice_get (keys_at lists n) g ≡ Some key → n < length lists
+pub known-number : (lists : List (List LmsPublic)) (n g : ℕ) (key : LmsPublic) → slice_get (keys_at lists n) g ≡ Some key → n < length lists
 known-number [] n g key is = absurd cc
 known-number (keys ∷ lists) zero g key is = omega arith
 known-number (keys ∷ lists) (suc n) g key is = let rest = known-number lists n g key is in omega (arith, rest)

@@ -2,13 +2,12 @@
 use Rattle.std.proofs.Common.{◌≡◌, ℕ, zero, suc, ◌+◌, ◌<◌, ◌≤◌, ◌^◌, ◌⊎◌, inl, inr, List, [], ◌∷◌, length, get_or, refl, sym, ap, ◌∙◌, subst, arith, Bool, true, false, not, ◌&&◌, ◌||◌, eqb, Some}
 use Rattle.std.specs.Prelude.{All, IsTrue, map}
 use Rattle.std.specs.List.{list_any}
-use Rattle.std.proofs.lemmas.Bool.{and_parts, eq-eqb, eqb-true}
+use Rattle.std.proofs.lemmas.Bool.{and_parts, eq-eqb, eqb-true, or_right, not-true}
 use Rattle.std.proofs.lemmas.List.{length-map}
 use Rattle.std.proofs.lemmas.List.Elements.{All-contains, recursion_from_All}
 use Rattle.std.proofs.lemmas.Slice.Eq.{bytes_eq-Decides}
 use Rattle.ar_base.specs.Bytes.{IsDigest}
 use Rattle.ar_base.specs.Counting.{one_if}
-use Rattle.ar_base.proofs.Digests.{sha256-IsDigest}
 use Rattle.ar_statement.specs.declared.party.Role.{Role}
 use Rattle.ar_statement.specs.declared.party.Role.TheVariants.{LogServer}
 use Rattle.ar_statement.specs.declared.party.Party.{Party}
@@ -20,12 +19,12 @@ use Rattle.party_keys.specs.Seen.{Saw, log_party}
 use Rattle.vote_quorum.specs.Counted.{AtLeast, count_below}
 use Rattle.vote_quorum.specs.Statuses.{Status, is_for}
 use Rattle.vote_quorum.specs.declared.value.Value.{Value}
-use Rattle.vote_quorum.proofs.Counting.{among}
-use Rattle.vote_quorum.proofs.Counts.{Contains-from_among, at_least_wider, count_below-among, count_below-either, count_below-wider}
+use Rattle.vote_quorum.proofs.Counting.{among, Contains-from_among}
+use Rattle.vote_quorum.proofs.Counts.{at_least_wider, count_below-among, count_below-either, count_below-wider}
 use Rattle.vote_quorum.proofs.Below.{count_below-both, distinct_count-below}
 use Rattle.vote_quorum.proofs.Silence.{no_quorum}
-use Rattle.domain_table.specs.Tables.{Table}
 use Rattle.domain_table.specs.Tree.{root_of}
+use Rattle.domain_table.proofs.Trees.{root-digest}
 use Rattle.epoch_log.specs.Honest.{HonestLog}
 use Rattle.epoch_log.specs.Record.{base_of, ending}
 use Rattle.ar_council.specs.Values.{IsValue, status_claim, vote_claim}
@@ -54,10 +53,6 @@ some_below (suc n) p more = by (p n) refl (some_below n p)
         let r = rest (omega (arith, more, none)) in
         (r.0, (omega (arith, r.1.0), r.1.1))
 
-or-true : (a b : Bool) → b ≡ true → (a || b) ≡ true
-or-true true b e = refl
-or-true false b e = e
-
 numbers : List Party → List ℕ
 numbers parties = map (λ p. p.number) parties
 
@@ -75,7 +70,7 @@ dishonest-among role (p ∷ parties) k e = by (is_party (party role k) p) refl (
         ap (λ b. b || among k (map (λ (q : Party). q.number) parties)) same
     by false is rest =
         let later : (false || list_any (is_party (party role k)) parties) ≡ true = subst (λ b. (b || list_any (is_party (party role k)) parties) ≡ true) is e in
-        or-true (eqb p.number k) (among k (map (λ (q : Party). q.number) parties)) (rest later)
+        or_right (eqb p.number k) (among k (map (λ (q : Party). q.number) parties)) (rest later)
 
 -- at most two parties of a role are dishonest
 pub few-dishonest : (r : Records) → Few r → (role : Role) (n : ℕ) → count_below n (λ k. is_dishonest r (party role k)) ≤ 2
@@ -85,10 +80,6 @@ few-dishonest r few role n =
     let most = count_below-among n (numbers r.dishonest) in
     let many = length-map r.dishonest (λ (p : Party). p.number) in
     omega (arith, wider, most, many, few)
-
-pub not-false : (b : Bool) → not b ≡ true → b ≡ false
-not-false true e = absurd cc
-not-false false e = refl
 
 pub split : (d b : Bool) → b ≡ true → (d || (b && not d)) ≡ true
 split true b e = refl
@@ -117,7 +108,7 @@ witness r honest few P Q a b =
     let k : ℕ = some.0 in
     let parts = and_parts (p k && s k) (not (d k)) some.1.1 in
     let two = and_parts (p k) (s k) parts.0 in
-    (k, (record { known = some.1.0; honest = not-false (d k) parts.1 }, has r.council.quorum n P a k two.0, has r.council.quorum n Q b k two.1))
+    (k, (record { known = some.1.0; honest = not-true (d k) parts.1 }, has r.council.quorum n P a k two.0, has r.council.quorum n Q b k two.1))
 
 -- what an honest log backs it voted for
 pub backs-voted : (r : Records) (epoch : ℕ) (to : List ℕ) (k : ℕ) → IsHonestLog r k → Backs r epoch to k → (from : List ℕ) × HasVoted (r.logs k).voted epoch (record { base = from; root = to })
@@ -151,9 +142,6 @@ votes-back r honest seen signed n less value are saw =
         let valid = valid-vote log n value (small r honest log below) less are in
         let there = signed (log_party log) (text_of (vote_claim log (n + 1) value)) is one in
         inr (is, (value.base, (votes-signed r.council log (r.logs log) (n + 1) value (honest.logs log is) valid).0 there))
-
-pub root-digest : (table : Table) → IsDigest (root_of table)
-root-digest table = sha256-IsDigest _
 
 before : (epoch : ℕ) → 1 ≤ epoch → (n : ℕ) × (epoch ≡ n + 1)
 before zero least = absurd (omega (arith, least))

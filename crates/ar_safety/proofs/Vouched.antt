@@ -5,10 +5,11 @@ use Rattle.std.specs.Prelude.{All, Contains, unwrap_or}
 use Rattle.std.specs.FinMap.{get}
 use Rattle.std.specs.Option.{option_map}
 use Rattle.std.proofs.lemmas.List.Elements.{All-contains, recursion_from_All}
-use Rattle.std.proofs.lemmas.Bool.{and_parts}
+use Rattle.std.proofs.lemmas.Bool.{and_parts, not-true}
 use Rattle.ar_cert.specs.Certificate.{Certificate, digest_of}
 use Rattle.ar_cert.specs.Changes.{Change}
 use Rattle.ar_cert.specs.Judging.{IsAccepted, endorsers_of}
+use Rattle.ar_cert.proofs.Digests.{digest-fits}
 use Rattle.ar_statement.specs.Claims.{endorse, text_of}
 use Rattle.ar_statement.specs.Ranges.{IsValid}
 use Rattle.ar_statement.specs.declared.party.Role.TheVariants.{Authority}
@@ -17,8 +18,8 @@ use Rattle.key_roll.specs.Book.{texts_of}
 use Rattle.party_keys.specs.Seen.{Saw, authority_party}
 use Rattle.vote_quorum.specs.Numbers.{distinct_count}
 use Rattle.vote_quorum.proofs.Below.{distinct_count-below}
-use Rattle.vote_quorum.proofs.Counting.{among}
-use Rattle.vote_quorum.proofs.Counts.{Contains-from_among, count_below-either, count_below-wider}
+use Rattle.vote_quorum.proofs.Counting.{among, Contains-from_among}
+use Rattle.vote_quorum.proofs.Counts.{count_below-either, count_below-wider}
 use Rattle.domain_table.specs.Sound.{IsChainOf, Waits}
 use Rattle.domain_table.specs.Tables.{Pending, Table, certificates_of, chain_of, pair_of}
 use Rattle.ar_council.specs.Council.{IsMember}
@@ -26,13 +27,12 @@ use Rattle.epoch_log.specs.Honest.{HonestLog}
 use Rattle.epoch_log.specs.Right.{SawEndorsements}
 use Rattle.authority_core.specs.Honest.{HasAsked}
 use Rattle.authority_core.proofs.Read.{endorsed-asked}
-use Rattle.authority_core.proofs.Keeping.{digest-fits}
 use Rattle.ar_safety.specs.Agreed.{Agreed, IsVouchedFor}
 use Rattle.ar_safety.specs.Hashed.{StandsIn}
 use Rattle.ar_safety.specs.Records.{IsHonest, Records, is_dishonest}
 use Rattle.ar_safety.specs.Theorem.{AreHonest, Few, NoCollision, NoForgery}
 use Rattle.ar_safety.proofs.Agreement.{Endorsed, agreed-follows, agreed-listed}
-use Rattle.ar_safety.proofs.Votes.{few-dishonest, not-false, some_below, split}
+use Rattle.ar_safety.proofs.Votes.{few-dishonest, some_below, split}
 
 -- ---- at least three endorsers
 
@@ -88,7 +88,7 @@ honest-endorser r few seen members change saw three =
     let parts = and_parts (p some.0) (not (d some.0)) some.1.1 in
     record {
       number = some.0;
-      honest = record { known = some.1.0; honest = not-false (d some.0) parts.1 };
+      honest = record { known = some.1.0; honest = not-true (d some.0) parts.1 };
       saw = All-contains (λ a. Saw seen (authority_party a) (endorse a (digest_of change.cert))) xs some.0 saw (Contains-from_among xs some.0 parts.0);
     }
   where

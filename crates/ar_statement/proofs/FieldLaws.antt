@@ -5,8 +5,9 @@ use Rattle.std.specs.Int.{w8, w64}
 use Rattle.std.proofs.lemmas.Bool.{le-leb, leb-true, and_parts, and_from}
 use Rattle.ar_bytes.specs.Reading.{Cursor, bytes_at, number_at, such_that}
 use Rattle.ar_base.specs.Bytes.{AreBytes, IsDigest}
+use Rattle.ar_base.proofs.Shown.{bind_ok}
 use Rattle.ar_bytes.specs.RoundTrip.{Passes, ReadsBack, number_text}
-use Rattle.ar_bytes.proofs.Steps.{bind_ok, between, Passes-then, Passes-first, Passes-second, AreBytes-behind}
+use Rattle.ar_bytes.proofs.Steps.{between, Passes-then, Passes-first, Passes-second, AreBytes-behind}
 use Rattle.ar_bytes.proofs.Passing.{bytes_again, bytes_pass, number_again, number_pass, wide8, wide64, AreBytes-front}
 use Rattle.ar_bytes.proofs.Parts.{such_that_again, such_that_pass}
 use Rattle.ar_names.specs.Names.{first_fault_of, IsName, is_name}

@@ -2,8 +2,8 @@
 use Rattle.std.proofs.Common.{◌≡◌, ℕ, true, false, List, [], ◌++◌, length, Some, None, Result, Ok, Err, refl, sym, ap, subst, ◌∙◌, arith}
 use Rattle.std.specs.Result.{result_ok}
 use Rattle.ar_base.specs.Bytes.{AreBytes}
+use Rattle.ar_base.proofs.Shown.{ok_is}
 use Rattle.ar_bytes.specs.Reading.{Cursor, whole}
-use Rattle.ar_bytes.proofs.Steps.{ok_is}
 use Rattle.ar_bytes.proofs.Parts.{whole_again, whole_pass}
 use Rattle.ar_statement.specs.Claims.{Claim, text_of}
 use Rattle.ar_statement.specs.Ranges.{IsHeld, IsTextOf, IsValid, is_in_range}

@@ -4,10 +4,11 @@ use Rattle.std.specs.Option.{option_map, ok_or}
 use Rattle.std.specs.Int.{w8, w16}
 use Rattle.std.proofs.lemmas.Bool.{cases_eq, eqb-true, ne_eqb, and_parts, and_from}
 use Rattle.ar_base.specs.Chaining.{◌>>=◌}
+use Rattle.ar_base.proofs.Shown.{bind_ok}
 use Rattle.ar_bytes.specs.Reading.{Cursor, number_at, such_that}
 use Rattle.ar_bytes.specs.RoundTrip.{Passes, ReadsBack, IsSpelledBy, number_text}
 use Rattle.ar_bytes.specs.Joined.{pair_at}
-use Rattle.ar_bytes.proofs.Steps.{bind_ok, between, Passes-then, Passes-first, Passes-second, AreBytes-behind}
+use Rattle.ar_bytes.proofs.Steps.{between, Passes-then, Passes-first, Passes-second, AreBytes-behind}
 use Rattle.ar_bytes.proofs.Passing.{number_again, number_pass, wide8, wide16}
 use Rattle.ar_bytes.proofs.Parts.{such_that_again, such_that_pass}
 use Rattle.ar_bytes.proofs.JoinedFields.{pair_again, pair_pass, mapped_again, mapped_pass}
@@ -74,7 +75,27 @@ party_pass =
     let both = pair_pass role_at (number_at w16) (λ role. number_text w8 (role_number role)) (number_text w16) (λ _. Unit {0}) (λ n. n < 2 ^ 16) role_pass (number_pass w16 (2 ^ 16) wide16) in
     mapped_pass (λ f. party f.0 f.1) (pair_at role_at (number_at w16)) (λ f. number_text w8 (role_number f.0) ++ number_text w16 f.1) (λ f. Unit {0} × (f.1 < 2 ^ 16)) party_text (λ signer. signer.number < 2 ^ 16) both (λ f h. (refl, h.1))
 
-is_party-self : (signer : Party) → is_party signer signer ≡ true
+-- one number, one role
+pub same_role : (one other : Role) → role_number one ≡ role_number other → one ≡ other
+same_role LogServer LogServer e = refl
+same_role LogServer Authority e = absurd cc
+same_role LogServer Owner e = absurd cc
+same_role LogServer Client e = absurd cc
+same_role Authority LogServer e = absurd cc
+same_role Authority Authority e = refl
+same_role Authority Owner e = absurd cc
+same_role Authority Client e = absurd cc
+same_role Owner LogServer e = absurd cc
+same_role Owner Authority e = absurd cc
+same_role Owner Owner e = refl
+same_role Owner Client e = absurd cc
+same_role Client LogServer e = absurd cc
+same_role Client Authority e = absurd cc
+same_role Client Owner e = absurd cc
+same_role Client Client e = refl
+
+-- a party is itself
+pub is_party-self : (signer : Party) → is_party signer signer ≡ true
 is_party-self signer = and_from (eqb (role_number signer.role) (role_number signer.role)) (eqb signer.number signer.number) (eq-eqb (role_number signer.role) (role_number signer.role) refl) (eq-eqb signer.number signer.number refl)
 
 -- one party has one text

@@ -3,6 +3,7 @@ use Rattle.std.proofs.Common.{◌≡◌, ◌≢◌, ℕ, zero, suc, ◌+◌, ◌
 use Rattle.std.specs.Prelude.{IfOk, position, slice_set}
 use Rattle.ar_base.specs.Chaining.{◌>>=◌}
 use Rattle.ar_base.specs.Gives.{with_error}
+use Rattle.ar_base.proofs.Shown.{if-chained}
 use Rattle.ar_cert.specs.Certificate.{Certificate, digest_of}
 use Rattle.ar_cert.specs.Changes.{Change}
 use Rattle.ar_message.specs.declared.sent.Sent.{Sent}
@@ -31,7 +32,6 @@ use Rattle.ar_world.specs.Submitting.{attached, attached_by, handed, handover_li
 use Rattle.ar_nodes.specs.declared.fault.WorldFault.{WorldFault}
 use Rattle.ar_nodes.specs.declared.fault.WorldFault.TheVariants as faults
 use Rattle.ar_world.proofs.Drafts.{draft_is_at, owner_is_at, owner_number, owner_put, same_item, steps_as}
-use Rattle.ar_world.proofs.Effects.{if-chained}
 use Rattle.ar_nodes.proofs.Found.{item_kept, owner_nowhere}
 use Rattle.ar_world.proofs.Orders.{acts-steps}
 use Rattle.ar_world.proofs.OwnerReplies.{owner-answers, owner-steps}

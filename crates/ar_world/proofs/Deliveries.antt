@@ -6,6 +6,7 @@ use Rattle.std.specs.Option.{option_map}
 use Rattle.std.specs.Result.{is_ok}
 use Rattle.ar_base.specs.Chaining.{◌>>=◌}
 use Rattle.ar_base.specs.Gives.{with_error}
+use Rattle.ar_base.proofs.Shown.{if-chained}
 use Rattle.ar_message.specs.Messages.{message_in}
 use Rattle.ar_message.specs.declared.message.Message.{Message}
 use Rattle.ar_message.specs.declared.message.Message.TheVariants.{EndorseAsk, Endorsed, Submit, Propose, Ballot, StatusNote, Decision, SkipNote, ConfirmAsk, LogConfirmed, HalfConfirmed, Confirmation, RollNote}
@@ -46,7 +47,6 @@ use Rattle.ar_nodes.specs.declared.event.LogEvent.TheVariants as events
 use Rattle.ar_nodes.specs.declared.fault.WorldFault.{WorldFault}
 use Rattle.ar_nodes.specs.declared.fault.WorldFault.TheVariants.{Absent, Limit}
 use Rattle.ar_world.proofs.Drafts.{owner_is_at}
-use Rattle.ar_world.proofs.Effects.{if-chained}
 use Rattle.ar_world.proofs.Orders.{authority-steps, authority_made, log-answers, log-steps, log_made, room-free}
 use Rattle.ar_world.proofs.OwnerReplies.{owner-answers, owner-steps, owner_made}
 

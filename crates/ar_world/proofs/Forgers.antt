@@ -1,12 +1,14 @@
 -- Dishonest parties, and the leaves by which they sign.
-use Rattle.std.proofs.Common.{◌≡◌, ℕ, zero, suc, ◌+◌, ◌<◌, ◌≤◌, ◌⊎◌, inl, inr, Bool, true, false, ◌&&◌, eqb, cond, List, [], ◌∷◌, ◌++◌, length, get_or, Option, Some, None, Result, Ok, Err, IfErr, refl, sym, ap, subst, ◌∙◌, arith}
+use Rattle.std.proofs.Common.{◌≡◌, ℕ, ◌+◌, ◌<◌, ◌≤◌, ◌⊎◌, inl, inr, Bool, true, false, ◌&&◌, eqb, List, [], ◌∷◌, ◌++◌, length, get_or, Option, Some, None, Result, Ok, Err, IfErr, refl, sym, ap, subst, ◌∙◌, arith}
 use Rattle.std.specs.Prelude.{IfOk, find, nat_lt, position, slice_get, slice_set}
 use Rattle.std.specs.List.{position_or_len}
 use Rattle.std.proofs.lemmas.Bool.{and_parts, eqb-true, ltb-false, ltb-true}
 use Rattle.std.proofs.lemmas.List.Folds.{find_at}
 use Rattle.std.proofs.lemmas.List.Quantifiers.{position-Some}
-use Rattle.std.proofs.lemmas.Option.{slice_get_cases, slice_get_read}
+use Rattle.std.proofs.lemmas.Option.{slice_get_cases, slice_get_read, cond_some}
 use Rattle.ar_base.specs.Chaining.{◌>>=◌}
+use Rattle.ar_base.proofs.Shown.{cond_none}
+use Rattle.ar_base.proofs.Lists.{has-item}
 use Rattle.ar_statement.specs.Claims.{role_number}
 use Rattle.ar_statement.specs.declared.party.Party.{Party}
 use Rattle.report_text.specs.declared.happening.Happening.{Happening}
@@ -41,31 +43,16 @@ same-place who fs forger same =
     let number = eqb-true who.number forger.party.number parts.1 in
     ap (λ r. position (has_numbers r forger.party.number) fs) (sym role) ∙ ap (λ n. position (has_numbers (role_number who.role) n) fs) (sym number)
 
--- what a test chose
-chosen : (b : Bool) (n place : ℕ) → cond b (Some n) None ≡ Some place → (b ≡ true) × (n ≡ place)
-chosen true n place h = (refl, cc)
-chosen false n place h = absurd cc
-
-chosen-none : (b : Bool) (n : ℕ) → cond b (Some n) None ≡ None → b ≡ false
-chosen-none true n h = absurd cc
-chosen-none false n h = refl
-
--- a list has an item at a place within it
-has-item : {X : Type 0} (xs : List X) (place : ℕ) → place < length xs → (x : X) × (slice_get xs place ≡ Some x)
-has-item [] place less = absurd (omega arith)
-has-item (x ∷ xs) zero less = (x, refl)
-has-item (x ∷ xs) (suc place) less = has-item xs place (omega arith)
-
 forger-within : (who : Party) (fs : List Forger) (place : ℕ) → position (is_forger who) fs ≡ Some place → place < length fs
 forger-within who fs place here =
-    let c = chosen (nat_lt (position_or_len (is_forger who) fs) (length fs)) (position_or_len (is_forger who) fs) place here in
+    let c = cond_some (nat_lt (position_or_len (is_forger who) fs) (length fs)) (position_or_len (is_forger who) fs) place here in
     omega (arith, ltb-true (position_or_len (is_forger who) fs) (length fs) c.0, c.1)
 
 forger-is-at : (who : Party) (fs : List Forger) (place : ℕ) (me : Forger) → position (is_forger who) fs ≡ Some place → slice_get fs place ≡ Some me
     → find (is_forger who) fs ≡ Some me
 forger-is-at who fs place me here is =
     let at = position_or_len (is_forger who) fs in
-    find_at (is_forger who) fs ∙ ap (slice_get fs) (chosen (nat_lt at (length fs)) at place here).1 ∙ is
+    find_at (is_forger who) fs ∙ ap (slice_get fs) (cond_some (nat_lt at (length fs)) at place here).1 ∙ is
 
 -- it has its place by its own name, too
 own-place : (who : Party) (fs : List Forger) (place : ℕ) (me : Forger) → position (is_forger who) fs ≡ Some place → me ≡ get_or fs place me
@@ -76,7 +63,7 @@ own-place who fs place me here is = same-place who fs me (ap (is_forger who) is 
 pub absent : (who : Party) (fs : List Forger) → position (is_forger who) fs ≡ None → find (is_forger who) fs ≡ None
 absent who fs h =
     let at = position_or_len (is_forger who) fs in
-    let none : length fs ≤ at = ltb-false at (length fs) (chosen-none (nat_lt at (length fs)) at h) in
+    let none : length fs ≤ at = ltb-false at (length fs) (cond_none (nat_lt at (length fs)) at h) in
     find_at (is_forger who) fs ∙ elim (slice_get_cases fs at).1 [
       | inl some ↦ absurd (omega (arith, some.1, none))
       | inr past ↦ past.1

@@ -2,7 +2,6 @@ pub mod Answered
 pub mod Deliveries
 pub mod Drafts
 pub mod Due
-pub mod Effects
 pub mod FirstParties
 pub mod Forgers
 pub mod Learnt

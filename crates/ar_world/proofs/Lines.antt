@@ -3,6 +3,7 @@ use Rattle.std.proofs.Common.{◌≡◌, ℕ, zero, suc, ◌+◌, List, [], ◌�
 use Rattle.std.specs.Prelude.{Bool, true, false, if◌then◌else◌, map, Option, Some, None, Result, Ok, Err, IfOk, is_none, length, nat_lt}
 use Rattle.std.specs.List.{list_any, range_with_len}
 use Rattle.ar_base.specs.Chaining.{◌>>=◌}
+use Rattle.ar_base.proofs.Shown.{if-chained}
 use Rattle.ar_message.specs.declared.sent.Sent.{Sent}
 use Rattle.ar_statement.specs.Claims.{is_party, party}
 use Rattle.ar_statement.specs.declared.party.Party.{Party}
@@ -68,7 +69,6 @@ use Rattle.report_text.specs.declared.happening.What.TheVariants as whats
 use Rattle.report_text.specs.declared.happening.What.TheVariants.{Handover, Object, Submit, Take}
 use Rattle.ar_nodes.specs.Codes.{authority_code, log_code, owner_code}
 use Rattle.ar_nodes.specs.declared.event.LogEvent.TheVariants as events
-use Rattle.ar_world.proofs.Effects.{if-chained}
 use Rattle.ar_world.proofs.Pools.{set-alike, tells-both, tells-from, tells-messages, tells-none}
 
 -- ---- outcomes

@@ -2,6 +2,7 @@
 use Rattle.std.proofs.Common.{◌≡◌, ◌≢◌, refl, ap, ◌∙◌, true, false, nat_lt, Option, Some, None, IfOk}
 use Rattle.std.specs.Prelude.{Ok, Err}
 use Rattle.ar_base.specs.Chaining.{◌>>=◌}
+use Rattle.ar_base.proofs.Shown.{if-chained}
 use Rattle.owner_check.specs.declared.answer.Outcome.{Outcome}
 use Rattle.script_text.specs.declared.line.Line.{Line}
 use Rattle.ar_world.specs.Finding.{Effect}
@@ -12,7 +13,6 @@ use Rattle.ar_world.specs.Step.{effect, leads_to, step, stepped}
 use Rattle.ar_nodes.specs.declared.fault.WorldFault.TheVariants.{Order}
 use Rattle.ar_world.specs.declared.phase.Phase.{Phase}
 use Rattle.ar_world.specs.declared.phase.Phase.TheVariants as phase
-use Rattle.ar_world.proofs.Effects.{if-chained}
 
 -- a line that may not come is refused
 refused : (w : World) (next : Phase) (made : Effect) → may_come w.phase next ≡ false → in_order w next made ≡ Err Order

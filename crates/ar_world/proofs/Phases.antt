@@ -48,7 +48,7 @@ use Rattle.ar_nodes.specs.declared.event.LogEvent.{LogEvent}
 use Rattle.ar_nodes.specs.declared.event.LogEvent.TheVariants as events
 use Rattle.ar_nodes.specs.declared.fault.WorldFault.TheVariants.{Absent}
 use Rattle.ar_world.specs.declared.phase.Phase.TheVariants as phase
-use Rattle.ar_world.proofs.Effects.{if-chained}
+use Rattle.ar_base.proofs.Shown.{if-chained}
 
 -- the phase is the same behind it
 abbrev Stays : World → Moved → Type 0

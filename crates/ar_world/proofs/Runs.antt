@@ -28,9 +28,9 @@ use Rattle.ar_world.specs.declared.cause.Cause.TheVariants.{Unread}
 use Rattle.ar_nodes.specs.declared.event.LogEvent.TheVariants as events
 use Rattle.ar_nodes.specs.declared.fault.WorldFault.TheVariants.{Order}
 use Rattle.ar_world.specs.declared.phase.Phase.{Phase}
-use Rattle.ar_world.proofs.Effects.{if-chained}
 use Rattle.ar_world.proofs.Lines.{ask-tells, authorities-tells, check-line-tells, deliver-tells, dishonest-tells, handover-tells, inject-tells, judge-tells, keys-tells, learn-tells, log-order-tells, logs-tells, object-tells, owner-line-tells, quiet, register-tells, retire-tells, revoke-tells, roll-tells, sign-tells, submit-tells, update-tells}
 use Rattle.ar_world.proofs.Pools.{entries-alike, tells-both}
+use Rattle.ar_base.proofs.Shown.{if-chained}
 
 -- ---- a step
 

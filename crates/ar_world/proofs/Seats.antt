@@ -1,5 +1,6 @@
 -- Worlds in which a log changed in its place.
-use Rattle.std.proofs.Common.{◌≡◌, ◌<◌, ◌^◌, ℕ, zero, suc, List, [], ◌∷◌, length, Option, Some, refl, sym, ap, subst}
+use Rattle.std.proofs.Common.{◌<◌, ◌^◌, ℕ, List, Option, Some, sym, subst}
+use Rattle.std.proofs.lemmas.List.{length-set}
 use Rattle.std.specs.Prelude.{slice_set}
 use Rattle.ar_nodes.specs.Acting.{ChangesAt}
 use Rattle.ar_nodes.specs.Parties.{LogNode}
@@ -9,16 +10,11 @@ use Rattle.ar_world.specs.Kept.{IsKeptWorld}
 use Rattle.ar_world.specs.State.{Drafted}
 use Rattle.ar_world.specs.declared.phase.Phase.{Phase}
 
-set-long : {X : Type 0} (xs : List X) (i : ℕ) (x : X) → length (slice_set xs i x) ≡ length xs
-set-long [] i x = refl
-set-long (y ∷ xs) zero x = refl
-set-long (y ∷ xs) (suc i) x = ap suc (set-long xs i x)
-
 -- a world in which a log changed is one that the program keeps
 pub still_kept : (phase : Phase) (setup : Setup) (log_keys : FirstKeys) (directories : Option Directories) (drafts : List Drafted) (logs : List (Option LogNode)) (number : ℕ) (slot : Option LogNode)
     → IsKeptWorld phase setup log_keys directories drafts logs → IsKeptWorld phase setup log_keys directories drafts (slice_set logs number slot)
 still_kept phase setup log_keys directories drafts logs number slot kept =
-    record { keys = kept.keys; known = kept.known; serials = kept.serials; few = subst (λ (n : ℕ). n < 2 ^ 16) (sym (set-long logs number slot)) kept.few }
+    record { keys = kept.keys; known = kept.known; serials = kept.serials; few = subst (λ (n : ℕ). n < 2 ^ 16) (sym (length-set logs number slot)) kept.few }
 
 -- the same by what changed
 pub kept_there : (phase : Phase) (setup : Setup) (log_keys : FirstKeys) (directories : Option Directories) (drafts : List Drafted) (logs logs' : List (Option LogNode)) (number : ℕ)

@@ -12,12 +12,13 @@ use Rattle.script_text.proofs.WordsWritten.{party_count_writes, quorum_writes}
 use Rattle.ar_lines.specs.Readings.{LineCursor, no_line_at, spelled, start_of_lines, word_at}
 use Rattle.ar_lines.specs.Rows.{field_at, is_next, no_row_at, two_fields_at, value_at}
 use Rattle.ar_base.specs.Chaining.{◌>>=◌}
+use Rattle.ar_base.proofs.Shown.{bind_ok, ok_is}
 use Rattle.arpki_play.specs.Notes.{learnt_from}
 use Rattle.arpki_play.specs.Questions.{Question, question_at}
-use Rattle.ar_lines.specs.Written.{Writes, hex_of_key, named}
+use Rattle.ar_lines.specs.Written.{hex_of_key, named}
 use Rattle.arpki_play.specs.Written.{Asking, IsLearnt, authorities_line, inquiry_lines, inquiry_of, key_line, learnt_from_all, roll_line, logs_line, question_lines}
-use Rattle.ar_lines.proofs.RowsWritten.{behind, bind_ok, field_is, hex_writes, no_line_is, no_row_is, ok_is, spelled_some, two_fields_are, value_is, word_is}
-use Rattle.ar_lines.proofs.Respelled.{key_hex_own, name_own, number_own, passing_some}
+use Rattle.ar_lines.proofs.RowsWritten.{behind, field_is, hex_writes, no_line_is, no_row_is, spelled_some, two_fields_are, value_is, word_is}
+use Rattle.ar_lines.proofs.Respelled.{key_hex_own, name_own, number_own}
 
 -- ---- the question of `sig`
 

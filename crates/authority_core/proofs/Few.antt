@@ -1,16 +1,14 @@
 -- How many messages a step sends, before it is signed and then.
-use Rattle.std.proofs.Common.{◌≡◌, ℕ, ◌≤◌, List, length, Bool, true, false, Result, Ok, Err, sym, ap, subst, arith}
+use Rattle.std.proofs.Common.{◌≡◌, ℕ, ◌≤◌, List, length, Bool, true, false, Result, Ok, Err, ap, subst, arith}
 use Rattle.std.specs.Prelude.{map}
 use Rattle.ar_cert.specs.Certificate.{Certificate}
-use Rattle.ar_message.proofs.Filled.{same_count}
-use Rattle.ar_message.specs.Filling.{filled, nothing, zeros}
+use Rattle.ar_message.specs.Filling.{nothing, zeros}
 use Rattle.ar_message.specs.Messages.{message_text}
 use Rattle.ar_message.specs.declared.address.Address.{Address}
 use Rattle.ar_message.specs.declared.address.Address.TheVariants.{Logs, One}
 use Rattle.ar_message.specs.declared.message.Confirming.{Confirming}
 use Rattle.ar_message.specs.declared.message.Message.{Message}
 use Rattle.ar_message.specs.declared.message.Message.TheVariants.{EndorseAsk, Endorsed, Submit, Propose, Ballot, StatusNote, Decision, SkipNote, ConfirmAsk, LogConfirmed, HalfConfirmed, Confirmation, RollNote}
-use Rattle.ar_message.specs.declared.sent.Sent.{Sent}
 use Rattle.ar_message.specs.declared.unsigned.Unsigned.{Unsigned}
 use Rattle.ar_statement.specs.Claims.{party}
 use Rattle.ar_statement.specs.declared.party.Role.TheVariants.{Client, Owner}
@@ -18,7 +16,6 @@ use Rattle.ar_statement.specs.declared.text.SeenText.{SeenText}
 use Rattle.key_roll.specs.Due.{DueParts}
 use Rattle.key_roll.specs.Entry.{roll_text, rolled}
 use Rattle.key_roll.specs.declared.fault.RollFault.{RollFault}
-use Rattle.lms_tree.specs.KeyParts.{KeyParts}
 use Rattle.lms_tree.specs.declared.public_key.LmsPublic.{LmsPublic}
 use Rattle.owner_check.specs.declared.answer.Outcome.{Outcome}
 use Rattle.party_keys.specs.Learning.{Announced, learned}
@@ -129,10 +126,3 @@ row-few s retired (Ok m) said later sent is = message-few s retired m said later
 row-few s retired (Err place) said later sent is = absurd cc
 
 -- ---- signed
-
--- as many messages are sent once they are signed
-pub filled-few : (keys : List KeyParts) (unsigned : Unsigned) (sent : Sent) → length unsigned.sent.messages ≤ most_sent → sent ≡ filled keys unsigned
-    → length sent.messages ≤ most_sent
-filled-few keys unsigned sent few is =
-    let many : length (filled keys unsigned).messages ≡ length unsigned.sent.messages = same_count keys unsigned.blanks unsigned.sent.messages in
-    subst (λ (s : Sent). length s.messages ≤ most_sent) (sym is) (subst (λ n. n ≤ most_sent) (sym many) few)

@@ -1,5 +1,5 @@
 -- A record stays an honest authority's when more is seen, asked, kept or signed.
-use Rattle.std.proofs.Common.{◌≡◌, ℕ, ◌<◌, ◌^◌, inl, List, [], ◌∷◌, ◌++◌, refl, sym, ap, subst, arith, Bool, true, false, cond, ◌&&◌, ◌==◌, Option, Some, None}
+use Rattle.std.proofs.Common.{◌≡◌, ℕ, ◌<◌, ◌^◌, inl, List, [], ◌∷◌, ◌++◌, refl, sym, subst, arith, Bool, true, false, cond, ◌&&◌, ◌==◌, Option, Some, None}
 use Rattle.std.specs.Prelude.{All, Contains, IfSome, map, nat_le}
 use Rattle.std.specs.List.{list_any}
 use Rattle.std.specs.Str.{bytes_eq}
@@ -27,6 +27,7 @@ use Rattle.ar_council.specs.Room.{HasRoom}
 use Rattle.ar_council.specs.Seen.{seen_after, seen_of}
 use Rattle.ar_council.specs.Values.{confirmation_by, is_same_digest, vote_claim}
 use Rattle.ar_council.proofs.Votes.{votes-more}
+use Rattle.ar_council.proofs.Values.{one_digest}
 use Rattle.ar_council.specs.Votes.{SawVotes}
 use Rattle.authority_core.specs.Calls.{MayConfirm, after_endorse, after_half_confirmed, after_learn, after_log_confirmed, after_roll, confirming, fresh_authority, is_same_asked, is_same_kept, is_same_path, kept_claim, kept_value, seen_of_half, seen_of_log, seen_of_votes, with_asked, with_kept}
 use Rattle.authority_core.specs.Honest.{HasAsked, HasKept, HonestAuthority, ToldBy}
@@ -103,12 +104,6 @@ kept-within kept k = by (list_any (λ l. is_same_kept l k) kept)
     by true = same-within kept
     by false = pushed-within kept k
 
-digests-same : (one other : Option (List ℕ)) → is_same_digest one other ≡ true → one ≡ other
-digests-same None None is = refl
-digests-same (Some one) (Some other) is = ap (λ d. Some d) ((bytes_eq-Decides one other).0 is)
-digests-same None (Some other) is = absurd cc
-digests-same (Some one) None is = absurd cc
-
 kept-has : (council : Council) (seen : List SeenText) (kept : List Kept) (k : Kept) → IsDigest k.base → SawVotes council seen k.epoch (kept_value k)
     → HasKept council seen (with_kept kept k) k.epoch k.name k.certificate k.root
 kept-has council seen kept k base saw = by (list_any (λ l. is_same_kept l k) kept) refl
@@ -128,7 +123,7 @@ kept-has council seen kept k base saw = by (list_any (λ l. is_same_kept l k) ke
             f.1.0,
             eqb-true l.epoch k.epoch epoch.0,
             (bytes_eq-Decides l.name k.name).0 name.0,
-            digests-same l.certificate k.certificate certificate.0,
+            one_digest l.certificate k.certificate certificate.0,
             (bytes_eq-Decides l.root k.root).0 root.0,
             subst IsDigest (sym same) base,
             subst (λ b. SawVotes council seen k.epoch (record { base = b; root = k.root })) (sym same) saw,

@@ -1,15 +1,15 @@
 -- What a row leaves is an honest authority's.
-use Rattle.std.proofs.Common.{◌≡◌, ℕ, ◌≤◌, ◌<◌, ◌^◌, ◌-◌, ◌==◌, ◌&&◌, not, List, [], ◌∷◌, ◌++◌, map, nat_le, Bool, true, false, cond, Option, Some, None, Result, Ok, Err, refl, sym, ap, subst, ◌∙◌, arith}
-use Rattle.std.specs.Prelude.{All, IfSome}
-use Rattle.std.specs.Option.{option_map}
+use Rattle.std.proofs.Common.{◌≡◌, ℕ, ◌≤◌, ◌<◌, ◌^◌, ◌-◌, ◌==◌, ◌&&◌, not, List, [], ◌∷◌, ◌++◌, map, nat_le, Bool, true, false, cond, Result, Ok, Err, refl, sym, ap, subst, ◌∙◌, arith}
+use Rattle.std.specs.Prelude.{All}
 use Rattle.std.proofs.lemmas.Bool.{le-leb, leb-true}
 use Rattle.std.proofs.lemmas.Bool.Decides.{nat_tests}
 use Rattle.std.proofs.lemmas.List.Elements.{All-head, All-map, All-tail}
 use Rattle.ar_base.specs.Bytes.{IsDigest}
 use Rattle.ar_base.specs.FirstFailing.{first_failing}
 use Rattle.ar_base.specs.Gives.{with_error}
-use Rattle.ar_base.proofs.Digests.{sha256-IsDigest}
-use Rattle.ar_cert.specs.Certificate.{Certificate, digest_of}
+use Rattle.ar_base.proofs.Failing.{first-holds}
+use Rattle.ar_base.proofs.Giving.{no-error}
+use Rattle.ar_cert.proofs.Digests.{digest-fits-if-there}
 use Rattle.ar_council.specs.Council.{Council, IsMember, council_of}
 use Rattle.ar_council.proofs.Lists.{All-unmap, all-left, all-right}
 use Rattle.ar_council.proofs.Members.{all-members, council-adopting, council-learning, member, note-known}
@@ -67,17 +67,10 @@ pub order-then : {A : Type 0} (c : Result (Unit {0}) AuthorityRefusal) (later : 
 order-then (Ok u) later x is = is
 order-then (Err refusal) later x is = absurd cc
 
-signers-passed : (r : Result (Unit {0}) SignerFault) → with_error of_signers r ≡ Ok tt → r ≡ Ok tt
-signers-passed (Ok u) is = refl
-signers-passed (Err fault) is = absurd cc
-
-both-first : (one other : Result (Unit {0}) SignerFault) → and_then one other ≡ Ok tt → one ≡ Ok tt
+-- the first of two checks that both pass
+pub both-first : (one other : Result (Unit {0}) SignerFault) → and_then one other ≡ Ok tt → one ≡ Ok tt
 both-first (Ok u) other is = refl
 both-first (Err fault) other is = absurd cc
-
-first-holds : (refusal : AuthorityRefusal) (test : Bool) (tests : List (AuthorityRefusal × Bool)) → first_failing ((refusal, test) ∷ tests) ≡ Ok tt → test ≡ true
-first-holds refusal true tests is = refl
-first-holds refusal false tests is = absurd cc
 
 second-holds : (refusal other : AuthorityRefusal) (before test : Bool) (tests : List (AuthorityRefusal × Bool)) → first_failing ((refusal, before) ∷ ((other, test) ∷ tests)) ≡ Ok tt → test ≡ true
 second-holds refusal other true test tests is = first-holds other test tests is
@@ -98,7 +91,7 @@ passed-members : (s : AuthorityState) (chosen : ℕ) (parties : List Party) (cla
 passed-members s chosen parties claims part is =
     all-members s.keys parties
     (both-first (all_known s.keys parties) (all_signed s.keys claims)
-    (signers-passed (signers_answer s.keys parties claims)
+    (no-error of_signers (signers_answer s.keys parties claims) tt
     (order-first (with_error of_signers (signers_answer s.keys parties claims)) (first_failing (content_tests s.keys.quorum part)) tt (behind-first s chosen parties claims part is))))
 
 -- the tests of the content behind the first
@@ -119,15 +112,8 @@ passed-shown s chosen parties claims part is =
 
 -- ---- a confirmation may be confirmed
 
-pub digest-fits : (certificate : Certificate) → IsDigest (digest_of certificate)
-unfolding digest_of
-digest-fits certificate = sha256-IsDigest _
-
-certificate-fits : (o : Option Certificate) → IfSome (option_map digest_of o) IsDigest
-certificate-fits None = tt
-certificate-fits (Some certificate) = digest-fits certificate
-
-epoch-test : (epoch : ℕ) → 1 ≤ epoch → epoch ≤ 2 ^ 63 → is_epoch epoch ≡ true
+-- the test of an epoch
+pub epoch-test : (epoch : ℕ) → 1 ≤ epoch → epoch ≤ 2 ^ 63 → is_epoch epoch ≡ true
 epoch-test epoch least most = ap (λ (b : Bool). b && nat_le epoch (2 ^ 63)) (le-leb 1 epoch least) ∙ le-leb epoch (2 ^ 63) most
 
 members-voted : (council : Council) (votes : List Vote) → All (IsMember council) (map (λ v. log_party v.log) votes) → All (λ voter. voter < council.logs) (map (λ v. v.log) votes)
@@ -144,7 +130,7 @@ may-confirm keys part authority is members many =
       many = many;
       epoch = epoch-test part.epoch is.about.epoch.0 is.about.epoch.1;
       name = is.about.name;
-      certificate = certificate-fits (confirmation.certificate_in (shown_in part.body));
+      certificate = digest-fits-if-there (confirmation.certificate_in (shown_in part.body));
       value = record { base = is.base; root = is.about.root };
     }
 

@@ -2,8 +2,8 @@
 use Rattle.std.proofs.Common.{◌≡◌, ℕ, ◌≤◌, List, Bool, true, false, Result, Ok, Err, refl, sym, subst}
 use Rattle.ar_base.specs.Bytes.{IsDigest}
 use Rattle.ar_cert.specs.Certificate.{Certificate, digest_of}
-use Rattle.ar_message.specs.Messages.{IsConfirming, IsMessage, message_text}
-use Rattle.ar_message.specs.declared.address.Address.TheVariants.{Logs}
+use Rattle.ar_cert.proofs.Digests.{digest-fits}
+use Rattle.ar_message.specs.Messages.{IsConfirming, IsMessage}
 use Rattle.ar_message.specs.declared.message.Confirming.{Confirming}
 use Rattle.ar_message.specs.declared.message.Message.{Message}
 use Rattle.ar_message.specs.declared.message.Message.TheVariants.{EndorseAsk, Endorsed, Submit, Propose, Ballot, StatusNote, Decision, SkipNote, ConfirmAsk, LogConfirmed, HalfConfirmed, Confirmation, RollNote}
@@ -27,13 +27,14 @@ use Rattle.ar_message.specs.Filling.{nothing}
 use Rattle.authority_core.specs.Confirming.{confirming_checks, parties_of, vote_count}
 use Rattle.authority_core.specs.EndorseRow.{asked_of, endorse_due, endorse_row, endorsing}
 use Rattle.authority_core.specs.Honest.{HasAsked}
-use Rattle.authority_core.specs.RollRows.{learning, roll_by, roll_message, roll_note_by, roll_note_row, roll_row, rolling}
+use Rattle.authority_core.specs.RollRows.{learning, roll_by, roll_note_by, roll_note_row, roll_row, rolling}
 use Rattle.authority_core.specs.Row.{message_row}
-use Rattle.authority_core.specs.State.{Answer, AuthorityState, IsAuthority, StepsBy, sends}
+use Rattle.authority_core.specs.State.{Answer, AuthorityState, IsAuthority, StepsBy}
 use Rattle.authority_core.specs.declared.refusal.AuthorityRefusal.{AuthorityRefusal}
 use Rattle.authority_core.specs.declared.entries.Asked.{Asked}
 use Rattle.authority_core.proofs.Growing.{asked-has}
-use Rattle.authority_core.proofs.Keeping.{digest-fits, due-state, endorse-keeps, half-keeps, log-keeps, note-keeps, order-first, order-then, passed-many, passed-shown, roll-keeps, same-state}
+use Rattle.authority_core.proofs.Keeping.{due-state, endorse-keeps, half-keeps, log-keeps, note-keeps, order-first, order-then, passed-many, passed-shown, roll-keeps, same-state}
+use Rattle.authority_core.proofs.Standing.{rolled_out}
 
 -- what is true of where an authority stands behind an answer
 abbrev pub Leaves : Answer → Type 0
@@ -67,10 +68,6 @@ note-row-keeps s a is later sent e = by (learned s.keys a) refl e
     by : (r : Result Learned LearnFault) → learned s.keys a ≡ r → roll_note_by s a r ≡ Ok (later, sent) → IsAuthority later
     by (Ok l) at h = let same : later ≡ learning s a = same-state (learning s a, nothing) (later, sent) h in subst IsAuthority (sym same) (note-keeps s a l is at)
     by (Err fault) at h = absurd cc
-
--- what is sent
-abbrev rolled_out : AuthorityState → LmsPublic → DueParts → Unsigned
-rolled_out s next due = sends s.signature_len Logs (message_text (roll_message s next)) due
 
 pub roll-row-keeps : (s : AuthorityState) (next : LmsPublic) → IsAuthority s → IsKeyText (key_text next) → HasWidths next → Leaves (roll_row s next)
 unfolding roll_row

@@ -6,8 +6,8 @@ use Rattle.std.specs.Option.{ok_or, option_map}
 use Rattle.std.proofs.lemmas.List.{length-append, length-replicate}
 use Rattle.std.proofs.lemmas.List.Elements.{All-append, All-cons, All-get_or, All-nil}
 use Rattle.std.proofs.lemmas.Option.{get_or_from_slice_get, slice_get_within}
-use Rattle.ar_base.specs.Gives.{with_error}
 use Rattle.ar_base.specs.Places.{place_of}
+use Rattle.ar_base.proofs.Giving.{no-error}
 use Rattle.ar_bytes.specs.RoundTrip.{counted_text, number_text}
 use Rattle.ar_cert.specs.Certificate.{Certificate}
 use Rattle.ar_message.specs.Confirmation.{body_text, confirmation_fields_text, form_text, is_present, path_text, signed_text, subject_text}
@@ -24,9 +24,10 @@ use Rattle.ar_statement.specs.declared.party.Role.TheVariants.{Client, Owner}
 use Rattle.ar_statement.specs.declared.text.SeenText.{SeenText}
 use Rattle.key_roll.specs.Book.{IsRollBook, RollBook, texts_of}
 use Rattle.key_roll.specs.Due.{DueParts}
-use Rattle.key_roll.specs.Entry.{after_at, after_entry, due_at, entered, has_room, leaf_of, roll_text}
+use Rattle.key_roll.specs.Entry.{after_at, after_entry, due_at, entered, has_room, roll_text}
 use Rattle.key_roll.specs.Ring.{AreKeysOf, IsNext, Owes}
 use Rattle.key_roll.proofs.Rings.{next_keys, owed_by, same_keys}
+use Rattle.key_roll.proofs.Books.{IsSameBook, due_for, entry-same}
 use Rattle.key_roll.specs.declared.fault.BookFault.TheVariants.{Spent}
 use Rattle.key_roll.specs.declared.fault.RollFault.TheVariants.{Last}
 use Rattle.key_roll.specs.declared.signed.Signed.{Signed}
@@ -108,19 +109,6 @@ pub record IsDueOf (leaves newest : ℕ) (due : DueParts) : Type 0 where
 pub owed : (s : AuthorityState) (keys : List KeyParts) (due : DueParts) → IsRingOf s keys → IsDueOf s.past.signed.leaves s.past.signed.newest due → Owes keys due s.signature_len
 owed s keys due is of-book = owed_by s.past.signed s.signature_len keys due is of-book.upto of-book.counts_on
 
--- what an entry leaves of a book
-pub record IsSameBook (book later : RollBook) : Type 0 where
-  pub leaves : later.leaves ≡ book.leaves
-  pub newest : later.newest ≡ book.newest
-
-pub entry-same : (book : RollBook) (text : List ℕ) → IsSameBook book (after_entry book text)
-entry-same book text = by (place_of (texts_of book) text) (has_room book) refl
-  where
-    by : (place : Option ℕ) (room : Bool) → has_room book ≡ room → IsSameBook book (after_at book text place)
-    by (Some k) room is = record { leaves = refl; newest = refl }
-    by None true is = rw is (record { leaves = refl; newest = refl })
-    by None false is = rw is (record { leaves = refl; newest = refl })
-
 -- an entry is of a generation up to this one
 abbrev IsUpTo : ℕ → Signed → Type 0
 IsUpTo newest s = s.generation ≤ newest
@@ -137,18 +125,15 @@ entry-upto book text sound = by (place_of (texts_of book) text) (has_room book) 
     by None true is = rw is added
     by None false is = rw is sound.upto
 
-abbrev due_with : RollBook → ℕ → Signed → DueParts
-due_with book k s = record { generation = s.generation; leaf = leaf_of book k s; text = s.text; leaves = book.leaves }
-
 of-entry : (book : RollBook) (newest : ℕ) (place : Option ℕ) (due : DueParts) → All (IsUpTo newest) book.list → ok_or (option_and_then (due_at book) place) Spent ≡ Ok due
     → IsDueOf book.leaves newest due
 of-entry book newest None due all e = absurd cc
 of-entry book newest (Some k) due all e = by (slice_get book.list k) refl e
   where
-    by : (found : Option Signed) → slice_get book.list k ≡ found → ok_or (option_map (due_with book k) found) Spent ≡ Ok due → IsDueOf book.leaves newest due
+    by : (found : Option Signed) → slice_get book.list k ≡ found → ok_or (option_map (due_for book k) found) Spent ≡ Ok due → IsDueOf book.leaves newest due
     by None at is = absurd cc
     by (Some s) at is =
-        let same : due_with book k s ≡ due = cc in
+        let same : due_for book k s ≡ due = cc in
         let upto : IsUpTo newest s = subst (IsUpTo newest) (get_or_from_slice_get book.list k s s at) (All-get_or (IsUpTo newest) book.list k s (slice_get_within book.list k s at) all) in
         subst (IsDueOf book.leaves newest) same (record { counts_on = refl; upto = upto })
 
@@ -156,10 +141,6 @@ entered-due : (book : RollBook) (text : List ℕ) (due : DueParts) → IsRollBoo
 entered-due book text due sound e =
     subst (λ n. IsDueOf n book.newest due) (entry-same book text).leaves
     (of-entry (after_entry book text) book.newest (place_of (texts_of (after_entry book text)) text) due (entry-upto book text sound) e)
-
-no-error : {T E F : Type 0} (f : E → F) (r : Result T E) (x : T) → with_error f r ≡ Ok x → r ≡ Ok x
-no-error f (Ok y) x e = cc
-no-error f (Err y) x e = absurd cc
 
 pub entering-owes : (s : AuthorityState) (keys : List KeyParts) (claim : Claim) (due : DueParts) → IsRingOf s keys → IsRollBook s.past.signed → entering s.past claim ≡ Ok due → Owes keys due s.signature_len
 entering-owes s keys claim due is sound e =

@@ -82,7 +82,7 @@ note-stays s a later sent is = by (learned s.keys a) is
     by (Err fault) h = absurd cc
 
 -- what is sent
-abbrev rolled_out : AuthorityState → LmsPublic → DueParts → Unsigned
+abbrev pub rolled_out : AuthorityState → LmsPublic → DueParts → Unsigned
 rolled_out s next due = sends s.signature_len Logs (message_text (roll_message s next)) due
 
 pub rolling-stays : (s : AuthorityState) (next : LmsPublic) → StaysBy s (roll_row s next)

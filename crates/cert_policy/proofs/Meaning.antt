@@ -3,10 +3,10 @@ use Rattle.std.proofs.Common.{◌≡◌, ◌+◌, ℕ, List, [], ◌∷◌, leng
 use Rattle.std.specs.Prelude.{IsTrue, IsSome, is_some, is_err, Result}
 use Rattle.std.specs.List.{AllByRecursion, list_all}
 use Rattle.std.proofs.lemmas.Bool.{and_parts, and_from, and_right, not-true, false_from_ne_true, eqb-true, eq-eqb, leb-true, le-leb}
-use Rattle.std.proofs.lemmas.List.Elements.{All-from_recursion, recursion_from_All}
+use Rattle.std.proofs.lemmas.List.Elements.{All-from_recursion}
 use Rattle.std.proofs.lemmas.Slice.Eq.{bytes_eq-Decides}
 use Rattle.ar_base.specs.FirstFailing.{first_failing}
-use Rattle.ar_base.proofs.Failing.{all_hold, FailsAtPlace, fails_at_place}
+use Rattle.ar_base.proofs.Failing.{FailsAtPlace, fails_at_place, each_holds, none_fails}
 use Rattle.cert_policy.specs.declared.refusal.PolicyRefusal.{PolicyRefusal}
 use Rattle.cert_policy.specs.declared.refusal.PolicyRefusal.TheVariants.{Revoked, Name, Serial, Previous, Endorsers, Threshold, Handover, Policy, Pending, NotPending, Objection}
 use Rattle.cert_policy.specs.declared.manner.Manner.{Manner}
@@ -15,13 +15,6 @@ use Rattle.cert_policy.specs.Refusals.{Clause}
 use Rattle.cert_policy.specs.Terms.{CertTerms, PolicyTerms}
 use Rattle.cert_policy.specs.Clauses.{is_well_formed, common_clauses, own_clauses, follow_clauses, recovery_clauses, registration_clauses, follow_answer, has_own, in_manner, update_answer, registration_answer, IsWellFormed, MeetsOwn, Succeeds, Follows, Recovers, Registers, IsUpdate}
 use Rattle.vote_quorum.specs.Numbers.{distinct_count, shared_count}
-
--- a list of clauses holds where each does
-holds : (clauses : List Clause) → first_failing clauses ≡ Ok tt → AllByRecursion (λ c. IsTrue c.1) clauses
-holds clauses h = recursion_from_All (λ c. IsTrue c.1) clauses ((all_hold clauses).0 h)
-
-held : (clauses : List Clause) → AllByRecursion (λ c. IsTrue c.1) clauses → first_failing clauses ≡ Ok tt
-held clauses all = (all_hold clauses).1 (All-from_recursion (λ c. IsTrue c.1) clauses all)
 
 -- a policy that is well formed
 formed_from : (p : PolicyTerms) → is_well_formed p ≡ true → IsWellFormed p
@@ -87,14 +80,14 @@ update_succeeds Objected old new endorsers handover pending is = absurd is
 pub follow_facts : (old new : CertTerms) (endorsers : List ℕ) (handover : Bool) → (follow_answer old new endorsers handover ≡ Ok tt) ↔ Follows old new endorsers handover
 follow_facts old new endorsers handover = (
   λ h.
-      let all = holds (follow_clauses old new endorsers handover) h in
+      let all = each_holds (follow_clauses old new endorsers handover) h in
       let common = succeeds_from old new endorsers (all.0, (all.1.0, (all.1.1.0, (all.1.1.1.0, (all.1.1.1.1.0, tt))))) all.1.1.1.1.1.1.1.0 in
       let own = own_from old endorsers handover (all.1.1.1.1.1.0, (all.1.1.1.1.1.1.0, tt)) in
       record { succeeds = common; own = own },
   λ f.
       let common = common_tests old new endorsers f.succeeds in
       let own = own_tests old endorsers handover f.own in
-      held (follow_clauses old new endorsers handover)
+      none_fails (follow_clauses old new endorsers handover)
       (common.0, (common.1.0, (common.1.1.0, (common.1.1.1.0, (common.1.1.1.1.0, (own.0, (own.1.0, (formed_test new.policy f.succeeds.well_formed, tt)))))))),
 )
 
@@ -102,11 +95,11 @@ pub recovery_facts : (old new : CertTerms) (endorsers : List ℕ) (pending : Boo
     → (first_failing (recovery_clauses old new endorsers pending) ≡ Ok tt) ↔ (Succeeds old new endorsers × IsTrue (not pending))
 recovery_facts old new endorsers pending = (
   λ h.
-      let all = holds (recovery_clauses old new endorsers pending) h in
+      let all = each_holds (recovery_clauses old new endorsers pending) h in
       (succeeds_from old new endorsers (all.0, (all.1.0, (all.1.1.0, (all.1.1.1.0, (all.1.1.1.1.0, tt))))) all.1.1.1.1.1.0, all.1.1.1.1.1.1.0),
   λ f.
       let common = common_tests old new endorsers f.0 in
-      held (recovery_clauses old new endorsers pending)
+      none_fails (recovery_clauses old new endorsers pending)
       (common.0, (common.1.0, (common.1.1.0, (common.1.1.1.0, (common.1.1.1.1.0, (formed_test new.policy f.0.well_formed, (f.1, tt))))))),
 )
 
@@ -147,7 +140,7 @@ recovers_from old new endorsers handover pending waits lacks h =
 pub registration_facts : (new : CertTerms) (endorsers : List ℕ) → (registration_answer new endorsers ≡ Ok tt) ↔ Registers new endorsers
 registration_facts new endorsers = (
   λ h.
-      let all = holds (registration_clauses new endorsers) h in
+      let all = each_holds (registration_clauses new endorsers) h in
       record {
         alive = all.0;
         first_serial = eqb-true new.serial 0 all.1.0;
@@ -155,7 +148,7 @@ registration_facts new endorsers = (
         endorsed = leb-true 3 (distinct_count endorsers) all.1.1.1.0;
         well_formed = formed_from new.policy all.1.1.1.1.0;
       },
-  λ f. held (registration_clauses new endorsers)
+  λ f. none_fails (registration_clauses new endorsers)
       (f.alive, (eq-eqb new.serial 0 f.first_serial, ((bytes_eq-Decides new.previous (replicate 32 0)).1 f.unlinked, (le-leb 3 (distinct_count endorsers) f.endorsed, (formed_test new.policy f.well_formed, tt))))),
 )
 

@@ -1,17 +1,16 @@
 -- The tests of the rule are the facts of the checks, and a judgement means what the first of them that fails says.
-use Rattle.std.proofs.Common.{◌≡◌, ◌≢◌, ℕ, ◌-◌, ◌<◌, ◌≤◌, ◌⊎◌, ◌↔◌, Bool, true, false, cond, List, [], ◌∷◌, length, Option, Some, None, Result, Ok, Err, IsErr, refl, sym, ap, ◌∙◌, inl, inr, subst, arith}
-use Rattle.std.specs.Prelude.{nat_le, nat_lt, not, ◌&&◌, ◌==◌, map}
+use Rattle.std.proofs.Common.{◌≡◌, ℕ, ◌-◌, ◌↔◌, Bool, true, false, List, length, Result, Ok, Err, IsErr, refl, sym, ap, inl, inr, subst}
+use Rattle.std.specs.Prelude.{nat_le, not}
 use Rattle.std.specs.Bool.{Decides}
 use Rattle.std.specs.Result.{is_ok, result_ok}
 use Rattle.std.specs.Str.{bytes_eq}
-use Rattle.std.proofs.lemmas.Bool.Decides.{Decides-and, Decides-not, Decides-eqb, nat_tests}
+use Rattle.std.proofs.lemmas.Bool.Decides.{Decides-and, Decides-not, Decides-eqb, Decides-ltb}
 use Rattle.std.proofs.lemmas.Slice.Eq.{bytes_eq-Decides}
-use Rattle.tree_proof.proofs.Tested.{is_on-Decides, is_off-Decides}
-use Rattle.tree_proof.specs.declared.path.Bottom.{Bottom}
+use Rattle.tree_proof.proofs.Tested.{is_on-Decides, is_off-Decides, le_decides}
 use Rattle.ar_base.specs.FirstFailing.{DecidesEach}
 use Rattle.ar_base.proofs.Failing.{conditions_hold, condition_fails}
 use Rattle.ar_bytes.specs.Reading.{whole}
-use Rattle.ar_cert.specs.Certificate.{Certificate, digest_of}
+use Rattle.ar_cert.specs.Certificate.{Certificate}
 use Rattle.ar_statement.specs.Claims.{text_of, party}
 use Rattle.ar_statement.specs.declared.party.Role.TheVariants.{LogServer, Authority}
 use Rattle.ar_statement.specs.declared.party.Party.{Party}
@@ -20,24 +19,18 @@ use Rattle.party_keys.specs.Directory.{Directory}
 use Rattle.party_keys.specs.Signatures.{verified}
 use Rattle.party_keys.specs.declared.fault.VerifyFault.{VerifyFault}
 use Rattle.ar_message.specs.Shown.{is_shown}
-use Rattle.client_rule.specs.Rule.{has_parties, confirms, is_young, is_live, is_current, checks, refusal_of, claim_on, taken, unless_refused, judgement_on, judgement}
-use Rattle.client_rule.specs.Meaning.{Asked, Check, same_name, parties, log_signature, first_signature, second_signature, path, not_later, young, live, current, number_of, all_checks, HasParties, Confirms, IsShown, IsYoung, IsLive, IsCurrent, Holds, HoldsAll, HoldsUpTo, Passes, Accepts, AcceptsNone, Refuses}
+use Rattle.client_rule.specs.Rule.{has_parties, confirms, is_young, is_live, is_current, refusal_of, claim_on, taken, unless_refused, judgement_on, judgement}
+use Rattle.client_rule.specs.Meaning.{Asked, Check, same_name, parties, log_signature, first_signature, second_signature, path, not_later, young, live, current, number_of, all_checks, HasParties, Confirms, IsShown, IsYoung, IsLive, IsCurrent, Holds, HoldsAll, HoldsUpTo, Accepts, AcceptsNone, Refuses}
 use Rattle.client_rule.specs.declared.judgement.Judgement.{Judgement}
 use Rattle.client_rule.specs.declared.judgement.Judgement.TheVariants.{Accepted, Absent, Refused}
 
 -- ---- each test decides its fact
 
-le_decides : (a b : ℕ) → Decides (nat_le a b) (a ≤ b)
-le_decides a b = grind (arith, nat_tests)
-
-lt_decides : (a b : ℕ) → Decides (nat_lt a b) (a < b)
-lt_decides a b = grind (arith, nat_tests)
-
 parties_decides : (keys : Directory) (c : Confirmation) → Decides (has_parties keys c) (HasParties keys c)
 parties_decides keys c =
-    let d = Decides-and _ _ (lt_decides c.log.number (length keys.logs))
-    (Decides-and _ _ (lt_decides c.first.number (length keys.authorities))
-    (Decides-and _ _ (lt_decides c.second.number (length keys.authorities))
+    let d = Decides-and _ _ (Decides-ltb c.log.number (length keys.logs))
+    (Decides-and _ _ (Decides-ltb c.first.number (length keys.authorities))
+    (Decides-and _ _ (Decides-ltb c.second.number (length keys.authorities))
     (Decides-not _ (Decides-eqb c.first.number c.second.number)))) in (
       (λ h. let b = d.0 h in record { log = b.0; first = b.1.0; second = b.1.1.0; two = b.1.1.1 }),
       (λ h. d.1 (h.log, (h.first, (h.second, h.two)))),

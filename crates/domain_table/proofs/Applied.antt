@@ -7,6 +7,7 @@ use Rattle.std.specs.FinMap.{get, insert, remove, get-empty, get-insert, get-rem
 use Rattle.std.proofs.lemmas.List.Elements.{All-head, All-tail}
 use Rattle.hash_tree.specs.Entries.{key_cmp}
 use Rattle.hash_tree.proofs.Maps.{total}
+use Rattle.hash_tree.proofs.Changed.{same_key, own_key}
 use Rattle.cert_policy.specs.declared.manner.Manner.{Manner}
 use Rattle.cert_policy.specs.declared.manner.Manner.TheVariants.{Full, Recovery, Objected}
 use Rattle.ar_cert.specs.Certificate.{Certificate}
@@ -16,7 +17,7 @@ use Rattle.domain_table.specs.declared.refusal.ChangeRefusal.{ChangeRefusal}
 use Rattle.domain_table.specs.Tables.{Pending, Table, no_table, chain_of, newest}
 use Rattle.domain_table.specs.Applying.{is_ripe, is_ripe_behind, ripened, change_list, ripen, judge_ripe, taken, after_answer, apply_each, apply}
 use Rattle.domain_table.specs.Sound.{Waits, IsSound}
-use Rattle.domain_table.proofs.Maps.{same_name, own_name, get-ripen, waiting-ripen}
+use Rattle.domain_table.proofs.Maps.{get-ripen, waiting-ripen}
 use Rattle.domain_table.proofs.Judged.{IsJudged, judged}
 use Rattle.domain_table.proofs.Steps.{Fits, Grows, Begun, Stayed, Steps, Holds, Follows, steps_on, follows_itself, follows_on}
 
@@ -108,11 +109,11 @@ step_steps P t e c Full judged low holds is = record {
 } where
   at : (name : List ℕ) (b : Bool) → eq_by_cmp key_cmp name c.cert.name ≡ b → Grows P name (get t.chains name) (get (taken t e c Full).chains name)
   at name true tied =
-      let same : c.cert.name ≡ name = sym (same_name name c.cert.name tied) in
+      let same : c.cert.name ≡ name = sym (same_key name c.cert.name tied) in
       subst (λ k. Grows P k (get t.chains k) (get (taken t e c Full).chains k)) same
       (inr (
         c,
-        get-insert total t.chains c.cert.name (chain_of t c.cert.name ++ c ∷ []) c.cert.name ∙ ap (λ b. cond b (Some (chain_of t c.cert.name ++ c ∷ [])) (get t.chains c.cert.name)) (own_name c.cert.name),
+        get-insert total t.chains c.cert.name (chain_of t c.cert.name ++ c ∷ []) c.cert.name ∙ ap (λ b. cond b (Some (chain_of t c.cert.name ++ c ∷ [])) (get t.chains c.cert.name)) (own_key c.cert.name),
         record { accepted = judged; change = is; named = refl; holds = holds },
       ))
   at name false apart = inl (get-insert total t.chains c.cert.name (chain_of t c.cert.name ++ c ∷ []) name ∙ ap (λ b. cond b (Some (chain_of t c.cert.name ++ c ∷ [])) (get t.chains name)) apart)
@@ -126,7 +127,7 @@ step_steps P t e c Recovery judged low holds is = record {
   at : (name : List ℕ) (p : Pending) → get (insert t.waiting c.cert.name (record { change = c; since = e })) name ≡ Some p → (b : Bool) → eq_by_cmp key_cmp name c.cert.name ≡ b
       → Stayed t (taken t e c Recovery) name p ⊎ Begun P (taken t e c Recovery) name p
   at name p there true tied =
-      let same : c.cert.name ≡ name = sym (same_name name c.cert.name tied) in
+      let same : c.cert.name ≡ name = sym (same_key name c.cert.name tied) in
       let found : Some (record { change = c; since = e }) ≡ Some p =
       sym (ap (λ b. cond b (Some (record { change = c; since = e })) (get t.waiting name)) tied) ∙ sym (get-insert total t.waiting c.cert.name (record { change = c; since = e }) name) ∙ there in
       let is_pair : record { change = c; since = e } ≡ p = cc in

@@ -1,5 +1,6 @@
 -- A map that is filled from the last entry to the first has the entries of the finite map that they make.
-use Rattle.std.proofs.Common.{◌≡◌, ℕ, suc, ◌+◌, ◌<◌, List, [], ◌∷◌, ◌++◌, map, length, get_or, drop, drop-cons, refl, sym, ap, ◌∙◌, arith}
+use Rattle.std.proofs.Common.{◌≡◌, ℕ, ◌+◌, ◌<◌, List, [], ◌∷◌, ◌++◌, map, length, get_or, drop, refl, sym, ap, ◌∙◌, arith}
+use Rattle.std.proofs.lemmas.List.{drop_more, drop_all}
 use Rattle.std.specs.List.{filter_map, cons_option}
 use Rattle.std.specs.declared.cmp.Ordering.{Ordering}
 use Rattle.std.specs.declared.cmp.Ordering.TheVariants.{Less, Equal, Greater}
@@ -26,25 +27,14 @@ pub first_put : (list es : List Entry) (key value : List ℕ) → list ≡ entri
 first_put list es key value is =
     ap (λ xs. insert_entry key_cmp xs key value) is ∙ insert-put (entries (entries_of es)) key value ∙ sym (entries-insert total (entries_of es) key value)
 
-next : (n : ℕ) → suc n ≡ n + 1
-next n = omega arith
-
--- the rows from a place on, by the row there
-rest_from : (rows : List Row) (i : ℕ) (d : Row) → i < length rows → drop i rows ≡ get_or rows i d ∷ drop (i + 1) rows
-rest_from rows i d l = drop-cons rows i d l ∙ ap (λ n. get_or rows i d ∷ drop n rows) (next i)
-
 pub pending_from : (rows : List Row) (i : ℕ) (d : Row) → i < length rows
     → cons_option (pending_entry (get_or rows i d).marks) (filter_map pending_entry (marks_of (data_in (drop (i + 1) rows)))) ≡ filter_map pending_entry (marks_of (data_in (drop i rows)))
-pending_from rows i d l = ap (λ rs. filter_map pending_entry (marks_of (data_in rs))) (sym (rest_from rows i d l))
+pending_from rows i d l = ap (λ rs. filter_map pending_entry (marks_of (data_in rs))) (sym (drop_more rows i d l))
 
 pub names_from : (rows : List Row) (i : ℕ) (d : Row) (es : List Entry) → i < length rows
     → name_entry (get_or rows i d).marks ∷ (map name_entry (marks_of (data_in (drop (i + 1) rows))) ++ es) ≡ map name_entry (marks_of (data_in (drop i rows))) ++ es
-names_from rows i d es l = ap (λ rs. map name_entry (marks_of (data_in rs)) ++ es) (sym (rest_from rows i d l))
-
-drop_all : {A : Type 0} (xs : List A) → drop (length xs) xs ≡ []
-drop_all [] = refl
-drop_all (x ∷ xs) = drop_all xs
+names_from rows i d es l = ap (λ rs. map name_entry (marks_of (data_in rs)) ++ es) (sym (drop_more rows i d l))
 
 -- behind the last row nothing is listed
 pub none_behind : (rows : List Row) → entries (entries_of (filter_map pending_entry (marks_of (data_in (drop (length rows) rows))))) ≡ []
-none_behind rows = ap (λ rs. entries (entries_of (filter_map pending_entry (marks_of (data_in rs))))) (drop_all rows) ∙ entries-entries_of [] refl
+none_behind rows = ap (λ rs. entries (entries_of (filter_map pending_entry (marks_of (data_in rs))))) (drop_all (length rows) rows (omega arith)) ∙ entries-entries_of [] refl

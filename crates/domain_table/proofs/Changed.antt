@@ -6,12 +6,12 @@ use Rattle.std.specs.FinMap.{FinMap, get, insert, is_sorted, same_map, get-inser
 use Rattle.std.proofs.lemmas.List.Elements.{All-append, All-cons, All-take, All-drop}
 use Rattle.hash_tree.specs.Entries.{Entries, key_cmp}
 use Rattle.hash_tree.proofs.Maps.{total, exact}
+use Rattle.hash_tree.proofs.Changed.{same_key}
 use Rattle.cert_policy.specs.declared.manner.Manner.TheVariants.{Full, Recovery, Objected}
 use Rattle.ar_cert.specs.Changes.{Change}
 use Rattle.domain_table.specs.Tables.{Pending, chain_of, size}
 use Rattle.domain_table.specs.Applying.{taken}
 use Rattle.domain_table.specs.Rows.{RowData, chain_pair, table_of, with_row, IsMarked, AreRows, IsChanged, waiting_count}
-use Rattle.domain_table.proofs.Maps.{same_name}
 use Rattle.domain_table.proofs.RowLists.{changed_chains, changed_waiting, with_pending, rise_changed, places, places_split, size_rows}
 use Rattle.domain_table.proofs.RipeRows.{Stands, stands}
 use Rattle.domain_table.proofs.Places.{split_at}
@@ -20,7 +20,7 @@ use Rattle.domain_table.proofs.Places.{split_at}
 insert_same : {V : Type 0} (m : FinMap key_cmp V) (key : List ℕ) (v : V) → get m key ≡ Some v → insert m key v ≡ m
 insert_same m key v has = same_map total exact _ _ (λ q. get-insert total m key v q ∙ at q (eq_by_cmp key_cmp q key) refl) where
   at : (q : List ℕ) (b : Bool) → eq_by_cmp key_cmp q key ≡ b → cond (eq_by_cmp key_cmp q key) (Some v) (get m q) ≡ get m q
-  at q true tied = ap (λ b. cond b (Some v) (get m q)) tied ∙ sym has ∙ ap (get m) (sym (same_name q key tied))
+  at q true tied = ap (λ b. cond b (Some v) (get m q)) tied ∙ sym has ∙ ap (get m) (sym (same_key q key tied))
   at q false apart = ap (λ b. cond b (Some v) (get m q)) apart
 
 module _ (old new : List RowData) (trie : Entries) (i : ℕ) (d : RowData) (chain : List Change) (waiting : Option Pending)

@@ -1,9 +1,10 @@
 -- What it says of a change that it is taken.
-use Rattle.std.proofs.Common.{◌≡◌, ℕ, List, refl, ap, subst, inl, Bool, true, false, cond, Option, Some, None, Ok, Err}
-use Rattle.std.specs.Prelude.{Result, is_some, is_ok, IsNone, nat_le, ◌&&◌}
+use Rattle.std.proofs.Common.{◌≡◌, ℕ, refl, ap, subst, inl, Bool, true, false, cond, Option, Some, None, Ok, Err}
+use Rattle.std.specs.Prelude.{Result, is_some, is_ok, nat_le, ◌&&◌}
 use Rattle.std.specs.Option.{option_map}
 use Rattle.std.specs.FinMap.{get}
 use Rattle.ar_base.specs.FirstFailing.{first_failing}
+use Rattle.ar_base.proofs.Shown.{none_from}
 use Rattle.cert_policy.specs.declared.refusal.PolicyRefusal.{PolicyRefusal}
 use Rattle.cert_policy.specs.declared.refusal.PolicyRefusal.TheVariants.{NotPending}
 use Rattle.cert_policy.specs.declared.manner.Manner.{Manner}
@@ -42,10 +43,6 @@ unfolding IsAccepted
 by_taken old pending c Full is = inl (followed old pending c is)
 by_taken old pending c Recovery is = (old, refl, recovered old pending c is)
 by_taken old pending c Objected is = tt
-
-none_from : (o : Option (List ℕ)) → is_some o ≡ false → IsNone o
-none_from None h = refl
-none_from (Some x) h = absurd (cc)
 
 only_objected : (old : Option Certificate) (c : Change) (m : Manner) (answer : Result (Unit {0}) PolicyRefusal) → in_manner Objected answer ≡ Ok m → IsJudged old c m
 only_objected old c m (Ok u) e =

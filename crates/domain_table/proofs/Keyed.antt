@@ -11,8 +11,8 @@ use Rattle.sha2.specs.Sha256.{sha256}
 use Rattle.ar_base.specs.Apart.{IsIn, Apart}
 use Rattle.ar_base.proofs.Apart.{in_front, in_rest}
 use Rattle.hash_tree.specs.Entries.{key_cmp}
+use Rattle.hash_tree.proofs.Changed.{same_key, own_key}
 use Rattle.domain_table.specs.Tree.{tagged, keyed}
-use Rattle.domain_table.proofs.Maps.{same_name, own_name}
 
 -- digests tie where their strings do
 same_test : (strings : List (List ℕ)) → Apart strings → (s t : List ℕ) → IsIn strings s → IsIn strings t → eq_by_cmp key_cmp (sha256 s) (sha256 t) ≡ eq_by_cmp key_cmp s t
@@ -22,12 +22,12 @@ same_test strings apart s t is it =
       at true true e f = refl
       at false false e f = refl
       at true false e f =
-          let same : s ≡ t = apart s t is it (same_name (sha256 s) (sha256 t) e) in
-          let tied : eq_by_cmp key_cmp s t ≡ true = ap (eq_by_cmp key_cmp s) (sym same) ∙ own_name s in
+          let same : s ≡ t = apart s t is it (same_key (sha256 s) (sha256 t) e) in
+          let tied : eq_by_cmp key_cmp s t ≡ true = ap (eq_by_cmp key_cmp s) (sym same) ∙ own_key s in
           sym tied ∙ f
       at false true e f =
-          let same : s ≡ t = same_name s t f in
-          let tied : eq_by_cmp key_cmp (sha256 s) (sha256 t) ≡ true = ap (λ x. eq_by_cmp key_cmp (sha256 s) (sha256 x)) (sym same) ∙ own_name (sha256 s) in
+          let same : s ≡ t = same_key s t f in
+          let tied : eq_by_cmp key_cmp (sha256 s) (sha256 t) ≡ true = ap (λ x. eq_by_cmp key_cmp (sha256 s) (sha256 x)) (sym same) ∙ own_key (sha256 s) in
           sym e ∙ tied
 
 pub keyed_find : {V : Type 0} (strings : List (List ℕ)) → Apart strings → (ps : List (List ℕ × V)) → AllByRecursion (λ e. IsIn strings e.0) ps → (s : List ℕ) → IsIn strings s
@@ -50,7 +50,7 @@ keyed_from {V} (p ∷ ps) key value e =
       behind h apart b own = other (eq_by_cmp key_cmp h.string p.0) refl where
         other : (c : Bool) → eq_by_cmp key_cmp h.string p.0 ≡ c → Hashes V (p ∷ ps) key value
         other true tied =
-            let same : h.string ≡ p.0 = same_name h.string p.0 tied in
+            let same : h.string ≡ p.0 = same_key h.string p.0 tied in
             let meets : eq_by_cmp key_cmp key (sha256 p.0) ≡ true = ap (λ k. eq_by_cmp key_cmp k (sha256 p.0)) (h.is_key ∙ ap sha256 same) ∙ own in
             absurd (cc)
         other false tied = record { string = h.string; is_key = h.is_key; found = ap (λ c. cond c (Some p.1) (find key_cmp h.string ps)) tied ∙ h.found }
@@ -58,10 +58,10 @@ keyed_from {V} (p ∷ ps) key value e =
       at : (b : Bool) → eq_by_cmp key_cmp key (sha256 p.0) ≡ b → cond b (Some p.1) (find key_cmp key (keyed ps)) ≡ Some value → (find key_cmp key (keyed ps) ≡ Some value → Hashes V ps key value) → Hashes V (p ∷ ps) key value
       at true tied e rest = record {
         string = p.0;
-        is_key = same_name key (sha256 p.0) tied;
-        found = ap (λ c. cond c (Some p.1) (find key_cmp p.0 ps)) (own_name p.0) ∙ e;
+        is_key = same_key key (sha256 p.0) tied;
+        found = ap (λ c. cond c (Some p.1) (find key_cmp p.0 ps)) (own_key p.0) ∙ e;
       }
-      at false apart e rest = behind (rest e) apart true (own_name (sha256 p.0))
+      at false apart e rest = behind (rest e) apart true (own_key (sha256 p.0))
 
 -- ---- names behind a byte
 
@@ -82,7 +82,7 @@ other_byte : (byte other : ℕ) → other ≢ byte → (q k : List ℕ) → eq_b
 other_byte byte other differ q k = at (eq_by_cmp key_cmp (other ∷ q) (byte ∷ k)) refl where
   at : (b : Bool) → eq_by_cmp key_cmp (other ∷ q) (byte ∷ k) ≡ b → b ≡ false
   at false e = refl
-  at true e = absurd (differ (ap (λ s. get_or s 0 0) (same_name (other ∷ q) (byte ∷ k) e)))
+  at true e = absurd (differ (ap (λ s. get_or s 0 0) (same_key (other ∷ q) (byte ∷ k) e)))
 
 -- under another byte nothing is found
 pub tagged_other : {A V : Type 0} (byte other : ℕ) → other ≢ byte → (f : A → V) (es : List (List ℕ × A)) (name : List ℕ) → find key_cmp (other ∷ name) (tagged byte f es) ≡ None
@@ -105,9 +105,9 @@ tagged_from {A} {V} byte f (d ∷ es) string value e = at (eq_by_cmp key_cmp str
       → (find key_cmp string (tagged byte f es) ≡ Some value → Tags A V byte f es string value) → Tags A V byte f (d ∷ es) string value
   at true tied e rest = record {
     name = d.0;
-    is_string = same_name string (byte ∷ d.0) tied;
+    is_string = same_key string (byte ∷ d.0) tied;
     item = d.1;
-    found = ap (λ c. cond c (Some d.1) (find key_cmp d.0 es)) (own_name d.0);
+    found = ap (λ c. cond c (Some d.1) (find key_cmp d.0 es)) (own_key d.0);
     is_value = let same : f d.1 ≡ value = cc in same;
   }
   at false apart e rest =
@@ -116,7 +116,7 @@ tagged_from {A} {V} byte f (d ∷ es) string value e = at (eq_by_cmp key_cmp str
         behind : (h : Tags A V byte f es string value) (c : Bool) → eq_by_cmp key_cmp h.name d.0 ≡ c → Tags A V byte f (d ∷ es) string value
         behind h true tied =
             let meets : eq_by_cmp key_cmp string (byte ∷ d.0) ≡ true =
-            ap (λ s. eq_by_cmp key_cmp s (byte ∷ d.0)) (h.is_string ∙ ap (λ n. byte ∷ n) (same_name h.name d.0 tied)) ∙ own_name (byte ∷ d.0) in
+            ap (λ s. eq_by_cmp key_cmp s (byte ∷ d.0)) (h.is_string ∙ ap (λ n. byte ∷ n) (same_key h.name d.0 tied)) ∙ own_key (byte ∷ d.0) in
             absurd (cc)
         behind h false tied = record {
           name = h.name;
@@ -158,7 +158,7 @@ of_entry {A} g (d ∷ es) name item e x i = at (eq_by_cmp key_cmp name d.0) refl
   at : (b : Bool) → eq_by_cmp key_cmp name d.0 ≡ b → cond b (Some d.1) (find key_cmp name es) ≡ Some item
       → (find key_cmp name es ≡ Some item → IsIn (flat_map (λ e. g e.0 e.1) es) x) → IsIn (g d.0 d.1 ++ flat_map (λ e. g e.0 e.1) es) x
   at true tied e rest =
-      let same : name ≡ d.0 = same_name name d.0 tied in
+      let same : name ≡ d.0 = same_key name d.0 tied in
       let is : item ≡ d.1 = cc in
       in_front (g d.0 d.1) _ x (rw (sym same, sym is) i)
   at false apart e rest = in_rest (g d.0 d.1) _ x (rest e)

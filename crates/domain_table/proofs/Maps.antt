@@ -2,20 +2,13 @@
 use Rattle.std.proofs.Common.{◌≡◌, ℕ, List, [], ◌∷◌, map, refl, sym, ap, ◌∙◌, Bool, true, false, cond, Some, None}
 use Rattle.std.specs.Prelude.{not}
 use Rattle.std.specs.Option.{option_map}
-use Rattle.std.specs.Ordering.{eq_by_cmp, is_eq}
-use Rattle.std.specs.Cmp.{tied_itself, Equal-is}
+use Rattle.std.specs.Ordering.{eq_by_cmp}
 use Rattle.std.specs.FinMap.{get, find, entries, get-entries, get-from_entries, get-retain_keys}
 use Rattle.hash_tree.specs.Entries.{key_cmp}
 use Rattle.hash_tree.proofs.Maps.{total, exact}
+use Rattle.hash_tree.proofs.Changed.{same_key}
 use Rattle.domain_table.specs.Tables.{Table}
 use Rattle.domain_table.specs.Applying.{is_ripe, ripened, ripen}
-
--- names that tie are one
-pub same_name : (q k : List ℕ) → eq_by_cmp key_cmp q k ≡ true → q ≡ k
-same_name q k t = exact q k ((Equal-is (key_cmp q k)).0 t)
-
-pub own_name : (k : List ℕ) → eq_by_cmp key_cmp k k ≡ true
-own_name k = ap is_eq (tied_itself total k)
 
 -- what is found under a name of a list whose values were changed, each by its name
 pub mapped_find : {V W : Type 0} (f : List ℕ → V → W) (es : List (List ℕ × V)) (name : List ℕ)
@@ -23,7 +16,7 @@ pub mapped_find : {V W : Type 0} (f : List ℕ → V → W) (es : List (List ℕ
 mapped_find f [] name = refl
 mapped_find f (e ∷ es) name =
     elim (eq_by_cmp key_cmp name e.0) as (λ b. eq_by_cmp key_cmp name e.0 ≡ b → cond b (Some (f e.0 e.1)) (find key_cmp name (map (λ d. (d.0, f d.0 d.1)) es)) ≡ option_map (f name) (cond b (Some e.1) (find key_cmp name es))) [
-      | true ↦ λ t. ap (λ k. Some (f k e.1)) (sym (same_name name e.0 t))
+      | true ↦ λ t. ap (λ k. Some (f k e.1)) (sym (same_key name e.0 t))
       | false ↦ λ t. mapped_find f es name
     ] refl
 

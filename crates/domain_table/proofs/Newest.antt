@@ -3,6 +3,7 @@ use Rattle.std.proofs.Common.{◌≡◌, ℕ, zero, suc, ◌+◌, ◌-◌, ◌<�
 use Rattle.std.specs.Prelude.{unwrap_or, slice_get, All}
 use Rattle.std.specs.Option.{option_map, option_copied}
 use Rattle.std.proofs.lemmas.List.Elements.{All-head, All-tail}
+use Rattle.std.proofs.lemmas.Option.{slice_get-get_or}
 use Rattle.ar_cert.specs.Certificate.{Certificate}
 use Rattle.ar_cert.specs.Changes.{Change}
 use Rattle.domain_table.specs.Tree.{value_of, value_of_cert}
@@ -50,12 +51,8 @@ newest_got (c ∷ chain) =
     let k : ℕ = length chain in
     let at : length (c ∷ chain) - 1 ≡ k = omega arith in
     ap (λ n. option_map (λ x. x.cert) (slice_get (c ∷ chain) n)) at
-    ∙ ap (option_map (λ x. x.cert)) (got (c ∷ chain) k c (omega arith))
-    ∙ sym (newest_is (c ∷ chain) k c (omega arith)) where
-      got : (xs : List Change) (n : ℕ) (d : Change) → n < length xs → slice_get xs n ≡ Some (get_or xs n d)
-      got [] n d l = absurd (omega (arith, l))
-      got (x ∷ xs) zero d l = refl
-      got (x ∷ xs) (suc n) d l = got xs n d (omega (arith, l))
+    ∙ ap (option_map (λ x. x.cert)) (slice_get-get_or (c ∷ chain) k c (omega arith))
+    ∙ sym (newest_is (c ∷ chain) k c (omega arith))
 
 -- through a borrow
 pub now_cert : (o : Option (Bor Change)) → option_map (λ c. c.now.cert) o ≡ option_map (λ c. c.cert) (option_copied o)

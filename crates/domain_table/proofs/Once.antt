@@ -8,6 +8,7 @@ use Rattle.std.specs.FinMap.{get, same_map, get-insert, get-remove}
 use Rattle.std.proofs.lemmas.Bool.{leb-true}
 use Rattle.hash_tree.specs.Entries.{key_cmp}
 use Rattle.hash_tree.proofs.Maps.{total, exact}
+use Rattle.hash_tree.proofs.Changed.{same_key}
 use Rattle.cert_policy.specs.declared.manner.Manner.{Manner}
 use Rattle.cert_policy.specs.declared.manner.Manner.TheVariants.{Full, Recovery, Objected}
 use Rattle.ar_cert.specs.Certificate.{Certificate, IsCertificate, IsWait}
@@ -16,7 +17,7 @@ use Rattle.domain_table.specs.declared.refusal.ChangeRefusal.{ChangeRefusal}
 use Rattle.domain_table.specs.Tables.{Pending, Table, chain_of, newest}
 use Rattle.domain_table.specs.Applying.{is_over, is_ripe, is_ripe_behind, ripened, change_list, ripen, judge_ripe, taken, after_answer, apply_each, apply}
 use Rattle.domain_table.specs.Sound.{IsSound}
-use Rattle.domain_table.proofs.Maps.{same_name, get-ripen, waiting-ripen}
+use Rattle.domain_table.proofs.Maps.{get-ripen, waiting-ripen}
 use Rattle.domain_table.proofs.Newest.{newest_has}
 use Rattle.domain_table.proofs.Judged.{IsJudged, judged}
 use Rattle.domain_table.proofs.Steps.{unit_holds}
@@ -96,7 +97,7 @@ still_none t e c Recovery sound judged none name = at (eq_by_cmp key_cmp name c.
 
   at : (b : Bool) → eq_by_cmp key_cmp name c.cert.name ≡ b → is_ripe (taken t e c Recovery) e name ≡ false
   at true tied =
-      let same : name ≡ c.cert.name = same_name name c.cert.name tied in
+      let same : name ≡ c.cert.name = same_key name c.cert.name tied in
       let newest_is : newest (chain_of t name) ≡ Some judged.0 = ap (λ k. newest (chain_of t k)) same ∙ judged.1 in
       ripe_by (taken t e c Recovery) e name (get t.chains name) (Some (record { change = c; since = e })) refl
       (get-insert total t.waiting c.cert.name (record { change = c; since = e }) name ∙ ap (λ b. cond b (Some (record { change = c; since = e })) (get t.waiting name)) tied)

@@ -8,26 +8,27 @@ use Rattle.std.specs.declared.cmp.Ordering.TheVariants.{Less, Equal, Greater}
 use Rattle.std.specs.Ordering.{eq_by_cmp, is_eq, is_lt, ordering_reverse}
 use Rattle.std.specs.FinMap.{find, is_sorted}
 use Rattle.std.specs.FinMap.Entries.{below_all}
-use Rattle.std.proofs.lemmas.Bool.{and_from, cases_lt}
+use Rattle.std.proofs.lemmas.Bool.{and_from, cases_lt, and_parts}
 use Rattle.std.proofs.lemmas.List.{map-append}
 use Rattle.std.proofs.Math.ListN.{set}
+use Rattle.std.proofs.Math.Numerals.{suc-eq-add-one}
 use Rattle.hash_tree.specs.Entries.{key_cmp}
-use Rattle.hash_tree.proofs.Maps.{total, both-first, both-second, less_is}
+use Rattle.hash_tree.proofs.Maps.{total, less_is}
+use Rattle.hash_tree.proofs.Changed.{same_key}
 use Rattle.domain_table.specs.declared.row.Row.{Row}
 use Rattle.domain_table.specs.Rows.{RowData, data_of, data_in, chain_pair, marks_of, IsPlace}
-use Rattle.domain_table.proofs.Maps.{same_name}
 
 -- of two rows the earlier has the lesser name
 below_row : (x : List ℕ) (rows : List Row) → below_all key_cmp x (map chain_pair (data_in rows)) ≡ true → (k : ℕ) (d : Row) → k < length rows → key_cmp x (get_or rows k d).name.items ≡ Less
 below_row x [] h k d l = absurd (omega (arith, l))
-below_row x (r ∷ rows) h zero d l = less_is (key_cmp x r.name.items) (both-first (is_lt (key_cmp x r.name.items)) (below_all key_cmp x (map chain_pair (data_in rows))) h)
-below_row x (r ∷ rows) h (suc k) d l = below_row x rows (both-second (is_lt (key_cmp x r.name.items)) (below_all key_cmp x (map chain_pair (data_in rows))) h) k d (omega (arith, l))
+below_row x (r ∷ rows) h zero d l = less_is (key_cmp x r.name.items) (and_parts (is_lt (key_cmp x r.name.items)) (below_all key_cmp x (map chain_pair (data_in rows))) h).0
+below_row x (r ∷ rows) h (suc k) d l = below_row x rows (and_parts (is_lt (key_cmp x r.name.items)) (below_all key_cmp x (map chain_pair (data_in rows))) h).1 k d (omega (arith, l))
 
 pub in_order : (rows : List Row) → IsTrue (is_sorted key_cmp (map chain_pair (data_in rows))) → (i j : ℕ) (d : Row) → i < j → j < length rows → key_cmp (get_or rows i d).name.items (get_or rows j d).name.items ≡ Less
 in_order [] h i j d l m = absurd (omega (arith, m))
 in_order (r ∷ rows) h i zero d l m = absurd (omega (arith, l))
-in_order (r ∷ rows) h zero (suc j) d l m = below_row r.name.items rows (both-first (below_all key_cmp r.name.items (map chain_pair (data_in rows))) (is_sorted key_cmp (map chain_pair (data_in rows))) h) j d (omega (arith, m))
-in_order (r ∷ rows) h (suc i) (suc j) d l m = in_order rows (both-second (below_all key_cmp r.name.items (map chain_pair (data_in rows))) (is_sorted key_cmp (map chain_pair (data_in rows))) h) i j d (omega (arith, l)) (omega (arith, m))
+in_order (r ∷ rows) h zero (suc j) d l m = below_row r.name.items rows (and_parts (below_all key_cmp r.name.items (map chain_pair (data_in rows))) (is_sorted key_cmp (map chain_pair (data_in rows))) h).0 j d (omega (arith, m))
+in_order (r ∷ rows) h (suc i) (suc j) d l m = in_order rows (and_parts (below_all key_cmp r.name.items (map chain_pair (data_in rows))) (is_sorted key_cmp (map chain_pair (data_in rows))) h).1 i j d (omega (arith, l)) (omega (arith, m))
 
 pub partitioned : (rows : List Row) (name : List ℕ) → IsTrue (is_sorted key_cmp (map chain_pair (data_in rows))) → IsPartitionedBy (λ r. is_lt (key_cmp r.name.items name)) rows
 partitioned rows name rise i j d le l less =
@@ -61,7 +62,7 @@ absent rows name i rise place here k d l =
           → is_lt (key_cmp (get_or rows i d).name.items name) ≡ false → eq_by_cmp key_cmp name (get_or rows k d).name.items ≡ false
       at false apart less not_less = apart
       at true tied less not_less =
-          let same : name ≡ (get_or rows k d).name.items = same_name name (get_or rows k d).name.items tied in
+          let same : name ≡ (get_or rows k d).name.items = same_key name (get_or rows k d).name.items tied in
           let lt : is_lt (key_cmp (get_or rows i d).name.items name) ≡ true = ap (λ x. is_lt (key_cmp (get_or rows i d).name.items x)) same ∙ ap is_lt less in
           absurd (cc)
 
@@ -102,12 +103,6 @@ is_greater name k not_less apart =
 
 -- ---- rows in parts
 
--- a place within a list has what it has, whatever stands for places that are not
-pub any_default : {A : Type 0} (xs : List A) (i : ℕ) (d e : A) → i < length xs → get_or xs i d ≡ get_or xs i e
-any_default [] i d e l = absurd (omega (arith, l))
-any_default (x ∷ xs) zero d e l = refl
-any_default (x ∷ xs) (suc i) d e l = any_default xs i d e (omega (arith, l))
-
 pub data_take : (rows : List Row) (i : ℕ) → data_in (take i rows) ≡ take i (data_in rows)
 data_take rows zero = refl
 data_take [] (suc i) = refl
@@ -120,10 +115,7 @@ data_drop (r ∷ rows) (suc i) = data_drop rows i
 
 -- a list in three parts
 pub split_at : {A : Type 0} (xs : List A) (i : ℕ) (d : A) → i < length xs → xs ≡ take i xs ++ get_or xs i d ∷ drop (i + 1) xs
-split_at {A} xs i d l = at xs i l ∙ ap (λ n. take i xs ++ get_or xs i d ∷ drop n xs) (next i) where
-  next : (n : ℕ) → suc n ≡ n + 1
-  next n = omega arith
-
+split_at {A} xs i d l = at xs i l ∙ ap (λ n. take i xs ++ get_or xs i d ∷ drop n xs) (suc-eq-add-one i) where
   at : (ys : List A) (n : ℕ) → n < length ys → ys ≡ take n ys ++ get_or ys n d ∷ drop (suc n) ys
   at [] n l = absurd (omega (arith, l))
   at (y ∷ ys) zero l = refl
@@ -135,10 +127,7 @@ join_at [] (suc i) = refl
 join_at (x ∷ xs) (suc i) = ap (λ ys. x ∷ ys) (join_at xs i)
 
 pub data_set : (rows : List Row) (i : ℕ) (r : Row) → i < length rows → data_in (set rows i r) ≡ take i (data_in rows) ++ data_of r ∷ drop (i + 1) (data_in rows)
-data_set rows i r l = at rows i l ∙ ap (λ n. take i (data_in rows) ++ data_of r ∷ drop n (data_in rows)) (next i) where
-  next : (n : ℕ) → suc n ≡ n + 1
-  next n = omega arith
-
+data_set rows i r l = at rows i l ∙ ap (λ n. take i (data_in rows) ++ data_of r ∷ drop n (data_in rows)) (suc-eq-add-one i) where
   at : (ys : List Row) (n : ℕ) → n < length ys → data_in (set ys n r) ≡ take n (data_in ys) ++ data_of r ∷ drop (suc n) (data_in ys)
   at [] n l = absurd (omega (arith, l))
   at (y ∷ ys) zero l = refl

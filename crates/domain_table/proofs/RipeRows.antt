@@ -9,14 +9,16 @@ use Rattle.std.specs.FinMap.{get, find, is_sorted, same_map, get-from_entries}
 use Rattle.std.proofs.lemmas.List.Elements.{recursion_from_All}
 use Rattle.hash_tree.specs.Entries.{key_cmp}
 use Rattle.hash_tree.proofs.Maps.{total, exact}
+use Rattle.hash_tree.proofs.Changed.{same_key, own_key}
 use Rattle.domain_table.specs.Tables.{Pending, Table, chain_of, newest, size}
 use Rattle.domain_table.specs.Applying.{is_ripe, is_ripe_behind, ripened, change_list, ripen}
 use Rattle.domain_table.specs.Rows.{RowData, chain_pair, pending_pair, table_of, is_ripe_row, newest_at, pending_at, waiting_count}
-use Rattle.domain_table.proofs.Maps.{same_name, own_name, get-ripen, waiting-ripen}
+use Rattle.domain_table.proofs.Maps.{get-ripen, waiting-ripen}
 use Rattle.domain_table.proofs.RowLists.{split_map, between, Between, none_waits, waits_at, places, size_rows}
 use Rattle.domain_table.proofs.Places.{split_at}
 use Rattle.domain_table.proofs.Newest.{newest-push}
 use Rattle.ar_cert.specs.Certificate.{Certificate}
+use Rattle.ar_base.proofs.Shown.{or_none}
 
 -- what stands under the name of a row
 pub record Stands (t : Table) (r : RowData) : Type 0 where
@@ -28,14 +30,11 @@ stands_between front r back rise =
     let parts : Between front r back = between front r back rise in
     record {
       chain = get-from_entries total (map chain_pair (front ++ r ∷ back)) r.name ∙ split_map chain_pair front r back r.name
-          ∙ (λ i. option_or (parts.before i) (cond (own_name r.name i) (Some r.chain) (find key_cmp r.name (map chain_pair back))));
+          ∙ (λ i. option_or (parts.before i) (cond (own_key r.name i) (Some r.chain) (find key_cmp r.name (map chain_pair back))));
       waits = get-from_entries total (filter_map pending_pair (front ++ r ∷ back)) r.name ∙ waits_at front r back r.name
-          ∙ (λ i. option_or (none_waits r.name front parts.before i) (option_or (cond (own_name r.name i) r.waiting None) (none_waits r.name back parts.behind i)))
-          ∙ nothing r.waiting;
-    } where
-      nothing : (o : Option Pending) → option_or o None ≡ o
-      nothing None = refl
-      nothing (Some p) = refl
+          ∙ (λ i. option_or (none_waits r.name front parts.before i) (option_or (cond (own_key r.name i) r.waiting None) (none_waits r.name back parts.behind i)))
+          ∙ or_none r.waiting;
+    }
 
 pub stands : (rows : List RowData) → IsTrue (is_sorted key_cmp (map chain_pair rows)) → All (Stands (table_of rows)) rows
 stands rows rise k d l =
@@ -63,7 +62,7 @@ ripe_chains t e (r ∷ rows) all q = at (eq_by_cmp key_cmp q r.name) refl (ripe_
   at : (b : Bool) → eq_by_cmp key_cmp q r.name ≡ b → find key_cmp q (map chain_pair (map (ripe_data e) rows)) ≡ option_map (ripened t e q) (find key_cmp q (map chain_pair rows))
       → cond b (Some (ripe_data e r).chain) (find key_cmp q (map chain_pair (map (ripe_data e) rows))) ≡ option_map (ripened t e q) (cond b (Some r.chain) (find key_cmp q (map chain_pair rows)))
   at true tied rest =
-      let same : r.name ≡ q = sym (same_name q r.name tied) in
+      let same : r.name ≡ q = sym (same_key q r.name tied) in
       let ripe : is_ripe_row e r ≡ is_ripe t e q = sym (ripe_row t e r all.0) ∙ ap (is_ripe t e) same in
       let waits : r.waiting ≡ get t.waiting q = sym all.0.waits ∙ ap (get t.waiting) same in
       λ i. Some (cond (ripe i) (r.chain ++ change_list (waits i)) r.chain)
@@ -86,14 +85,14 @@ ripe_waits t e (r ∷ rows) all q = by r.waiting (is_ripe_row e r) refl (ripe_wa
     at : (b : Bool) → eq_by_cmp key_cmp q r.name ≡ b → find key_cmp q (filter_map pending_pair (map (ripe_data e) rows)) ≡ cond (is_ripe t e q) None (cond b (Some p) (find key_cmp q (filter_map pending_pair rows)))
     at false apart = rest
     at true tied =
-        let ripe : is_ripe t e q ≡ true = ap (is_ripe t e) (same_name q r.name tied) ∙ ripe_row t e r all.0 ∙ is in
+        let ripe : is_ripe t e q ≡ true = ap (is_ripe t e) (same_key q r.name tied) ∙ ripe_row t e r all.0 ∙ is in
         rest ∙ ap (λ b. cond b None (find key_cmp q (filter_map pending_pair rows))) ripe ∙ sym (ap (λ b. cond b None (Some p)) ripe)
   by (Some p) false is rest = at (eq_by_cmp key_cmp q r.name) refl where
     at : (b : Bool) → eq_by_cmp key_cmp q r.name ≡ b
         → cond b (Some p) (find key_cmp q (filter_map pending_pair (map (ripe_data e) rows))) ≡ cond (is_ripe t e q) None (cond b (Some p) (find key_cmp q (filter_map pending_pair rows)))
     at false apart = rest
     at true tied =
-        let ripe : is_ripe t e q ≡ false = ap (is_ripe t e) (same_name q r.name tied) ∙ ripe_row t e r all.0 ∙ is in
+        let ripe : is_ripe t e q ≡ false = ap (is_ripe t e) (same_key q r.name tied) ∙ ripe_row t e r all.0 ∙ is in
         sym (ap (λ b. cond b None (Some p)) ripe)
 
 pub ripe_table : (rows : List RowData) (e : ℕ) → IsTrue (is_sorted key_cmp (map chain_pair rows)) → table_of (map (ripe_data e) rows) ≡ ripen (table_of rows) e

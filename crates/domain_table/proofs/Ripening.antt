@@ -1,6 +1,7 @@
 -- Rows that ripen one by one.
 use Rattle.std.proofs.Common.{◌≡◌, ℕ, zero, suc, ◌+◌, ◌<◌, ◌≤◌, List, [], ◌∷◌, ◌++◌, map, length, get_or, take, drop, refl, sym, ap, ◌∙◌, arith, length-append, Bool, true, false, cond, Some, None}
-use Rattle.std.specs.Prelude.{IsTrue, OnOk, Result, Ok, Err, option_and_then}
+use Rattle.std.proofs.Math.Numerals.{suc-eq-add-one}
+use Rattle.std.specs.Prelude.{IsTrue, Result, Ok, option_and_then}
 use Rattle.std.specs.List.{filter_map, cons_option}
 use Rattle.std.specs.Option.{option_map}
 use Rattle.std.specs.FinMap.{is_sorted, from_entries}
@@ -49,9 +50,6 @@ done_step e (r ∷ old) (suc i) other back l done is = at (is_ripe_row e r) done
   at true done rest = absurd (cc)
   at false done rest = rest done is
 
-next : (n : ℕ) → suc n ≡ n + 1
-next n = omega arith
-
 -- rows that say the same at an epoch ripen to the same table
 alike : (e : ℕ) (front : List RowData) (r other : RowData) (back : List RowData) → chain_pair (ripe_data e other) ≡ chain_pair (ripe_data e r)
     → pending_pair (ripe_data e other) ≡ pending_pair (ripe_data e r) → table_of (map (ripe_data e) (front ++ other ∷ back)) ≡ table_of (map (ripe_data e) (front ++ r ∷ back))
@@ -70,7 +68,7 @@ pub not_ripe_here : (e : ℕ) (first rows : List RowData) (trie : Entries) (i : 
 not_ripe_here e first rows trie i d l is up =
     let parts = split_at rows i d l in
     let done : any_ripe e (take (suc i) rows) ≡ false = ap (λ xs. any_ripe e (take (suc i) xs)) parts ∙ done_step e rows i (get_or rows i d) (drop (i + 1) rows) (omega (arith, l)) up.done is in
-    record { are = up.are; tree = up.tree; count = up.count; done = ap (λ n. any_ripe e (take n rows)) (sym (next i)) ∙ done; same = up.same }
+    record { are = up.are; tree = up.tree; count = up.count; done = ap (λ n. any_ripe e (take n rows)) (sym (suc-eq-add-one i)) ∙ done; same = up.same }
 
 -- what was ripe there was appended
 pub ripened_here : (e : ℕ) (first old new : List RowData) (before trie : Entries) (i : ℕ) (d : RowData) (p : Pending) → i < length old → is_ripe_row e (get_or old i d) ≡ true
@@ -93,7 +91,7 @@ ripened_here e first old new before trie i d p l ripe waits changed up =
     ∙ ap (λ xs. table_of (map (ripe_data e) xs)) (sym parts) ∙ ripe_table old e up.are.rise in
     let count : length new ≡ length old =
     ap length changed.rows ∙ length-append (take i old) (other ∷ drop (i + 1) old) ∙ sym (length-append (take i old) (r ∷ drop (i + 1) old)) ∙ ap length (sym parts) in
-    record { are = are; tree = changed.tree; count = count ∙ up.count; done = ap (λ n. any_ripe e (take n new)) (sym (next i)) ∙ done; same = same ∙ up.same }
+    record { are = are; tree = changed.tree; count = count ∙ up.count; done = ap (λ n. any_ripe e (take n new)) (sym (suc-eq-add-one i)) ∙ done; same = same ∙ up.same }
 
 -- rows of which none is ripe up to their end
 all_done : (e : ℕ) (rows : List RowData) (i : ℕ) → length rows ≤ i → any_ripe e (take i rows) ≡ false → any_ripe e rows ≡ false
@@ -137,7 +135,3 @@ pub judged_view : (list rows : List Row) (t : Table) (e : ℕ) (c : Change) (m :
     → answer ≡ judge (table_of (data_in list)) e c → answer ≡ Ok m → judge_ripe (ripen t e) c ≡ Ok m
 judged_view list rows t e c m answer view same judged is =
     ap (λ s. judge_ripe (ripen s e) c) (sym view ∙ ap (λ xs. table_of (data_in xs)) (sym same)) ∙ sym judged ∙ is
-
-pub on_ok : {T E A B : Type 0} (r : Result T E) → (A → B) → OnOk r A → OnOk r B
-on_ok (Ok x) f a = f a
-on_ok (Err e) f a = tt

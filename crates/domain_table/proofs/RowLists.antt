@@ -13,18 +13,19 @@ use lib.Dec.{T}
 use Rattle.std.proofs.lemmas.List.{map-append}
 use Rattle.std.proofs.lemmas.List.Elements.{filter_map-append, recursion_from_All}
 use Rattle.std.proofs.lemmas.List.Sums.{sum_by-cons}
-use Rattle.std.proofs.lemmas.Bool.{and_from}
+use Rattle.std.proofs.lemmas.Bool.{and_from, and_parts}
 use Rattle.hash_tree.specs.Strings as strings
 use Rattle.sha2.specs.Sha256.{sha256}
 use Rattle.hash_tree.specs.Entries.{Entry, Entries, key_cmp}
-use Rattle.hash_tree.proofs.Maps.{total, exact, both-first, both-second, less_is}
+use Rattle.hash_tree.proofs.Maps.{total, exact, less_is}
+use Rattle.hash_tree.proofs.Changed.{same_key}
 use Rattle.ar_cert.specs.Changes.{Change}
 use Rattle.domain_table.specs.declared.row.Marks.{Marks}
 use Rattle.domain_table.specs.Tables.{Pending, size}
 use Rattle.domain_table.specs.Tree.{value_of, pending_value, tagged, keyed, tree_entries}
 use Rattle.domain_table.specs.Rows.{RowData, hit, chain_pair, pending_pair, table_of, name_entry, pending_entry, marked, marks_of, with_entry, IsMarked, AreRows, waiting_count}
-use Rattle.domain_table.proofs.Maps.{same_name}
 use Rattle.domain_table.proofs.Keyed.{find_both}
+use Rattle.ar_base.proofs.Shown.{or_none}
 
 -- ---- the order of names
 
@@ -39,8 +40,8 @@ entries_list es rise =
 none_below : {V : Type 0} (q : List ℕ) (es : List (List ℕ × V)) → below_all key_cmp q es ≡ true → find key_cmp q es ≡ None
 none_below q [] h = refl
 none_below q (e ∷ es) h =
-    let less : key_cmp q e.0 ≡ Less = less_is (key_cmp q e.0) (both-first (is_lt (key_cmp q e.0)) _ h) in
-    ap (λ o. cond (is_eq o) (Some e.1) (find key_cmp q es)) less ∙ none_below q es (both-second (is_lt (key_cmp q e.0)) _ h)
+    let less : key_cmp q e.0 ≡ Less = less_is (key_cmp q e.0) (and_parts (is_lt (key_cmp q e.0)) _ h).0 in
+    ap (λ o. cond (is_eq o) (Some e.1) (find key_cmp q es)) less ∙ none_below q es (and_parts (is_lt (key_cmp q e.0)) _ h).1
 
 -- a name that is greater than another does not tie with it
 greater_apart : (q k : List ℕ) → key_cmp k q ≡ Less → eq_by_cmp key_cmp q k ≡ false
@@ -57,14 +58,14 @@ pub record Between (front : List RowData) (r : RowData) (back : List RowData) : 
   pub behind : find key_cmp r.name (map chain_pair back) ≡ None
 
 less_than_row : (x : List ℕ) (front : List RowData) (r : RowData) (back : List RowData) → below_all key_cmp x (map chain_pair (front ++ r ∷ back)) ≡ true → key_cmp x r.name ≡ Less
-less_than_row x [] r back h = less_is (key_cmp x r.name) (both-first (is_lt (key_cmp x r.name)) _ h)
-less_than_row x (f ∷ front) r back h = less_than_row x front r back (both-second (is_lt (key_cmp x f.name)) _ h)
+less_than_row x [] r back h = less_is (key_cmp x r.name) (and_parts (is_lt (key_cmp x r.name)) _ h).0
+less_than_row x (f ∷ front) r back h = less_than_row x front r back (and_parts (is_lt (key_cmp x f.name)) _ h).1
 
 pub between : (front : List RowData) (r : RowData) (back : List RowData) → IsTrue (is_sorted key_cmp (map chain_pair (front ++ r ∷ back))) → Between front r back
-between [] r back rise = record { before = refl; behind = none_below r.name (map chain_pair back) (both-first (below_all key_cmp r.name (map chain_pair back)) _ rise) }
+between [] r back rise = record { before = refl; behind = none_below r.name (map chain_pair back) (and_parts (below_all key_cmp r.name (map chain_pair back)) _ rise).0 }
 between (f ∷ front) r back rise =
-    let rest : Between front r back = between front r back (both-second (below_all key_cmp f.name (map chain_pair (front ++ r ∷ back))) _ rise) in
-    let less : key_cmp f.name r.name ≡ Less = less_than_row f.name front r back (both-first (below_all key_cmp f.name (map chain_pair (front ++ r ∷ back))) _ rise) in
+    let rest : Between front r back = between front r back (and_parts (below_all key_cmp f.name (map chain_pair (front ++ r ∷ back))) _ rise).1 in
+    let less : key_cmp f.name r.name ≡ Less = less_than_row f.name front r back (and_parts (below_all key_cmp f.name (map chain_pair (front ++ r ∷ back))) _ rise).0 in
     record {
       before = ap (λ b. cond b (Some f.chain) (find key_cmp r.name (map chain_pair front))) (greater_apart r.name f.name less) ∙ rest.before;
       behind = rest.behind;
@@ -138,7 +139,7 @@ changed_chains front r other back rise same = same_map total exact _ _ (λ q.
           → option_or (find key_cmp q (map chain_pair front)) (cond (eq_by_cmp key_cmp q r.name) (Some other.chain) (find key_cmp q (map chain_pair back)))
           ≡ cond (eq_by_cmp key_cmp q r.name) (Some other.chain) (option_or (find key_cmp q (map chain_pair front)) (cond (eq_by_cmp key_cmp q r.name) (Some r.chain) (find key_cmp q (map chain_pair back))))
       at q true tied =
-          let none : find key_cmp q (map chain_pair front) ≡ None = ap (λ k. find key_cmp k (map chain_pair front)) (same_name q r.name tied) ∙ (between front r back rise).before in
+          let none : find key_cmp q (map chain_pair front) ≡ None = ap (λ k. find key_cmp k (map chain_pair front)) (same_key q r.name tied) ∙ (between front r back rise).before in
           rw (tied, none) refl
       at q false apart = rw apart refl
 
@@ -166,19 +167,15 @@ changed_waiting front r other back rise same = same_map total exact _ _ (λ q.
     ∙ at q (eq_by_cmp key_cmp q r.name) refl
     ∙ sym (get-with_pending (from_entries (filter_map pending_pair (front ++ r ∷ back))) r.name other.waiting q
     ∙ ap (cond (eq_by_cmp key_cmp q r.name) other.waiting) (get-from_entries total (filter_map pending_pair (front ++ r ∷ back)) q ∙ waits_at front r back q))) where
-      nothing : (o : Option Pending) → option_or o None ≡ o
-      nothing None = refl
-      nothing (Some p) = refl
-
       at : (q : List ℕ) (b : Bool) → eq_by_cmp key_cmp q r.name ≡ b
           → option_or (find key_cmp q (filter_map pending_pair front)) (option_or (cond (eq_by_cmp key_cmp q r.name) other.waiting None) (find key_cmp q (filter_map pending_pair back)))
           ≡ cond (eq_by_cmp key_cmp q r.name) other.waiting
           (option_or (find key_cmp q (filter_map pending_pair front)) (option_or (cond (eq_by_cmp key_cmp q r.name) (r.waiting) None) (find key_cmp q (filter_map pending_pair back))))
       at q true tied =
           let parts : Between front r back = between front r back rise in
-          let before : find key_cmp q (filter_map pending_pair front) ≡ None = ap (λ k. find key_cmp k (filter_map pending_pair front)) (same_name q r.name tied) ∙ none_waits r.name front parts.before in
-          let behind : find key_cmp q (filter_map pending_pair back) ≡ None = ap (λ k. find key_cmp k (filter_map pending_pair back)) (same_name q r.name tied) ∙ none_waits r.name back parts.behind in
-          rw (tied, before, behind) (nothing other.waiting)
+          let before : find key_cmp q (filter_map pending_pair front) ≡ None = ap (λ k. find key_cmp k (filter_map pending_pair front)) (same_key q r.name tied) ∙ none_waits r.name front parts.before in
+          let behind : find key_cmp q (filter_map pending_pair back) ≡ None = ap (λ k. find key_cmp k (filter_map pending_pair back)) (same_key q r.name tied) ∙ none_waits r.name back parts.behind in
+          rw (tied, before, behind) (or_none other.waiting)
       at q false apart = rw apart refl
 
 -- ---- a row that comes in
@@ -199,7 +196,7 @@ came_chains front r back absent = same_map total exact _ _ (λ q.
           ≡ cond (eq_by_cmp key_cmp q r.name) (Some r.chain) (option_or (find key_cmp q (map chain_pair front)) (find key_cmp q (map chain_pair back)))
       at q true tied =
           let none : find key_cmp q (map chain_pair front) ≡ None =
-          ap (λ k. find key_cmp k (map chain_pair front)) (same_name q r.name tied)
+          ap (λ k. find key_cmp k (map chain_pair front)) (same_key q r.name tied)
           ∙ first (find key_cmp r.name (map chain_pair front)) (find key_cmp r.name (map chain_pair back)) (sym (join_map chain_pair front back r.name) ∙ absent) in
           rw (tied, none) refl
       at q false apart = rw apart refl
@@ -221,7 +218,7 @@ came_waiting front r back absent free = same_map total exact _ _ (λ q.
       at : (q : List ℕ) (b : Bool) → eq_by_cmp key_cmp q r.name ≡ b
           → find key_cmp q (filter_map pending_pair (front ++ back)) ≡ cond (eq_by_cmp key_cmp q r.name) None (find key_cmp q (filter_map pending_pair (front ++ back)))
       at q true tied =
-          ap (λ k. find key_cmp k (filter_map pending_pair (front ++ back))) (same_name q r.name tied) ∙ none_waits r.name (front ++ back) absent
+          ap (λ k. find key_cmp k (filter_map pending_pair (front ++ back))) (same_key q r.name tied) ∙ none_waits r.name (front ++ back) absent
           ∙ sym (ap (λ b. cond b None (find key_cmp q (filter_map pending_pair (front ++ back)))) tied)
       at q false apart = sym (ap (λ b. cond b None (find key_cmp q (filter_map pending_pair (front ++ back)))) apart)
 
@@ -241,33 +238,33 @@ below_came : (x : List ℕ) (front : List RowData) (r : RowData) (back : List Ro
     → below_all key_cmp x (map chain_pair (front ++ r ∷ back)) ≡ true
 below_came x [] r back h less = and_from (is_lt (key_cmp x r.name)) (below_all key_cmp x (map chain_pair back)) (ap is_lt less) h
 below_came x (f ∷ front) r back h less =
-    and_from (is_lt (key_cmp x f.name)) (below_all key_cmp x (map chain_pair (front ++ r ∷ back))) (both-first _ (below_all key_cmp x (map chain_pair (front ++ back))) h)
-    (below_came x front r back (both-second (is_lt (key_cmp x f.name)) _ h) less)
+    and_from (is_lt (key_cmp x f.name)) (below_all key_cmp x (map chain_pair (front ++ r ∷ back))) (and_parts _ (below_all key_cmp x (map chain_pair (front ++ back))) h).0
+    (below_came x front r back (and_parts (is_lt (key_cmp x f.name)) _ h).1 less)
 
 pub rise_came : (front : List RowData) (r : RowData) (back : List RowData) → IsTrue (is_sorted key_cmp (map chain_pair (front ++ back))) → AllByRecursion (λ f. key_cmp f.name r.name ≡ Less) front
     → below_all key_cmp r.name (map chain_pair back) ≡ true → IsTrue (is_sorted key_cmp (map chain_pair (front ++ r ∷ back)))
 rise_came [] r back rise less greater = and_from (below_all key_cmp r.name (map chain_pair back)) (is_sorted key_cmp (map chain_pair back)) greater rise
 rise_came (f ∷ front) r back rise less greater =
     and_from (below_all key_cmp f.name (map chain_pair (front ++ r ∷ back))) (is_sorted key_cmp (map chain_pair (front ++ r ∷ back)))
-    (below_came f.name front r back (both-first _ (is_sorted key_cmp (map chain_pair (front ++ back))) rise) less.0)
-    (rise_came front r back (both-second (below_all key_cmp f.name (map chain_pair (front ++ back))) _ rise) less.1 greater)
+    (below_came f.name front r back (and_parts _ (is_sorted key_cmp (map chain_pair (front ++ back))) rise).0 less.0)
+    (rise_came front r back (and_parts (below_all key_cmp f.name (map chain_pair (front ++ back))) _ rise).1 less.1 greater)
 
 -- names for which something waits ascend too
 below_waits : (x : List ℕ) (rows : List RowData) → below_all key_cmp x (map chain_pair rows) ≡ true → below_all key_cmp x (filter_map pending_pair rows) ≡ true
 below_waits x [] h = refl
-below_waits x (r ∷ rows) h = at (r.waiting) (below_waits x rows (both-second (is_lt (key_cmp x r.name)) _ h)) where
+below_waits x (r ∷ rows) h = at (r.waiting) (below_waits x rows (and_parts (is_lt (key_cmp x r.name)) _ h).1) where
   at : (o : Option Pending) → below_all key_cmp x (filter_map pending_pair rows) ≡ true → below_all key_cmp x (cons_option (option_map (λ p. (r.name, p)) o) (filter_map pending_pair rows)) ≡ true
   at None rest = rest
-  at (Some p) rest = and_from (is_lt (key_cmp x r.name)) (below_all key_cmp x (filter_map pending_pair rows)) (both-first _ (below_all key_cmp x (map chain_pair rows)) h) rest
+  at (Some p) rest = and_from (is_lt (key_cmp x r.name)) (below_all key_cmp x (filter_map pending_pair rows)) (and_parts _ (below_all key_cmp x (map chain_pair rows)) h).0 rest
 
 pub waits_rise : (rows : List RowData) → IsTrue (is_sorted key_cmp (map chain_pair rows)) → IsTrue (is_sorted key_cmp (filter_map pending_pair rows))
 waits_rise [] h = refl
-waits_rise (r ∷ rows) h = at (r.waiting) (waits_rise rows (both-second (below_all key_cmp r.name (map chain_pair rows)) _ h)) where
+waits_rise (r ∷ rows) h = at (r.waiting) (waits_rise rows (and_parts (below_all key_cmp r.name (map chain_pair rows)) _ h).1) where
   at : (o : Option Pending) → is_sorted key_cmp (filter_map pending_pair rows) ≡ true → is_sorted key_cmp (cons_option (option_map (λ p. (r.name, p)) o) (filter_map pending_pair rows)) ≡ true
   at None rest = rest
   at (Some p) rest =
       and_from (below_all key_cmp r.name (filter_map pending_pair rows)) (is_sorted key_cmp (filter_map pending_pair rows))
-      (below_waits r.name rows (both-first (below_all key_cmp r.name (map chain_pair rows)) _ h)) rest
+      (below_waits r.name rows (and_parts (below_all key_cmp r.name (map chain_pair rows)) _ h).0) rest
 
 -- ---- the entries of rows
 
@@ -341,7 +338,7 @@ one_refreshed es fs key alike = same_map total exact _ _ (λ q.
     get-with_entry (from_entries es) key (find key_cmp key fs) q ∙ ap (cond (eq_by_cmp key_cmp q key) (find key_cmp key fs)) (get-from_entries total es q)
     ∙ at q (eq_by_cmp key_cmp q key) refl ∙ sym (get-from_entries total fs q)) where
       at : (q : List ℕ) (b : Bool) → eq_by_cmp key_cmp q key ≡ b → cond (eq_by_cmp key_cmp q key) (find key_cmp key fs) (find key_cmp q es) ≡ find key_cmp q fs
-      at q true tied = ap (λ b. cond b (find key_cmp key fs) (find key_cmp q es)) tied ∙ ap (λ k. find key_cmp k fs) (sym (same_name q key tied))
+      at q true tied = ap (λ b. cond b (find key_cmp key fs) (find key_cmp q es)) tied ∙ ap (λ k. find key_cmp k fs) (sym (same_key q key tied))
       at q false apart = ap (λ b. cond b (find key_cmp key fs) (find key_cmp q es)) apart ∙ sym (alike q apart)
 
 -- and under two keys
@@ -353,8 +350,8 @@ two_refreshed es fs one other alike = same_map total exact _ _ (λ q.
     ∙ at q (eq_by_cmp key_cmp q other) (eq_by_cmp key_cmp q one) refl refl ∙ sym (get-from_entries total fs q)) where
       at : (q : List ℕ) (b c : Bool) → eq_by_cmp key_cmp q other ≡ b → eq_by_cmp key_cmp q one ≡ c
           → cond (eq_by_cmp key_cmp q other) (find key_cmp other fs) (cond (eq_by_cmp key_cmp q one) (find key_cmp one fs) (find key_cmp q es)) ≡ find key_cmp q fs
-      at q true c tied e = rw tied (ap (λ k. find key_cmp k fs) (sym (same_name q other tied)))
-      at q false true apart tied = rw (apart, tied) (ap (λ k. find key_cmp k fs) (sym (same_name q one tied)))
+      at q true c tied e = rw tied (ap (λ k. find key_cmp k fs) (sym (same_key q other tied)))
+      at q false true apart tied = rw (apart, tied) (ap (λ k. find key_cmp k fs) (sym (same_key q one tied)))
       at q false false apart also = rw (apart, also) (sym (alike q also apart))
 
 -- what marks in the middle have under a key

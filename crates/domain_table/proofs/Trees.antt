@@ -7,12 +7,12 @@ use Rattle.std.specs.Int.{w64, to_be_bytes, from_be_bytes}
 use Rattle.std.specs.FinMap.{get, entries, find, get-entries, get-from_entries}
 use Rattle.std.proofs.lemmas.Nat.{from_be_bytes-to_be_bytes_8}
 use Rattle.std.proofs.lemmas.List.Elements.{All-nil, All-cons}
-use Rattle.std.proofs.lemmas.Option.{same_Some}
 use Rattle.sha2.specs.Sha256.{sha256}
 use Rattle.ar_base.specs.Apart.{IsIn, Apart, none_collide}
 use Rattle.ar_base.proofs.Apart.{in_front, in_rest, in_both, apart, none_collide-part}
 use Rattle.ar_base.specs.Bytes.{IsDigest}
 use Rattle.ar_base.proofs.Digests.{sha256-IsDigest}
+use Rattle.ar_base.proofs.Shown.{or_none, mapped}
 use Rattle.ar_names.specs.Names.{name_digest_of}
 use Rattle.hash_tree.specs.Strings.{value_string, pending_string, pending_key}
 use Rattle.hash_tree.specs.Entries.{key_cmp, HoldsDigests}
@@ -66,10 +66,6 @@ string_find strings apart table listed s is =
     (keys_of strings 0x11 value_of (λ name chain. newest_strings (newest chain) ++ map certificate_string (certificates_of chain)) (entries table.chains) listed.chains)
     (keys_of strings 0x12 pending_value (λ name p. pending_string p.since (waiting_digest p) ∷ (certificate_string p.change.cert ∷ [])) (entries table.waiting) listed.waiting)) s is
     ∙ find_both (tagged 0x11 value_of (entries table.chains)) (tagged 0x12 pending_value (entries table.waiting)) s
-
-or_none : {A : Type 0} (o : Option A) → option_or o None ≡ o
-or_none None = refl
-or_none (Some x) = refl
 
 pub entry_at : (strings : List (List ℕ)) → Apart strings → (table : Table) → Listed strings table → (name : List ℕ) → IsIn strings (0x11 ∷ name)
     → get (tree_entries table) (name_digest_of name) ≡ option_map value_of (get table.chains name)
@@ -130,10 +126,6 @@ good_chain strings table sound listed name chain there =
       hashed = certs_listed strings chain (λ x i. chain_listed strings table listed name chain there x (inr (in_rest (newest_strings (newest chain)) _ x i)));
     }
 
-mapped_from : {A B : Type 0} (f : A → B) (o : Option A) (y : B) → option_map f o ≡ Some y → (x : A) × (o ≡ Some x) × (f x ≡ y)
-mapped_from f None y e = absurd (cc)
-mapped_from f (Some x) y e = (x, refl, same_Some (f x) y e)
-
 -- eight bytes and a digest behind a byte: the digest
 same_value : (strings : List (List ℕ)) → Apart strings → (a b : Certificate) → IsIn strings (value_string a.serial (digest_of a)) → IsIn strings (value_string b.serial (digest_of b))
     → value_of_cert a ≡ value_of_cert b → digest_of a ≡ digest_of b
@@ -168,7 +160,7 @@ pub shared_name : (strings : List (List ℕ)) → Apart strings → (one other :
     → (name : List ℕ) (chain : List Change) → get one.chains name ≡ Some chain → (x : List Change) × (get other.chains name ≡ Some x) × (certificates_of chain ≡ certificates_of x)
 shared_name strings apart one other sound_one sound_other listed_one listed_other e name chain there =
     let is : IsIn strings (0x11 ∷ name) = chain_listed strings one listed_one name chain there (0x11 ∷ name) (inl refl) in
-    let found = mapped_from value_of (get other.chains name) (value_of chain)
+    let found = mapped value_of (get other.chains name) (value_of chain)
     (sym (entry_at strings apart other listed_other name is) ∙ ap (λ m. get m (name_digest_of name)) (sym e) ∙ entry_at strings apart one listed_one name is ∙ ap (option_map value_of) there) in
     let a : Top strings chain = top_of strings one sound_one listed_one name chain there in
     let b : Top strings found.0 = top_of strings other sound_other listed_other name found.0 found.1 in
@@ -184,7 +176,7 @@ pub shared_pending : (strings : List (List ℕ)) → Apart strings → (one othe
     → (name : List ℕ) (p : Pending) → get one.waiting name ≡ Some p → (q : Pending) × (get other.waiting name ≡ Some q) × (pair_of p ≡ pair_of q)
 shared_pending strings apart one other sound_one sound_other listed_one listed_other e name p there =
     let is : IsIn strings (0x12 ∷ name) = waiting_listed strings one listed_one name p there (0x12 ∷ name) (inl refl) in
-    let found = mapped_from pending_value (get other.waiting name) (pending_value p)
+    let found = mapped pending_value (get other.waiting name) (pending_value p)
     (sym (pending_at strings apart other listed_other name is) ∙ ap (λ m. get m (pending_key name)) (sym e) ∙ pending_at strings apart one listed_one name is ∙ ap (option_map pending_value) there) in
     let q : Pending = found.0 in
     let waits_p : Waits name (chain_of one name) p = sound_one.waits name p there in
@@ -236,3 +228,7 @@ equal_tables one other sound_one sound_other clean e =
     same_tables (table_strings one ++ table_strings other) clean one other sound_one sound_other
     (listed (table_strings one ++ table_strings other) one (λ x i. in_front (table_strings one) (table_strings other) x i))
     (listed (table_strings one ++ table_strings other) other (λ x i. in_rest (table_strings one) (table_strings other) x i)) e
+
+-- a root is a digest
+pub root-digest : (table : Table) → IsDigest (root_of table)
+root-digest table = sha256-IsDigest _

@@ -3,6 +3,7 @@ use Rattle.std.proofs.Common.{◌≡◌, ℕ, ◌+◌, ◌<◌, ◌^◌, List, [
 use Rattle.std.specs.Prelude.{All, IsOk, IsSome, Result, Ok, Err, option_and_then}
 use Rattle.std.proofs.Math.Seq.{drop-length}
 use Rattle.std.proofs.lemmas.List.Elements.{All-cons, All-nil}
+use Rattle.std.proofs.lemmas.List.{drop_more}
 use Rattle.ar_cert.specs.Changes.{Change, IsChange}
 use Rattle.domain_table.specs.Applying.{after_answer, apply, apply_each, judge, ripen}
 use Rattle.domain_table.specs.Sound.{IsSound}
@@ -10,7 +11,6 @@ use Rattle.domain_table.specs.Tables.{Table}
 use Rattle.domain_table.specs.declared.refusal.ChangeRefusal.{ChangeRefusal}
 use Rattle.domain_table.proofs.Applied.{applied}
 use Rattle.domain_table.proofs.Once.{one_by_one}
-use Rattle.epoch_log.proofs.Loops.{next}
 
 -- the changes that are left lead from the table so far to where all lead
 pub record IsBetween (e : ℕ) (first : Table) (changes : List Change) (i : ℕ) (so_far : Table) : Type 0 where
@@ -36,7 +36,7 @@ ok-unless (Err refusal) never = absurd (never refusal refl)
 pub next-taken : (e : ℕ) (first : Table) (changes : List Change) (i : ℕ) (so_far : Table) (d : Change) → i < length changes → IsBetween e first changes i so_far
     → IsSome (apply first e changes) → IsOk (judge so_far e (get_or changes i d))
 next-taken e first changes i so_far d lt between some = ok-unless (judge so_far e (get_or changes i d)) (λ refusal is.
-    let nothing : apply first e changes ≡ None = between.leads ∙ ap (apply so_far e) (next changes i d lt) ∙ refused-alone so_far e (get_or changes i d) (drop (i + 1) changes) refusal is in
+    let nothing : apply first e changes ≡ None = between.leads ∙ ap (apply so_far e) (drop_more changes i d lt) ∙ refused-alone so_far e (get_or changes i d) (drop (i + 1) changes) refusal is in
     let some_none : IsSome {T = Table} None = subst (IsSome {T = Table}) nothing some in
     absurd cc)
 
@@ -52,7 +52,7 @@ not-refused t e c copy refusal same taken is = never (judge t e c) taken (ap (ju
 pub next-between : (e : ℕ) (first : Table) (changes : List Change) (i : ℕ) (so_far after : Table) (d : Change) → e < 2 ^ 64 → i < length changes → IsBetween e first changes i so_far
     → IsChange (get_or changes i d) → Some after ≡ apply so_far e (get_or changes i d ∷ []) → IsBetween e first changes (i + 1) after
 next-between e first changes i so_far after d low lt between is_change is = record {
-  leads = between.leads ∙ ap (apply so_far e) (next changes i d lt) ∙ one_by_one so_far e (get_or changes i d) (drop (i + 1) changes) between.sound
+  leads = between.leads ∙ ap (apply so_far e) (drop_more changes i d lt) ∙ one_by_one so_far e (get_or changes i d) (drop (i + 1) changes) between.sound
       ∙ ap (option_and_then (λ u. apply u e (drop (i + 1) changes))) (sym is);
   sound = sound-applied so_far after e (get_or changes i d ∷ []) low between.sound (All-cons IsChange (get_or changes i d) [] is_change (All-nil IsChange)) (sym is);
 }

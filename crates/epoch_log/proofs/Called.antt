@@ -1,5 +1,5 @@
 -- Each call keeps what is kept of where a log stands.
-use Rattle.std.proofs.Common.{◌≡◌, ℕ, ◌+◌, ◌<◌, ◌≤◌, ◌^◌, List, [], ◌∷◌, ◌++◌, refl, sym, ap, subst, arith, Bool, true, false, cond, eqb, nat_lt, Option, Some, None}
+use Rattle.std.proofs.Common.{◌≡◌, ℕ, ◌+◌, ◌<◌, ◌≤◌, ◌^◌, List, [], ◌∷◌, refl, sym, ap, subst, arith, Bool, true, false, cond, eqb, nat_lt, Option, Some, None}
 use Rattle.std.specs.Prelude.{All, ◌%◌, Contains, IfSome, flat_map, map}
 use Rattle.std.specs.List.{AllByRecursion}
 use Rattle.std.proofs.lemmas.Bool.{and_parts, ltb-true}
@@ -32,6 +32,7 @@ use Rattle.epoch_log.specs.declared.entries.Closing.{Closing}
 use Rattle.epoch_log.specs.declared.entries.Closing.TheVariants as closings
 use Rattle.epoch_log.proofs.Acting.{kept-casting, kept-proposing, kept-stating, own-value}
 use Rattle.epoch_log.proofs.Kept.{kept-closed, kept-counting_status, kept-counting_vote, kept-decided, kept-seeing, kept-skipped}
+use Rattle.ar_base.proofs.Lists.{of-both-lists}
 
 -- ---- endorsements
 
@@ -45,14 +46,10 @@ all-members council (change ∷ changes) are =
     All-append (λ (t : SeenText). IsMember council t.party) (endorsements_of change) (flat_map endorsements_of changes)
     (endorsers-members council change are.0) (all-members council changes are.1)
 
-parted : {X : Type 0} (P : X → Type 0) (xs ys : List X) → AllByRecursion P (xs ++ ys) → AllByRecursion P xs × AllByRecursion P ys
-parted P [] ys all = (tt, all)
-parted P (x ∷ xs) ys all = let rest = parted P xs ys all.1 in ((all.0, rest.0), rest.1)
-
 all-endorsed : (seen : List SeenText) (changes : List Change) → AllByRecursion (Contains seen) (flat_map endorsements_of changes) → AllByRecursion (SawEndorsements seen) changes
 all-endorsed seen [] all = tt
 all-endorsed seen (change ∷ changes) all =
-    let parts = parted (Contains seen) (endorsements_of change) (flat_map endorsements_of changes) all in (
+    let parts = of-both-lists (Contains seen) (endorsements_of change) (flat_map endorsements_of changes) all in (
       All-unmap (Contains seen) (λ a. seen_of (authority_party a) (endorse a (digest_of change.cert))) (endorsers_of change)
           (All-from_recursion (Contains seen) (endorsements_of change) parts.0),
       all-endorsed seen changes parts.1,
@@ -168,7 +165,7 @@ kept-decide s value changes votes kept may = by (may_end s.past) refl
         (members s.council changes may.endorsers))
 
     parts : AllByRecursion (Contains later) cast × AllByRecursion (Contains later) (flat_map endorsements_of changes)
-    parts = parted (Contains later) cast (flat_map endorsements_of changes) (recursion_from_All (Contains later) more (seen-has more s.past.seen))
+    parts = of-both-lists (Contains later) cast (flat_map endorsements_of changes) (recursion_from_All (Contains later) more (seen-has more s.past.seen))
 
     votes-saw : All (λ (v : ℕ × List ℕ). Saw later (log_party v.0) (vote_claim v.0 (epoch_of s) value)) votes
     votes-saw = All-unmap (Contains later) (λ (v : ℕ × List ℕ). seen_of (log_party v.0) (vote_claim v.0 (epoch_of s) value)) votes (All-from_recursion (Contains later) cast parts.0)

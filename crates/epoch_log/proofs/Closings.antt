@@ -19,6 +19,7 @@ use Rattle.domain_table.specs.Tree.{root_of}
 use Rattle.ar_council.proofs.Books.{entry-has, entry-keeps}
 use Rattle.ar_council.proofs.Lists.{Within, found, same-within}
 use Rattle.ar_council.proofs.Texts.{own-text}
+use Rattle.ar_council.proofs.Values.{one_digest}
 use Rattle.ar_council.specs.Council.{Council}
 use Rattle.ar_council.specs.Room.{HasRoom}
 use Rattle.ar_council.specs.Values.{confirm_claim, is_same_digest}
@@ -114,12 +115,6 @@ honest-ending council me past how h room closes =
     }
 
 -- ---- a confirmation
-
-one_digest : (a b : Option (List ℕ)) → is_same_digest a b ≡ true → a ≡ b
-one_digest None None e = refl
-one_digest (Some one) (Some other) e = ap (λ d. Some d) ((bytes_eq-Decides one other).0 e)
-one_digest None (Some other) e = absurd cc
-one_digest (Some one) None e = absurd cc
 
 one_confirmation : (c d : Confirmed) → is_same_confirmation c d ≡ true → c ≡ d
 one_confirmation c d e =

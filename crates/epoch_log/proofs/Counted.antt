@@ -1,6 +1,6 @@
 -- What is counted: more of it, when it is a quorum, and when it excludes each root.
 use Rattle.std.proofs.Common.{◌≡◌, ◌≢◌, ℕ, ◌+◌, ◌-◌, ◌<◌, ◌≤◌, ◌⊎◌, inl, inr, List, [], ◌∷◌, length, get_or, refl, sym, ap, ◌∙◌, subst, arith, Bool, true, false, cond, ◌||◌, ◌==◌, eqb, Option, Some, None}
-use Rattle.std.specs.Prelude.{All, AllPairs, map, bytes_eq, filter, IfSome}
+use Rattle.std.specs.Prelude.{All, AllPairs, map, filter, IfSome}
 use Rattle.std.specs.List.{AllByRecursion, list_all, list_any}
 use Rattle.std.specs.List.Sorted.{IsStrictlyIncreasing}
 use Rattle.std.proofs.lemmas.Bool.{and_parts, eq-eqb, ltb-true}
@@ -16,6 +16,7 @@ use Rattle.ar_base.specs.Counting.{one_if}
 use Rattle.vote_quorum.specs.Numbers.{distinct_count}
 use Rattle.vote_quorum.specs.Statuses.{Excludes, Status, is_for, logs_of, report_count}
 use Rattle.vote_quorum.specs.declared.value.Value.{Value}
+use Rattle.vote_quorum.proofs.Adding.{same_value}
 use Rattle.ar_council.proofs.Lists.{All-unmap}
 use Rattle.ar_council.specs.Council.{Council}
 use Rattle.ar_council.specs.Values.{IsValue, status_claim, vote_claim}
@@ -27,13 +28,6 @@ use Rattle.epoch_log.specs.State.{CountedStatus, CountedVote, IsSeenVote, ballot
 use Rattle.epoch_log.proofs.Lists.{All-placed, AllPairs-placed}
 
 -- ---- values
-
-one_value : (v w : Value) → is_same v w ≡ true → v ≡ w
-one_value v w e =
-    let two = and_parts (bytes_eq v.base w.base) (bytes_eq v.root w.root) e in
-    let base : v.base ≡ w.base = (bytes_eq-Decides v.base w.base).0 two.0 in
-    let root : v.root ≡ w.root = (bytes_eq-Decides v.root w.root).0 two.1 in
-    λ i. record { base = base i; root = root i }
 
 -- ---- one more ballot
 
@@ -78,7 +72,7 @@ saw-fors council seen epoch votes value all =
     λ k d less.
     let v : CountedVote = get_or (fors votes value) k d in
     let one = kept k d less in
-    (one.log, subst (λ w. Saw seen (log_party v.0) (vote_claim v.0 epoch w)) (one_value v.1 value (passes k d less)) one.saw)
+    (one.log, subst (λ w. Saw seen (log_party v.0) (vote_claim v.0 epoch w)) (same_value v.1 value (passes k d less)) one.saw)
 
 pub saw-votes : (council : Council) (seen : List SeenText) (epoch : ℕ) (votes : List CountedVote) (value : Value) → All (IsSeenVote council seen epoch) votes
     → All (λ v. Saw seen (log_party v.0) (vote_claim v.0 epoch value)) (votes_for votes value)
@@ -170,7 +164,7 @@ statuses-counted council seen epoch statuses s are below value saw = by (list_an
 -- ---- statuses that exclude each root
 
 -- a root that a status is for is counted as that status is tested
-counted-root : (root : List ℕ) (ballot : Option Value) → is_for root ballot ≡ true → (value : Value) × ((ballot ≡ Some value) × (value.root ≡ root))
+pub counted-root : (root : List ℕ) (ballot : Option Value) → is_for root ballot ≡ true → (value : Value) × ((ballot ≡ Some value) × (value.root ≡ root))
 counted-root root None e = absurd cc
 counted-root root (Some value) e = (value, (refl, (bytes_eq-Decides value.root root).0 e))
 

@@ -17,13 +17,10 @@ use Rattle.epoch_log.specs.Record.{after_ending, base_of, current, ending}
 use Rattle.epoch_log.specs.declared.entries.Ended.{Ended}
 use Rattle.epoch_log.specs.declared.entries.How.{How}
 use Rattle.epoch_log.specs.declared.entries.How.TheVariants.{Decided, Skipped}
+use Rattle.ar_base.proofs.Shown.{or_none}
 
 abbrev pub with : List Ended → ℕ → How → List Ended
 with ended epoch how = ended ++ record { epoch = epoch; how = how } ∷ []
-
-or-none : {X : Type 0} (o : Option X) → option_or o None ≡ o
-or-none None = refl
-or-none (Some x) = refl
 
 -- the ending of another epoch stays
 pub ending-other : (ended : List Ended) (epoch : ℕ) (how : How) (e : ℕ) → epoch ≢ e → ending (with ended epoch how) e ≡ ending ended e
@@ -33,7 +30,7 @@ ending-other ended epoch how e other =
     let x : Ended = record { epoch = epoch; how = how } in
     let p : Ended → Bool = λ y. y.epoch == e in
     let none : find p (x ∷ []) ≡ None = ap (λ b. cond b (Some x) None) no in
-    ap (option_map (λ y. y.how)) (find-append p ended (x ∷ []) ∙ ap (option_or (find p ended)) none ∙ or-none (find p ended))
+    ap (option_map (λ y. y.how)) (find-append p ended (x ∷ []) ∙ ap (option_or (find p ended)) none ∙ or_none (find p ended))
 
 -- each ended epoch is from 1 up to the number of endings
 pub epochs-within : (ended : List Ended) → EndsInOrder ended → (k : ℕ) (d : Ended) → k < length ended → (get_or ended k d).epoch ≡ k + 1

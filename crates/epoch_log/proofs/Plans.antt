@@ -2,7 +2,7 @@
 use Rattle.std.proofs.Common.{◌≡◌, ◌≢◌, ℕ, ◌<◌, ◌≤◌, ◌^◌, List, [], ◌∷◌, ◌++◌, length, refl, sym, ap, ◌∙◌, subst, arith, Bool, true, false, cond, eqb, ◌==◌, Option, Some, None, vec_capacity}
 use Rattle.std.specs.Prelude.{◌↔◌, All, Contains, IfSome, IsOk, IsSome, Result, Ok, Err, Vec, is_ok}
 use Rattle.std.specs.declared.alloc.Global.{Global}
-use Rattle.std.proofs.lemmas.Bool.{eq-eqb, eqb-true, lt-ltb}
+use Rattle.std.proofs.lemmas.Bool.{eq-eqb, eqb-true, lt-ltb, ne_eqb}
 use Rattle.std.proofs.lemmas.List.{length-map}
 use Rattle.std.proofs.lemmas.List.Elements.{All-contains, All-head, All-tail}
 use Rattle.ar_council.proofs.Lists.{find-some}
@@ -218,16 +218,9 @@ log-passed p q statuses log is there same =
 
 -- ---- the own vote is told
 
-eqb-other : (m n : ℕ) → m ≢ n → eqb m n ≡ false
-eqb-other m n other = by (eqb m n) refl
-  where
-    by : (b : Bool) → eqb m n ≡ b → b ≡ false
-    by true is = absurd (other (eqb-true m n is))
-    by false is = refl
-
 -- where there was none the vote that is told is the own one
 pub own-told : (voted : List Voted) (v : Voted) → All (λ (w : Voted). w.epoch ≢ v.epoch) voted → own_vote (voted ++ v ∷ []) v.epoch ≡ Some v
 own-told [] v none = ap (λ b. cond b (Some v) None) (eq-eqb v.epoch v.epoch refl)
 own-told (w ∷ voted) v none =
-    let other : eqb w.epoch v.epoch ≡ false = eqb-other w.epoch v.epoch (All-head (λ (w : Voted). w.epoch ≢ v.epoch) w voted none) in
+    let other : eqb w.epoch v.epoch ≡ false = ne_eqb w.epoch v.epoch (All-head (λ (w : Voted). w.epoch ≢ v.epoch) w voted none) in
     ap (λ b. cond b (Some w) (own_vote (voted ++ v ∷ []) v.epoch)) other ∙ own-told voted v (All-tail (λ (w : Voted). w.epoch ≢ v.epoch) w voted none)

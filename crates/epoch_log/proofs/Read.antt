@@ -1,11 +1,11 @@
 -- What the clauses mean: an honest log's votes and statuses are single, its signatures are exactly its entries, and its
 -- statuses exclude each root by a test.
-use Rattle.std.proofs.Common.{◌≡◌, ◌≢◌, ℕ, zero, suc, ◌+◌, ◌-◌, ◌<◌, ◌↔◌, ◌⊎◌, inl, inr, List, [], ◌∷◌, length, get_or, refl, sym, ap, ◌∙◌, subst, arith, Bool, true, false, cond, ◌==◌, Option, Some, None}
+use Rattle.std.proofs.Common.{◌≡◌, ◌≢◌, ℕ, suc, ◌+◌, ◌-◌, ◌<◌, ◌↔◌, ◌⊎◌, inl, inr, List, [], ◌∷◌, length, get_or, refl, sym, ap, ◌∙◌, subst, arith, Bool, true, false, cond, ◌==◌, Option, Some, None}
 use Rattle.std.specs.Prelude.{AllPairs, Contains, unwrap_or}
 use Rattle.std.specs.List.{list_all, list_any}
 use Rattle.std.specs.Cmp.Derive.{both_true}
 use Rattle.std.proofs.lemmas.Bool.{cases_lt, leb-false, lt-ltb}
-use Rattle.std.proofs.lemmas.List.{length-append}
+use Rattle.std.proofs.lemmas.List.{length-append, get_or_default}
 use Rattle.std.proofs.lemmas.List.Elements.{All-contains}
 use Rattle.ar_cert.specs.Changes.{Change}
 use Rattle.ar_statement.specs.Claims.{Claim, text_of}
@@ -39,11 +39,6 @@ use Rattle.epoch_log.proofs.Endings.{base-stays, ending-here, with}
 
 -- ---- one entry of each epoch
 
-get_or-same : {X : Type 0} (xs : List X) (k : ℕ) (d e : X) → k < length xs → get_or xs k d ≡ get_or xs k e
-get_or-same [] k d e within = absurd (omega (arith, within))
-get_or-same (x ∷ xs) zero d e within = refl
-get_or-same (x ∷ xs) (suc k) d e within = get_or-same xs k d e (omega (arith, within))
-
 -- of a list without two elements that have the same
 pub one-of : {X : Type 0} (f : X → ℕ) (xs : List X) (x y : X) → AllPairs (λ a b. f a ≢ f b) xs → Contains xs x → Contains xs y → f x ≡ f y → x ≡ y
 one-of {X} f xs x y apart a b same =
@@ -60,7 +55,7 @@ one-of {X} f xs x y apart a b same =
     ]
   where
     outside : (k : ℕ) → k < length xs → get_or xs k x ≡ get_or xs k y
-    outside k within = get_or-same xs k x y within
+    outside k within = get_or_default xs k x y within
 
 -- ---- what is signed
 
@@ -235,6 +230,3 @@ votes-again votes v there = rw there refl
 
 pub statuses-exactly : (statuses : List CountedStatus) (s x : CountedStatus) → list_any (λ (t : CountedStatus). t.0 == s.0) statuses ≡ false → Contains (with_status statuses s) x ↔ (Contains statuses x ⊎ (s ≡ x))
 statuses-exactly statuses s x none = rw none (placed-exactly (λ (t : CountedStatus). t.0) s statuses x)
-
-pub statuses-again : (statuses : List CountedStatus) (s : CountedStatus) → list_any (λ (t : CountedStatus). t.0 == s.0) statuses ≡ true → with_status statuses s ≡ statuses
-statuses-again statuses s there = rw there refl

@@ -2,32 +2,24 @@
 use Rattle.std.proofs.Common.{◌≡◌, ◌≢◌, ℕ, ◌≤◌, List, [], ◌∷◌, length, eq-eqb, refl, sym, ap, ◌∙◌, arith, Bool, true, false, cond, eqb, Option, Some, None}
 use Rattle.std.specs.Prelude.{IsTrue, is_some}
 use Rattle.std.specs.Ordering.{eq_by_cmp, is_eq}
-use Rattle.std.specs.Cmp.{tied_itself}
+use Rattle.std.specs.Cmp.{tied_itself, Equal-is}
 use Rattle.std.specs.FinMap.{get, contains_key, insert, remove, entries, find, same_map, get-entries, get-insert, get-remove}
-use Rattle.std.proofs.lemmas.Bool.{eqb-true}
+use Rattle.std.proofs.lemmas.Bool.{ne_eqb}
 use Rattle.hash_tree.specs.Entries.{Entry, Entries, key_cmp, bit, half}
 use Rattle.hash_tree.proofs.Maps.{total, exact, get-half}
-use Rattle.hash_tree.proofs.Few.{equal_is}
 
-pub unlike : (a b : ℕ) → a ≢ b → eqb a b ≡ false
-unlike a b h = not_true (eqb a b) refl
-  where
-    not_true : (t : Bool) → eqb a b ≡ t → t ≡ false
-    not_true true e = absurd (h (eqb-true _ _ e))
-    not_true false e = refl
+-- keys that the order ties are one, and a key ties with itself
+pub same_key : (q k : List ℕ) → eq_by_cmp key_cmp q k ≡ true → q ≡ k
+same_key q k e = exact q k ((Equal-is _).0 e)
 
--- keys that the order ties are one
-pub tied : (q k : List ℕ) → eq_by_cmp key_cmp q k ≡ true → q ≡ k
-tied q k e = exact q k (equal_is _ e)
-
-pub tied-self : (q : List ℕ) → eq_by_cmp key_cmp q q ≡ true
-tied-self q = ap is_eq (tied_itself total q)
+pub own_key : (q : List ℕ) → eq_by_cmp key_cmp q q ≡ true
+own_key q = ap is_eq (tied_itself total q)
 
 pub untied : (q k : List ℕ) → q ≢ k → eq_by_cmp key_cmp q k ≡ false
 untied q k other = from_test (eq_by_cmp key_cmp q k) refl
   where
     from_test : (b : Bool) → eq_by_cmp key_cmp q k ≡ b → b ≡ false
-    from_test true e = absurd (other (tied q k e))
+    from_test true e = absurd (other (same_key q k e))
     from_test false e = refl
 
 -- a half at a key that has the bit, and at one that does not
@@ -35,7 +27,7 @@ pub get-here : (t side : ℕ) (m : Entries) (q : List ℕ) → bit q t ≡ side 
 get-here t side m q e = get-half t side m q ∙ ap (λ b. cond b (get m q) None) (eq-eqb _ _ e)
 
 pub get-elsewhere : (t side : ℕ) (m : Entries) (q : List ℕ) → bit q t ≢ side → get (half t side m) q ≡ None
-get-elsewhere t side m q e = get-half t side m q ∙ ap (λ b. cond b (get m q) None) (unlike _ _ e)
+get-elsewhere t side m q e = get-half t side m q ∙ ap (λ b. cond b (get m q) None) (ne_eqb _ _ e)
 
 -- the half that has the key's bit takes the entry in
 pub half-put : (t side : ℕ) (m : Entries) (key value : List ℕ) → bit key t ≡ side → half t side (insert m key value) ≡ insert (half t side m) key value
@@ -47,7 +39,7 @@ half-put t side m key value has = same_map total exact _ _ (λ q.
   where
     at : (q : List ℕ) (b : Bool) → eq_by_cmp key_cmp q key ≡ b
         → cond (eqb (bit q t) side) (cond b (Some value) (get m q)) None ≡ cond b (Some value) (cond (eqb (bit q t) side) (get m q) None)
-    at q true e = ap (λ b. cond b (Some value) None) (eq-eqb _ _ (ap (λ k. bit k t) (tied q key e) ∙ has))
+    at q true e = ap (λ b. cond b (Some value) None) (eq-eqb _ _ (ap (λ k. bit k t) (same_key q key e) ∙ has))
     at q false e = refl
 
 -- and the other stays
@@ -61,7 +53,7 @@ half-not_put t side m key value lacks = same_map total exact _ _ (λ q.
     at : (q : List ℕ) (b : Bool) → eq_by_cmp key_cmp q key ≡ b
         → cond (eqb (bit q t) side) (cond b (Some value) (get m q)) None ≡ cond (eqb (bit q t) side) (get m q) None
     at q true e =
-        let no : eqb (bit q t) side ≡ false = ap (λ k. eqb (bit k t) side) (tied q key e) ∙ unlike _ _ lacks in
+        let no : eqb (bit q t) side ≡ false = ap (λ k. eqb (bit k t) side) (same_key q key e) ∙ ne_eqb _ _ lacks in
         ap (λ b. cond b (Some value) None) no ∙ sym (ap (λ b. cond b (get m q) None) no)
     at q false e = refl
 
@@ -88,7 +80,7 @@ half-not_cut t side m key lacks = same_map total exact _ _ (λ q.
     at : (q : List ℕ) (b : Bool) → eq_by_cmp key_cmp q key ≡ b
         → cond (eqb (bit q t) side) (cond b None (get m q)) None ≡ cond (eqb (bit q t) side) (get m q) None
     at q true e =
-        let no : eqb (bit q t) side ≡ false = ap (λ k. eqb (bit k t) side) (tied q key e) ∙ unlike _ _ lacks in
+        let no : eqb (bit q t) side ≡ false = ap (λ k. eqb (bit k t) side) (same_key q key e) ∙ ne_eqb _ _ lacks in
         ap (λ b. cond b None None) no ∙ sym (ap (λ b. cond b (get m q) None) no)
     at q false e = refl
 
@@ -97,7 +89,7 @@ pub several : (m : Entries) (a b : List ℕ) → IsTrue (contains_key m a) → I
 several m a b ha hb apart = from_list (entries m) (ap is_some (sym (get-entries m a)) ∙ ha) (ap is_some (sym (get-entries m b)) ∙ hb)
   where
     is_found : (e : Entry) (q : List ℕ) (t : Bool) → eq_by_cmp key_cmp q e.0 ≡ t → is_some (cond t (Some e.1) None) ≡ true → q ≡ e.0
-    is_found e q true is h = tied q e.0 is
+    is_found e q true is h = same_key q e.0 is
     is_found e q false is h = absurd (cc)
 
     from_list : (es : List Entry) → is_some (find key_cmp a es) ≡ true → is_some (find key_cmp b es) ≡ true → 2 ≤ length es

@@ -1,13 +1,12 @@
 -- Sets of entries with none or one, and that no more than one are left where all bits are decided.
-use Rattle.std.proofs.Common.{◌≡◌, ◌≢◌, ℕ, ◌<◌, ◌≤◌, List, [], ◌∷◌, length, get_or, refl, sym, ap, ◌∙◌, subst, arith, Bool, true, false, cond, Option, Some, None}
-use Rattle.std.specs.Prelude.{IsTrue, is_some, All}
-use Rattle.std.specs.declared.cmp.Ordering.{Ordering}
-use Rattle.std.specs.declared.cmp.Ordering.TheVariants.{Less, Equal, Greater}
+use Rattle.std.proofs.Common.{◌≡◌, ◌≢◌, ℕ, ◌<◌, ◌≤◌, List, [], ◌∷◌, length, get_or, refl, sym, ap, ◌∙◌, subst, arith, Bool, true, false, cond, Some, None}
+use Rattle.std.specs.Prelude.{IsTrue, All}
 use Rattle.std.specs.Ordering.{eq_by_cmp, is_eq}
-use Rattle.std.specs.Cmp.{tied_itself}
+use Rattle.std.specs.Cmp.{tied_itself, Equal-is}
 use Rattle.std.specs.FinMap.{get, contains_key, entries, find, get-entries, same_entries_map, entries_sorted}
 use lib.Ieee.Bits.{is_true}
 use Rattle.ar_base.specs.Bytes.{IsDigest}
+use Rattle.ar_base.proofs.Shown.{some_of}
 use Rattle.hash_tree.specs.Entries.{Entry, Entries, key_cmp, entries_of, HasAscendingKeys, HoldsDigests, AgreeAmong}
 use Rattle.hash_tree.proofs.Maps.{total, exact, entries-entries_of, key_there, depth_below}
 
@@ -20,16 +19,11 @@ get-one m e one = get-entries m e.0 ∙ ap (find key_cmp e.0) one ∙ ap (λ b. 
 pub get-one_key : (m : Entries) (e : Entry) (q : List ℕ) → entries m ≡ e ∷ [] → e.0 ≡ q → get m q ≡ Some e.1
 get-one_key m e q one same = ap (get m) (sym same) ∙ get-one m e one
 
-pub equal_is : (o : Ordering) → is_eq o ≡ true → o ≡ Equal
-equal_is Less h = absurd (cc)
-equal_is Equal h = refl
-equal_is Greater h = absurd (cc)
-
 pub get-other : (m : Entries) (e : Entry) (q : List ℕ) → entries m ≡ e ∷ [] → e.0 ≢ q → get m q ≡ None
 get-other m e q one other = get-entries m q ∙ ap (find key_cmp q) one ∙ apart_from (eq_by_cmp key_cmp q e.0) refl
   where
     apart_from : (b : Bool) → eq_by_cmp key_cmp q e.0 ≡ b → cond b (Some e.1) None ≡ None
-    apart_from true t = absurd (other (sym (exact q e.0 (equal_is _ t))))
+    apart_from true t = absurd (other (sym (exact q e.0 ((Equal-is _).0 t))))
     apart_from false t = refl
 
 -- what the only entry is
@@ -37,13 +31,8 @@ pub get-one_inverse : (m : Entries) (e : Entry) (q v : List ℕ) → entries m �
 get-one_inverse m e q v one there = from_test (eq_by_cmp key_cmp q e.0) refl (sym (get-entries m q ∙ ap (find key_cmp q) one) ∙ there)
   where
     from_test : (b : Bool) → eq_by_cmp key_cmp q e.0 ≡ b → cond b (Some e.1) None ≡ Some v → (e.0 ≡ q) × (e.1 ≡ v)
-    from_test true t h = (sym (exact q e.0 (equal_is _ t)), cc)
+    from_test true t h = (sym (exact q e.0 ((Equal-is _).0 t)), cc)
     from_test false t h = absurd (cc)
-
--- a key that is there has a value
-pub value_there : (o : Option (List ℕ)) → is_some o ≡ true → (v : List ℕ) × (o ≡ Some v)
-value_there None h = absurd (cc)
-value_there (Some v) h = (v, refl)
 
 pub ascending-entries : (m : Entries) → HasAscendingKeys (entries m)
 ascending-entries m = is_true _ (entries_sorted m)
@@ -57,6 +46,6 @@ few_left m digests agree several =
     let there : (k : ℕ) (d : Entry) → k < length (entries m) → IsTrue (contains_key m (get_or (entries m) k d).0)
     = λ k d l. subst (λ n. IsTrue (contains_key n (get_or (entries m) k d).0)) (entries_of-entries m) (key_there (entries m) k d l) in
     let keys : All (λ e. IsDigest e.0) (entries m)
-    = λ k d l. let v = value_there _ (there k d l) in (digests _ v.0 v.1).0 in
+    = λ k d l. let v = some_of _ (there k d l) in (digests _ v.0 v.1).0 in
     let low = depth_below (entries m) 256 (ascending-entries m) keys (subst (AgreeAmong 256) (sym (entries_of-entries m)) agree) several (omega arith) in
     omega arith

@@ -7,7 +7,7 @@ use Rattle.std.proofs.lemmas.Bool.{cases_lt}
 use Rattle.hash_tree.specs.Entries.{Entries, key_cmp, bit, Agree, half}
 use Rattle.hash_tree.specs.Path.{steps_below, steps_of}
 use Rattle.hash_tree.proofs.Maps.{total, exact}
-use Rattle.hash_tree.proofs.Changed.{tied, get-here, several}
+use Rattle.hash_tree.proofs.Changed.{get-here, several, same_key}
 use Rattle.hash_tree.proofs.Kept.{steps-deeper}
 
 there : (depth side : ℕ) (m : Entries) (key : List ℕ) → bit key depth ≡ side → IsTrue (contains_key m key) → IsTrue (contains_key (half depth side m) key)
@@ -39,5 +39,5 @@ no_trace m key value missing = same_map total exact _ _ (λ q.
     ∙ at q (eq_by_cmp key_cmp q key) refl)
   where
     at : (q : List ℕ) (b : Bool) → eq_by_cmp key_cmp q key ≡ b → cond b None (cond b (Some value) (get m q)) ≡ get m q
-    at q true e = sym (ap (get m) (tied q key e) ∙ missing)
+    at q true e = sym (ap (get m) (same_key q key e) ∙ missing)
     at q false e = refl

@@ -1,5 +1,5 @@
 -- The map that a list of entries makes, and its halves.
-use Rattle.std.proofs.Common.{◌≡◌, ℕ, zero, suc, ◌+◌, ◌<◌, ◌≤◌, List, [], ◌∷◌, length, get_or, eq-eqb, take, drop, refl, sym, ap, ◌∙◌, subst, ⊎_elim, arith, Bool, true, false, cond, eqb, ◌&&◌, Some, None}
+use Rattle.std.proofs.Common.{◌≡◌, ℕ, zero, suc, ◌+◌, ◌<◌, ◌≤◌, List, [], ◌∷◌, length, get_or, eq-eqb, take, drop, refl, sym, ap, ◌∙◌, subst, ⊎_elim, arith, Bool, true, false, cond, eqb, Some, None}
 use Rattle.std.specs.Prelude.{IsTrue, is_some, filter, All}
 use Rattle.std.specs.declared.cmp.Ordering.{Ordering}
 use Rattle.std.specs.declared.cmp.Ordering.TheVariants.{Less, Equal, Greater}
@@ -9,7 +9,7 @@ use Rattle.std.specs.FinMap.{get, contains_key, from_sorted, entries, is_sorted,
 use Rattle.std.specs.FinMap.Entries.{find-where_key, is_sorted-where_key, below_all}
 use Rattle.std.proofs.lemmas.Cmp.{nat_list_cmp_total}
 use Rattle.std.proofs.lemmas.Nat.Bits.{bit_at-lt}
-use Rattle.std.proofs.lemmas.Bool.{cases_lt, eqb-true}
+use Rattle.std.proofs.lemmas.Bool.{cases_lt, eqb-true, and_parts}
 use Rattle.std.proofs.lemmas.Float.{T_from_true}
 use Rattle.ar_base.proofs.Digests.{bytes_by_recursion}
 use lib.Dec.{T}
@@ -65,14 +65,6 @@ agree-half t side m agree key other k o i l =
     (λ (above : t ≤ i). let at : i ≡ t = omega arith in rw at (a.1 ∙ sym b.1))
     (cases_lt i t)
 
-pub both-first : (a b : Bool) → (a && b) ≡ true → a ≡ true
-both-first true b h = refl
-both-first false b h = h
-
-pub both-second : (a b : Bool) → (a && b) ≡ true → b ≡ true
-both-second true b h = h
-both-second false b h = absurd (cc)
-
 pub less_is : (o : Ordering) → is_lt o ≡ true → o ≡ Less
 less_is Less h = refl
 less_is Equal h = absurd (cc)
@@ -93,15 +85,15 @@ key_there es k d h = ap is_some (get-from_entries total es (get_or es k d).0) �
 
 below_at : (x : List ℕ) (es : List Entry) → below_all key_cmp x es ≡ true → (k : ℕ) (d : Entry) → k < length es → key_cmp x (get_or es k d).0 ≡ Less
 below_at x [] h k d l = absurd (omega arith)
-below_at x (e ∷ es) h zero d l = less_is _ (both-first _ _ h)
-below_at x (e ∷ es) h (suc k) d l = below_at x es (both-second _ _ h) k d (omega arith)
+below_at x (e ∷ es) h zero d l = less_is _ (and_parts _ _ h).0
+below_at x (e ∷ es) h (suc k) d l = below_at x es (and_parts _ _ h).1 k d (omega arith)
 
 -- of two places in ascending entries, the earlier has the lesser key
 pub in_order : (es : List Entry) → HasAscendingKeys es → (i j : ℕ) (d : Entry) → i < j → j < length es → key_cmp (get_or es i d).0 (get_or es j d).0 ≡ Less
 in_order [] h i j d l m = absurd (omega arith)
 in_order (e ∷ es) h i zero d l m = absurd (omega arith)
-in_order (e ∷ es) h zero (suc j) d l m = below_at e.0 es (both-first _ _ h) j d (omega arith)
-in_order (e ∷ es) h (suc i) (suc j) d l m = in_order es (both-second _ _ h) i j d (omega arith) (omega arith)
+in_order (e ∷ es) h zero (suc j) d l m = below_at e.0 es (and_parts _ _ h).0 j d (omega arith)
+in_order (e ∷ es) h (suc i) (suc j) d l m = in_order es (and_parts _ _ h).1 i j d (omega arith) (omega arith)
 
 -- two keys that agree in all 256 bits are one
 pub same_digests : (x y : List ℕ) → IsDigest x → IsDigest y → Agree 256 x y → x ≡ y

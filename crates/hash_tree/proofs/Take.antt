@@ -1,5 +1,6 @@
 -- A tree that gives an entry up.
 use Rattle.std.proofs.Common.{◌≡◌, ◌≢◌, ℕ, ◌+◌, ◌-◌, ◌<◌, ◌≤◌, List, [], ◌∷◌, length, refl, sym, ap, ◌∙◌, subst, arith, Bool, true, false, cond, Option, Some, None}
+use Rattle.std.proofs.lemmas.List.{nil_from_length}
 use Rattle.std.specs.Prelude.{IsTrue, is_some, filter, ◌==◌}
 use Rattle.std.specs.Ordering.{eq_by_cmp}
 use Rattle.std.specs.FinMap.{get, contains_key, remove, entries, same_map, get-remove, len-remove, len-entries}
@@ -13,9 +14,10 @@ use Rattle.hash_tree.specs.declared.node.Node.{Node}
 use Rattle.hash_tree.specs.declared.node.Node.TheVariants.{Empty, Leaf, Branch'}
 use Rattle.hash_tree.proofs.Maps.{total, exact, key-half, half-entries_of, ascending-of_side, entries-entries_of}
 use Rattle.hash_tree.proofs.Few.{get-one, ascending-entries, entries_of-entries}
-use Rattle.hash_tree.proofs.Changed.{tied, get-here, half-cut, half-not_cut}
+use Rattle.hash_tree.proofs.Changed.{get-here, half-cut, half-not_cut, same_key}
 use Rattle.hash_tree.proofs.Two.{two-several}
 use Rattle.hash_tree.proofs.Kept.{both-map, halves-digest, steps-none, steps-deeper}
+use Rattle.ar_base.proofs.Shown.{none_of}
 
 -- the entries of a half are some of the map's
 half-list : (t side : ℕ) (m : Entries) → entries (half t side m) ≡ of_side t side (entries m)
@@ -46,17 +48,9 @@ less false n h = omega arith
 pub cut-some : (m : Entries) (key : List ℕ) → 2 ≤ length (entries m) → 1 ≤ length (entries (remove m key))
 cut-some m key many = omega (arith, shrunk m key, less (contains_key m key) (length (entries m)) many)
 
-no_entry : (es : List Entry) → length es ≡ 0 → es ≡ []
-no_entry [] h = refl
-no_entry (e ∷ es) h = absurd (omega arith)
-
 pub cut-only : (m : Entries) (e : Entry) (key : List ℕ) → entries m ≡ e ∷ [] → IsTrue (contains_key m key) → entries (remove m key) ≡ []
 cut-only m e key only there =
-    no_entry _ (shrunk m key ∙ ap (λ b. cond b (length (entries m) - 1) (length (entries m))) there ∙ ap (λ es. length es - 1) only)
-
-no_value : (o : Option (List ℕ)) → is_some o ≡ false → o ≡ None
-no_value None h = refl
-no_value (Some v) h = absurd (cc)
+    nil_from_length _ (shrunk m key ∙ ap (λ b. cond b (length (entries m) - 1) (length (entries m))) there ∙ ap (λ es. length es - 1) only)
 
 -- one entry alone
 IsAlone : Option Stored → Entries → Type 0
@@ -154,5 +148,5 @@ pub cut-absent : (m : Entries) (key : List ℕ) → contains_key m key ≡ false
 cut-absent m key missing = same_map total exact _ _ (λ q. get-remove total m key q ∙ at q (eq_by_cmp key_cmp q key) refl)
   where
     at : (q : List ℕ) (b : Bool) → eq_by_cmp key_cmp q key ≡ b → cond b None (get m q) ≡ get m q
-    at q true e = sym (no_value (get m q) (ap (contains_key m) (tied q key e) ∙ missing))
+    at q true e = sym (none_of (get m q) (ap (contains_key m) (same_key q key e) ∙ missing))
     at q false e = refl

@@ -2,12 +2,12 @@
 use Rattle.std.proofs.Common.{◌≡◌, ◌≢◌, ℕ, ◌+◌, ◌<◌, ◌≤◌, List, [], ◌∷◌, length, eq-eqb, refl, ap, ◌∙◌, ⊎_elim, arith, Bool, true, false, cond, eqb, Option, Some, None}
 use Rattle.std.specs.Prelude.{is_some}
 use Rattle.std.specs.FinMap.{entries, find, get-from_entries}
-use Rattle.std.proofs.lemmas.Bool.{cases_lt}
+use Rattle.std.proofs.lemmas.Bool.{cases_lt, ne_eqb}
 use Rattle.hash_tree.specs.Entries.{Entry, key_cmp, entries_of, bit, half}
 use Rattle.hash_tree.specs.Kept.{AreTwo, two_of, entry_of}
 use Rattle.hash_tree.specs.declared.node.Stored.{Stored}
 use Rattle.hash_tree.proofs.Maps.{total, entries-entries_of, half-entries_of, same_digests}
-use Rattle.hash_tree.proofs.Changed.{tied-self, several, unlike}
+use Rattle.hash_tree.proofs.Changed.{several, own_key}
 
 -- two keys that agree so far differ in a bit that is left
 pub two-below : (depth : ℕ) (one other : Stored) → AreTwo depth one other → depth < 256
@@ -23,9 +23,9 @@ either_some false x o h = h
 pub two-several : (one other : Stored) → one.key ≢ other.key → 2 ≤ length (entries (two_of one other))
 two-several one other differ =
     several (two_of one other) one.key other.key
-    (ap is_some (get-from_entries total es one.key ∙ ap (λ b. cond b (Some one.value) (find key_cmp one.key (entry_of other ∷ []))) (tied-self one.key)))
+    (ap is_some (get-from_entries total es one.key ∙ ap (λ b. cond b (Some one.value) (find key_cmp one.key (entry_of other ∷ []))) (own_key one.key)))
     (ap is_some (get-from_entries total es other.key)
-    ∙ either_some _ one.value (find key_cmp other.key (entry_of other ∷ [])) (ap (λ b. is_some (cond b (Some other.value) None)) (tied-self other.key)))
+    ∙ either_some _ one.value (find key_cmp other.key (entry_of other ∷ [])) (ap (λ b. is_some (cond b (Some other.value) None)) (own_key other.key)))
     differ
   where
     es : List Entry
@@ -48,17 +48,17 @@ half-both depth side one other ha hb = half-two depth side one other true true (
 pub half-none : (depth side : ℕ) (one other : Stored) → bit one.key depth ≢ side → bit other.key depth ≢ side
     → entries (half depth side (two_of one other)) ≡ []
 unfolding chosen
-half-none depth side one other ha hb = ap entries (half-two depth side one other false false (unlike _ _ ha) (unlike _ _ hb)) ∙ entries-entries_of [] refl
+half-none depth side one other ha hb = ap entries (half-two depth side one other false false (ne_eqb _ _ ha) (ne_eqb _ _ hb)) ∙ entries-entries_of [] refl
 
 pub half-one : (depth side : ℕ) (one other : Stored) → bit one.key depth ≡ side → bit other.key depth ≢ side
     → entries (half depth side (two_of one other)) ≡ entry_of one ∷ []
 unfolding chosen
-half-one depth side one other ha hb = ap entries (half-two depth side one other true false (eq-eqb _ _ ha) (unlike _ _ hb)) ∙ entries-entries_of (entry_of one ∷ []) refl
+half-one depth side one other ha hb = ap entries (half-two depth side one other true false (eq-eqb _ _ ha) (ne_eqb _ _ hb)) ∙ entries-entries_of (entry_of one ∷ []) refl
 
 pub half-other : (depth side : ℕ) (one other : Stored) → bit one.key depth ≢ side → bit other.key depth ≡ side
     → entries (half depth side (two_of one other)) ≡ entry_of other ∷ []
 unfolding chosen
-half-other depth side one other ha hb = ap entries (half-two depth side one other false true (unlike _ _ ha) (eq-eqb _ _ hb)) ∙ entries-entries_of (entry_of other ∷ []) refl
+half-other depth side one other ha hb = ap entries (half-two depth side one other false true (ne_eqb _ _ ha) (eq-eqb _ _ hb)) ∙ entries-entries_of (entry_of other ∷ []) refl
 
 -- two keys with the same bit agree in one more
 pub two-deeper : (depth : ℕ) (one other : Stored) → AreTwo depth one other → bit one.key depth ≡ bit other.key depth → AreTwo (depth + 1) one other

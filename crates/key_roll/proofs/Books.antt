@@ -1,5 +1,5 @@
 -- What entries and rolls keep of a book, and which leaf serves which text.
-use Rattle.std.proofs.Common.{◌≡◌, ◌≢◌, ℕ, zero, suc, ◌+◌, ◌-◌, ◌<◌, ◌^◌, ◌==◌, ◌≤◌, ◌⊎◌, inl, inr, List, [], ◌∷◌, ◌++◌, length, take, get_or, refl, sym, ap, ◌∙◌, subst, arith, Bool, true, false, cond, not, ◌&&◌, eqb, eq-eqb, ne_eqb, nat_lt, Option, Some, None, Ok, Err}
+use Rattle.std.proofs.Common.{◌≡◌, ◌≢◌, ℕ, ◌+◌, ◌-◌, ◌<◌, ◌^◌, ◌==◌, ◌≤◌, ◌⊎◌, inl, inr, List, [], ◌∷◌, ◌++◌, length, take, get_or, refl, sym, ap, ◌∙◌, subst, arith, Bool, true, false, cond, not, eqb, eq-eqb, ne_eqb, nat_lt, Option, Some, None, Ok, Err}
 use Rattle.std.specs.Prelude.{count_by, map, slice_get, position, Contains, IsErr, IsOk, is_ok, Result}
 use Rattle.std.specs.Result.{IsErrAnd}
 use Rattle.ar_base.specs.Gives.{GivesOrWants}
@@ -11,8 +11,10 @@ use Rattle.std.proofs.lemmas.List.Sums.{count_by_more_yes, sum_by-append, sum_by
 use Rattle.std.proofs.lemmas.Option.{get_or_from_slice_get, slice_get-get_or, slice_get_within}
 use Rattle.std.proofs.lemmas.Nat.{from_be_bytes-to_be_bytes_4}
 use Rattle.std.proofs.Math.Seq.{take-append_seam}
+use Rattle.std.proofs.Math.Bool.{and-false}
 use Rattle.ar_base.specs.Places.{place_of, HasNoneTwice}
 use Rattle.ar_base.proofs.Places.{last-place, not-contained, once-push, stands}
+use Rattle.ar_base.proofs.Lists.{get-more}
 use Rattle.ar_bytes.specs.RoundTrip.{number_text}
 use Rattle.ar_statement.specs.declared.party.Party.{Party}
 use Rattle.ar_statement.specs.Claims.{Claim, endorse, handover, propose, vote, confirm, confirm_absent, answer, status, roll, object, kind_of, text_of}
@@ -20,7 +22,7 @@ use Rattle.key_roll.specs.declared.signed.Signed.{Signed}
 use Rattle.key_roll.specs.declared.fault.BookFault.TheVariants.{Spent}
 use Rattle.key_roll.specs.Book.{RollBook, IsRollBook, texts_of}
 use Rattle.key_roll.specs.Due.{DueParts}
-use Rattle.key_roll.specs.Entry.{Serves, after_entry, due_at, due_of, entered, entered_new, has_room, leaf_of, with_text, with_roll}
+use Rattle.key_roll.specs.Entry.{Serves, after_entry, due_at, due_of, entered, entered_new, has_room, leaf_of, with_text, with_roll, after_at}
 use Rattle.key_roll.specs.Rolls.{is_roll, is_plain_of, is_roll_of, named_generation, plain_count, roll_count}
 
 -- an entry
@@ -55,7 +57,8 @@ counted p list k m s at holds before =
     let same = ap (count_by p) (take-take (k + 1) m list (omega arith)) in
     omega (arith, more, less, same)
 
-counted-whole : (p : Signed → Bool) (list : List Signed) (k : ℕ) (s : Signed) → slice_get list k ≡ Some s → p s ≡ true
+-- an entry that counts is counted behind its place
+pub counted-whole : (p : Signed → Bool) (list : List Signed) (k : ℕ) (s : Signed) → slice_get list k ≡ Some s → p s ≡ true
     → count_by p (take k list) + 1 ≤ count_by p list
 counted-whole p list k s at holds =
     let within = slice_get_within list k s at in
@@ -65,15 +68,11 @@ counted-whole p list k s at holds =
 
 -- ---- which entries count
 
-not-both : (b : Bool) → (b && false) ≡ false
-not-both true = refl
-not-both false = refl
-
 plain-yes : (g : ℕ) (s : Signed) → s.generation ≡ g → is_roll s.text ≡ false → is_plain_of g s ≡ true
 plain-yes g s same fails = let e : eqb s.generation g ≡ true = eq-eqb _ _ same in rw (e, fails) refl
 
 plain-no : (g : ℕ) (s : Signed) → is_roll s.text ≡ true → is_plain_of g s ≡ false
-plain-no g s holds = rw holds (not-both (eqb s.generation g))
+plain-no g s holds = rw holds (and-false (eqb s.generation g))
 
 plain-other : (g : ℕ) (s : Signed) → s.generation ≢ g → is_plain_of g s ≡ false
 plain-other g s other = let e : eqb s.generation g ≡ false = ne_eqb _ _ other in rw e refl
@@ -82,7 +81,7 @@ roll-yes : (g : ℕ) (s : Signed) → s.generation ≡ g → is_roll s.text ≡ 
 roll-yes g s same holds = let e : eqb s.generation g ≡ true = eq-eqb _ _ same in rw (e, holds) refl
 
 roll-no : (g : ℕ) (s : Signed) → is_roll s.text ≡ false → is_roll_of g s ≡ false
-roll-no g s fails = rw fails (not-both (eqb s.generation g))
+roll-no g s fails = rw fails (and-false (eqb s.generation g))
 
 roll-other : (g : ℕ) (s : Signed) → s.generation ≢ g → is_roll_of g s ≡ false
 roll-other g s other = let e : eqb s.generation g ≡ false = ne_eqb _ _ other in rw e refl
@@ -236,11 +235,6 @@ one_text book g leaf first second sound a b =
 
 -- ---- later books
 
-slice_get-more : {A : Type 0} (xs ys : List A) (k : ℕ) (x : A) → slice_get xs k ≡ Some x → slice_get (xs ++ ys) k ≡ Some x
-slice_get-more [] ys k x e = absurd cc
-slice_get-more (y ∷ xs) ys zero x e = e
-slice_get-more (y ∷ xs) ys (suc k) x e = slice_get-more xs ys k x e
-
 -- what a leaf serves it serves in each later book
 pub serves_later : (book later : RollBook) (more : List Signed) (g leaf : ℕ) (text : List ℕ) → later.leaves ≡ book.leaves → later.list ≡ book.list ++ more
     → Serves book g leaf text → Serves later g leaf text
@@ -251,11 +245,11 @@ serves_later book later more g leaf text leaves grown a =
     let same : leaf_of later a.0 s ≡ leaf_of book a.0 s =
     ap (λ l. cond (is_roll s.text) (l - 1) (plain_count s.generation (take a.0 later.list))) leaves
     ∙ ap (λ l. cond (is_roll s.text) (book.leaves - 1) (plain_count s.generation l)) front in
-    (a.0, s, (ap (λ l. slice_get l a.0) grown ∙ slice_get-more book.list more a.0 s a.2.0, a.2.1, a.2.2, same ∙ a.2.3))
+    (a.0, s, (ap (λ l. slice_get l a.0) grown ∙ get-more book.list more a.0 s a.2.0, a.2.1, a.2.2, same ∙ a.2.3))
 
 -- ---- what is due
 
-abbrev due_for : RollBook → ℕ → Signed → DueParts
+abbrev pub due_for : RollBook → ℕ → Signed → DueParts
 due_for book k s = record { generation = s.generation; leaf = leaf_of book k s; text = s.text; leaves = book.leaves }
 
 -- its parts
@@ -359,3 +353,20 @@ is_roll-kind (object a) = refl
 pub named-roll : (signer : Party) (generation : ℕ) (key : List ℕ) → generation < 2 ^ 32 → named_generation (text_of (roll signer generation key)) ≡ generation
 unfolding text_of number_text
 named-roll signer generation key small = from_be_bytes-to_be_bytes_4 generation small
+
+-- ---- what an entry leaves of a book
+
+pub record IsSameBook (book later : RollBook) : Type 0 where
+  pub leaves : later.leaves ≡ book.leaves
+  pub newest : later.newest ≡ book.newest
+
+pub entry-same : (book : RollBook) (text : List ℕ) → IsSameBook book (after_entry book text)
+entry-same book text = at (place_of (texts_of book) text)
+  where
+    new : (room : Bool) → IsSameBook book (cond room (with_text book text) book)
+    new true = record { leaves = refl; newest = refl }
+    new false = record { leaves = refl; newest = refl }
+
+    at : (place : Option ℕ) → IsSameBook book (after_at book text place)
+    at (Some k) = record { leaves = refl; newest = refl }
+    at None = new (has_room book)

@@ -1,5 +1,5 @@
 -- Keys made again from another secret, and the keys of a book.
-use Rattle.std.proofs.Common.{◌≡◌, ℕ, zero, suc, ◌+◌, ◌-◌, ◌^◌, ◌<◌, ◌≤◌, ◌∙◌, refl, ap, sym, subst, arith, get_or, length, List, [], ◌∷◌, ◌++◌, Option, Some, None, Result, Ok}
+use Rattle.std.proofs.Common.{◌≡◌, ℕ, zero, suc, ◌+◌, ◌-◌, ◌^◌, ◌<◌, ◌≤◌, ◌∙◌, ap, sym, subst, arith, get_or, length, List, [], ◌∷◌, ◌++◌, Option, Some, None, Result, Ok}
 use Rattle.std.specs.Prelude.{All, slice_get}
 use Rattle.std.proofs.lemmas.List.{length-append}
 use Rattle.std.proofs.lemmas.List.Elements.{All-append, All-cons, All-nil}
@@ -15,6 +15,7 @@ use Rattle.key_roll.specs.Book.{RollBook}
 use Rattle.key_roll.specs.Due.{DueParts}
 use Rattle.key_roll.specs.Entry.{with_roll}
 use Rattle.key_roll.specs.Ring.{AreKeysOf, IsNext, IsRing, Owes, next_key, ring_signature_len}
+use Rattle.ar_base.proofs.Lists.{has-item}
 
 by_types : (old new : List ℕ) (lms : Option LmsType) (ots : Option OtsType) (key : KeyParts) → key_of_types old lms ots ≡ Ok key
     → key_of_types new lms ots ≡ Ok (record { seed = new; lms = key.lms; ots = key.ots })
@@ -76,15 +77,10 @@ next_keys book text len keys next are behind = record {
 pub owed_by : (book : RollBook) (len : ℕ) (keys : List KeyParts) (due : DueParts) → AreKeysOf book len keys → due.generation ≤ book.newest
     → due.leaves ≡ book.leaves → Owes keys due len
 owed_by book len keys due are upto leaves =
-    let own = there-is keys due.generation (omega (arith, upto, are.many)) in
+    let own = has-item keys due.generation (omega (arith, upto, are.many)) in
     record {
       key = own.0;
       has = own.1;
       leaves = leaves ∙ at-place (λ (key : KeyParts). book.leaves ≡ 2 ^ height_of key.lms) keys due.generation own.0 are.leaves own.1;
       bytes_are = at-place (λ (key : KeyParts). len ≡ ring_signature_len key) keys due.generation own.0 are.bytes own.1;
     }
-  where
-    there-is : (xs : List KeyParts) (k : ℕ) → k < length xs → (x : KeyParts) × (slice_get xs k ≡ Some x)
-    there-is [] k less = absurd (omega (arith, less))
-    there-is (x ∷ xs) zero less = (x, refl)
-    there-is (x ∷ xs) (suc k) less = there-is xs k (omega (arith, less))

@@ -1,17 +1,18 @@
 -- Keys and their texts.
-use Rattle.std.proofs.Common.{◌≡◌, ◌∙◌, ap, sym, subst, refl, arith, ℕ, zero, suc, ◌+◌, ◌^◌, ◌<◌, ◌≤◌, List, [], ◌∷◌, ◌++◌, length, take, drop, Bool, true, false, Option, Some, None, Result, Ok, Err, eqb, eq-eqb, ltb, ◌&&◌}
+use Rattle.std.proofs.Common.{◌≡◌, ◌∙◌, ap, sym, subst, refl, arith, ℕ, zero, suc, ◌+◌, ◌^◌, ◌<◌, ◌≤◌, List, [], ◌∷◌, ◌++◌, length, take, drop, Bool, true, false, Option, Some, None, Ok, eqb, eq-eqb, ltb}
 use Rattle.std.specs.Prelude.{is_some}
 use Rattle.std.specs.Option.{ok_or}
 use Rattle.std.specs.Result.{result_ok}
 use Rattle.std.specs.Int.{w32, from_be_bytes}
 use Rattle.std.proofs.lemmas.List.{length-append, length-drop}
-use Rattle.std.proofs.lemmas.Bool.{eqb-true, le-ltb}
+use Rattle.std.proofs.lemmas.Bool.{eqb-true, le-ltb, and_parts}
 use Rattle.std.proofs.lemmas.Bool.Decides.{nat_tests}
 use Rattle.ar_base.specs.Bytes.{AreBytes}
 use Rattle.ar_base.specs.Chaining.{◌>>=◌}
+use Rattle.ar_base.proofs.Shown.{bind_ok, ok_is, some_of, gave}
 use Rattle.ar_bytes.specs.Reading.{Cursor, Reading, all_of, behind, bytes_at, number_at, start_of, whole}
 use Rattle.ar_bytes.specs.RoundTrip.{Passes, ReadsBack, IsSpelledBy, number_text}
-use Rattle.ar_bytes.proofs.Steps.{all_ok, bind_ok, ok_is, Passes-then, Passes-first, Passes-second, AreBytes-behind}
+use Rattle.ar_bytes.proofs.Steps.{all_ok, Passes-then, Passes-first, Passes-second, AreBytes-behind}
 use Rattle.ar_bytes.proofs.Passing.{bytes_again, bytes_pass, number_again, number_pass, wide32, length-number_text}
 use Rattle.ar_bytes.proofs.Taken.{bytes_taken, left_of, number_taken}
 use Rattle.ar_bytes.proofs.Parts.{whole_again, whole_pass}
@@ -131,11 +132,6 @@ key_pass at new key bytes e =
     let text = Passes-then at lms.0.1 root.0.1 _ _ l.0 (Passes-then lms.0.1 ots.0.1 root.0.1 _ _ o.0 (Passes-then ots.0.1 id.0.1 root.0.1 _ _ i.0 r.0)) in
     subst (λ (x : LmsPublic × Cursor). Passes at (key_text x.0) x.1 × HasWidths x.0)
     (ok_is (the_key lms.0.0 ots.0.0 id.0.0 root.0.0, root.0.1) (key, new) root.2) (text, (i.1, r.1))
-
--- what reading a whole text gave
-pub gave : {A : Type 0} (r : Result A ℕ) (x : A) → result_ok r ≡ Some x → r ≡ Ok x
-gave (Ok y) x e = cc
-gave (Err place) x e = absurd cc
 
 -- the text of a key is read as it
 pub key_of_text-key_text : (key : LmsPublic) → HasWidths key → key_of_text (key_text key) ≡ Some key
@@ -287,14 +283,6 @@ read_says bytes key e =
       ap (λ (rest : List ℕ). ots_kind.type_of_number (from_be_bytes w32 (take 4 rest))) (sym l.1) ∙ o.0 ∙ ap (λ (k : OtsType). Some k) ots_is,
     )
 
-some_of : {A : Type 0} (o : Option A) → is_some o ≡ true → (x : A) × (o ≡ Some x)
-some_of None e = absurd cc
-some_of (Some x) e = (x, refl)
-
-both : (a b : Bool) → (a && b) ≡ true → (a ≡ true) × (b ≡ true)
-both true b e = (refl, e)
-both false b e = absurd cc
-
 -- a key is read exactly from the texts of keys
 pub is_some-key_of_text : (bytes : List ℕ) → is_some (key_of_text bytes) ≡ is_key_text bytes
 unfolding is_key_text
@@ -310,8 +298,8 @@ is_some-key_of_text bytes = by (key_of_text bytes) refl
         never : (b : Bool) → is_key_text bytes ≡ b → false ≡ b
         never false is = refl
         never true is =
-            let first = both _ _ is in
-            let second = both _ _ first.1 in
+            let first = and_parts _ _ is in
+            let second = and_parts _ _ first.1 in
             let lms = some_of _ second.0 in
             let ots = some_of _ second.1 in
             let read = readable bytes lms.0 ots.0 (eqb-true _ _ first.0) lms.1 ots.1 in

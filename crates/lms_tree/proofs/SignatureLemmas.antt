@@ -10,9 +10,10 @@ use Rattle.std.proofs.lemmas.List.Elements.{All-head, All-tail}
 use Rattle.std.proofs.lemmas.Bool.{ne_eqb}
 use Rattle.ar_base.specs.FirstFailing.{first_failing}
 use Rattle.ar_base.specs.Chaining.{◌>>=◌}
+use Rattle.ar_base.proofs.Shown.{bind_ok, gave}
 use Rattle.ar_bytes.specs.Reading.{Cursor, all_of, behind, start_of, bytes_at, number_at, whole}
 use Rattle.ar_bytes.specs.RoundTrip.{ReadsBack, number_text}
-use Rattle.ar_bytes.proofs.Steps.{bind_ok, all_ok, Passes-first, Passes-second}
+use Rattle.ar_bytes.proofs.Steps.{all_ok, Passes-first, Passes-second}
 use Rattle.ar_bytes.proofs.Passing.{bytes_again, number_again, wide32}
 use Rattle.ar_bytes.proofs.Parts.{whole_again}
 use Rattle.ar_bytes.proofs.Taken.{bytes_taken, number_taken, left_of}
@@ -24,7 +25,7 @@ use Rattle.lms_tree.specs.declared.validity.Verdict.TheVariants.{Invalid}
 use Rattle.lms_tree.specs.LmsKind.{height_of}
 use Rattle.lms_tree.specs.Signature.{SignatureParts, FitsTypes, lms_signature_len_of, signature_at, signature_text}
 use Rattle.lms_tree.specs.Validity.{HasLength, conditions_on, parts_of, verdict, verdict_of}
-use Rattle.lms_tree.proofs.KeyLemmas.{bytes_there, gave, number_there}
+use Rattle.lms_tree.proofs.KeyLemmas.{bytes_there, number_there}
 
 -- ---- the text of a signature
 

@@ -22,12 +22,13 @@ use Rattle.log_core.specs.Kept.{IsKeptCore}
 use Rattle.log_core.specs.Passing.{passing_checks, passing_judged, passing_reply, passing_row, status_drafts}
 use Rattle.log_sending.specs.Sending.{Composed, Draft, none_composed, sealed, unsigned_of, with_drafts}
 use Rattle.log_sending.specs.Signers.{signed_by}
-use Rattle.log_core.specs.State.{Answer, CoreState, Reply}
+use Rattle.log_core.specs.State.{CoreState, Reply}
 use Rattle.log_core.specs.Stated.{status_checks, status_judged, status_reply, status_row}
 use Rattle.log_sending.specs.declared.refusal.LogRefusal.{LogRefusal}
 use Rattle.log_sending.specs.declared.refusal.LogRefusal.TheVariants as refusals
 use Rattle.log_sending.proofs.Checked.{all-hold, none-stated, same-epoch}
 use Rattle.log_core.proofs.KeptRows.{of-council}
+use Rattle.log_core.proofs.Replies.{core-of, made}
 use Rattle.log_sending.proofs.SignerLaws.{first-log}
 use Rattle.log_sending.proofs.Sealing.{sealed-drafts}
 
@@ -36,12 +37,6 @@ pub row-refused : (check : Check) (s : CoreState) (reply : Reply) (refusal : Log
     → IsStep (Err refusal) s s (by_check check reply)
 row-refused check s reply refusal (inl wants) = (refl, inl wants)
 row-refused check s reply refusal (inr is) = (refl, inr (ap (λ c. by_check c reply) is))
-
-abbrev pub made : Unsigned → CoreState → Answer
-made unsigned after = Ok (record { unsigned = unsigned; after = after })
-
-abbrev pub core-of : CoreState → LogParts → List Change → CoreState
-core-of s log queue = record { log = log.state; keys = log.keys; queue = queue; signature_len = s.signature_len }
 
 -- what is composed before a step and sealed behind it, with what is left of the queue, is the reply of its row
 pub close-step : (s : CoreState) (check : Check) (drafts : List Draft) (x : LogState × Closing) (ready : Composed) (unsigned : Unsigned) (log : LogParts)
@@ -156,12 +151,13 @@ passing-step s ready unsigned parts queue closing epoch is readied closes logs e
     close-step s (first_refusal (passing_checks s)) (status_drafts s) (after_state s.log) ready unsigned parts queue closing epoch
     is readied closes logs epochs queues sends
 
-abbrev closing-in : Result (DueParts × Closing) BookFault → Closing → Closing
-closing-in (Ok r) other = r.1
-closing-in (Err fault) other = other
+-- how the epoch closes is answered beside the leaf
+abbrev closing-or : Result (DueParts × Closing) BookFault → Closing → Closing
+closing-or (Ok answer) other = answer.1
+closing-or (Err fault) other = other
 
-beside-closing : (k : Closing) (entry : Result DueParts BookFault) (due : DueParts) (closing : Closing) → beside k entry ≡ Ok (due, closing) → closing ≡ k
-beside-closing k (Ok d) due closing is = sym (ap (λ r. closing-in r k) is)
+pub beside-closing : (k : Closing) (entry : Result DueParts BookFault) (due : DueParts) (closing : Closing) → beside k entry ≡ Ok (due, closing) → closing ≡ k
+beside-closing k (Ok d) due closing is = sym (ap (λ r. closing-or r k) is)
 beside-closing k (Err fault) due closing is = absurd cc
 
 -- how the log's own status closes the epoch

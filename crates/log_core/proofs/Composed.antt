@@ -40,10 +40,11 @@ use Rattle.log_core.specs.Skipped.{skip_checks, skip_reply, skip_row}
 use Rattle.log_core.specs.State.{CoreState, Input, Reply, passes, proposes, rolls, takes}
 use Rattle.log_core.specs.Stated.{status_checks, status_reply, status_row}
 use Rattle.log_core.specs.Submit.{submit_checks, submit_reply, submit_row}
-use Rattle.log_sending.proofs.Blanks.{IsComposed, joined}
+use Rattle.log_sending.proofs.Blanks.{IsComposed}
 use Rattle.log_core.proofs.Passed.{passed}
 use Rattle.log_sending.proofs.ZeroBytes.{ballot-is_draft, decision-is_draft, propose-draft, roll-is_draft, skip-is_draft, status-is_draft}
 use Rattle.log_core.proofs.ConfirmedDrafts.{confirmed-is_draft}
+use Rattle.ar_base.proofs.Lists.{both-lists}
 
 -- what a reply sends is composed, with the leaves of the book behind it
 abbrev Composed : Reply → Type 0
@@ -67,7 +68,7 @@ closing-composed s before drafts x each = record {
   drafts = drafts ++ closing_drafts x.1 s.signature_len before x.0;
   ended = ended_by x.1 (epoch_of before) x.0.newest;
   is = refl;
-  each = joined (IsDraft s.signature_len) drafts (closing_drafts x.1 s.signature_len before x.0) each (closing-are x.1 s.signature_len before x.0);
+  each = both-lists (IsDraft s.signature_len) drafts (closing_drafts x.1 s.signature_len before x.0) each (closing-are x.1 s.signature_len before x.0);
 }
 
 open-composed : (s : CoreState) (after : LogState) (draft : Draft) → IsDraft s.signature_len draft → Composed (open_reply s after (draft ∷ []))

@@ -35,6 +35,7 @@ use Rattle.log_sending.proofs.Sealing.{sealed-drafts}
 use Rattle.log_sending.proofs.Sendable.{votes-sent}
 use Rattle.log_core.proofs.Stepping.{core-with, log-in}
 use Rattle.log_core.proofs.Submitted.{given-holds}
+use Rattle.log_core.proofs.Replies.{made}
 
 -- ---- what is prepared
 
@@ -151,15 +152,12 @@ row-made s asked composed w due kept prepared decided due-is =
     row-is s asked w (prepared-holds s asked composed prepared).0 decided
     ∙ ap (λ (c : Check). checked (c ∷ []) (open_reply s (after_confirm s.log w asked.name) (confirmed_draft s w asked ∷ []))) (leaf-there s w asked.name due kept due-is)
 
-abbrev answer-with : Unsigned → CoreState → Answer
-answer-with unsigned after = Ok (record { unsigned = unsigned; after = after })
-
 made-by : (s : CoreState) (asked : Asked) (composed : Composed) (w : Newest) (due : DueParts) (new : LogParts) (unsigned : Unsigned) → IsKeptCore s
     → confirmation_prepared s asked ≡ Ok composed → s.log.newest ≡ Some w → confirmed s.log w asked.name ≡ Ok due → new ≡ log-confirmed s w asked.name
     → unsigned ≡ sealed new.state.past.signed composed None → confirm_row s asked ≡ Ok (record { unsigned = unsigned; after = core-with s new })
 made-by s asked composed w due new unsigned kept prepared decided due-is news sends =
     row-made s asked composed w due kept prepared decided due-is
-    ∙ sym (ap (λ (u : Unsigned). answer-with u (core-with s new)) all ∙ ap (λ (n : LogParts). answer-with reply.unsigned (core-with s n)) news)
+    ∙ sym (ap (λ (u : Unsigned). made u (core-with s new)) all ∙ ap (λ (n : LogParts). made reply.unsigned (core-with s n)) news)
   where
     reply : Reply
     reply = open_reply s (after_confirm s.log w asked.name) (confirmed_draft s w asked ∷ [])

@@ -17,8 +17,9 @@ use Rattle.log_sending.specs.Blanks.{IsDraft, StandsAt}
 use Rattle.log_core.specs.Confirming.{Asked, confirmed_draft, confirming_of, newest_vote_text}
 use Rattle.log_sending.specs.Sending.{own_votes, place_for, sent_votes}
 use Rattle.log_core.specs.State.{CoreState}
-use Rattle.log_sending.proofs.Blanks.{EndsIn, ends-behind, ends-itself, joined, stands-end}
+use Rattle.log_sending.proofs.Blanks.{EndsIn, ends-behind, ends-itself, stands-end}
 use Rattle.log_sending.proofs.ZeroBytes.{votes-stand, within}
+use Rattle.ar_base.proofs.Lists.{both-lists}
 
 -- what stands behind the votes: the log's number and signature, and the two authorities
 abbrev behind-votes : Confirming → List ℕ
@@ -77,7 +78,7 @@ confirmed-is_draft s w asked =
     let ends = votes-end part in
     let all = ap length ends.is ∙ length-append ends.front (flat_map vote_text part.votes ++ behind-votes part) in
     let rest = length-append (flat_map vote_text part.votes) (behind-votes part) in
-    joined (λ p. StandsAt (zeros len) p.at whole)
+    both-lists (λ p. StandsAt (zeros len) p.at whole)
     (own_votes len (newest_vote_text s.log w) (length whole - (len + 8)) w.votes) (place_for (length whole - (len + 4)) (confirmation_text s.log w asked.name) ∷ [])
     (votes-stand len (newest_vote_text s.log w) whole (behind-votes part) (length whole - (len + 8)) w.votes ends (omega (arith, all, rest, behind, zero)))
     (stands-end len 4 (authorities part) whole (signature-end part) (four part), tt)

@@ -23,6 +23,7 @@ use Rattle.log_sending.specs.declared.refusal.LogRefusal.TheVariants as refusals
 use Rattle.log_sending.proofs.Checked.{all-hold}
 use Rattle.log_core.proofs.KeptEndings.{decision-may, kept-decision}
 use Rattle.log_core.proofs.Stepping.{log-in}
+use Rattle.log_core.proofs.Replies.{core-of}
 
 -- ---- what is judged
 
@@ -66,10 +67,6 @@ pub is-decided : (s : CoreState) (d : Decision) (votes : List (ℕ × List ℕ))
 is-decided s d votes new kept digests are votes-are is same news =
     news ∙ ap (λ (v : Value). moved (log-in s) (after_decide s.log v d.changes votes)) (its-value s d kept digests are votes-are is)
     ∙ ap (λ (vs : List (ℕ × List ℕ)). moved (log-in s) (after_decide s.log d.value d.changes vs)) same
-
--- the core with a log and a queue
-abbrev pub core-of : CoreState → LogParts → List Change → CoreState
-core-of s log queue = record { log = log.state; keys = log.keys; queue = queue; signature_len = s.signature_len }
 
 -- the queue behind an epoch that ended, or did not
 abbrev pub queue-if : Bool → LogState → List Change → List Change

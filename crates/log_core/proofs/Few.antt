@@ -1,19 +1,14 @@
 -- How many messages a step sends, before it is signed and then.
-use Rattle.std.proofs.Common.{◌≡◌, ℕ, ◌+◌, ◌≤◌, List, [], ◌∷◌, ◌++◌, length, sym, subst, arith, Bool, true, false, cond, Option, Some, None}
+use Rattle.std.proofs.Common.{◌≡◌, ℕ, ◌+◌, ◌≤◌, List, [], ◌∷◌, ◌++◌, length, subst, arith, Bool, true, false, cond, Option, Some, None}
 use Rattle.std.specs.Prelude.{Ok, Err, Result, map}
 use Rattle.std.specs.Option.{option_map}
 use Rattle.std.proofs.lemmas.List.{length-append, length-map}
 use Rattle.ar_cert.specs.Changes.{Change}
 use Rattle.ar_council.specs.Values.{value_of_roots}
-use Rattle.ar_message.proofs.Filled.{same_count}
-use Rattle.ar_message.specs.Filling.{filled}
 use Rattle.ar_message.specs.Messages.{message_in}
 use Rattle.ar_message.specs.declared.lists.LogStatus.{LogStatus}
 use Rattle.ar_message.specs.declared.message.Message.{Message}
 use Rattle.ar_message.specs.declared.message.Message.TheVariants as messages
-use Rattle.ar_message.specs.declared.sent.Sent.{Sent}
-use Rattle.ar_message.specs.declared.unsigned.Unsigned.{Unsigned}
-use Rattle.lms_tree.specs.KeyParts.{KeyParts}
 use Rattle.lms_tree.specs.declared.public_key.LmsPublic.{LmsPublic}
 use Rattle.party_keys.specs.Learning.{Announced}
 use Rattle.vote_quorum.specs.declared.value.Value.{Value}
@@ -165,10 +160,3 @@ row-few s passes reply answer = passing-few s reply answer
 row-few s (rolls key) reply answer = rolling-few s key reply answer
 
 -- ---- signed
-
--- as many messages are sent once they are signed
-pub filled-few : (keys : List KeyParts) (unsigned : Unsigned) (sent : Sent) → length unsigned.sent.messages ≤ most_sent → sent ≡ filled keys unsigned
-    → length sent.messages ≤ most_sent
-filled-few keys unsigned sent few is =
-    let many : length (filled keys unsigned).messages ≡ length unsigned.sent.messages = same_count keys unsigned.blanks unsigned.sent.messages in
-    subst (λ (s : Sent). length s.messages ≤ most_sent) (sym is) (subst (λ n. n ≤ most_sent) (sym many) few)

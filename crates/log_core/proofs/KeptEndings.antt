@@ -8,10 +8,10 @@ use Rattle.std.proofs.lemmas.List.{length-map}
 use Rattle.std.proofs.lemmas.List.Elements.{All-from_recursion, All-weaker}
 use Rattle.key_roll.specs.Entry.{roll_text}
 use Rattle.ar_base.specs.Bytes.{AreBytes, IsDigest}
-use Rattle.ar_base.proofs.Digests.{sha256-IsDigest}
+use Rattle.ar_base.proofs.Lists.{of-both-lists}
 use Rattle.ar_names.specs.Names.{IsName}
-use Rattle.ar_cert.specs.Certificate.{Certificate, digest_of}
 use Rattle.ar_cert.specs.Changes.{Change, IsChange}
+use Rattle.ar_cert.proofs.Digests.{digest-fits-if-there}
 use Rattle.ar_message.specs.Lists as lists
 use Rattle.ar_message.specs.Lists.{AreVotes, IsStatus, IsVote}
 use Rattle.ar_message.proofs.MessageLaws.{only_messages}
@@ -40,6 +40,7 @@ use Rattle.vote_quorum.proofs.Silence.{distinct_logs}
 use Rattle.domain_table.specs.Applying.{apply}
 use Rattle.domain_table.specs.Tables.{Table, chain_of, newest}
 use Rattle.domain_table.specs.Tree.{root_of}
+use Rattle.domain_table.proofs.Trees.{root-digest}
 use Rattle.ar_council.proofs.Lists.{Within}
 use Rattle.ar_council.proofs.Members.{council-adopting, council-learning, member}
 use Rattle.ar_council.proofs.Seeing.{seen-keeps}
@@ -60,7 +61,7 @@ use Rattle.log_core.specs.Decided.{Decision, decision_checks, decision_reply, de
 use Rattle.log_core.specs.Learning.{is_learned, roll_note_checks, roll_note_reply, roll_note_row}
 use Rattle.log_core.specs.Row.{IsInput, message_row, read_row, row}
 use Rattle.log_core.specs.Rolling.{rolling_checks, rolling_reply, rolling_row}
-use Rattle.log_sending.specs.Signers.{endorsements_in, statuses_in, votes_in}
+use Rattle.log_sending.specs.Signers.{endorsements_in, votes_in}
 use Rattle.log_core.specs.Skipped.{signed_statuses, skip_checks, skip_reply, skip_row}
 use Rattle.log_core.specs.Kept.{IsKeptCore, WasQueued}
 use Rattle.log_core.specs.State.{CoreState, Input, Reply, passes, proposes, rolls, takes}
@@ -69,14 +70,13 @@ use Rattle.log_sending.proofs.Checked.{a-quorum, its-base, none-wins, not-last, 
 use Rattle.log_core.proofs.Passed.{passed}
 use Rattle.log_sending.proofs.Judged.{applied}
 use Rattle.log_core.proofs.KeptCore.{core-kept, open-kept, saw-more, wanted-all, wanted-few}
-use Rattle.log_core.proofs.KeptRows.{kept-ballot_row, kept-passing, kept-proposed, kept-proposing, kept-status_row, kept-submit, of-council, root-digest}
+use Rattle.log_core.proofs.KeptRows.{kept-ballot_row, kept-passing, kept-proposed, kept-proposing, kept-status_row, kept-submit, of-council}
 use Rattle.log_sending.proofs.Sendable.{confirm-can, roll-can, seeing-can, skip-can}
 use Rattle.log_core.proofs.Decided.{decide-can}
 use Rattle.log_core.proofs.Verified.{queued-adopted, queued-learnt, verified-has}
-use Rattle.log_sending.proofs.SignerLaws.{all-endorsers, each-known, split, staters, voters}
-
-abbrev KeepsReply : Reply → Type 0
-KeepsReply reply = IsKeptCore reply.after
+use Rattle.log_core.proofs.Replies.{KeepsReply}
+use Rattle.log_core.proofs.Statuses.{are-statuses}
+use Rattle.log_sending.proofs.SignerLaws.{all-endorsers, each-known, voters}
 
 -- the log behind has the same council, and saw no less
 abbrev Grows : LogState → LogState → Type 0
@@ -149,7 +149,7 @@ decision-may s d kept digests are votes hold = record {
 }
   where
     knows : AllByRecursion (λ x. is_known s.keys x.party ≡ true) (votes_in d.epoch d.value d.votes) × AllByRecursion (λ x. is_known s.keys x.party ≡ true) (flat_map endorsements_in d.changes)
-    knows = split (λ (x : Claimed). is_known s.keys x.party ≡ true) (votes_in d.epoch d.value d.votes) (flat_map endorsements_in d.changes)
+    knows = of-both-lists (λ (x : Claimed). is_known s.keys x.party ≡ true) (votes_in d.epoch d.value d.votes) (flat_map endorsements_in d.changes)
         (each-known s.keys (decision_signers d) hold.0)
 
     below : AllByRecursion (λ (v : Vote). v.log < length s.keys.logs) d.votes
@@ -191,15 +191,6 @@ kept-decision s d reply kept digests are votes answer = subst KeepsReply h.1 her
 
 -- ---- SkipNote
 
-plain-below-statuses : (n : ℕ) (statuses : List LogStatus) → AllByRecursion (λ (x : LogStatus). x.log < n) statuses
-    → AllByRecursion (λ log. log < n) (logs_of (reports_of (signed_statuses statuses)))
-plain-below-statuses n [] all = tt
-plain-below-statuses n (x ∷ statuses) all = (all.0, plain-below-statuses n statuses all.1)
-
-stated-logs : (statuses : List LogStatus) → logs_of (reports_of (signed_statuses statuses)) ≡ map (λ (x : LogStatus). x.log) statuses
-stated-logs [] = refl
-stated-logs (x ∷ statuses) = ap (λ l. x.log ∷ l) (stated-logs statuses)
-
 value-digests : (value : Option (List ℕ × List ℕ)) → IfSome value AreRoots → IfSome (option_map value_of_roots value) IsValue
 value-digests None are = tt
 value-digests (Some roots) are = record { base = are.0; root = are.1 }
@@ -219,16 +210,9 @@ kept-skip_row s epoch statuses reply kept are answer = subst KeepsReply h.1 here
     signed : List SignedStatus
     signed = signed_statuses statuses
 
-    below : AllByRecursion (λ (x : LogStatus). x.log < length s.keys.logs) statuses
-    below = staters s.keys epoch statuses (each-known s.keys (statuses_in epoch statuses) h.0.0)
-
     may : MaySkip s.log signed
     may = record {
-      of_logs = record {
-        ascending = subst IsStrictlyIncreasing (sym (stated-logs statuses)) (rises (λ (x : LogStatus). x.log) IsStatus 0 statuses are.1);
-        below = of-council (λ c. All (λ log. log < c.logs) (logs_of (reports_of signed))) s kept
-            (All-from_recursion (λ log. log < length s.keys.logs) (logs_of (reports_of signed)) (plain-below-statuses (length s.keys.logs) statuses below));
-      };
+      of_logs = of-council (λ c. AreStatuses c.logs (reports_of signed)) s kept (are-statuses s.keys epoch statuses are h.0.0);
       values = All-from_recursion (λ (x : Status). IfSome x.1 IsValue) (reports_of signed)
           (stated-values statuses (each-fits (λ (x : LogStatus). x.log) IsStatus 0 statuses are.1));
       excludes = none-wins s.log.council (reports_of signed) h.0.1.1.0;
@@ -258,11 +242,6 @@ skip-leaves s epoch statuses reply kept answer =
 
 -- ---- ConfirmAsk
 
-digest-of-newest : (c : Option Certificate) → IfSome (option_map digest_of c) IsDigest
-unfolding digest_of
-digest-of-newest None = tt
-digest-of-newest (Some c) = sha256-IsDigest _
-
 decided-root : (s : LogState) (w : Newest) → IsKept s → s.newest ≡ Some w → IsDigest w.root
 decided-root s w kept is =
     let last : IsNewestDecision s.council s.past.seen s.past.ended w = subst (IsNewest s.council s.past.seen s.past.ended) is kept.newest in
@@ -275,7 +254,7 @@ confirm-by s asked None is kept named leaf = kept
 confirm-by s asked (Some w) is kept named leaf =
     open-kept s (after_confirm s.log w asked.name) (confirmed_draft s w asked ∷ []) kept
     (kept-confirming s.log w asked.name kept.log
-    (record { is_newest = is; is_name = named; certificate = digest-of-newest (newest (chain_of (table_of s.log) asked.name)); root = decided-root s.log w kept.log is })
+    (record { is_newest = is; is_name = named; certificate = digest-fits-if-there (newest (chain_of (table_of s.log) asked.name)); root = decided-root s.log w kept.log is })
     (room s.log.past.signed (confirmation_text s.log w asked.name ∷ []) leaf))
     (confirm-can s.log w asked.name kept.sendable) refl (λ x there. there)
 

@@ -5,8 +5,6 @@ use Rattle.std.specs.List.{AllByRecursion}
 use Rattle.std.proofs.lemmas.Nat.{mod_below}
 use Rattle.std.proofs.lemmas.List.{length-append}
 use Rattle.std.proofs.lemmas.List.Elements.{All-from_recursion, All-push, recursion_from_All, All-weaker}
-use Rattle.ar_base.specs.Bytes.{IsDigest}
-use Rattle.ar_base.proofs.Digests.{sha256-IsDigest}
 use Rattle.ar_cert.specs.Certificate.{digest_of}
 use Rattle.ar_cert.specs.Changes.{Change, IsChange, IsSignature}
 use Rattle.ar_cert.specs.Judging.{endorsers_of}
@@ -19,6 +17,7 @@ use Rattle.vote_quorum.specs.declared.value.Value.{Value}
 use Rattle.domain_table.specs.Applying.{apply, ripen}
 use Rattle.domain_table.specs.Tables.{Table}
 use Rattle.domain_table.specs.Tree.{root_of}
+use Rattle.domain_table.proofs.Trees.{root-digest}
 use Rattle.ar_council.proofs.Lists.{All-unmap, Within}
 use Rattle.ar_council.proofs.Seeing.{seen-has, seen-keeps}
 use Rattle.ar_council.specs.Council.{Council, council_of}
@@ -49,15 +48,12 @@ use Rattle.log_core.proofs.KeptCore.{closed-kept, closed-same, closing-kept, cor
 use Rattle.log_sending.proofs.SignerLaws.{a-log, all-endorsers, each-known, first-log, its-endorsers}
 use Rattle.log_sending.proofs.Sendable.{casting-can, own-can, proposing-can, seeing-can, state-can, status-can, vote-can}
 use Rattle.log_core.proofs.OwnProposal.{proposal-fits}
+use Rattle.log_core.proofs.Replies.{KeepsReply}
 use Rattle.log_sending.proofs.Taken.{walk-all, walk-applies}
 
 -- a fact of the directory's council is one of the log's
 pub of-council : (P : Council → Type 0) (s : CoreState) → IsKeptCore s → P (council_of s.keys) → P s.log.council
 of-council P s kept fact = subst P (sym kept.council) fact
-
--- what is kept of a reply
-abbrev KeepsReply : Reply → Type 0
-KeepsReply reply = IsKeptCore reply.after
 
 -- ---- Submit
 
@@ -149,9 +145,6 @@ kept-passing s reply kept answer =
     (kept-state s.log kept.log (none-stated s.log h.0.0) (room s.log.past.signed (own_status_text s.log ∷ []) h.0.1.0)) (state-can s.log kept.sendable kept.log).0 grows.0 grows.1)
 
 -- ---- the order to propose
-
-pub root-digest : (table : Table) → IsDigest (root_of table)
-root-digest table = sha256-IsDigest _
 
 pub kept-proposing : (s : CoreState) (reply : Reply) → IsKeptCore s → proposing_row s ≡ Ok reply → IsKeptCore reply.after
 unfolding proposing_row

@@ -2,7 +2,6 @@
 use Rattle.std.proofs.Common.{◌≡◌, ℕ, ◌+◌, ◌-◌, List, [], ◌∷◌, ◌++◌, Bool, true, false, cond, Option, Some, None, Result, Ok, Err, refl, sym, ap, ◌∙◌, subst}
 use Rattle.std.specs.Prelude.{OnOk, map}
 use Rattle.std.specs.Option.{option_map}
-use Rattle.ar_base.specs.Places.{place_of}
 use Rattle.ar_cert.specs.Changes.{Change}
 use Rattle.ar_council.proofs.Readable.{readable}
 use Rattle.ar_council.specs.Values.{value_of_roots}
@@ -13,10 +12,11 @@ use Rattle.ar_message.specs.declared.message.Message.{Message}
 use Rattle.ar_message.specs.declared.message.Message.TheVariants as messages
 use Rattle.ar_message.specs.declared.sent.Sent.{Sent}
 use Rattle.ar_message.specs.declared.unsigned.Unsigned.{Unsigned}
-use Rattle.key_roll.specs.Book.{RollBook, texts_of}
-use Rattle.key_roll.specs.Entry.{after_at, after_entry, has_room, roll_text, with_text}
+use Rattle.key_roll.specs.Book.{RollBook}
+use Rattle.key_roll.specs.Entry.{after_entry, roll_text}
 use Rattle.key_roll.specs.Ring.{AreKeysOf, IsNext}
 use Rattle.key_roll.proofs.Rings.{next_keys, same_keys}
+use Rattle.key_roll.proofs.Books.{IsSameBook, entry-same}
 use Rattle.lms_tree.specs.Key.{public_of}
 use Rattle.lms_tree.specs.KeyParts.{KeyParts}
 use Rattle.lms_tree.specs.PublicKey.{HasWidths, key_text}
@@ -61,29 +61,13 @@ use Rattle.log_core.proofs.KeptEndings.{kept-row}
 pub next_is_input : (key : LmsPublic) → IsKeyText (key_text key) → HasWidths key → IsInput (rolls key)
 next_is_input key text widths = (text, readable key widths)
 
--- ---- the book
-
--- what a step keeps of a log's book
-pub record IsSameBook (book later : RollBook) : Type 0 where
-  pub leaves : later.leaves ≡ book.leaves
-  pub newest : later.newest ≡ book.newest
+-- ---- what a step keeps of a log's book
 
 itself : (book : RollBook) → IsSameBook book book
 itself book = record { leaves = refl; newest = refl }
 
 then-same : (one two three : RollBook) → IsSameBook one two → IsSameBook two three → IsSameBook one three
 then-same one two three a b = record { leaves = b.leaves ∙ a.leaves; newest = b.newest ∙ a.newest }
-
-entry-same : (book : RollBook) (text : List ℕ) → IsSameBook book (after_entry book text)
-entry-same book text = at (place_of (texts_of book) text)
-  where
-    new : (room : Bool) → IsSameBook book (cond room (with_text book text) book)
-    new true = record { leaves = refl; newest = refl }
-    new false = record { leaves = refl; newest = refl }
-
-    at : (place : Option ℕ) → IsSameBook book (after_at book text place)
-    at (Some k) = record { leaves = refl; newest = refl }
-    at None = new (has_room book)
 
 closed-same : (s : LogState) → IsSameBook s.past.signed (closed s).0.past.signed
 unfolding closed

@@ -12,6 +12,7 @@ pub mod Keyed
 pub mod OwnProposal
 pub mod Passed
 pub mod Proposals
+pub mod Replies
 pub mod Sees
 pub mod Skips
 pub mod Standing

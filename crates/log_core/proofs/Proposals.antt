@@ -1,22 +1,18 @@
 -- What a log walked over it may propose, and what is made of that is its row.
-use Rattle.std.proofs.Common.{◌≡◌, ◌≢◌, ℕ, ◌<◌, List, [], ◌∷◌, ◌++◌, refl, sym, ap, ◌∙◌, ◌⊎◌, inl, inr, subst, Option, Some, Ok, Err, Result}
+use Rattle.std.proofs.Common.{◌≡◌, ℕ, ◌<◌, List, [], ◌∷◌, ◌++◌, refl, sym, ap, ◌∙◌, ◌⊎◌, inl, inr, subst, Ok, Err, Result}
 use Rattle.std.specs.Prelude.{All, IfOk}
 use Rattle.std.specs.declared.alloc.AllocError.{AllocError}
 use Rattle.std.specs.List.{AllByRecursion}
 use Rattle.std.proofs.lemmas.Nat.{mod_below}
 use Rattle.std.proofs.lemmas.List.Elements.{All-from_recursion, All-weaker, recursion_from_All}
-use Rattle.ar_base.specs.Gives.{GivesUnless}
 use Rattle.ar_cert.specs.Changes.{Change, IsChange}
 use Rattle.ar_message.specs.Lists.{AreChanges}
 use Rattle.ar_statement.specs.Claims.{text_of}
 use Rattle.key_roll.specs.Due.{DueParts}
-use Rattle.key_roll.specs.declared.fault.BookFault.{BookFault}
 use Rattle.ar_message.specs.declared.unsigned.Unsigned.{Unsigned}
 use Rattle.vote_quorum.specs.declared.value.Value.{Value}
 use Rattle.domain_table.specs.Applying.{ripen}
-use Rattle.domain_table.specs.Tables.{Table}
-use Rattle.domain_table.specs.Tree.{root_of}
-use Rattle.epoch_log.specs.Answers.{IsOpenTo, beside, first_entered, proposed}
+use Rattle.epoch_log.specs.Answers.{IsOpenTo, first_entered, proposed}
 use Rattle.epoch_log.specs.Calls.{IsTurn, after_propose, own_vote_text, proposal_texts, propose_claim}
 use Rattle.epoch_log.specs.Foreseeing.{IsForeseen}
 use Rattle.epoch_log.specs.Log.{LogParts}
@@ -25,7 +21,7 @@ use Rattle.epoch_log.specs.State.{LogState, epoch_of, table_of}
 use Rattle.epoch_log.specs.declared.entries.Closing.{Closing}
 use Rattle.epoch_log.specs.declared.foreseeing.Foreseen.{Foreseen}
 use Rattle.log_sending.specs.Checks.{Check, first_refusal, leaves_left, turn_of}
-use Rattle.log_core.specs.Steps.{IsStep, by_check, checked, given, given_by}
+use Rattle.log_core.specs.Steps.{IsStep, by_check, given, given_by}
 use Rattle.log_sending.specs.Closings.{closing_drafts, ended_by, queue_after}
 use Rattle.log_core.specs.Replies.{closing_reply}
 use Rattle.log_core.specs.Kept.{IsKeptCore, WasQueued}
@@ -37,12 +33,13 @@ use Rattle.log_sending.specs.Walk.{most_bytes, most_changes}
 use Rattle.log_sending.specs.declared.refusal.LogRefusal.{LogRefusal}
 use Rattle.log_sending.specs.declared.refusal.LogRefusal.TheVariants as refusals
 use Rattle.log_sending.proofs.Checked.{all-hold, its-turn, none-stated, none-voted}
-use Rattle.log_core.proofs.Closed.{close-step, core-of, made, row-refused}
+use Rattle.log_core.proofs.Closed.{close-step, row-refused, beside-closing}
 use Rattle.log_core.proofs.KeptRows.{kept-proposing}
 use Rattle.log_sending.proofs.Sendable.{propose-can, told-can}
 use Rattle.log_core.proofs.OwnProposal.{proposal-applies, proposal-fits}
 use Rattle.log_sending.proofs.Taken.{walk-all}
 use Rattle.log_core.proofs.Submitted.{given-holds}
+use Rattle.log_core.proofs.Replies.{core-of, made}
 
 -- ---- the checks
 
@@ -167,15 +164,6 @@ propose-step s value changes ready unsigned parts queue closing epoch is readied
     h.0 readied closes logs epochs queues sends in
     ap (λ v. by_check check (reply-of s v (proposal s))) h.1 ∙ ap (λ l. by_check check (reply-of s value l)) h.2 ∙ step
 
--- how the epoch closes is answered beside the leaf
-abbrev closing-or : Result (DueParts × Closing) BookFault → Closing → Closing
-closing-or (Ok answer) other = answer.1
-closing-or (Err fault) other = other
-
-closes-beside : (k closing : Closing) (entered : Result DueParts BookFault) (due : DueParts) → beside k entered ≡ Ok (due, closing) → closing ≡ k
-closes-beside k closing (Ok d) due is = sym (ap (λ r. closing-or r k) is)
-closes-beside k closing (Err fault) due is = absurd cc
-
 -- the proposal is made as the row says
 pub propose-made : (s : CoreState) (value : Value) (changes : List Change) (ready : Composed) (unsigned : Unsigned) (parts : LogParts)
     (queue : List Change) (due : DueParts) (closing : Closing) (epoch : ℕ) → let x : LogState × Closing = after_propose s.log value changes in
@@ -187,7 +175,7 @@ pub propose-made : (s : CoreState) (value : Value) (changes : List Change) (read
     → proposing_row s ≡ made unsigned (core-of s parts queue)
 propose-made s value changes ready unsigned parts queue due closing epoch is readied answers logs epochs queues sends =
     propose-step s value changes ready unsigned parts queue closing epoch is readied
-    (closes-beside (after_propose s.log value changes).1 closing (first_entered s.log.past.signed (text_of (propose_claim s.log value)) (own_vote_text s.log value)) due answers)
+    (beside-closing (after_propose s.log value changes).1 (first_entered s.log.past.signed (text_of (propose_claim s.log value)) (own_vote_text s.log value)) due closing answers)
     logs epochs queues sends
 
 -- and keeps what is kept

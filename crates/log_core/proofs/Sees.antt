@@ -1,5 +1,5 @@
 -- Whatever a log newly sees it verified, or it is its own.
-use Rattle.std.proofs.Common.{◌≡◌, ℕ, ◌+◌, List, [], ◌∷◌, ◌++◌, refl, sym, subst, Bool, true, false, cond, Option, Some, None, inl, inr, ⊎_elim}
+use Rattle.std.proofs.Common.{◌≡◌, ℕ, ◌+◌, List, [], ◌∷◌, refl, sym, subst, Bool, true, false, cond, Option, Some, None, inl, inr, ⊎_elim}
 use Rattle.std.specs.Prelude.{Contains, Ok, Err, Result, flat_map, map, slice_get}
 use Rattle.std.specs.List.{AllByRecursion}
 use Rattle.std.specs.Option.{option_map}
@@ -49,9 +49,9 @@ use Rattle.log_core.specs.Submit.{queueing, submit_checks, submit_reply, submit_
 use Rattle.log_core.proofs.Passed.{passed}
 use Rattle.log_sending.proofs.Checked.{same-epoch}
 use Rattle.log_core.proofs.KeptCore.{closed-same}
-use Rattle.log_sending.proofs.SignerLaws.{split}
 use Rattle.log_core.proofs.KeptEndings.{learnt-verified}
 use Rattle.log_core.proofs.Verified.{IsValidUnder, each-valid}
+use Rattle.ar_base.proofs.Lists.{both-lists, of-both-lists}
 
 -- ---- what comes behind
 
@@ -78,15 +78,11 @@ endorsements-new keys me cert (e ∷ es) all = (inr (e.signature, all.0), endors
 change-new : (keys : Directory) (me : ℕ) (change : Change) → AllByRecursion (IsValidUnder keys) (endorsements_in change) → AllByRecursion (IsOwnOrVerified keys me) (endorsements_of change)
 change-new keys me change all = endorsements-new keys me (digest_of change.cert) change.endorsements all
 
-both-lists : {X : Type 0} (P : X → Type 0) (xs ys : List X) → AllByRecursion P xs → AllByRecursion P ys → AllByRecursion P (xs ++ ys)
-both-lists P [] ys one other = other
-both-lists P (x ∷ xs) ys one other = (one.0, both-lists P xs ys one.1 other)
-
 changes-new : (keys : Directory) (me : ℕ) (changes : List Change) → AllByRecursion (IsValidUnder keys) (flat_map endorsements_in changes)
     → AllByRecursion (IsOwnOrVerified keys me) (flat_map endorsements_of changes)
 changes-new keys me [] all = tt
 changes-new keys me (change ∷ changes) all =
-    let parts = split (IsValidUnder keys) (endorsements_in change) (flat_map endorsements_in changes) all in
+    let parts = of-both-lists (IsValidUnder keys) (endorsements_in change) (flat_map endorsements_in changes) all in
     both-lists (IsOwnOrVerified keys me) (endorsements_of change) (flat_map endorsements_of changes) (change-new keys me change parts.0) (changes-new keys me changes parts.1)
 
 votes-new : (keys : Directory) (me epoch : ℕ) (value : Value) (votes : List Vote) → AllByRecursion (IsValidUnder keys) (votes_in epoch value votes)
@@ -186,7 +182,7 @@ decision-sees s d reply answer = subst (Sees s) h.1 (by (may_end s.log.past))
     h = passed (decision_checks s d) (decision_reply s d) reply answer
 
     valid : AllByRecursion (IsValidUnder s.keys) (votes_in d.epoch d.value d.votes) × AllByRecursion (IsValidUnder s.keys) (flat_map endorsements_in d.changes)
-    valid = split (IsValidUnder s.keys) (votes_in d.epoch d.value d.votes) (flat_map endorsements_in d.changes) (each-valid s.keys (decision_signers d) h.0.0)
+    valid = of-both-lists (IsValidUnder s.keys) (votes_in d.epoch d.value d.votes) (flat_map endorsements_in d.changes) (each-valid s.keys (decision_signers d) h.0.0)
 
     votes : AllByRecursion (IsOwnOrVerified s.keys s.log.me) (votes_seen (epoch_of s.log) d.value (plain_votes d.votes))
     votes = subst (λ n. AllByRecursion (IsOwnOrVerified s.keys s.log.me) (votes_seen n d.value (plain_votes d.votes))) (same-epoch s.log d.epoch h.0.1.0)

@@ -30,6 +30,7 @@ use Rattle.log_core.proofs.KeptRows.{of-council}
 use Rattle.log_sending.proofs.Reported.{most-is}
 use Rattle.log_core.proofs.Statuses.{are-statuses}
 use Rattle.log_core.proofs.Stepping.{core-with, log-in}
+use Rattle.log_core.proofs.Replies.{made}
 
 -- ---- whether a root can have a quorum
 
@@ -97,13 +98,10 @@ skip-keeps s epoch statuses signed new kept are judged same is =
     subst (λ (n : LogParts). IsKeptCore (core-with s n)) (sym (is ∙ ap (λ (l : List SignedStatus). moved (log-in s) (after_skip s.log l)) same))
     (kept-skip_row s epoch statuses (skip_reply s statuses) kept are (skip-made s epoch statuses judged))
 
-abbrev answer-with : Unsigned → CoreState → Answer
-answer-with unsigned after = Ok (record { unsigned = unsigned; after = after })
-
 pub skip-done : (s : CoreState) (epoch : ℕ) (statuses : List LogStatus) (signed : List SignedStatus) (ended : Option (ℕ × Option (List ℕ))) (unsigned : Unsigned) (new : LogParts)
     → skip_judged s epoch statuses ≡ Ok tt → signed ≡ signed_statuses statuses → ended ≡ skipped_epoch s.log → unsigned ≡ only_ended ended
     → new ≡ moved (log-in s) (after_skip s.log signed) → skip_row s epoch statuses ≡ Ok (record { unsigned = unsigned; after = core-with s new })
 skip-done s epoch statuses signed ended unsigned new judged same ends sends is =
     let news : new ≡ log-skipped s statuses = is ∙ ap (λ (l : List SignedStatus). moved (log-in s) (after_skip s.log l)) same in
     skip-made s epoch statuses judged
-    ∙ sym (ap (λ (u : Unsigned). answer-with u (core-with s new)) (sends ∙ ap only_ended ends) ∙ ap (λ (n : LogParts). answer-with (only_ended (skipped_epoch s.log)) (core-with s n)) news)
+    ∙ sym (ap (λ (u : Unsigned). made u (core-with s new)) (sends ∙ ap only_ended ends) ∙ ap (λ (n : LogParts). made (only_ended (skipped_epoch s.log)) (core-with s n)) news)

@@ -32,6 +32,7 @@ use Rattle.log_core.specs.State.{Answer, CoreState}
 use Rattle.log_sending.specs.declared.refusal.LogRefusal.{LogRefusal}
 use Rattle.log_sending.specs.declared.refusal.LogRefusal.TheVariants as refusals
 use Rattle.log_core.proofs.KeptEndings.{kept-roll_note, kept-rolling_row}
+use Rattle.log_core.proofs.Replies.{made}
 use Rattle.log_sending.proofs.Sealing.{sealed-one}
 
 note-row : (s : CoreState) (a : Announced) (answer : Result Learned LearnFault) → learned s.keys a ≡ answer
@@ -125,16 +126,12 @@ roll-keeps s key (Ok due) new kept is-key widths gives ok err =
     subst (λ (n : LogParts). IsKeptCore (core-with s n)) (sym ok) (kept-rolling_row s key (rolling_reply s key) kept is-key (readable key widths) (roll-made s key due gives))
 roll-keeps s key (Err fault) new kept is-key widths gives ok err = subst (λ (n : LogParts). IsKeptCore (core-with s n)) (sym err) kept
 
--- the reply, by what was composed before the step, and by the book behind it
-abbrev quiet-with : Unsigned → CoreState → Answer
-quiet-with unsigned after = Ok (record { unsigned = unsigned; after = after })
-
 pub roll-sends : (s : CoreState) (key : LmsPublic) (due : DueParts) (new : LogParts) (unsigned : Unsigned) → roll-due s key ≡ Ok due → new ≡ rolling (log-in s) key
     → unsigned ≡ sealed new.state.past.signed (with_draft none_composed (roll_draft s key)) None
     → rolling_row s key ≡ Ok (record { unsigned = unsigned; after = core-with s new })
 roll-sends s key due new unsigned is news sends =
-    roll-made s key due is ∙ sym (ap (λ (u : Unsigned). quiet-with u (core-with s new)) (sends ∙ ap (λ (n : LogParts). sealed n.state.past.signed (with_draft none_composed (roll_draft s key)) None) news ∙ one)
-    ∙ ap (λ (n : LogParts). quiet-with (rolling_reply s key).unsigned (core-with s n)) news)
+    roll-made s key due is ∙ sym (ap (λ (u : Unsigned). made u (core-with s new)) (sends ∙ ap (λ (n : LogParts). sealed n.state.past.signed (with_draft none_composed (roll_draft s key)) None) news ∙ one)
+    ∙ ap (λ (n : LogParts). made (rolling_reply s key).unsigned (core-with s n)) news)
   where
     one : sealed (after_roll s.log (key_text key)).past.signed (with_draft none_composed (roll_draft s key)) None ≡ (rolling_reply s key).unsigned
     one = sealed-one (after_roll s.log (key_text key)).past.signed Logs (RollNote (log_party s.log.me) s.log.past.signed.newest key (zeros s.signature_len)) _ None

@@ -25,7 +25,7 @@ use Rattle.log_sending.specs.Checks.{book_refusal, first_refusal, turn_of}
 use Rattle.log_core.specs.Kept.{IsKeptCore}
 use Rattle.log_core.specs.Proposed.{Proposal, ballot_draft, proposed_checks, proposed_judged, proposed_reply, proposed_row}
 use Rattle.log_sending.specs.Sending.{Composed, none_composed, sealed, with_draft}
-use Rattle.log_core.specs.State.{Answer, CoreState}
+use Rattle.log_core.specs.State.{CoreState}
 use Rattle.log_sending.specs.declared.refusal.LogRefusal.{LogRefusal}
 use Rattle.log_sending.specs.declared.refusal.LogRefusal.TheVariants as refusals
 use Rattle.log_sending.proofs.Checked.{all-hold, holds}
@@ -33,6 +33,7 @@ use Rattle.log_core.proofs.KeptRows.{kept-proposed, proposed-is, proposed-may}
 use Rattle.log_sending.proofs.Sealing.{sealed-one}
 use Rattle.log_core.proofs.Stepping.{core-with, log-in}
 use Rattle.log_core.proofs.Submitted.{given-holds, given-refused}
+use Rattle.log_core.proofs.Replies.{made}
 
 -- ---- what is judged
 
@@ -92,14 +93,10 @@ vote-keeps s p composed (Ok due) new kept digests are is ok err =
     subst (λ (n : LogParts). IsKeptCore (core-with s n)) (sym ok) (kept-proposed s p (proposed_reply s p) kept digests are (judged-row s p composed is))
 vote-keeps s p composed (Err fault) new kept digests are is ok err = subst (λ (n : LogParts). IsKeptCore (core-with s n)) (sym err) kept
 
--- the answer, by what is sent and by what the log is behind the vote
-abbrev voting-with : Unsigned → CoreState → Answer
-voting-with unsigned after = Ok (record { unsigned = unsigned; after = after })
-
 pub vote-sends : (s : CoreState) (p : Proposal) (composed : Composed) (new : LogParts) (unsigned : Unsigned) → proposed_judged s p ≡ Ok composed → new ≡ log-voted s p
     → unsigned ≡ sealed new.state.past.signed composed None → proposed_row s p ≡ Ok (record { unsigned = unsigned; after = core-with s new })
 vote-sends s p composed new unsigned is news sends =
-    judged-row s p composed is ∙ sym (ap (λ (u : Unsigned). voting-with u (core-with s new)) all ∙ ap (λ (n : LogParts). voting-with (proposed_reply s p).unsigned (core-with s n)) news)
+    judged-row s p composed is ∙ sym (ap (λ (u : Unsigned). made u (core-with s new)) all ∙ ap (λ (n : LogParts). made (proposed_reply s p).unsigned (core-with s n)) news)
   where
     book : RollBook
     book = (after_vote s.log p.log p.value p.changes).past.signed

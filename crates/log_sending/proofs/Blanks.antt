@@ -8,6 +8,7 @@ use Rattle.std.proofs.Math.Seq.{get_or-append_seam}
 use Rattle.std.proofs.lemmas.List.Elements.{All-from_recursion}
 use Rattle.std.proofs.lemmas.Option.{slice_get-map, slice_get_read}
 use Rattle.ar_base.specs.Places.{place_of}
+use Rattle.ar_base.proofs.Lists.{both-lists}
 use Rattle.lms_tree.specs.KeyParts.{KeyParts}
 use Rattle.key_roll.specs.Book.{IsRollBook, RollBook, texts_of}
 use Rattle.key_roll.specs.Due.{DueParts}
@@ -52,10 +53,6 @@ stands-if : (own : Bool) (len : ℕ) (whole : List ℕ) (place : Place) → (own
 stands-if true len whole place stands = (stands refl, tt)
 stands-if false len whole place stands = tt
 
-pub joined : {X : Type 0} (P : X → Type 0) (xs ys : List X) → AllByRecursion P xs → AllByRecursion P ys → AllByRecursion P (xs ++ ys)
-joined P [] ys one other = other
-joined P (x ∷ xs) ys one other = (one.0, joined P xs ys one.1 other)
-
 -- an entry that ends in zero bytes has them there in the whole
 stands-entry : (len : ℕ) (entry pre rest whole : List ℕ) → EndsIn (zeros len) entry → whole ≡ pre ++ (entry ++ rest)
     → StandsAt (zeros len) (length pre + length entry - len) whole
@@ -79,7 +76,7 @@ own-stand is_own entry len text ends (x ∷ xs) whole pre post at is place =
     let here : whole ≡ pre ++ (entry x ++ (flat_map entry xs ++ post)) = is ∙ ap (λ l. pre ++ l) (append_assoc (entry x) (flat_map entry xs) post) in
     let next : whole ≡ (pre ++ entry x) ++ (flat_map entry xs ++ post) = here ∙ sym (append_assoc pre (entry x) (flat_map entry xs ++ post)) in
     let many : length (pre ++ entry x) ≡ at + length (entry x) = length-append pre (entry x) ∙ ap (λ n. n + length (entry x)) place in
-    joined (λ p. StandsAt (zeros len) p.at whole)
+    both-lists (λ p. StandsAt (zeros len) p.at whole)
     (if_own (is_own x) (place_for (at + length (entry x) - len) text)) (own_places is_own (λ x. length (entry x)) len text (at + length (entry x)) xs)
     (stands-if (is_own x) len whole (place_for (at + length (entry x) - len) text)
     (λ own. subst (λ n. StandsAt (zeros len) (n + length (entry x) - len) whole) place (stands-entry len (entry x) pre (flat_map entry xs ++ post) whole (ends x own) here)))
@@ -99,7 +96,7 @@ zero-places : (len : ℕ) (book : RollBook) (letters : List Letter) (number : �
     → AllByRecursion (IsZero len letters) (flat_map (λ place. blanks_by (due_of book place.text) number place) own)
 zero-places len book letters number draft named [] stands = tt
 zero-places len book letters number draft named (place ∷ own) stands =
-    joined (IsZero len letters) (blanks_by (due_of book place.text) number place) (flat_map (λ (p : Place). blanks_by (due_of book p.text) number p) own)
+    both-lists (IsZero len letters) (blanks_by (due_of book place.text) number place) (flat_map (λ (p : Place). blanks_by (due_of book p.text) number p) own)
     (one (due_of book place.text)) (zero-places len book letters number draft named own stands.1)
   where
     one : (o : Option DueParts) → AllByRecursion (IsZero len letters) (blanks_by o number place)
@@ -114,7 +111,7 @@ zero-blanks len book all done (draft ∷ rest) number is many each =
     let more : length (done ++ draft ∷ []) ≡ number + 1 = length_push done draft ∙ ap (λ n. n + 1) many in
     let here : slice_get all number ≡ Some draft = subst (λ n. slice_get all n ≡ Some draft) many (subst (λ l. slice_get l (length done) ≡ Some draft) (sym is) (at-seam done draft rest)) in
     let named : slice_get (map letter_of all) number ≡ Some (letter_of draft) = slice_get-map letter_of all number ∙ ap (λ o. option_map letter_of o) here in
-    joined (IsZero len (map letter_of all)) (flat_map (λ (p : Place). blanks_by (due_of book p.text) number p) draft.own) (blanks_from book (number + 1) rest)
+    both-lists (IsZero len (map letter_of all)) (flat_map (λ (p : Place). blanks_by (due_of book p.text) number p) draft.own) (blanks_from book (number + 1) rest)
     (zero-places len book (map letter_of all) number draft named draft.own each.0)
     (zero-blanks len book all (done ++ draft ∷ []) rest (number + 1) next more each.1)
 
@@ -125,7 +122,7 @@ IsDueIn book blank = (text : List ℕ) × (due_of book text ≡ Some blank.due)
 due-places : (book : RollBook) (number : ℕ) (own : List Place) → AllByRecursion (IsDueIn book) (flat_map (λ place. blanks_by (due_of book place.text) number place) own)
 due-places book number [] = tt
 due-places book number (place ∷ own) =
-    joined (IsDueIn book) (blanks_by (due_of book place.text) number place) (flat_map (λ (p : Place). blanks_by (due_of book p.text) number p) own)
+    both-lists (IsDueIn book) (blanks_by (due_of book place.text) number place) (flat_map (λ (p : Place). blanks_by (due_of book p.text) number p) own)
     (one (due_of book place.text) refl) (due-places book number own)
   where
     one : (o : Option DueParts) → due_of book place.text ≡ o → AllByRecursion (IsDueIn book) (blanks_by o number place)
@@ -135,7 +132,7 @@ due-places book number (place ∷ own) =
 due-blanks : (book : RollBook) (number : ℕ) (drafts : List Draft) → AllByRecursion (IsDueIn book) (blanks_from book number drafts)
 due-blanks book number [] = tt
 due-blanks book number (draft ∷ drafts) =
-    joined (IsDueIn book) (flat_map (λ (p : Place). blanks_by (due_of book p.text) number p) draft.own) (blanks_from book (number + 1) drafts)
+    both-lists (IsDueIn book) (flat_map (λ (p : Place). blanks_by (due_of book p.text) number p) draft.own) (blanks_from book (number + 1) drafts)
     (due-places book number draft.own) (due-blanks book (number + 1) drafts)
 
 -- ---- what is due can be signed

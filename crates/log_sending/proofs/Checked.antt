@@ -1,10 +1,10 @@
 -- What it says that checks hold: each, and what each asks.
-use Rattle.std.proofs.Common.{◌≡◌, ◌≢◌, ℕ, ◌+◌, ◌<◌, ◌≤◌, List, [], ◌∷◌, ◌++◌, length, refl, ap, Bool, true, false, not, ◌||◌, eqb, nat_le, nat_lt, Option, Some, None}
+use Rattle.std.proofs.Common.{◌≡◌, ◌≢◌, ℕ, ◌+◌, ◌<◌, ◌≤◌, List, [], ◌∷◌, ◌++◌, length, refl, Bool, true, false, not, ◌||◌, eqb, nat_le, nat_lt, Option, Some, None}
 use Rattle.std.specs.Prelude.{All, Ok, Err, bytes_eq}
 use Rattle.std.specs.List.{AllByRecursion, list_any}
-use Rattle.std.proofs.lemmas.Bool.{eq-eqb, eqb-true, leb-true, ltb-true}
+use Rattle.std.proofs.lemmas.Bool.{eq-eqb, eqb-true, leb-true, ltb-true, not-true}
 use Rattle.std.proofs.lemmas.Slice.Eq.{bytes_eq-Decides}
-use Rattle.std.proofs.lemmas.List.Elements.{All-from_recursion, All-weaker, recursion_from_All}
+use Rattle.std.proofs.lemmas.List.Elements.{All-from_recursion, All-weaker}
 use Rattle.ar_cert.specs.Changes.{Change}
 use Rattle.key_roll.specs.Book.{RollBook}
 use Rattle.key_roll.specs.Rolls.{plain_count}
@@ -46,10 +46,6 @@ no-refusal (Err refusal ∷ checks) all = let bad = all.0 in absurd cc
 pub holds : (b : Bool) (refusal : LogRefusal) → unless b refusal ≡ Ok tt → b ≡ true
 holds true refusal is = refl
 holds false refusal is = absurd cc
-
-not-true : (b : Bool) → not b ≡ true → b ≡ false
-not-true true is = absurd cc
-not-true false is = refl
 
 pub same-epoch : (s : LogState) (epoch : ℕ) → in_epoch s epoch ≡ Ok tt → epoch ≡ epoch_of s
 same-epoch s epoch is = eqb-true epoch (epoch_of s) (holds (eqb epoch (epoch_of s)) (refusals.WrongEpoch (epoch_of s)) is)

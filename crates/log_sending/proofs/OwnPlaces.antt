@@ -2,7 +2,7 @@
 use Rattle.std.proofs.Common.{◌≡◌, ℕ, ◌+◌, ◌-◌, ◌≤◌, List, [], ◌∷◌, ◌++◌, length, get_or, take, drop, append_assoc, Bool, true, false, if◌then◌else◌, Option, Some, None, sym, ap, ◌∙◌, arith}
 use Rattle.std.specs.Prelude.{unwrap_or}
 use Rattle.std.specs.Option.{option_map}
-use Rattle.std.specs.Int.{w8, w16}
+use Rattle.std.specs.Int.{w16}
 use Rattle.std.proofs.Math.Seq.{take-length}
 use Rattle.std.proofs.lemmas.List.{length-append}
 use Rattle.ar_bytes.specs.Joined.{optional_text}
@@ -11,21 +11,20 @@ use Rattle.ar_bytes.specs.RoundTrip.{counted_text, number_text}
 use Rattle.ar_bytes.proofs.Passing.{length-number_text}
 use Rattle.ar_message.specs.Lists.{status_text, vote_text}
 use Rattle.ar_message.specs.Filling.{zeros}
+use Rattle.ar_message.proofs.Written.{length-counted}
 use Rattle.ar_statement.specs.Claims.{roots_text}
 use Rattle.vote_quorum.specs.declared.value.Value.{Value}
 use Rattle.ar_council.specs.Values.{IsValue, roots_of}
 use Rattle.epoch_log.specs.State.{CountedStatus}
 use Rattle.log_sending.specs.Sending.{Place, if_own, own_places, place_for, sent_status, sent_vote}
-
-counted-len : (bytes : List ℕ) → length (counted_text bytes) ≡ 2 + length bytes
-counted-len bytes = length-append (number_text w16 (length bytes)) bytes ∙ ap (λ n. n + length bytes) (length-number_text w16 (length bytes))
+use Rattle.ar_cert.proofs.Lengths.{length-flag_text}
 
 pub vote_len : (len : ℕ) (v : ℕ × Option (List ℕ)) → length (vote_text (sent_vote len v)) ≡ 4 + length (unwrap_or v.1 (zeros len))
 vote_len len v =
     let signature : List ℕ = unwrap_or v.1 (zeros len) in
     let both = length-append (number_text w16 v.0) (counted_text signature) in
     let log = length-number_text w16 v.0 in
-    omega (arith, both, log, counted-len signature)
+    omega (arith, both, log, length-counted signature)
 
 pub status_len : (len : ℕ) (s : CountedStatus) → length (status_text (sent_status len s))
     ≡ 4 + length (optional_text roots_text (option_map roots_of s.1)) + length (unwrap_or s.2 (zeros len))
@@ -35,24 +34,21 @@ status_len len s =
     let all = length-append (number_text w16 s.0) (ballot ++ counted_text signature) in
     let rest = length-append ballot (counted_text signature) in
     let log = length-number_text w16 s.0 in
-    omega (arith, all, rest, log, counted-len signature)
+    omega (arith, all, rest, log, length-counted signature)
 
 -- ---- the ballot of a status
-
-flag-len : (flag : Bool) → length (flag_text flag) ≡ 1
-flag-len flag = length-number_text w8 (if flag then 1 else 0)
 
 pub no_ballot-len : (value : Option Value) → value ≡ None → 1 ≡ length (optional_text roots_text (option_map roots_of value))
 unfolding optional_text
 no_ballot-len value is =
-    sym (ap (λ (o : Option Value). length (optional_text roots_text (option_map roots_of o))) is ∙ flag-len false)
+    sym (ap (λ (o : Option Value). length (optional_text roots_text (option_map roots_of o))) is ∙ length-flag_text false)
 
 pub some_ballot-len : (value : Option Value) (v : Value) → value ≡ Some v → IsValue v → 65 ≡ length (optional_text roots_text (option_map roots_of value))
 unfolding optional_text
 some_ballot-len value v is digests =
     let all = length-append (flag_text true) (v.base ++ v.root) in
     let both = length-append v.base v.root in
-    let long : length (optional_text roots_text (Some (roots_of v))) ≡ 65 = omega (arith, all, both, flag-len true, digests.base.len, digests.root.len) in
+    let long : length (optional_text roots_text (Some (roots_of v))) ≡ 65 = omega (arith, all, both, length-flag_text true, digests.base.len, digests.root.len) in
     sym (ap (λ (o : Option Value). length (optional_text roots_text (option_map roots_of o))) is ∙ long)
 
 -- ---- the places of a list, entry by entry

@@ -15,6 +15,7 @@ use Rattle.vote_quorum.specs.declared.value.Value.{Value}
 use Rattle.vote_quorum.proofs.Reported.{first_of_all, one_most}
 use Rattle.ar_council.proofs.Lists.{find-none, find-nothing, find-some}
 use Rattle.log_sending.specs.Reported.{comes_before, comes_before_reported, most_reported, reports_first, reports_of_root}
+use Rattle.epoch_log.proofs.Counted.{counted-root}
 
 -- ---- the test of leading
 
@@ -78,11 +79,6 @@ counted {X} p (y ∷ ys) x (suc k, less, same) is =
     let step : count_by p (y ∷ ys) ≡ one_if (p y) + count_by p ys = sum_by-cons (λ (z : X). one_if (p z)) y ys in
     let rest = counted p ys x (k, omega (arith, less), same) is in omega (arith, step, rest)
 
--- a status that reports a root
-reports : (root : List ℕ) (value : Option Value) → is_for root value ≡ true → (v : Value) × ((value ≡ Some v) × (v.root ≡ root))
-reports root None is = absurd cc
-reports root (Some v) is = (v, (refl, (bytes_eq-Decides v.root root).0 is))
-
 is-for-its : (v : Value) (value : Option Value) → value ≡ Some v → is_for v.root value ≡ true
 is-for-its v value is = ap (λ o. is_for v.root o) is ∙ (bytes_eq-Decides v.root v.root).1 refl
 
@@ -95,7 +91,7 @@ leads-each : (all : List Status) (v : Value) → reports_first all (Some v) ≡ 
     → Leads v.root (report_count v.root all) other (report_count other all)
 leads-each all v first other some =
     let found = some-counted (λ (t : Status). is_for other t.1) all some in
-    let w = reports other found.0.1 found.1.1 in
+    let w = counted-root other found.0.1 found.1.1 in
     let tests = All-from_recursion (λ (t : Status). comes_before_reported all v.root t.1 ≡ true) all (all-each (λ (t : Status). comes_before_reported all v.root t.1) all first) in
     let one : comes_before_reported all v.root found.0.1 ≡ true = All-contains (λ (t : Status). comes_before_reported all v.root t.1 ≡ true) all found.0 tests found.1.0 in
     let two : comes_before v.root (report_count v.root all) w.0.root (report_count w.0.root all) ≡ true = subst (λ o. comes_before_reported all v.root o ≡ true) w.1.0 one in
@@ -148,7 +144,7 @@ most-is all (Some root) count is = by (find (λ (s : Status). reports_first all 
     some = some-counted (λ (t : Status). is_for root t.1) all (omega (arith, is.reported, is.counted))
 
     its : (v : Value) × ((some.0.1 ≡ Some v) × (v.root ≡ root))
-    its = reports root some.0.1 some.1.1
+    its = counted-root root some.0.1 some.1.1
 
     passes : reports_first all some.0.1 ≡ true
     passes = ap (λ o. reports_first all o) its.1.0 ∙ most-first all root count its.0 its.1.1 is

@@ -1,5 +1,5 @@
 -- Who signed a message is of the council, where its signers hold.
-use Rattle.std.proofs.Common.{◌≡◌, ℕ, ◌<◌, List, [], ◌∷◌, ◌++◌, length, refl, sym, ap, ◌∙◌, Bool, true, false, cond}
+use Rattle.std.proofs.Common.{◌≡◌, ℕ, ◌<◌, List, [], ◌∷◌, length, refl, sym, ap, ◌∙◌, Bool, true, false, cond}
 use Rattle.std.specs.Prelude.{All, Ok, Err, Result, flat_map, map}
 use Rattle.std.specs.List.{AllByRecursion}
 use Rattle.std.proofs.lemmas.List.Elements.{All-from_recursion}
@@ -19,6 +19,7 @@ use Rattle.ar_council.proofs.Members.{member}
 use Rattle.ar_council.specs.Council.{council_of}
 use Rattle.epoch_log.specs.Calls.{AreEndorsers}
 use Rattle.log_sending.specs.Signers.{by_signers, endorsements_in, signed_by, signers, statuses_in, votes_in}
+use Rattle.ar_base.proofs.Lists.{of-both-lists}
 
 none-unknown : (keys : Directory) (claims : List Claimed) → all_known keys (map (λ c. c.party) claims) ≡ Ok tt → AllByRecursion (λ c. is_known keys c.party ≡ true) claims
 none-unknown keys [] is = tt
@@ -53,11 +54,6 @@ pub first-log : (keys : Directory) (log : ℕ) (signed : Claimed) (rest : List C
 first-log keys log signed rest same is =
     a-log keys log (ap (λ p. is_known keys p) (sym same) ∙ (each-known keys (signed ∷ rest) is).0)
 
--- two lists behind each other
-pub split : {X : Type 0} (P : X → Type 0) (xs ys : List X) → AllByRecursion P (xs ++ ys) → AllByRecursion P xs × AllByRecursion P ys
-split P [] ys all = (tt, all)
-split P (x ∷ xs) ys all = let rest = split P xs ys all.1 in ((all.0, rest.0), rest.1)
-
 endorsers : (keys : Directory) (cert : List ℕ) (es : List Endorsement)
     → AllByRecursion (λ s. is_known keys s.party ≡ true) (map (λ (e : Endorsement). signed_by (authority_party e.authority) (endorse e.authority cert) e.signature) es)
     → AllByRecursion (λ a. a < length keys.authorities) (map (λ (e : Endorsement). e.authority) es)
@@ -74,7 +70,7 @@ each-endorsed : (keys : Directory) (changes : List Change) → AllByRecursion (�
     → AllByRecursion (AreEndorsers (council_of keys)) changes
 each-endorsed keys [] all = tt
 each-endorsed keys (change ∷ changes) all =
-    let parts = split (λ (s : Claimed). is_known keys s.party ≡ true) (endorsements_in change) (flat_map endorsements_in changes) all in
+    let parts = of-both-lists (λ (s : Claimed). is_known keys s.party ≡ true) (endorsements_in change) (flat_map endorsements_in changes) all in
     (its-endorsers keys change parts.0, each-endorsed keys changes parts.1)
 
 pub all-endorsers : (keys : Directory) (changes : List Change) → AllByRecursion (λ s. is_known keys s.party ≡ true) (flat_map endorsements_in changes)

@@ -1,8 +1,8 @@
 -- A walk over the queue goes on as it is defined, on a table that ripens once.
-use Rattle.std.proofs.Common.{◌≡◌, ℕ, zero, suc, ◌+◌, ◌-◌, ◌<◌, ◌≤◌, ◌^◌, List, [], ◌∷◌, ◌++◌, length, refl, sym, ap, ◌∙◌, subst, arith, append_assoc, Bool, true, false, cond, eqb, nat_le, Some}
+use Rattle.std.proofs.Common.{◌≡◌, ℕ, zero, suc, ◌+◌, ◌-◌, ◌<◌, ◌≤◌, ◌^◌, List, [], ◌∷◌, ◌++◌, length, refl, sym, ap, ◌∙◌, subst, arith, append_assoc, false, cond, eqb, Some}
 use Rattle.std.specs.Prelude.{IsOk, OnOk, Result, Ok, Err, option_and_then, unwrap_or}
 use Rattle.std.specs.declared.alloc.AllocError.{AllocError}
-use Rattle.std.proofs.lemmas.Bool.{le-leb, leb-true, ne_eqb}
+use Rattle.std.proofs.lemmas.Bool.{le-leb, ne_eqb, lt-leb}
 use Rattle.std.proofs.lemmas.List.{append-nil}
 use Rattle.std.proofs.lemmas.List.Elements.{All-cons, All-nil}
 use Rattle.cert_policy.specs.declared.manner.Manner.{Manner}
@@ -22,13 +22,6 @@ use Rattle.log_sending.specs.declared.walking.Walker.{Walker}
 
 eqb-some : (n : ℕ) → 0 < n → eqb n 0 ≡ false
 eqb-some n some = ne_eqb n 0 (λ same. omega (arith, same, some))
-
-leb-not : (m n : ℕ) → n < m → nat_le m n ≡ false
-leb-not m n more = by (nat_le m n) refl
-  where
-    by : (b : Bool) → nat_le m n ≡ b → b ≡ false
-    by false is = refl
-    by true is = let less : m ≤ n = leb-true m n is in absurd (omega (arith, less, more))
 
 walk-none : (epoch : ℕ) (table : Table) (many left : ℕ) (queue : List Change) → many ≡ 0 → walk epoch table many left queue ≡ []
 unfolding walk
@@ -58,7 +51,7 @@ walk-stop : (epoch : ℕ) (table : Table) (many left : ℕ) (change : Change) (q
     → judge_ripe table change ≡ Ok manner → walk epoch table many left (change ∷ queue) ≡ []
 walk-stop epoch table many left change queue manner some long is =
     walk-first epoch table many left change queue (Ok manner) some is
-    ∙ ap (λ b. cond b (change ∷ walk epoch (taken table epoch change manner) (many - 1) (left - length (change_text change)) queue) []) (leb-not (length (change_text change)) left long)
+    ∙ ap (λ b. cond b (change ∷ walk epoch (taken table epoch change manner) (many - 1) (left - length (change_text change)) queue) []) (lt-leb (length (change_text change)) left long)
 
 walk-take : (epoch : ℕ) (table : Table) (many left : ℕ) (change : Change) (queue : List Change) (manner : Manner) → 0 < many → length (change_text change) ≤ left
     → judge_ripe table change ≡ Ok manner

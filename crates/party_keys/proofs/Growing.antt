@@ -16,6 +16,7 @@ use Rattle.party_keys.specs.declared.fault.LearnFault.{LearnFault}
 use Rattle.party_keys.specs.declared.fault.LearnFault.TheVariants.{Other}
 use Rattle.party_keys.specs.declared.learning.Learned.{Learned}
 use Rattle.party_keys.specs.declared.learning.Learned.TheVariants.{New, Again}
+use Rattle.ar_base.proofs.Lists.{get-more}
 
 -- ---- lists that grow
 
@@ -33,11 +34,6 @@ past : (keys : List LmsPublic) (n : ℕ) → slice_get keys n ≡ None → lengt
 past [] n e = omega arith
 past (key ∷ keys) zero e = absurd cc
 past (key ∷ keys) (suc n) e = let le = past keys n e in omega (arith, le)
-
-within : (keys more : List LmsPublic) (n : ℕ) (key : LmsPublic) → slice_get keys n ≡ Some key → slice_get (keys ++ more) n ≡ Some key
-within [] more n key e = absurd cc
-within (first ∷ keys) more zero key e = e
-within (first ∷ keys) more (suc n) key e = within keys more n key e
 
 -- a key behind those of one party
 one_grows : (lists : List (List LmsPublic)) (n m : ℕ) (more : List LmsPublic) → Grows (keys_at lists m) (keys_at (slice_set lists n (keys_at lists n ++ more)) m)
@@ -110,7 +106,7 @@ by_key_lasts : (known : Option LmsPublic) (keys more : List LmsPublic) (generati
     → answer_by (slice_get (keys ++ more) generation) generation text signature ≡ answer_by known generation text signature
 by_key_lasts None keys more generation text signature e lasting = absurd (lasting refl)
 by_key_lasts (Some key) keys more generation text signature e lasting =
-    ap (λ (known : Option LmsPublic). answer_by known generation text signature) (within keys more generation key e)
+    ap (λ (known : Option LmsPublic). answer_by known generation text signature) (get-more keys more generation key e)
 
 at_lasts : (generation : Option ℕ) (keys more : List LmsPublic) (text signature : List ℕ) → IsLasting (answer_at generation keys text signature)
     → answer_at generation (keys ++ more) text signature ≡ answer_at generation keys text signature

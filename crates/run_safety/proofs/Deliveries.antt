@@ -3,13 +3,14 @@ use Rattle.std.proofs.Common.{◌≡◌, ◌∙◌, ◌≤◌, ℕ, zero, suc, L
 use Rattle.std.specs.Prelude.{find, is_none, map, position, slice_set, ◌==◌}
 use Rattle.std.specs.Option.{option_map}
 use Rattle.std.proofs.lemmas.Bool.{eqb-true}
-use Rattle.std.proofs.lemmas.List.{length-map}
+use Rattle.std.proofs.lemmas.List.{length-map, length-set}
 use Rattle.std.proofs.lemmas.List.Quantifiers.{position-Some}
 use Rattle.ar_message.specs.Filling.{filled}
 use Rattle.ar_message.specs.Messages.{message_in}
 use Rattle.ar_message.specs.Sending.{Letter}
 use Rattle.ar_message.specs.declared.sent.Sent.{Sent}
 use Rattle.ar_message.specs.declared.unsigned.Unsigned.{Unsigned}
+use Rattle.ar_message.proofs.Filled.{filled-few}
 use Rattle.ar_statement.specs.declared.party.Party.{Party}
 use Rattle.ar_statement.specs.declared.party.Role.{Role}
 use Rattle.ar_statement.specs.declared.party.Role.TheVariants as role
@@ -41,7 +42,6 @@ use Rattle.party_keys.specs.Seen.{authority_party, log_party}
 use Rattle.report_text.specs.declared.happening.What.{What}
 use Rattle.report_text.specs.declared.happening.What.TheVariants.{Take}
 use Rattle.run_safety.proofs.Lines.{authority-takes, log-takes}
-use Rattle.run_safety.proofs.Places.{set-long}
 
 -- A step sends a few messages; how many logs there are, and who takes deliveries, stays.
 pub record Sends (w v : World) : Type 0 where
@@ -132,11 +132,11 @@ log-sends w number node keys what event (Ok reply) there few =
     let sent : List Letter = (filled keys reply.unsigned).messages in
     let new : List Pooled = map (pooled_from (log_party number)) sent in
     record {
-      logs = set-long w.logs number (Some is);
+      logs = length-set w.logs number (Some is);
       takers = λ who. log-takers w number node is (w.pool ++ new) who.role who.number there;
       new = new;
       pool = refl;
-      few = posted-few (log_party number) sent (log.filled-few keys reply.unsigned (filled keys reply.unsigned) (few reply refl) refl);
+      few = posted-few (log_party number) sent (filled-few log_state.most_sent keys reply.unsigned (filled keys reply.unsigned) (few reply refl) refl);
     }
 log-sends w number node keys what event (Err refusal) there few = sends-nothing w
 
@@ -151,7 +151,7 @@ authority-sends : (w : World) (number : ℕ) (was node : AuthorityNode) (what : 
 authority-sends w number was node what (Ok answer) there few =
     let sent = filled node.keys answer.1 in
     let new : List Pooled = map (pooled_from (authority_party number)) sent.messages in
-    let short : length sent.messages ≤ authority_state.most_sent = authority.filled-few node.keys answer.1 sent (few answer.0 answer.1 refl) refl in
+    let short : length sent.messages ≤ authority_state.most_sent = filled-few authority_state.most_sent node.keys answer.1 sent (few answer.0 answer.1 refl) refl in
     record {
       logs = refl;
       takers = λ who. authority-takers w number was (record node { state = answer.0 }) (w.pool ++ new) who.role who.number there;

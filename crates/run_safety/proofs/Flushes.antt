@@ -3,7 +3,9 @@ use Rattle.std.proofs.Common.{◌≡◌, ◌∙◌, ◌<◌, ◌≤◌, ℕ, zer
 use Rattle.std.specs.Prelude.{nat_lt, slice_get, slice_set}
 use Rattle.std.proofs.lemmas.Bool.{and_parts, ltb-true}
 use Rattle.std.proofs.lemmas.Option.{same_Some}
+use Rattle.std.proofs.lemmas.List.{length-set}
 use Rattle.ar_base.specs.Chaining.{◌>>=◌}
+use Rattle.ar_base.proofs.Shown.{if-chained}
 use Rattle.ar_statement.specs.declared.party.Party.{Party}
 use Rattle.ar_world.specs.Delivering.{can_deliver, deliver_line, delivery, due_from, due_or, due_to, next_due, noted, taker_at}
 use Rattle.ar_nodes.specs.Pool.{delivered_to}
@@ -20,10 +22,9 @@ use Rattle.ar_world.specs.declared.phase.Phase.TheVariants.{Running}
 use Rattle.owner_check.specs.declared.answer.Outcome.{Outcome}
 use Rattle.script_text.specs.declared.line.Line.TheVariants as line
 use Rattle.run_safety.specs.Flushes.{LeavesNothingDue}
-use Rattle.run_safety.proofs.Chains.{if-chained, need-holds}
+use Rattle.run_safety.proofs.Chains.{need-holds}
 use Rattle.run_safety.proofs.Deliveries.{Sends, delivery-sends, noted-takers}
 use Rattle.run_safety.proofs.Lines.{can-take}
-use Rattle.run_safety.proofs.Places.{set-long}
 use Rattle.run_safety.proofs.Waiting.{pool-falls, pool-few, waiting-in}
 
 -- ---- the message that is due
@@ -75,7 +76,7 @@ has-free w free =
 
 -- messages come behind the pool, one of which is changed
 longer : (pool new : List Pooled) (place : ℕ) (p : Pooled) → length (slice_set pool place p ++ new) ≡ length pool + length new
-longer pool new place p = length-append (slice_set pool place p) new ∙ ap (λ n. n + length new) (set-long pool place p)
+longer pool new place p = length-append (slice_set pool place p) new ∙ ap (λ n. n + length new) (length-set pool place p)
 
 -- where one more was enough before a delivery, so many are behind it
 enough-behind : (more : ℕ) (w v : World) (due : ℕ × Party) (p : Pooled) → IsDue w 1 w.pool due → message_at w due.0 ≡ Some p → length w.pool < most_messages

@@ -5,10 +5,11 @@ use Rattle.std.specs.List.{filter_map}
 use Rattle.std.specs.Option.{option_map}
 use Rattle.std.specs.Result.{result_ok}
 use Rattle.std.proofs.lemmas.Bool.{and_parts, leb-true}
-use Rattle.std.proofs.lemmas.List.{length-append, map-append}
+use Rattle.std.proofs.lemmas.List.{length-append, map-append, length-set}
 use Rattle.std.proofs.lemmas.List.Quantifiers.{position-Some}
 use Rattle.std.proofs.lemmas.Option.{option_and_then_some}
 use Rattle.ar_base.specs.Chaining.{◌>>=◌}
+use Rattle.ar_base.proofs.Shown.{if-chained}
 use Rattle.ar_cert.specs.Certificate.{Certificate, digest_of}
 use Rattle.ar_council.proofs.Seeing.{one_party}
 use Rattle.ar_message.specs.Messages.{message_in}
@@ -63,12 +64,12 @@ use Rattle.report_text.specs.declared.happening.What.TheVariants.{Handover, Obje
 use Rattle.script_text.specs.declared.line.PolicyWords.{PolicyWords}
 use Rattle.run_safety.specs.Headline.{accepted_in}
 use Rattle.run_safety.specs.Seats.{IsAuthorityOf, IsLogOf, honest_count}
-use Rattle.run_safety.proofs.Chains.{if-chained, named-there, need-holds}
+use Rattle.run_safety.proofs.Chains.{named-there, need-holds}
 use Rattle.run_safety.proofs.Clients.{judging-makes, learning-makes}
 use Rattle.run_safety.proofs.Founded.{keys-quiet}
 use Rattle.run_safety.proofs.Nodes.{authority-put, authority-rolls-makes, authority-takes-makes, entries-quiet, log-rolls-makes, log-steps-makes, owner-makes, posted-makes, submitted-makes}
 use Rattle.run_safety.proofs.Parts.{Goes, Makes, Part, SeatedIn, behind, counts, part_of, still, told_in}
-use Rattle.run_safety.proofs.Places.{seated-beside, seated-without, count-without, set-long}
+use Rattle.run_safety.proofs.Places.{seated-beside, seated-without, count-without}
 
 -- ---- owners and drafts
 
@@ -199,7 +200,7 @@ turned-makes w role.LogServer number key late there =
       logs = seated-without role.LogServer _ _ (IsLogOf w.genesis) w.logs number node (λ m. refl) is s.logs;
       authorities = seated-beside authority_party (log_party number) _ _ (IsAuthorityOf w.genesis) w.authorities (λ m. refl) s.authorities;
       whole = less-one (part_of w).dishonest (log_party number) (honest_count w.logs) (honest_count (slice_set w.logs number None)) (honest_count w.authorities) (length w.logs + length w.authorities)
-          (count-without w.logs number node is) s.whole ∙ ap (λ n. n + length w.authorities) (sym (set-long w.logs number None));
+          (count-without w.logs number node is) s.whole ∙ ap (λ n. n + length w.authorities) (sym (length-set w.logs number None));
       taken = s.taken;
     }))
 turned-makes w role.Authority number key late there =
@@ -211,7 +212,7 @@ turned-makes w role.Authority number key late there =
       authorities = seated-without role.Authority _ _ (IsAuthorityOf w.genesis) w.authorities number node (λ m. refl) is s.authorities;
       whole = less-other (part_of w).dishonest (authority_party number) (honest_count w.authorities) (honest_count (slice_set w.authorities number None)) (honest_count w.logs)
           (length w.logs + length w.authorities) (count-without w.authorities number node is) s.whole
-          ∙ ap (λ n. length w.logs + n) (sym (set-long w.authorities number None));
+          ∙ ap (λ n. length w.logs + n) (sym (length-set w.authorities number None));
       taken = s.taken;
     }))
 turned-makes w role.Owner number key late there = absurd cc

@@ -1,5 +1,6 @@
 -- The steps of honest logs and authorities, and what parties send: each that changes stays who it is.
 use Rattle.std.proofs.Common.{◌≡◌, ◌∙◌, ℕ, ◌+◌, List, [], ◌∷◌, ◌++◌, refl, sym, ap, Option, Some, None, Ok, Err, Result}
+use Rattle.std.proofs.lemmas.List.{length-set}
 use Rattle.std.specs.Prelude.{is_none, length, map, slice_get, slice_set}
 use Rattle.std.specs.List.{filter_map}
 use Rattle.ar_council.specs.Council.{council_of}
@@ -43,7 +44,7 @@ use Rattle.report_text.specs.declared.happening.What.TheVariants as whats
 use Rattle.run_safety.specs.Headline.{accepted_in}
 use Rattle.run_safety.specs.Seats.{IsAuthorityOf, IsLogOf, KnowsFirst, honest_count}
 use Rattle.run_safety.proofs.Parts.{Goes, Makes, moves, part_of, still}
-use Rattle.run_safety.proofs.Places.{seated-changed, count-changed, set-long}
+use Rattle.run_safety.proofs.Places.{seated-changed, count-changed}
 
 -- ---- what is printed
 
@@ -84,7 +85,7 @@ log-put w number was is said there stays first none =
           (λ sat. record { number = stays.0 ∙ sat.number; council = stays.1 ∙ sat.council; key = still-known _ was.keys is.keys first sat.key }) s.logs;
       authorities = s.authorities;
       whole = ap (λ n. length (part_of w).dishonest + (n + honest_count w.authorities)) (count-changed w.logs number was is there)
-          ∙ s.whole ∙ ap (λ n. n + length w.authorities) (sym (set-long w.logs number (Some is)));
+          ∙ s.whole ∙ ap (λ n. n + length w.authorities) (sym (length-set w.logs number (Some is)));
       taken = s.taken;
     }) none
 
@@ -100,7 +101,7 @@ authority-put w number was is said there stays first none =
       authorities = seated-changed authority_party _ _ (IsAuthorityOf w.genesis) w.authorities number was is there
           (λ sat. record { number = stays.0 ∙ sat.number; council = stays.1 ∙ sat.council; key = still-known _ was.keys is.keys first sat.key }) s.authorities;
       whole = ap (λ n. length (part_of w).dishonest + (honest_count w.logs + n)) (count-changed w.authorities number was is there)
-          ∙ s.whole ∙ ap (λ n. length w.logs + n) (sym (set-long w.authorities number (Some is)));
+          ∙ s.whole ∙ ap (λ n. length w.logs + n) (sym (length-set w.authorities number (Some is)));
       taken = s.taken;
     }) none
 

@@ -4,6 +4,8 @@ use Rattle.std.specs.Prelude.{length, slice_set}
 use Rattle.std.specs.List.{list_any}
 use Rattle.std.proofs.lemmas.Bool.Decides.{eqb_tells}
 use Rattle.std.proofs.lemmas.List.Folds.{list_any-append}
+use Rattle.std.proofs.lemmas.List.{length-set}
+use Rattle.std.proofs.Math.Bool.{or-false, or-true}
 use Rattle.ar_statement.specs.Claims.{is_party, party}
 use Rattle.ar_statement.specs.declared.party.Party.{Party}
 use Rattle.ar_statement.specs.declared.party.Role.{Role}
@@ -11,11 +13,6 @@ use Rattle.ar_nodes.specs.Finding.{honest_in}
 use Rattle.run_safety.specs.Seats.{AreSeated, honest_count}
 
 -- ---- places of a list
-
-pub set-long : {X : Type 0} (xs : List X) (n : ℕ) (x : X) → length (slice_set xs n x) ≡ length xs
-set-long [] n x = refl
-set-long (y ∷ xs) zero x = refl
-set-long (y ∷ xs) (suc n) x = ap suc (set-long xs n x)
 
 -- an honest party has a place
 pub honest-below : {X : Type 0} (parties : List (Option X)) (n : ℕ) (x : X) → honest_in parties n ≡ Some x → n < length parties
@@ -64,7 +61,7 @@ pub seated-changed : {X : Type 0} (party : ℕ → Party) (dishonest : List Part
     → honest_in parties n ≡ Some was → (sits n was → sits n is) → AreSeated party dishonest count sits parties
     → AreSeated party dishonest count sits (slice_set parties n (Some is))
 seated-changed {X} party dishonest count sits parties n was is there stays seated = record {
-  all = set-long parties n (Some is) ∙ seated.all;
+  all = length-set parties n (Some is) ∙ seated.all;
   own = λ m node here. own m node here (eqb_tells m n);
   empty = λ m less. alike m (eqb_tells m n) ∙ seated.empty m less;
 }
@@ -97,20 +94,12 @@ one-more : (who : Party) (dishonest : List Party) (other : Party) (b : Bool) →
 one-more who dishonest other true is = list_any-append (is_party other) dishonest (who ∷ []) ∙ rw is refl
 one-more who dishonest other false is = list_any-append (is_party other) dishonest (who ∷ []) ∙ rw is refl
 
-or-true : (b : Bool) → (b || true) ≡ true
-or-true true = refl
-or-true false = refl
-
-or-false : (b : Bool) → (b || false) ≡ b
-or-false true = refl
-or-false false = refl
-
 -- One that is seated becomes dishonest, and its place is empty.
 pub seated-without : {X : Type 0} (role : Role) (dishonest : List Party) (count : ℕ) (sits : ℕ → X → Type 0) (parties : List (Option X)) (n : ℕ) (was : X)
     → ((m : ℕ) → is_party (party role m) (party role n) ≡ eqb m n) → honest_in parties n ≡ Some was
     → AreSeated (party role) dishonest count sits parties → AreSeated (party role) (dishonest ++ party role n ∷ []) count sits (slice_set parties n None)
 seated-without {X} role dishonest count sits parties n was told there seated = record {
-  all = set-long parties n None ∙ seated.all;
+  all = length-set parties n None ∙ seated.all;
   own = λ m node here. own m node here (eqb_tells m n);
   empty = λ m less. empty m less (eqb_tells m n);
 }

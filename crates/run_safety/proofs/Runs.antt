@@ -25,6 +25,7 @@ use Rattle.ar_nodes.specs.declared.event.LogEvent.TheVariants as events
 use Rattle.ar_nodes.specs.declared.fault.WorldFault.TheVariants.{Order}
 use Rattle.ar_world.specs.declared.phase.Phase.{Phase}
 use Rattle.ar_world.specs.declared.phase.Phase.TheVariants as phase
+use Rattle.ar_world.proofs.FirstParties.{came}
 use Rattle.log_core.specs.State.{passes, proposes}
 use Rattle.owner_check.specs.Answers.{forgotten, learnt}
 use Rattle.owner_check.specs.declared.answer.Outcome.{Outcome}
@@ -35,10 +36,11 @@ use Rattle.script_text.specs.declared.line.Line.{Line}
 use Rattle.script_text.specs.declared.line.Line.TheVariants as line
 use Rattle.run_safety.specs.Headline.{accepted_in, said_by}
 use Rattle.run_safety.specs.Seats.{IsSeated}
-use Rattle.run_safety.proofs.Chains.{if-chained, need-holds}
+use Rattle.run_safety.proofs.Chains.{need-holds}
 use Rattle.run_safety.proofs.Founded.{authorities-makes}
 use Rattle.run_safety.proofs.Lines.{ask-makes, check-line-makes, deliver-makes, dishonest-makes, handover-makes, inject-makes, judge-makes, keys-makes, learn-makes, log-order-makes, logs-makes, object-makes, owner-line-makes, register-makes, retire-makes, revoke-makes, roll-makes, sign-makes, submit-makes, update-makes}
 use Rattle.run_safety.proofs.Parts.{Keeps, Makes, Stands, both, part_of, seated, still}
+use Rattle.ar_base.proofs.Shown.{if-chained}
 
 -- ---- a step
 
@@ -56,23 +58,13 @@ early phase.AuthoritiesMade h = absurd cc
 early phase.DishonestTold h = absurd cc
 early phase.Running h = absurd cc
 
--- a party is made dishonest behind it
-late : (p : Phase) → may_come p phase.DishonestTold ≡ true → nat_le 4 (place_of p) ≡ true
-late phase.Beginning h = absurd cc
-late phase.SecretTold h = absurd cc
-late phase.KeysTold h = absurd cc
-late phase.LogsMade h = absurd cc
-late phase.AuthoritiesMade h = refl
-late phase.DishonestTold h = refl
-late phase.Running h = refl
-
 effect-makes : (says : Outcome) (w : World) (l : Line) → Comes w (leads_to l) → IfOk (effect says w l) (Makes w)
 unfolding effect
 effect-makes says w (line.Secret secret) comes = still _ _ [] refl refl
 effect-makes says w (line.Keys lms ots) comes = keys-makes w lms ots
 effect-makes says w (line.Logs n q) comes = logs-makes w n q
 effect-makes says w (line.Authorities m) comes = authorities-makes w m (λ s. s.bare (early w.phase (comes phase.AuthoritiesMade refl)))
-effect-makes says w (line.Dishonest party) comes = dishonest-makes w party (late w.phase (comes phase.DishonestTold refl))
+effect-makes says w (line.Dishonest party) comes = dishonest-makes w party (came w.phase (comes phase.DishonestTold refl))
 effect-makes says w (line.Owner owner) comes = owner-line-makes w owner
 effect-makes says w (line.Teach authority name owner) comes = check-line-makes w authority owner (learnt name) (Taught authority) refl
 effect-makes says w (line.Forget authority name owner) comes = check-line-makes w authority owner (forgotten name) (Forgot authority) refl

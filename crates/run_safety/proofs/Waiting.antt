@@ -1,20 +1,22 @@
 -- To how many parties the messages of a pool are yet to be delivered, and that a delivery leaves one fewer.
-use Rattle.std.proofs.Common.{◌≡◌, ℕ, ◌+◌, ◌*◌, ◌≤◌, List, [], ◌∷◌, ◌++◌, length, get_or, refl, sym, ap, ◌∙◌, subst, arith, Bool, true, false, not, ◌&&◌, ◌||◌, cond, eqb, Option, Some}
+use Rattle.std.proofs.Common.{◌≡◌, ℕ, ◌+◌, ◌*◌, ◌≤◌, List, [], ◌∷◌, ◌++◌, length, get_or, refl, sym, ap, ◌∙◌, subst, arith, Bool, true, false, not, ◌&&◌, ◌||◌, cond, Option, Some}
 use Rattle.std.specs.Prelude.{find, map, slice_get, slice_set}
 use Rattle.std.specs.List.{count_by, list_any, range_with_len, sum_by}
-use Rattle.std.proofs.lemmas.Bool.{and_from, and_parts, eq-eqb, not-true}
+use Rattle.std.proofs.lemmas.Bool.{and_parts, not-true}
 use Rattle.std.proofs.lemmas.List.Folds.{list_any-append}
 use Rattle.std.proofs.lemmas.List.FromFn.{length-map-range_with_len}
 use Rattle.std.proofs.lemmas.List.Sums.{count_by-le-length, length-filter, sum_by-append, sum_by-cons, sum_by-le-sum_by, sum_by-set}
 use Rattle.std.proofs.lemmas.Option.{get_or_from_slice_get, same_Some, slice_get_within}
-use Rattle.ar_statement.specs.Claims.{is_party, role_number}
+use Rattle.ar_statement.specs.Claims.{is_party}
 use Rattle.ar_statement.specs.declared.party.Party.{Party}
+use Rattle.ar_statement.proofs.Statements.{is_party-self}
 use Rattle.ar_world.specs.Delivering.{addressed, is_sender}
 use Rattle.ar_nodes.specs.Pool.{delivered_to}
 use Rattle.ar_nodes.specs.Pool.{Pooled}
 use Rattle.party_keys.specs.Seen.{log_party}
 use Rattle.report_text.specs.declared.happening.Target.{Target}
 use Rattle.report_text.specs.declared.happening.Target.TheVariants as target
+use Rattle.ar_base.proofs.Shown.{find-true}
 
 -- ---- what a test passes
 
@@ -58,11 +60,6 @@ waiting takes logs p = count_by (waits takes p) (addressed logs p.from p.to)
 abbrev had-by : Party → Pooled → Pooled
 had-by who p = record p { delivered = p.delivered ++ who ∷ [] }
 
-itself : (who : Party) → is_party who who ≡ true
-itself who =
-    and_from (eqb (role_number who.role) (role_number who.role)) (eqb who.number who.number)
-    (eq-eqb (role_number who.role) (role_number who.role) refl) (eq-eqb who.number who.number refl)
-
 -- a message that waited for a party was not delivered to it
 had-now : (takes : Party → Bool) (p : Pooled) (who : Party) → waits takes p who ≡ true → delivered_to who p ≡ had-by who p
 had-now takes p who waited =
@@ -87,21 +84,12 @@ no-more true true c h = absurd cc
 no-more true false c h = refl
 no-more false b c h = absurd cc
 
--- the first that passes does
-passes : {X : Type 0} (test : X → Bool) (xs : List X) (x : X) → find test xs ≡ Some x → test x ≡ true
-passes test [] x found = absurd cc
-passes test (y ∷ ys) x found = by (test y) refl found (passes test ys x)
-  where
-    by : (b : Bool) → test y ≡ b → cond b (Some y) (find test ys) ≡ Some x → (find test ys ≡ Some x → test x ≡ true) → test x ≡ true
-    by true is found rest = ap test (sym (same_Some y x found)) ∙ is
-    by false is found rest = rest found
-
 -- Delivered to the first it waits for, a message waits for fewer.
 waiting-falls : (takes : Party → Bool) (logs : ℕ) (p : Pooled) (who : Party) → find (waits takes p) (addressed logs p.from p.to) ≡ Some who
     → waiting takes logs (delivered_to who p) + 1 ≤ waiting takes logs p
 waiting-falls takes logs p who found =
-    let now = had-now takes p who (passes (waits takes p) (addressed logs p.from p.to) who found) in
-    let is : list_any (is_party who) (who ∷ []) ≡ true = ap (λ b. b || false) (itself who) in
+    let now = had-now takes p who (find-true (waits takes p) (addressed logs p.from p.to) who found) in
+    let is : list_any (is_party who) (who ∷ []) ≡ true = ap (λ b. b || false) (is_party-self who) in
     let gone = waits-then takes p who who true is ∙ taken-out (takes who) (list_any (is_party who) p.delivered) in
     subst (λ (q : Pooled). waiting takes logs q + 1 ≤ waiting takes logs p) (sym now)
     (one-fewer (waits takes p) (waits takes (had-by who p)) (addressed logs p.from p.to) who found gone (λ other still.

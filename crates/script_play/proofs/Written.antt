@@ -1,6 +1,5 @@
 -- What several calls write together, of which the last may break off.
-use Rattle.std.proofs.Common.{◌≡◌, ◌≢◌, ℕ, List, [], ◌∷◌, ◌++◌, length, ◌+◌, ◌≤◌, ◌<◌, get_or, drop, drop-cons, add-one, refl, sym, ap, ◌∙◌, subst, append_assoc, append-nil, arith, Result, Ok, Err, OnOk}
-use Rattle.std.proofs.lemmas.Grind.{common_steps}
+use Rattle.std.proofs.Common.{◌≡◌, ◌≢◌, ℕ, List, [], ◌∷◌, ◌++◌, length, ◌+◌, ◌<◌, get_or, drop, drop-cons, add-one, refl, sym, ap, ◌∙◌, subst, append_assoc, append-nil, arith, Result, Ok, Err, OnOk}
 use Rattle.ar_base.specs.Faults.{HasRisen}
 use Rattle.ar_io.specs.Wrote.{Appended, AppendedFront}
 use Rattle.ar_io.proofs.WroteLemmas.{Appended-trans}
@@ -174,9 +173,6 @@ pub drop-item : (said : List Happening) (i : ℕ) (item : Happening) → i < len
 drop-item said i item lt is =
     let first : drop i said ≡ get_or said i item ∷ drop (i + 1) said = rw (add-one, drop-cons said i item) in
     first ∙ ap (λ (x : Happening). x ∷ drop (i + 1) said) (sym is)
-
-pub drop-none : (said : List Happening) (i : ℕ) → length said ≤ i → drop i said ≡ []
-drop-none said i past = grind (arith, common_steps)
 
 pub tells-more : {K : Type 0} (faults : K → ℕ) (wrote : K → List ℕ → Type 0) (begun here next : K) (counts so_far : Counts) (all rest : List Happening) (happening : Happening) (more : List Happening)
     → TellsOn faults wrote begun here counts so_far all rest → rest ≡ happening ∷ more → WritesUpTo faults wrote here next (line_of happening) done

@@ -7,6 +7,7 @@ use Rattle.std.specs.Str.{bytes_eq}
 use Rattle.std.proofs.lemmas.List.Splits.{join_with_byte-slice_split}
 use Rattle.std.proofs.lemmas.Slice.Eq.{bytes_eq-Decides}
 use Rattle.ar_base.specs.Chaining.{◌>>=◌}
+use Rattle.ar_base.proofs.Shown.{bind_ok, ok_is}
 use Rattle.ar_lines.specs.Forms.{number_in, number_of}
 use Rattle.ar_lines.specs.Lines.{is_text, words_of}
 use Rattle.ar_lines.specs.Written.{Writes}
@@ -16,7 +17,7 @@ use Rattle.ar_lines.proofs.PartyWords.{party_writes}
 use Rattle.ar_lines.proofs.Respelled.{number_in_writes, number_own, sized_writes}
 use Rattle.ar_statement.specs.declared.party.Role.TheVariants as role
 use Rattle.script_text.specs.Forms.{asks_of, binding_of, trusted_of}
-use Rattle.script_text.specs.Grammar.{Fields, Form, PolicyFields, Row, are_pieces, bound, five, five_words, four, four_words, is_skipped, line_by, line_with, no_words, one, one_word, pieces, plain, policy, policy_of, policy_words, some_line, some_words, three, three_words, two, two_words}
+use Rattle.script_text.specs.Grammar.{Form, PolicyFields, Row, are_pieces, bound, five, five_words, four, four_words, is_skipped, line_by, line_with, no_words, one, one_word, pieces, plain, policy, policy_of, policy_words, some_line, some_words, three, three_words, two, two_words}
 use Rattle.script_text.specs.Rows.{read_of, row, table}
 use Rattle.script_text.specs.Written.{binding_word, list_word, policy_then, text_of_line, trusted_word, words_of_line}
 use Rattle.script_text.specs.declared.line.Line.{Line}
@@ -25,15 +26,8 @@ use Rattle.script_text.proofs.WordsWritten as words
 
 -- ---- what a chain of readings shows
 
-bound_ok : {A B : Type 0} (r : Result A Reason) (f : A → Result B Reason) (y : B) → (r >>= f) ≡ Ok y → (x : A) × (r ≡ Ok x) × (f x ≡ Ok y)
-bound_ok (Ok x) f y h = (x, refl, h)
-bound_ok (Err e) f y h = absurd cc
-
 abbrev done : {A : Type 0} → A → Result A Reason
 done x = Ok x
-
-the_ok : {A : Type 0} (x y : A) → done x ≡ done y → x ≡ y
-the_ok x y h = cc
 
 -- a word of a form that was read is what is written of its value
 field : {A B : Type 0} (form : Form A) (write : A → List ℕ) (word : List ℕ) (k : ℕ) (f : A → Result B Reason) (y : B) → Writes form write → (ok_or (form word) (Field k) >>= f) ≡ Ok y → (x : A) × (write x ≡ word) × (f x ≡ Ok y)
@@ -50,25 +44,25 @@ none_are [] x h = refl
 none_are (a ∷ more) x h = absurd cc
 
 one_is : (ws : List (List ℕ)) (x : List ℕ) → one_word ws ≡ Ok x → ws ≡ x ∷ []
-one_is (a ∷ []) x h = ap (λ w. w ∷ []) (the_ok a x h)
+one_is (a ∷ []) x h = ap (λ w. w ∷ []) (ok_is a x h)
 one_is [] x h = absurd cc
 one_is (a ∷ b ∷ more) x h = absurd cc
 
 two_are : (ws : List (List ℕ)) (x : List ℕ × List ℕ) → two_words ws ≡ Ok x → ws ≡ x.0 ∷ x.1 ∷ []
-two_are (a ∷ b ∷ []) x h = ap (λ (w : List ℕ × List ℕ). w.0 ∷ w.1 ∷ []) (the_ok (a, b) x h)
+two_are (a ∷ b ∷ []) x h = ap (λ (w : List ℕ × List ℕ). w.0 ∷ w.1 ∷ []) (ok_is (a, b) x h)
 two_are [] x h = absurd cc
 two_are (a ∷ []) x h = absurd cc
 two_are (a ∷ b ∷ c ∷ more) x h = absurd cc
 
 three_are : (ws : List (List ℕ)) (x : List ℕ × List ℕ × List ℕ) → three_words ws ≡ Ok x → ws ≡ x.0 ∷ x.1 ∷ x.2 ∷ []
-three_are (a ∷ b ∷ c ∷ []) x h = ap (λ (w : List ℕ × List ℕ × List ℕ). w.0 ∷ w.1 ∷ w.2 ∷ []) (the_ok (a, b, c) x h)
+three_are (a ∷ b ∷ c ∷ []) x h = ap (λ (w : List ℕ × List ℕ × List ℕ). w.0 ∷ w.1 ∷ w.2 ∷ []) (ok_is (a, b, c) x h)
 three_are [] x h = absurd cc
 three_are (a ∷ []) x h = absurd cc
 three_are (a ∷ b ∷ []) x h = absurd cc
 three_are (a ∷ b ∷ c ∷ d ∷ more) x h = absurd cc
 
 four_are : (ws : List (List ℕ)) (x : List ℕ × List ℕ × List ℕ × List ℕ) → four_words ws ≡ Ok x → ws ≡ x.0 ∷ x.1 ∷ x.2 ∷ x.3 ∷ []
-four_are (a ∷ b ∷ c ∷ d ∷ []) x h = ap (λ (w : List ℕ × List ℕ × List ℕ × List ℕ). w.0 ∷ w.1 ∷ w.2 ∷ w.3 ∷ []) (the_ok (a, b, c, d) x h)
+four_are (a ∷ b ∷ c ∷ d ∷ []) x h = ap (λ (w : List ℕ × List ℕ × List ℕ × List ℕ). w.0 ∷ w.1 ∷ w.2 ∷ w.3 ∷ []) (ok_is (a, b, c, d) x h)
 four_are [] x h = absurd cc
 four_are (a ∷ []) x h = absurd cc
 four_are (a ∷ b ∷ []) x h = absurd cc
@@ -76,7 +70,7 @@ four_are (a ∷ b ∷ c ∷ []) x h = absurd cc
 four_are (a ∷ b ∷ c ∷ d ∷ e ∷ more) x h = absurd cc
 
 five_are : (ws : List (List ℕ)) (x : List ℕ × List ℕ × List ℕ × List ℕ × List ℕ) → five_words ws ≡ Ok x → ws ≡ x.0 ∷ x.1 ∷ x.2 ∷ x.3 ∷ x.4 ∷ []
-five_are (a ∷ b ∷ c ∷ d ∷ e ∷ []) x h = ap (λ (w : List ℕ × List ℕ × List ℕ × List ℕ × List ℕ). w.0 ∷ w.1 ∷ w.2 ∷ w.3 ∷ w.4 ∷ []) (the_ok (a, b, c, d, e) x h)
+five_are (a ∷ b ∷ c ∷ d ∷ e ∷ []) x h = ap (λ (w : List ℕ × List ℕ × List ℕ × List ℕ × List ℕ). w.0 ∷ w.1 ∷ w.2 ∷ w.3 ∷ w.4 ∷ []) (ok_is (a, b, c, d, e) x h)
 five_are [] x h = absurd cc
 five_are (a ∷ []) x h = absurd cc
 five_are (a ∷ b ∷ []) x h = absurd cc
@@ -90,7 +84,7 @@ fields_then p more = p.threshold ∷ p.binding ∷ p.max_age ∷ p.until ∷ p.t
 
 policy_are : (ws : List (List ℕ)) (x : List ℕ × List ℕ × PolicyFields × List ℕ) → policy_words ws ≡ Ok x → ws ≡ x.0 ∷ x.1 ∷ fields_then x.2 (x.3 ∷ [])
 policy_are (a ∷ b ∷ t ∷ k ∷ m ∷ u ∷ r ∷ c ∷ []) x h =
-    ap (λ (w : List ℕ × List ℕ × PolicyFields × List ℕ). w.0 ∷ w.1 ∷ fields_then w.2 (w.3 ∷ [])) (the_ok (a, b, record { threshold = t; binding = k; max_age = m; until = u; trusted = r }, c) x h)
+    ap (λ (w : List ℕ × List ℕ × PolicyFields × List ℕ). w.0 ∷ w.1 ∷ fields_then w.2 (w.3 ∷ [])) (ok_is (a, b, record { threshold = t; binding = k; max_age = m; until = u; trusted = r }, c) x h)
 policy_are [] x h = absurd cc
 policy_are (a ∷ []) x h = absurd cc
 policy_are (a ∷ b ∷ []) x h = absurd cc
@@ -102,7 +96,7 @@ policy_are (a ∷ b ∷ c ∷ d ∷ e ∷ f ∷ g ∷ []) x h = absurd cc
 policy_are (a ∷ b ∷ c ∷ d ∷ e ∷ f ∷ g ∷ i ∷ j ∷ more) x h = absurd cc
 
 some_are : (ws : List (List ℕ)) (x : List ℕ × List (List ℕ)) → some_words ws ≡ Ok x → ws ≡ x.0 ∷ x.1
-some_are (a ∷ b ∷ more) x h = ap (λ (w : List ℕ × List (List ℕ)). w.0 ∷ w.1) (the_ok (a, b ∷ more) x h)
+some_are (a ∷ b ∷ more) x h = ap (λ (w : List ℕ × List (List ℕ)). w.0 ∷ w.1) (ok_is (a, b ∷ more) x h)
 some_are [] x h = absurd cc
 some_are (a ∷ []) x h = absurd cc
 
@@ -115,61 +109,61 @@ RowWrites row = (ws : List (List ℕ)) (line : Line) → row.fields ws ≡ Ok li
 -- a row of this word
 plain_row : (word : List ℕ) (m : Line) → words_of_line m ≡ word ∷ [] → RowWrites (row word (plain m))
 plain_row word m written ws line h =
-    let none = bound_ok (no_words ws) _ line h in
-    ap words_of_line (sym (the_ok m line none.2)) ∙ written ∙ ap (λ l. word ∷ l) (sym (none_are ws none.0 none.1))
+    let none = bind_ok (no_words ws) _ line h in
+    ap words_of_line (sym (ok_is m line none.2)) ∙ written ∙ ap (λ l. word ∷ l) (sym (none_are ws none.0 none.1))
 
 one_row : {A : Type 0} (word : List ℕ) (form : Form A) (write : A → List ℕ) (m : A → Line) → Writes form write → ((a : A) → words_of_line (m a) ≡ word ∷ write a ∷ []) → RowWrites (row word (one form m))
 one_row word form write m writes written ws line h =
-    let all = bound_ok (one_word ws) _ line h in
+    let all = bind_ok (one_word ws) _ line h in
     let a = field form write all.0 1 _ line writes all.2 in
-    ap words_of_line (sym (the_ok (m a.0) line a.2)) ∙ written a.0
+    ap words_of_line (sym (ok_is (m a.0) line a.2)) ∙ written a.0
     ∙ ap (λ x. word ∷ x ∷ []) a.1
     ∙ ap (λ l. word ∷ l) (sym (one_is ws all.0 all.1))
 
 two_row : {A B : Type 0} (word : List ℕ) (first : Form A) (second : Form B) (write : A → List ℕ) (other : B → List ℕ) (m : A → B → Line) → Writes first write → Writes second other → ((a : A) (b : B) → words_of_line (m a b) ≡ word ∷ write a ∷ other b ∷ []) → RowWrites (row word (two first second m))
 two_row word first second write other m writes others written ws line h =
-    let all = bound_ok (two_words ws) _ line h in
+    let all = bind_ok (two_words ws) _ line h in
     let a = field first write all.0.0 1 _ line writes all.2 in
     let b = field second other all.0.1 2 _ line others a.2 in
-    ap words_of_line (sym (the_ok (m a.0 b.0) line b.2)) ∙ written a.0 b.0
+    ap words_of_line (sym (ok_is (m a.0 b.0) line b.2)) ∙ written a.0 b.0
     ∙ rw (a.1, b.1) (ap (λ l. word ∷ l) (sym (two_are ws all.0 all.1)))
 
 bound_row : {A B : Type 0} (word : List ℕ) (first : Form A) (second : A → Form B) (write : A → List ℕ) (other : B → List ℕ) (m : A → B → Line) → Writes first write → ((a : A) → Writes (second a) other) → ((a : A) (b : B) → words_of_line (m a b) ≡ word ∷ write a ∷ other b ∷ []) → RowWrites (row word (bound first second m))
 bound_row word first second write other m writes others written ws line h =
-    let all = bound_ok (two_words ws) _ line h in
+    let all = bind_ok (two_words ws) _ line h in
     let a = field first write all.0.0 1 _ line writes all.2 in
     let b = field (second a.0) other all.0.1 2 _ line (others a.0) a.2 in
-    ap words_of_line (sym (the_ok (m a.0 b.0) line b.2)) ∙ written a.0 b.0
+    ap words_of_line (sym (ok_is (m a.0 b.0) line b.2)) ∙ written a.0 b.0
     ∙ rw (a.1, b.1) (ap (λ l. word ∷ l) (sym (two_are ws all.0 all.1)))
 
 three_row : {A B C : Type 0} (word : List ℕ) (first : Form A) (second : Form B) (third : Form C) (wa : A → List ℕ) (wb : B → List ℕ) (wc : C → List ℕ) (m : A → B → C → Line) → Writes first wa → Writes second wb → Writes third wc → ((a : A) (b : B) (c : C) → words_of_line (m a b c) ≡ word ∷ wa a ∷ wb b ∷ wc c ∷ []) → RowWrites (row word (three first second third m))
 three_row word first second third wa wb wc m ha hb hc written ws line h =
-    let all = bound_ok (three_words ws) _ line h in
+    let all = bind_ok (three_words ws) _ line h in
     let a = field first wa all.0.0 1 _ line ha all.2 in
     let b = field second wb all.0.1 2 _ line hb a.2 in
     let c = field third wc all.0.2 3 _ line hc b.2 in
-    ap words_of_line (sym (the_ok (m a.0 b.0 c.0) line c.2)) ∙ written a.0 b.0 c.0
+    ap words_of_line (sym (ok_is (m a.0 b.0 c.0) line c.2)) ∙ written a.0 b.0 c.0
     ∙ rw (a.1, b.1, c.1) (ap (λ l. word ∷ l) (sym (three_are ws all.0 all.1)))
 
 four_row : {A B C D : Type 0} (word : List ℕ) (first : Form A) (second : Form B) (third : Form C) (fourth : Form D) (wa : A → List ℕ) (wb : B → List ℕ) (wc : C → List ℕ) (wd : D → List ℕ) (m : A → B → C → D → Line) → Writes first wa → Writes second wb → Writes third wc → Writes fourth wd → ((a : A) (b : B) (c : C) (d : D) → words_of_line (m a b c d) ≡ word ∷ wa a ∷ wb b ∷ wc c ∷ wd d ∷ []) → RowWrites (row word (four first second third fourth m))
 four_row word first second third fourth wa wb wc wd m ha hb hc hd written ws line h =
-    let all = bound_ok (four_words ws) _ line h in
+    let all = bind_ok (four_words ws) _ line h in
     let a = field first wa all.0.0 1 _ line ha all.2 in
     let b = field second wb all.0.1 2 _ line hb a.2 in
     let c = field third wc all.0.2 3 _ line hc b.2 in
     let d = field fourth wd all.0.3 4 _ line hd c.2 in
-    ap words_of_line (sym (the_ok (m a.0 b.0 c.0 d.0) line d.2)) ∙ written a.0 b.0 c.0 d.0
+    ap words_of_line (sym (ok_is (m a.0 b.0 c.0 d.0) line d.2)) ∙ written a.0 b.0 c.0 d.0
     ∙ rw (a.1, b.1, c.1, d.1) (ap (λ l. word ∷ l) (sym (four_are ws all.0 all.1)))
 
 five_row : {A B C D E : Type 0} (word : List ℕ) (first : Form A) (second : Form B) (third : Form C) (fourth : Form D) (fifth : Form E) (wa : A → List ℕ) (wb : B → List ℕ) (wc : C → List ℕ) (wd : D → List ℕ) (we : E → List ℕ) (m : A → B → C → D → E → Line) → Writes first wa → Writes second wb → Writes third wc → Writes fourth wd → Writes fifth we → ((a : A) (b : B) (c : C) (d : D) (e : E) → words_of_line (m a b c d e) ≡ word ∷ wa a ∷ wb b ∷ wc c ∷ wd d ∷ we e ∷ []) → RowWrites (row word (five first second third fourth fifth m))
 five_row word first second third fourth fifth wa wb wc wd we m ha hb hc hd he written ws line h =
-    let all = bound_ok (five_words ws) _ line h in
+    let all = bind_ok (five_words ws) _ line h in
     let a = field first wa all.0.0 1 _ line ha all.2 in
     let b = field second wb all.0.1 2 _ line hb a.2 in
     let c = field third wc all.0.2 3 _ line hc b.2 in
     let d = field fourth wd all.0.3 4 _ line hd c.2 in
     let e = field fifth we all.0.4 5 _ line he d.2 in
-    ap words_of_line (sym (the_ok (m a.0 b.0 c.0 d.0 e.0) line e.2)) ∙ written a.0 b.0 c.0 d.0 e.0
+    ap words_of_line (sym (ok_is (m a.0 b.0 c.0 d.0 e.0) line e.2)) ∙ written a.0 b.0 c.0 d.0 e.0
     ∙ rw (a.1, b.1, c.1, d.1, e.1) (ap (λ l. word ∷ l) (sym (five_are ws all.0 all.1)))
 
 policy_written : (p : PolicyFields) (terms : PolicyWords) (more : List (List ℕ)) → policy_of p ≡ Ok terms → policy_then terms more ≡ fields_then p more
@@ -181,25 +175,25 @@ policy_written p terms more h =
     let u = field number_of decimal p.until 6 _ terms number_own m.2 in
     let r = field trusted_of trusted_word p.trusted 7 _ terms words.trusted_writes u.2 in
     let made : PolicyWords = record { threshold = t.0; keyed = k.0.0; max_age = m.0; until = u.0; trusted = r.0; wait = k.0.1 } in
-    ap (λ (x : PolicyWords). policy_then x more) (sym (the_ok made terms r.2))
+    ap (λ (x : PolicyWords). policy_then x more) (sym (ok_is made terms r.2))
     ∙ rw (t.1, k.1, m.1, u.1, r.1) refl
 
 policy_row : {A B : Type 0} (word : List ℕ) (first : Form A) (second : Form B) (wa : A → List ℕ) (wb : B → List ℕ) (m : A → B → PolicyWords → List ℕ → Line) → Writes first wa → Writes second wb → ((a : A) (b : B) (p : PolicyWords) (asks : List ℕ) → words_of_line (m a b p asks) ≡ word ∷ wa a ∷ wb b ∷ policy_then p (list_word asks ∷ [])) → RowWrites (row word (policy first second m))
 policy_row word first second wa wb m ha hb written ws line h =
-    let all = bound_ok (policy_words ws) _ line h in
+    let all = bind_ok (policy_words ws) _ line h in
     let a = field first wa all.0.0 1 _ line ha all.2 in
     let b = field second wb all.0.1 2 _ line hb a.2 in
-    let p = bound_ok (policy_of all.0.2) _ line b.2 in
+    let p = bind_ok (policy_of all.0.2) _ line b.2 in
     let c = field asks_of list_word all.0.3 8 _ line words.asks_writes p.2 in
-    ap words_of_line (sym (the_ok (m a.0 b.0 p.0 c.0) line c.2)) ∙ written a.0 b.0 p.0 c.0
+    ap words_of_line (sym (ok_is (m a.0 b.0 p.0 c.0) line c.2)) ∙ written a.0 b.0 p.0 c.0
     ∙ rw (a.1, b.1, policy_written all.0.2 p.0 (list_word c.0 ∷ []) p.1, c.1) (ap (λ l. word ∷ l) (sym (policy_are ws all.0 all.1)))
 
 pieces_row : {A : Type 0} (word : List ℕ) (first : Form A) (wa : A → List ℕ) (m : A → List (List ℕ) → Line) → Writes first wa → ((a : A) (ps : List (List ℕ)) → words_of_line (m a ps) ≡ word ∷ wa a ∷ ps) → RowWrites (row word (pieces first m))
 pieces_row word first wa m ha written ws line h =
-    let all = bound_ok (some_words ws) _ line h in
+    let all = bind_ok (some_words ws) _ line h in
     let a = field first wa all.0.0 1 _ line ha all.2 in
-    let right = bound_ok (are_pieces 2 all.0.1) _ line a.2 in
-    ap words_of_line (sym (the_ok (m a.0 all.0.1) line right.2)) ∙ written a.0 all.0.1
+    let right = bind_ok (are_pieces 2 all.0.1) _ line a.2 in
+    ap words_of_line (sym (ok_is (m a.0 all.0.1) line right.2)) ∙ written a.0 all.0.1
     ∙ rw a.1 (ap (λ l. word ∷ l) (sym (some_are ws all.0 all.1)))
 
 -- ---- the table

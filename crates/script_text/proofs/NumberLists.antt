@@ -1,10 +1,10 @@
 -- A list of numbers, as it is read from its first number on: those that were read and those that are read from
 -- what is left are together those that are read.
-use Rattle.std.proofs.Common.{◌≡◌, ℕ, ◌+◌, ◌<◌, ◌≤◌, Bool, true, false, cond, leb, List, [], ◌∷◌, ◌++◌, length, Option, Some, None, refl, sym, ap, ◌∙◌, arith, length-append, append-nil, append_assoc}
-use Rattle.std.specs.Prelude.{option_and_then, option_map, nat_le}
-use Rattle.std.proofs.lemmas.Bool.{le-leb, leb-true}
+use Rattle.std.proofs.Common.{◌≡◌, ℕ, ◌+◌, ◌<◌, ◌≤◌, true, leb, List, [], ◌∷◌, ◌++◌, length, Option, Some, None, refl, sym, ap, ◌∙◌, arith, length-append, append-nil, append_assoc}
+use Rattle.std.specs.Prelude.{option_map, nat_le}
+use Rattle.std.proofs.lemmas.Bool.{le-leb, lt-leb}
 use Rattle.ar_lines.specs.Forms.{number_in, passing}
-use Rattle.script_text.specs.Forms.{ascending_of, ascends, each_of, list_of, parts_of}
+use Rattle.script_text.specs.Forms.{ascends, each_of, list_of, parts_of}
 
 -- the numbers, before others
 abbrev pub before : List ℕ → Option (List ℕ) → Option (List ℕ)
@@ -24,16 +24,13 @@ one_fails most numbers word words h = rw h refl
 abbrev pub fitting : ℕ → Option (List ℕ) → Option (List ℕ)
 fitting count numbers = passing (λ ns. nat_le (length ns) count) numbers
 
-over : (count k : ℕ) → count < k → leb k count ≡ false
-over count k h = grind (arith, leb-true)
-
 longer : (count : ℕ) (numbers more : List ℕ) (n : ℕ) → count ≤ length numbers → count < length ((numbers ++ (n ∷ [])) ++ more)
 longer count numbers more n h = simp length-append (omega arith)
 
 full_before : (count : ℕ) (numbers : List ℕ) (n : ℕ) (others : Option (List ℕ)) → count ≤ length numbers → fitting count (before (numbers ++ (n ∷ [])) others) ≡ None
 full_before count numbers n None h = refl
 full_before count numbers n (Some more) h =
-    rw (over count (length ((numbers ++ (n ∷ [])) ++ more)) (longer count numbers more n h)) refl
+    rw (lt-leb (length ((numbers ++ (n ∷ [])) ++ more)) count (longer count numbers more n h)) refl
 
 pub one_too_many : (count most : ℕ) (numbers : List ℕ) (word : List ℕ) (words : List (List ℕ)) (n : ℕ) → number_in 0 most word ≡ Some n → count ≤ length numbers → fitting count (before numbers (each_of (number_in 0 most) (word ∷ words))) ≡ None
 one_too_many count most numbers word words n h full = rw (one_more most numbers word words n h) (full_before count numbers n (each_of (number_in 0 most) words) full)

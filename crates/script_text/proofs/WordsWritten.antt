@@ -1,5 +1,5 @@
 -- A word of each form is what is written of the value that it spells.
-use Rattle.std.proofs.Common.{◌≡◌, ℕ, ◌+◌, ◌==◌, Bool, true, false, cond, List, [], ◌∷◌, ◌++◌, length, take, drop, codes, map, Option, Some, None, refl, sym, ap, ◌∙◌, subst, arith}
+use Rattle.std.proofs.Common.{◌≡◌, ℕ, ◌+◌, ◌==◌, Bool, true, false, cond, List, [], ◌∷◌, ◌++◌, length, take, drop, codes, map, Option, Some, None, refl, sym, ap, ◌∙◌, subst}
 use Rattle.std.specs.Prelude.{option_map}
 use Rattle.std.specs.Fmt.{decimal}
 use Rattle.std.specs.List.{join_with_byte}
@@ -13,14 +13,16 @@ use Rattle.ar_lines.specs.Forms.{name_of, number_in, number_of, passing}
 use Rattle.ar_lines.specs.Written.{Writes}
 use Rattle.ar_lines.proofs.LineLaws.{pieces_are_some}
 use Rattle.ar_lines.proofs.PartyWords.{party_writes}
-use Rattle.ar_lines.proofs.Respelled.{mapped, name_own, number_in_writes, number_own, passing_some, passing_writes, stepped}
+use Rattle.ar_lines.proofs.Respelled.{name_own, number_in_writes, number_own, passing_some, passing_writes, stepped}
 use Rattle.ar_statement.specs.Claims.{role_number}
 use Rattle.ar_statement.specs.declared.party.Party.{Party}
 use Rattle.ar_statement.specs.declared.party.Role.{Role}
 use Rattle.ar_statement.specs.declared.party.Role.TheVariants as role
+use Rattle.ar_statement.proofs.Statements.{same_role}
 use Rattle.ar_lines.specs.Parties.{member_word, party_of, party_word}
 use Rattle.script_text.specs.Forms.{ascending_of, asks_of, behind, binding_in, binding_of, each_of, judged_of, list_of, lms_of, new_owner_of, number_with, ots_of, parts_of, party_count_of, quorum_of, receiver_of, trusted_of, wait_in, wait_of, witness_of}
 use Rattle.script_text.specs.Written.{binding_word, judged_word, list_word, receiver_word, trusted_word, wait_word}
+use Rattle.ar_base.proofs.Shown.{mapped}
 
 -- ---- numbers
 
@@ -41,24 +43,6 @@ unfolding ots_of
 ots_writes lms = passing_writes number_of decimal _ number_own
 
 -- ---- parties
-
-same_role : (one other : Role) → role_number one ≡ role_number other → one ≡ other
-same_role role.LogServer role.LogServer h = refl
-same_role role.Authority role.Authority h = refl
-same_role role.Owner role.Owner h = refl
-same_role role.Client role.Client h = refl
-same_role role.LogServer role.Authority h = absurd (omega arith)
-same_role role.LogServer role.Owner h = absurd (omega arith)
-same_role role.LogServer role.Client h = absurd (omega arith)
-same_role role.Authority role.LogServer h = absurd (omega arith)
-same_role role.Authority role.Owner h = absurd (omega arith)
-same_role role.Authority role.Client h = absurd (omega arith)
-same_role role.Owner role.LogServer h = absurd (omega arith)
-same_role role.Owner role.Authority h = absurd (omega arith)
-same_role role.Owner role.Client h = absurd (omega arith)
-same_role role.Client role.LogServer h = absurd (omega arith)
-same_role role.Client role.Authority h = absurd (omega arith)
-same_role role.Client role.Owner h = absurd (omega arith)
 
 pub member_writes : (r : Role) → Writes (number_with r) (member_word r)
 unfolding number_with

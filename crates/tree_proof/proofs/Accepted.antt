@@ -16,9 +16,10 @@ use Rattle.tree_proof.specs.Path.{bottom_below, bottom_of}
 use Rattle.tree_proof.specs.Membership.{On, Off, LeadsTo, SpeaksOf, bottom_string}
 use Rattle.tree_proof.proofs.Down.{turned, turned-push, value_down, path_value-down}
 use Rattle.hash_tree.proofs.Few.{get-none, get-one, get-one_inverse, few_left}
-use Rattle.tree_proof.proofs.Lands.{Count, none, one, more, count_of, same-half}
+use Rattle.tree_proof.proofs.Lands.{Count, none, one, more, count_of}
 use Rattle.tree_proof.proofs.Bind.{digests-half}
 use Rattle.hash_tree.proofs.Paths.{steps-few, steps-end, steps-more}
+use Rattle.hash_tree.proofs.Changed.{get-here}
 use Rattle.tree_proof.proofs.Walk.{bottom-none, bottom-one, bottom-more}
 
 -- the two halves joined, whichever side the key's is on
@@ -99,7 +100,7 @@ bottom-present (suc left) depth at m key value digests agree there (more n) =
     let side = bit key depth in
     bottom-at left depth key m (omega arith) n
     ∙ bottom-present left (suc depth) (omega arith) (half depth side m) key value (digests-half depth side m digests) (agree-next depth side m agree)
-    (same-half depth key m side refl ∙ there) (count_of _)
+    (get-here depth side m key refl ∙ there) (count_of _)
 
 -- that of one that is not there is empty, or the entry of another key that agrees with it so far
 bottom-absent : (left depth : ℕ) → left + depth ≡ 256 → (m : Entries) (key : List ℕ) → HoldsDigests m → AgreeAmong depth m
@@ -118,7 +119,7 @@ bottom-absent (suc left) depth at m key digests agree prefix missing (more n) =
     = λ q there i l. let a = key-half depth side m q there in
     ⊎_elim (λ (before : i < depth). prefix q a.0 i before) (λ (after : depth ≤ i). let at : i ≡ depth = omega arith in rw at a.1) (cases_lt i depth) in
     let later = bottom-absent left (suc depth) (omega arith) (half depth side m) key (digests-half depth side m digests) (agree-next depth side m agree) further
-    (same-half depth key m side refl ∙ missing) (count_of _) in
+    (get-here depth side m key refl ∙ missing) (count_of _) in
     let count : suc depth + length (steps_below left key (half depth side m)) ≡ depth + length (steps_below (suc left) key m)
     = omega (arith, ap length (steps-at left depth key m low n), length-append (steps_below left key (half depth side m)) (digest_below left (half depth (1 - side) m) ∷ [])) in
     rw (bottom-at left depth key m low n) (subst (SpeaksOf (bottom_below left key (half depth side m)) key) count later)

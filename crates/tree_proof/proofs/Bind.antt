@@ -18,7 +18,8 @@ use Rattle.tree_proof.specs.declared.path.Bottom.TheVariants.{Empty, Other}
 use Rattle.tree_proof.specs.Membership.{On, Off, LeadsTo, HasDigestKey, bottom_string, path_strings}
 use Rattle.tree_proof.proofs.Down.{turned, path_value-down, strings_down-above}
 use Rattle.hash_tree.proofs.Few.{get-none, get-one, get-other, few_left}
-use Rattle.tree_proof.proofs.Lands.{Count, none, one, more, count_of, Foot, lands, same_parts, same-half, within-half, strings-half}
+use Rattle.hash_tree.proofs.Changed.{get-here}
+use Rattle.tree_proof.proofs.Lands.{Count, none, one, more, count_of, Foot, lands, same_parts, within-half, strings-half}
 
 -- the string of no entry is that of the empty set alone
 empty_inverse : (bits : ℕ) (m : Entries) → string_below bits m ≡ empty_string → Count (entries m) → entries m ≡ []
@@ -76,10 +77,10 @@ from_halves depth m n left right = same_map total exact m n (λ q. at q (eqb (bi
     at : (q : List ℕ) (b : Bool) → eqb (bit q depth) 0 ≡ b → get m q ≡ get n q
     at q true t =
         let side = eqb-true _ _ t in
-        sym (same-half depth q m 0 side) ∙ ap (λ h. get h q) left ∙ same-half depth q n 0 side
+        sym (get-here depth 0 m q side) ∙ ap (λ h. get h q) left ∙ get-here depth 0 n q side
     at q false t =
         let side = eqb-true _ _ (one_at q depth false t) in
-        sym (same-half depth q m 1 side) ∙ ap (λ h. get h q) right ∙ same-half depth q n 1 side
+        sym (get-here depth 1 m q side) ∙ ap (λ h. get h q) right ∙ get-here depth 1 n q side
 
 pub digests-half : (depth side : ℕ) (m : Entries) → HoldsDigests m → HoldsDigests (half depth side m)
 digests-half depth side m digests = digests_within m (half depth side m) digests (within-half depth side m)

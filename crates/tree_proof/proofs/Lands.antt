@@ -1,6 +1,6 @@
 -- Where no strings collide, a path that leads to the digest of a set of entries follows the key's own
 -- halves, and its foot is the string of what is left there.
-use Rattle.std.proofs.Common.{◌≡◌, ℕ, zero, suc, ◌+◌, ◌≤◌, List, [], ◌∷◌, ◌++◌, length, get_or, eq-eqb, take, drop, length-append, refl, sym, ap, ◌∙◌, ◌⊎◌, inl, inr, arith, true, false, cond, eqb, Some, None}
+use Rattle.std.proofs.Common.{◌≡◌, ℕ, zero, suc, ◌+◌, ◌≤◌, List, [], ◌∷◌, ◌++◌, length, get_or, take, drop, length-append, refl, sym, ap, ◌∙◌, ◌⊎◌, inl, inr, arith, true, false, cond, eqb, Some, None}
 use Rattle.std.specs.FinMap.{get, entries}
 use Rattle.std.proofs.lemmas.Bool.{eqb-true}
 use Rattle.std.proofs.lemmas.List.{take_at, drop_at}
@@ -11,6 +11,7 @@ use Rattle.hash_tree.specs.Entries.{Entry, Entries, bit, half}
 use Rattle.hash_tree.specs.Root.{string_below, digest_below, strings_below}
 use Rattle.hash_tree.proofs.Maps.{get-half, one_at}
 use Rattle.hash_tree.proofs.ByCount.{string-none, string-one, string-end, string-more, strings-own, strings-more}
+use Rattle.hash_tree.proofs.Changed.{get-here}
 use Rattle.ar_base.specs.Apart.{IsIn, Apart}
 use Rattle.ar_base.proofs.Apart.{in_front, in_rest}
 use Rattle.tree_proof.specs.Fold.{joined}
@@ -52,10 +53,6 @@ pub record Foot (m : Entries) (key foot : List ℕ) : Type 0 where
   pub same : get part key ≡ get m key
   pub within : (q v : List ℕ) → get part q ≡ Some v → get m q ≡ Some v
 
--- the key's half has the key's value
-pub same-half : (depth : ℕ) (key : List ℕ) (m : Entries) (side : ℕ) → bit key depth ≡ side → get (half depth side m) key ≡ get m key
-same-half depth key m side at = get-half depth side m key ∙ rw (eq-eqb (bit key depth) side at)
-
 pub within-half : (depth side : ℕ) (m : Entries) (q v : List ℕ) → get (half depth side m) q ≡ Some v → get m q ≡ Some v
 within-half depth side m q v there =
     elim (eqb (bit q depth) side) as (λ b. cond b (get m q) None ≡ Some v → get m q ≡ Some v) [
@@ -69,7 +66,7 @@ foot-half depth key m side foot at f = record {
   bits = f.bits;
   part = f.part;
   is_string = f.is_string;
-  same = f.same ∙ same-half depth key m side at;
+  same = f.same ∙ get-here depth side m key at;
   within = λ q v h. within-half depth side m q v (f.within q v h);
 }
 

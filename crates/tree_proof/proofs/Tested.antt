@@ -10,7 +10,8 @@ use Rattle.tree_proof.specs.Membership.{OnBytes, OffBytes, LeadsTo, SpeaksOf, le
 use Rattle.tree_proof.specs.declared.path.Bottom.{Bottom}
 use Rattle.tree_proof.specs.declared.path.Bottom.TheVariants.{Empty, Other}
 
-le_decides : (a b : ℕ) → Decides (nat_le a b) (a ≤ b)
+-- the test of an order
+pub le_decides : (a b : ℕ) → Decides (nat_le a b) (a ≤ b)
 le_decides a b = grind (arith, nat_tests)
 
 leads_decides : (key foot bytes root : List ℕ) → Decides (leads_to key foot bytes root) ((length bytes % 32 ≡ 0) × LeadsTo key foot (digests_in bytes) root)

@@ -7,6 +7,7 @@ use Rattle.std.specs.Str.{bytes_eq}
 use Rattle.std.proofs.lemmas.Bool.{and_parts, and_from, eqb-true, eq-eqb, leb-true, leb-false, false_from_ne_true, both_ways}
 use Rattle.std.proofs.lemmas.Slice.Eq.{bytes_eq-Decides}
 use Rattle.std.proofs.lemmas.List.Folds.{list_any_at}
+use Rattle.std.proofs.lemmas.List.{append-nil}
 use Rattle.std.proofs.lemmas.Map.Views.{Contains-from_any}
 use Rattle.std.specs.declared.alloc.AllocError.{AllocError}
 use Rattle.vote_quorum.specs.declared.added.Added.TheVariants.{New, Again}
@@ -14,6 +15,7 @@ use Rattle.vote_quorum.specs.declared.value.Value.{Value}
 use Rattle.vote_quorum.specs.Numbers.{distinct_count}
 use Rattle.vote_quorum.specs.Ballots.{Ballot, is_same, has_ballot, log_count, quorum_of, Adds}
 use Rattle.vote_quorum.proofs.Counting.{among, distinct_count-push, distinct_count-nil}
+use Rattle.ar_base.proofs.Shown.{find-true}
 
 -- equal values, and the test of them
 pub same_value : (v w : Value) → is_same v w ≡ true → v ≡ w
@@ -64,10 +66,6 @@ logs-push (c ∷ bs) b v =
       | false ↦ logs-push bs b v
     ]
 
-append_nil : (xs : List ℕ) → xs ++ [] ≡ xs
-append_nil [] = refl
-append_nil (x ∷ xs) = ap (λ ys. x ∷ ys) (append_nil xs)
-
 -- a count, with one more ballot
 pub log_count-push : (bs : List Ballot) (l : ℕ) (w v : Value) → log_count (bs ++ (l, w) ∷ []) v ≡ cond (is_same w v && not (has_ballot bs (l, v))) (log_count bs v + 1) (log_count bs v)
 log_count-push bs l w v =
@@ -77,7 +75,7 @@ log_count-push bs l w v =
           distinct_count-push (map (λ b. b.0) (filter (λ b. is_same b.1 v) bs)) l
           ∙ ap (λ t. cond t (log_count bs v) (log_count bs v + 1)) (among-logs_for bs l v)
           ∙ elim (has_ballot bs (l, v)) as (λ t. cond t (log_count bs v) (log_count bs v + 1) ≡ cond (not t) (log_count bs v + 1) (log_count bs v)) [ true ↦ refl | false ↦ refl ]
-      | false ↦ ap distinct_count (append_nil (map (λ b. b.0) (filter (λ b. is_same b.1 v) bs)))
+      | false ↦ ap distinct_count (append-nil (map (λ b. b.0) (filter (λ b. is_same b.1 v) bs)))
     ]
 
 -- a new ballot for the value
@@ -106,14 +104,6 @@ log_count-none bs v none =
 pub is_some-find : {X : Type 0} (p : X → Bool) (xs : List X) → is_some (find p xs) ≡ list_any p xs
 is_some-find p [] = refl
 is_some-find p (x ∷ xs) = elim (p x) as (λ t. is_some (cond t (Some x) (find p xs)) ≡ (t || list_any p xs)) [ true ↦ refl | false ↦ is_some-find p xs ]
-
-pub find-true : {X : Type 0} (p : X → Bool) (xs : List X) (x : X) → find p xs ≡ Some x → p x ≡ true
-find-true p [] x h = absurd (cc)
-find-true p (y ∷ ys) x h =
-    elim (p y) as (λ t. p y ≡ t → cond t (Some y) (find p ys) ≡ Some x → p x ≡ true) [
-      | true ↦ λ e h. let same : y ≡ x = cc in ap p (sym same) ∙ e
-      | false ↦ λ e h. find-true p ys x h
-    ] refl h
 
 -- a wider test passes too
 pub list_any-wider : {X : Type 0} (p r : X → Bool) → ((x : X) → p x ≡ true → r x ≡ true) → (xs : List X) → list_any p xs ≡ true → list_any r xs ≡ true

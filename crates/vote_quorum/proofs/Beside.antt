@@ -7,9 +7,8 @@ use Rattle.std.specs.Cmp.{unsigned_tied}
 use Rattle.std.specs.FinSet.{len, contains, empty, remove, contains-from_list_nat, contains-empty, contains-remove, len-remove, len-empty, same_set, nat_cmp-IsAntisymmetric}
 use Rattle.std.proofs.lemmas.Cmp.{nat_cmp_total}
 use Rattle.std.proofs.lemmas.Bool.{eqb-true, eqb-false, and_parts, or_parts, not-true, cond_both, eq-eqb, or_left, or_right}
-use Rattle.std.proofs.lemmas.Map.Views.{Contains-from_any}
 use Rattle.vote_quorum.specs.Numbers.{Numbers, set_of, distinct_count, shared_count}
-use Rattle.vote_quorum.proofs.Counting.{among}
+use Rattle.vote_quorum.proofs.Counting.{among, Contains-from_among}
 use Rattle.vote_quorum.proofs.Shared.{among-filter, shared_count-filter}
 
 -- a number of the list that passes
@@ -76,10 +75,6 @@ at_most_two zs a b none =
             | false ↦ λ _. ends (eqb q a) (eqb q b)
           ] refl
 
--- a number that is found stands in the list
-stands : (xs : List ℕ) (q : ℕ) → among q xs ≡ true → Contains xs q
-stands xs q h = Contains-from_any {eq = λ a b. eqb b a} (λ x y e. sym (eqb-true y x e)) q xs h
-
 differs : (q a : ℕ) → not (eqb q a) ≡ true → q ≢ a
 differs q a h = eqb-false q a (not-true (eqb q a) h)
 
@@ -91,6 +86,6 @@ one_beside one other a b three =
           let x = one_passes (beside a b) (filter (λ x. among x other) one) found in
           let both = and_parts (among x.0 one) (among x.0 other) (sym (among-filter (λ x. among x other) x.0 one) ∙ x.1.0) in
           let apart = and_parts (not (eqb x.0 a)) (not (eqb x.0 b)) x.1.1 in
-          (x.0, (stands one x.0 both.0, stands other x.0 both.1, differs x.0 a apart.0, differs x.0 b apart.1))
+          (x.0, (Contains-from_among one x.0 both.0, Contains-from_among other x.0 both.1, differs x.0 a apart.0, differs x.0 b apart.1))
       | false ↦ λ none. absurd (let few : distinct_count (filter (λ x. among x other) one) ≤ 2 = at_most_two (filter (λ x. among x other) one) a b none in omega arith)
     ] refl

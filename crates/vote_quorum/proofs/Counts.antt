@@ -1,15 +1,13 @@
 -- Numbers below a bound that pass a test, or are in a list; and what at least q of them are.
-use Rattle.std.proofs.Common.{◌≡◌, ◌≢◌, ℕ, zero, suc, ◌+◌, ◌*◌, ◌<◌, ◌≤◌, List, [], ◌∷◌, length, get_or, refl, sym, ap, ◌∙◌, arith, Bool, true, false, cond, eqb, ◌||◌}
+use Rattle.std.proofs.Common.{◌≡◌, ◌≢◌, ℕ, zero, suc, ◌+◌, ◌*◌, ◌<◌, ◌≤◌, List, [], ◌∷◌, length, get_or, refl, ap, ◌∙◌, arith, Bool, true, false, cond, eqb, ◌||◌}
 use Rattle.std.specs.Prelude.{Contains, IsTrue}
 use Rattle.std.specs.List.{AllByRecursion, filter}
 use Rattle.std.proofs.lemmas.Bool.{eqb-true, eq-eqb, ne_eqb}
 use Rattle.std.proofs.lemmas.List.Elements.{All-contains, All-from_recursion, recursion_from_All}
-use Rattle.std.proofs.lemmas.List.Folds.{list_any_at}
-use Rattle.std.proofs.lemmas.Map.Views.{Contains-from_any}
 use Rattle.vote_quorum.specs.Numbers.{distinct_count, shared_count}
 use Rattle.ar_base.specs.Counting.{one_if}
 use Rattle.vote_quorum.specs.Counted.{count_below, AtLeast, Shares}
-use Rattle.vote_quorum.proofs.Counting.{among, distinct_count-cons, distinct_count-nil}
+use Rattle.vote_quorum.proofs.Counting.{among, distinct_count-cons, distinct_count-nil, Contains-from_among}
 use Rattle.vote_quorum.proofs.Below.{count_below-same, count_below-none, distinct_count-below}
 use Rattle.vote_quorum.proofs.Shared.{shared_count-filter, three_shared, not_among}
 use Rattle.vote_quorum.proofs.Beside.{one_beside}
@@ -58,12 +56,6 @@ count_below-among n [] = omega (arith, count_below-none n)
 count_below-among n (x ∷ xs) = omega (arith, count_below-either n (λ k. eqb x k) (λ k. among k xs), count_below-one n x, count_below-among n xs)
 
 -- ---- lists of numbers
-
-pub Contains-from_among : (xs : List ℕ) (k : ℕ) → among k xs ≡ true → Contains xs k
-Contains-from_among xs k h = Contains-from_any {eq = λ a b. eqb b a} (λ x y e. sym (eqb-true y x e)) k xs h
-
-pub among-from_Contains : (xs : List ℕ) (k : ℕ) → Contains xs k → among k xs ≡ true
-among-from_Contains xs k there = list_any_at (λ y. eqb y k) xs there.0 k there.1 (eq-eqb _ k there.2)
 
 -- what a list shares with itself
 pub shared_count-itself : (xs : List ℕ) → shared_count xs xs ≡ distinct_count xs

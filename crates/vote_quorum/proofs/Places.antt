@@ -13,6 +13,7 @@ use Rattle.vote_quorum.specs.Ballots.{Ballot, is_same, has_ballot, log_count}
 use Rattle.vote_quorum.specs.Marks.{values_of, value_at, ballots_of}
 use Rattle.vote_quorum.proofs.Counting.{distinct_count-le}
 use Rattle.vote_quorum.proofs.Adding.{same_value, is_same-from, other_value}
+use Rattle.ar_base.proofs.Shown.{cond_none}
 
 -- the value that stands past the last place
 abbrev pub nobody : Value
@@ -41,12 +42,8 @@ all_fail p (x ∷ xs) h =
 -- a value that is not found is none of those kept
 pub not_found : (v : Value) (cs : List Candidate) → position (λ c. is_same c.value v) cs ≡ None → All (λ w. w ≢ v) (values_of cs)
 not_found v cs h =
-    let past : ltb (position_or_len (λ c. is_same c.value v) cs) (length cs) ≡ false = no_place (ltb (position_or_len (λ c. is_same c.value v) cs) (length cs)) (position_or_len (λ c. is_same c.value v) cs) h in
+    let past : ltb (position_or_len (λ c. is_same c.value v) cs) (length cs) ≡ false = cond_none (ltb (position_or_len (λ c. is_same c.value v) cs) (length cs)) (position_or_len (λ c. is_same c.value v) cs) h in
     All-map (λ w. w ≢ v) (λ c. c.value) cs (All-from_recursion (λ c. c.value ≢ v) cs (apart cs (all_fail (λ c. is_same c.value v) cs past))) where
-      no_place : (b : Bool) (n : ℕ) → cond b (Some n) None ≡ None → b ≡ false
-      no_place true n h = absurd (cc)
-      no_place false n h = refl
-
       apart : (cs : List Candidate) → AllByRecursion (λ c. is_same c.value v ≡ false) cs → AllByRecursion (λ c. c.value ≢ v) cs
       apart [] all = tt
       apart (c ∷ cs) all = ((λ e. absurd (let same : is_same c.value v ≡ true = is_same-from c.value v e in let other : is_same c.value v ≡ false = all.0 in cc)), apart cs all.1)

@@ -13,10 +13,10 @@ use Rattle.vote_quorum.specs.Numbers.{distinct_count}
 use Rattle.ar_base.specs.Counting.{one_if}
 use Rattle.vote_quorum.specs.Counted.{count_below, AtLeast}
 use Rattle.vote_quorum.specs.Statuses.{Status, logs_of, AreStatuses, is_for, report_count, Excludes, IsMostReported}
-use Rattle.vote_quorum.proofs.Counting.{among, distinct_count-le}
+use Rattle.vote_quorum.proofs.Counting.{among, distinct_count-le, Contains-from_among}
 use Rattle.vote_quorum.proofs.Below.{count_below-both, distinct_count-below}
 use Rattle.vote_quorum.proofs.Shared.{distinct_count-distinct}
-use Rattle.vote_quorum.proofs.Counts.{count_below-le, count_below-wider, count_below-either, count_below-among, Contains-from_among, at_least_from_count}
+use Rattle.vote_quorum.proofs.Counts.{count_below-le, count_below-wider, count_below-either, count_below-among, at_least_from_count}
 use Rattle.vote_quorum.proofs.Reported.{none_more, one_as_often}
 
 -- each log that has a status is counted once

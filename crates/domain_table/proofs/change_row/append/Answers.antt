@@ -1,10 +1,11 @@
 use Rattle.std.proofs.Common.{◌≡◌, ◌<◌, ◌+◌, ◌++◌, ◌∷◌, [], length, get_or, take, drop, refl, sym, ap, ◌∙◌, arith, length-append, None}
+use Rattle.std.proofs.lemmas.List.{get_or_default}
 use Rattle.std.specs.FinMap.{from_entries}
 use Rattle.domain_table.specs.declared.row.Row.{Row}
 use Rattle.domain_table.specs.declared.row.Marks.{Marks}
 use Rattle.domain_table.specs.Rows.{data_in, data_of, marked, marks_of, with_row}
 use Rattle.domain_table.proofs.Newest.{value-push}
-use Rattle.domain_table.proofs.Places.{get_data, length_data, any_default}
+use Rattle.domain_table.proofs.Places.{get_data, length_data}
 use Rattle.domain_table.proofs.ChangedRow.{marks_parts, row_changed}
 use Rattle.domain_table.proofs.change_row.append.Goals as goal
 
@@ -21,7 +22,7 @@ returns-clause-ok c = λ d.
     let within : c.args.i < length (data_in c.args.rows.now.items) = omega (arith, c.requires.place, length_data c.args.rows.now.items) in
     let same : data_of (get_or c.make_room.new.rows.items c.args.i c.index.result.now) ≡ get_or (data_in c.args.rows.now.items) c.args.i d =
     sym (get_data c.make_room.new.rows.items c.args.i c.index.result.now d place) ∙ ap (λ xs. get_or xs c.args.i d) c.make_room.ensures.same in
-    let written : c.index_mut.result.now ≡ get_or c.make_room.new.rows.items c.args.i c.index.result.now = c.index_mut.ensures.value ∙ any_default c.make_room.new.rows.items c.args.i c.index_mut.result.now c.index.result.now place in
+    let written : c.index_mut.result.now ≡ get_or c.make_room.new.rows.items c.args.i c.index.result.now = c.index_mut.ensures.value ∙ get_or_default c.make_room.new.rows.items c.args.i c.index_mut.result.now c.index.result.now place in
     let marks : Marks = record { key = c.index.result.now.marks.key; value = c.newest_value.result; pending_key = c.index.result.now.marks.pending_key; pending_value = None } in
     row_changed c.args.rows.now.items c.make_room.new.rows.items c.parts.result.0.now c.parts.result.1.now c.retrie.new.trie c.args.i c.index.result.now c.grow.new.row
     ((get_or (data_in c.args.rows.now.items) c.args.i d).chain ++ c.args.change ∷ []) None marks place c.make_room.ensures.same c.requires.are

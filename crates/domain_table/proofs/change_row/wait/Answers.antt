@@ -1,9 +1,10 @@
 use Rattle.std.proofs.Common.{◌≡◌, ◌<◌, ◌+◌, ◌++◌, ◌∷◌, length, get_or, take, drop, refl, sym, ap, ◌∙◌, arith, Some}
+use Rattle.std.proofs.lemmas.List.{get_or_default}
 use Rattle.std.specs.FinMap.{from_entries}
 use Rattle.domain_table.specs.declared.row.Row.{Row}
 use Rattle.domain_table.specs.declared.row.Marks.{Marks}
 use Rattle.domain_table.specs.Rows.{data_in, data_of, marked, marks_of, with_row}
-use Rattle.domain_table.proofs.Places.{get_data, length_data, any_default}
+use Rattle.domain_table.proofs.Places.{get_data, length_data}
 use Rattle.domain_table.proofs.ChangedRow.{marks_parts, row_changed}
 use Rattle.domain_table.proofs.change_row.wait.Goals as goal
 
@@ -19,7 +20,7 @@ returns-clause-ok c = λ d.
     let within : c.args.i < length (data_in c.args.rows.now.items) = omega (arith, c.requires.place, length_data c.args.rows.now.items) in
     let same : data_of (get_or c.args.rows.now.items c.args.i c.index.result.now) ≡ get_or (data_in c.args.rows.now.items) c.args.i d = sym (get_data c.args.rows.now.items c.args.i c.index.result.now d c.requires.place) in
     let old = c.requires.are.marked c.args.i d within in
-    let written : c.index_mut.result.now ≡ get_or c.args.rows.now.items c.args.i c.index.result.now = c.index_mut.ensures.value ∙ any_default c.args.rows.now.items c.args.i c.index_mut.result.now c.index.result.now c.requires.place in
+    let written : c.index_mut.result.now ≡ get_or c.args.rows.now.items c.args.i c.index.result.now = c.index_mut.ensures.value ∙ get_or_default c.args.rows.now.items c.args.i c.index_mut.result.now c.index.result.now c.requires.place in
     let marks : Marks = record { key = c.index.result.now.marks.key; value = c.index.result.now.marks.value; pending_key = c.index.result.now.marks.pending_key; pending_value = Some c.waiting_value.result } in
     row_changed c.args.rows.now.items c.args.rows.now.items c.parts.result.0.now c.parts.result.1.now c.retrie_pending.new.trie c.args.i c.index.result.now c.hold.new.row
     (get_or (data_in c.args.rows.now.items) c.args.i d).chain (Some (record { change = c.args.change; since = c.args.since })) marks c.requires.place refl c.requires.are

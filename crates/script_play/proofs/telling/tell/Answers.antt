@@ -1,6 +1,7 @@
 -- One happening more is told, or breaks off.
 use Rattle.std.proofs.Common.{rules, ◌+◌, drop, sym, subst}
-use Rattle.script_play.proofs.Written.{TellsOn, drop-item, drop-none, tells-broken, tells-more, tells-none}
+use Rattle.std.proofs.lemmas.List.{drop_all}
+use Rattle.script_play.proofs.Written.{TellsOn, drop-item, tells-broken, tells-more, tells-none}
 use Rattle.script_play.specs.declared.counts.Counts.{Counts}
 use Rattle.script_play.proofs.telling.tell.Goals as goal
 
@@ -22,11 +23,11 @@ loop-happening-preserved g c =
 pub returns-clause-written : goal.returns-clause-written
 returns-clause-written g c =
     let here = c.loop-happening in
-    let none = drop-none c.args.said.now here.happening-index c.loop-happening-test.false in
+    let none = drop_all here.happening-index c.args.said.now c.loop-happening-test.false in
     (tells-none g.K.Sink.faults g.K.Sink.wrote c.args.sink.now here.sink c.args.counts.now here.counts c.args.said.now _ here.invariant none).0
 
 pub returns-clause-counted : goal.returns-clause-counted
 returns-clause-counted g c =
     let here = c.loop-happening in
-    let none = drop-none c.args.said.now here.happening-index c.loop-happening-test.false in
+    let none = drop_all here.happening-index c.args.said.now c.loop-happening-test.false in
     (tells-none g.K.Sink.faults g.K.Sink.wrote c.args.sink.now here.sink c.args.counts.now here.counts c.args.said.now _ here.invariant none).1

@@ -1,9 +1,11 @@
 use Rattle.std.proofs.Common.{rules, ◌≡◌, [], ◌∷◌, ◌++◌, Ok}
 use Rattle.lms_tree.specs.Key.{public_of}
 use Rattle.authority_core.specs.RollRows.{roll_row}
-use Rattle.authority_core.proofs.Few.{filled-few, rolling-few}
+use Rattle.authority_core.specs.State.{most_sent}
+use Rattle.authority_core.proofs.Few.{rolling-few}
 use Rattle.authority_core.proofs.Signing.{rolled-signs}
 use Rattle.authority_core.proofs.authority.Authority.roll.Goals as goal
+use Rattle.ar_message.proofs.Filled.{filled-few}
 
 pub fill-requires : goal.fill-requires
 fill-requires g c =
@@ -20,5 +22,5 @@ invariant_of-self-2 g c =
 pub returns-clause-few : goal.returns-clause-few
 returns-clause-few g c =
     let row : roll_row c.self.inside.core.state (public_of c.in_ok-key.key) ≡ Ok (c.roll.new.self.state, c.in_ok-unsigned.unsigned) = search rules in
-    filled-few c.add_reserved.new.self.keys c.in_ok-unsigned.unsigned c.fill.result
+    filled-few most_sent c.add_reserved.new.self.keys c.in_ok-unsigned.unsigned c.fill.result
     (rolling-few c.self.inside.core.state (public_of c.in_ok-key.key) c.roll.new.self.state c.in_ok-unsigned.unsigned row) c.fill.ensures

@@ -1,9 +1,11 @@
 use Rattle.std.proofs.Common.{is_none}
 use Rattle.ar_message.specs.Messages.{message_in}
+use Rattle.ar_message.proofs.Filled.{filled-few}
 use Rattle.owner_check.specs.declared.answer.Outcome.TheVariants.{Yes}
-use Rattle.authority_core.proofs.Few.{filled-few, row-few}
+use Rattle.authority_core.proofs.Few.{row-few}
 use Rattle.authority_core.proofs.Signing.{keys-stay, row-signs}
 use Rattle.authority_core.proofs.authority.Authority.step.Goals as goal
+use Rattle.authority_core.specs.State.{most_sent}
 
 pub fill-requires : goal.fill-requires
 fill-requires g c =
@@ -18,6 +20,6 @@ invariant_of-self-2 g c =
 
 pub returns-clause-few : goal.returns-clause-few
 returns-clause-few g c =
-    filled-few c.self.inside.ring.keys c.in_ok-unsigned.unsigned c.fill.result
+    filled-few most_sent c.self.inside.ring.keys c.in_ok-unsigned.unsigned c.fill.result
     (row-few c.self.inside.core.state (is_none c.self.inside.core.check) (message_in c.args.bytes.now) Yes c.step.new.self.state c.in_ok-unsigned.unsigned c.in_ok-unsigned.ensures.row)
     c.fill.ensures

@@ -1,7 +1,7 @@
 use Rattle.authority_core.specs.EndorseRow.{asked_of, outcome_by}
-use Rattle.authority_core.proofs.Keeping.{digest-fits}
 use Rattle.authority_core.proofs.Rows.{endorsing-keeps, steps-keep}
 use Rattle.authority_core.proofs.state.AuthorityState.endorse.Goals as goal
+use Rattle.ar_cert.proofs.Digests.{digest-fits}
 
 pub invariant_of-self : goal.invariant_of-self
 invariant_of-self g c =

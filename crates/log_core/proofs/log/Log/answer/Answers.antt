@@ -1,7 +1,9 @@
 use Rattle.log_core.specs.Inputs.{input_of}
-use Rattle.log_core.proofs.Few.{filled-few, row-few}
+use Rattle.log_core.specs.State.{most_sent}
+use Rattle.log_core.proofs.Few.{row-few}
 use Rattle.log_core.proofs.Keyed.{plain-signs}
 use Rattle.log_core.proofs.log.Log.answer.Goals as goal
+use Rattle.ar_message.proofs.Filled.{filled-few}
 
 pub fill-requires : goal.fill-requires
 fill-requires c =
@@ -15,6 +17,6 @@ invariant_of-self-2 c =
 
 pub returns-clause-few : goal.returns-clause-few
 returns-clause-few c =
-    filled-few c.self.inside.ring.keys c.in_ok-unsigned.unsigned c.fill.result
+    filled-few most_sent c.self.inside.ring.keys c.in_ok-unsigned.unsigned c.fill.result
     (row-few c.self.inside.core (input_of c.args.input.now) (record { unsigned = c.in_ok-unsigned.unsigned; after = c.step.new.self }) c.in_ok-unsigned.ensures)
     c.fill.ensures

@@ -3,10 +3,11 @@ use Rattle.lms_tree.specs.Key.{public_of}
 use Rattle.lms_tree.specs.declared.public_key.LmsPublic.{LmsPublic}
 use Rattle.log_core.specs.Rolling.{rolling_row}
 use Rattle.log_core.specs.Row.{IsInput}
-use Rattle.log_core.specs.State.{rolls}
-use Rattle.log_core.proofs.Few.{filled-few, rolling-few}
+use Rattle.log_core.specs.State.{rolls, most_sent}
+use Rattle.log_core.proofs.Few.{rolling-few}
 use Rattle.log_core.proofs.Keyed.{rolled-signs}
 use Rattle.log_core.proofs.log.Log.roll.Goals as goal
+use Rattle.ar_message.proofs.Filled.{filled-few}
 
 pub fill-requires : goal.fill-requires
 fill-requires c =
@@ -27,5 +28,5 @@ invariant_of-self-2 c =
 pub returns-clause-few : goal.returns-clause-few
 returns-clause-few c =
     let row : rolling_row c.self.inside.core (public_of c.in_ok-key.key) ≡ Ok (record { unsigned = c.in_ok-unsigned.unsigned; after = c.roll.new.self }) = search rules in
-    filled-few c.add_reserved.new.self.keys c.in_ok-unsigned.unsigned c.fill.result
+    filled-few most_sent c.add_reserved.new.self.keys c.in_ok-unsigned.unsigned c.fill.result
     (rolling-few c.self.inside.core (public_of c.in_ok-key.key) (record { unsigned = c.in_ok-unsigned.unsigned; after = c.roll.new.self }) row) c.fill.ensures

@@ -8,9 +8,10 @@ use Rattle.log_core.specs.Kept.{IsKeptCore}
 use Rattle.log_sending.specs.Sending.{none_composed, with_drafts}
 use Rattle.log_core.specs.State.{CoreState}
 use Rattle.log_sending.specs.declared.refusal.LogRefusal.TheVariants as refusals
-use Rattle.log_core.proofs.Closed.{ballot-member, ballot-refused, ballot-step, core-of, made}
+use Rattle.log_core.proofs.Closed.{ballot-member, ballot-refused, ballot-step}
 use Rattle.log_core.proofs.KeptRows.{kept-ballot_row}
 use Rattle.log_core.proofs.log_core.LogCore.ballot.Goals as goal
+use Rattle.log_core.proofs.Replies.{core-of, made}
 
 pub returns-in-Err : goal.returns-in-Err
 returns-in-Err c =

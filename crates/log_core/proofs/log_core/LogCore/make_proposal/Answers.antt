@@ -6,9 +6,9 @@ use Rattle.log_sending.specs.Closings.{closing_drafts}
 use Rattle.log_core.specs.Proposing.{proposal_draft, proposing_judged, proposing_row}
 use Rattle.log_sending.specs.Sending.{none_composed, with_drafts}
 use Rattle.log_core.specs.State.{CoreState}
-use Rattle.log_core.proofs.Closed.{core-of, made}
 use Rattle.log_core.proofs.Proposals.{may-propose, propose-keeps, propose-made}
 use Rattle.log_core.proofs.log_core.LogCore.make_proposal.Goals as goal
+use Rattle.log_core.proofs.Replies.{core-of, made}
 
 pub propose-requires-clause-turn : goal.propose-requires-clause-turn
 propose-requires-clause-turn c =

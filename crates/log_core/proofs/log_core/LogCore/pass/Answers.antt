@@ -5,9 +5,10 @@ use Rattle.log_sending.specs.Closings.{closing_drafts}
 use Rattle.log_core.specs.Passing.{passing_judged, passing_row, status_drafts}
 use Rattle.log_sending.specs.Sending.{none_composed, with_drafts}
 use Rattle.log_core.specs.State.{CoreState}
-use Rattle.log_core.proofs.Closed.{core-of, made, passing-may, passing-refused, passing-step, stated-closing}
+use Rattle.log_core.proofs.Closed.{passing-may, passing-refused, passing-step, stated-closing}
 use Rattle.log_core.proofs.KeptRows.{kept-passing}
 use Rattle.log_core.proofs.log_core.LogCore.pass.Goals as goal
+use Rattle.log_core.proofs.Replies.{core-of, made}
 
 pub returns-in-Err : goal.returns-in-Err
 returns-in-Err c = passing-refused c.args.self.now c.in-Err.refusal (inr (sym c.in-Err.ensures))

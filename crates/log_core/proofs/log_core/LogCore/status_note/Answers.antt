@@ -8,9 +8,10 @@ use Rattle.log_core.specs.Kept.{IsKeptCore}
 use Rattle.log_sending.specs.Sending.{none_composed, with_drafts}
 use Rattle.log_core.specs.State.{CoreState}
 use Rattle.log_sending.specs.declared.refusal.LogRefusal.TheVariants as refusals
-use Rattle.log_core.proofs.Closed.{status-member, status-refused, status-step, core-of, made}
+use Rattle.log_core.proofs.Closed.{status-member, status-refused, status-step}
 use Rattle.log_core.proofs.KeptRows.{kept-status_row}
 use Rattle.log_core.proofs.log_core.LogCore.status_note.Goals as goal
+use Rattle.log_core.proofs.Replies.{core-of, made}
 
 pub returns-in-Err : goal.returns-in-Err
 returns-in-Err c =
