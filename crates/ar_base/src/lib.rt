@@ -18,5 +18,3 @@ mod items;
 pub mod laws;
 mod share;
 mod split_fault;
-#[cfg(test)]
-mod tests;

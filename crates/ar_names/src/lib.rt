@@ -10,8 +10,6 @@ mod key;
 pub mod laws;
 mod name;
 mod rule;
-#[cfg(test)]
-mod tests;
 mod view;
 
 pub use fault::NameFault;

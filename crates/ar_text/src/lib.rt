@@ -8,5 +8,3 @@ pub use part::Part;
 
 mod appending;
 mod part;
-#[cfg(test)]
-mod tests;

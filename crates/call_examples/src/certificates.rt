@@ -1,4 +1,4 @@
-use ar_cert::{Cert, CertFault, CertView, Change};
+use ar_cert::{Cert, CertView, Change};
 use std::alloc::Global;
 use std::test::Fail;
 
@@ -21,119 +21,12 @@ fn digest() -> [u8; 32] {
     ]
 }
 
-/// Where the fields of the certificate begin.
-fn certificate_fields() -> &'static [usize] {
-    &[
-        0, 1, 2, 11, 19, 51, 107, 108, 109, 110, 114, 122, 123, 125, 127, 129,
-    ]
-}
-
-/// Where the fields of the change begin.
-fn change_fields() -> &'static [usize] {
-    &[
-        0, 2, 132, 133, 135, 137, 140, 142, 144, 146, 148, 149, 150, 152,
-    ]
-}
-
-/// The fault of a text that was cut to this length: at the last field that begins in it or behind it.
-fn fault_of_cut(fields: &[usize], len: usize) -> Option<CertFault> {
-    let mut place = 0;
-    for start in fields {
-        if *start <= len {
-            place = *start;
-        }
-    }
-    Some(CertFault::Form(place))
-}
-
 /// The text of the change.
 fn change_text(alloc: Global) -> Result<Vec<u8>, Fail> {
     let mut text = [0, 130].to_vec(alloc)?;
     text.extend_from_slice(certificate())?;
     text.extend_from_slice(endorsements())?;
     Ok(text)
-}
-
-/// The text with one byte changed.
-fn changed(alloc: Global, text: &[u8], at: usize, byte: u8) -> Result<Vec<u8>, Fail> {
-    let mut copy = text.to_vec(alloc)?;
-    if let Some(old) = copy.get_mut(at) {
-        *old = byte;
-    }
-    Ok(copy)
-}
-
-/// The text with one byte behind it.
-fn longer(alloc: Global, text: &[u8]) -> Result<Vec<u8>, Fail> {
-    let mut copy = text.to_vec(alloc)?;
-    copy.push(0)?;
-    Ok(copy)
-}
-
-#[test]
-fn a_cut_certificate_fails_at_the_field_that_is_cut(rt: HostRuntime) {
-    let text = certificate();
-    for len in 0..text.len() {
-        let fault = cert_fault(rt.alloc(), &text[..len]);
-        assert_eq!(rt; fault, fault_of_cut(certificate_fields(), len), "at {len}");
-    }
-}
-
-#[test]
-fn a_cut_change_fails_at_the_field_that_is_cut(rt: HostRuntime) -> Result<(), Fail> {
-    let text = change_text(rt.alloc())?;
-    for len in 0..text.len() {
-        let fault = change_fault(rt.alloc(), &text[..len]);
-        assert_eq!(rt; fault, fault_of_cut(change_fields(), len), "at {len}");
-    }
-    Ok(())
-}
-
-#[test]
-fn a_wrong_field_fails_at_its_first_byte(rt: HostRuntime) -> Result<(), Fail> {
-    let table = [
-        (0, 2, 0),
-        (1, 0, 1),
-        (1, 254, 1),
-        (4, b'-', 2),
-        (54, 10, 51),
-        (107, 3, 107),
-        (109, 2, 109),
-        (122, 17, 122),
-        (126, 0, 125),
-        (129, 2, 129),
-    ];
-    for (at, byte, place) in table {
-        let text = changed(rt.alloc(), certificate(), at, byte)?;
-        let fault = cert_fault(rt.alloc(), &text);
-        assert_eq!(rt; fault, Some(CertFault::Form(place)), "at {at}");
-    }
-    let text = longer(rt.alloc(), certificate())?;
-    let fault = cert_fault(rt.alloc(), &text);
-    assert_eq!(rt; fault, Some(CertFault::Form(130)));
-    Ok(())
-}
-
-#[test]
-fn a_wrong_field_of_a_change_fails_at_its_first_byte(rt: HostRuntime) -> Result<(), Fail> {
-    let change = change_text(rt.alloc())?;
-    let table = [
-        (1, 129, 131),
-        (1, 131, 132),
-        (0, 255, 2),
-        (132, 9, 132),
-        (141, 0, 140),
-        (149, 2, 149),
-    ];
-    for (at, byte, place) in table {
-        let text = changed(rt.alloc(), &change, at, byte)?;
-        let fault = change_fault(rt.alloc(), &text);
-        assert_eq!(rt; fault, Some(CertFault::Form(place)), "at {at}");
-    }
-    let text = longer(rt.alloc(), &change)?;
-    let fault = change_fault(rt.alloc(), &text);
-    assert_eq!(rt; fault, Some(CertFault::Form(154)));
-    Ok(())
 }
 
 /// The text and the digest of a copy of a certificate.
@@ -175,29 +68,19 @@ fn change_again(alloc: Global, text: &[u8]) -> Result<Vec<u8>, Fail> {
     }
 }
 
-/// Why a text is no certificate.
-fn cert_fault(alloc: Global, text: &[u8]) -> Option<CertFault> {
-    Cert::read(alloc, text).err()
-}
-
-/// Why a text is no change.
-fn change_fault(alloc: Global, text: &[u8]) -> Option<CertFault> {
-    Change::read(alloc, text).err()
-}
-
-/// The same certificate, whose policy has version 2 and this wait.
-fn waiting(alloc: Global, wait: [u8; 2]) -> Result<Vec<u8>, Fail> {
+/// The same certificate, whose policy has version 2 and a wait of 300.
+fn waiting(alloc: Global) -> Result<Vec<u8>, Fail> {
     let mut text = Vec::from_slice(alloc, certificate())?;
     text.pop();
     if let Some(version) = text.get_mut(107) {
         *version = 2;
     }
-    text.extend_from_slice(&wait)?;
+    text.extend_from_slice(&[1, 44])?;
     text.push(0)?;
     Ok(text)
 }
 
-/// The digest of the one with a wait of 300.
+/// Its digest.
 fn waiting_digest() -> [u8; 32] {
     [
         0x0b, 0xa2, 0x82, 0x94, 0x42, 0xd3, 0x11, 0x54, 0x33, 0x44, 0x9b, 0x0e, 0x10, 0xd3, 0x9a,
@@ -216,7 +99,7 @@ fn objecting(alloc: Global) -> Result<Vec<u8>, Fail> {
 
 #[test]
 fn certificates_are_read_and_written_again(rt: HostRuntime) -> Result<(), Fail> {
-    let waiting = waiting(rt.alloc(), [1, 44])?;
+    let waiting = waiting(rt.alloc())?;
     for (text, digest) in [(certificate(), digest()), (&waiting, waiting_digest())] {
         let (again, found) = cert_again(rt.alloc(), text)?;
         assert_eq!(rt; again.as_slice(), text);
@@ -230,16 +113,6 @@ fn changes_are_read_and_written_again(rt: HostRuntime) -> Result<(), Fail> {
     for text in [change_text(rt.alloc())?, objecting(rt.alloc())?] {
         let again = change_again(rt.alloc(), &text)?;
         assert_eq!(rt; again.as_slice(), text.as_slice());
-    }
-    Ok(())
-}
-
-#[test]
-fn a_wait_is_from_1_to_10000(rt: HostRuntime) -> Result<(), Fail> {
-    for wait in [[0, 0], [39, 17]] {
-        let text = waiting(rt.alloc(), wait)?;
-        let fault = cert_fault(rt.alloc(), &text);
-        assert_eq!(rt; fault, Some(CertFault::Form(129)), "{wait:?}");
     }
     Ok(())
 }
@@ -259,7 +132,7 @@ fn numbers_of(view: &CertView) -> [u64; 7] {
 
 #[test]
 fn a_certificate_is_viewed_in_place(rt: HostRuntime) -> Result<(), Fail> {
-    let waiting = waiting(rt.alloc(), [1, 44])?;
+    let waiting = waiting(rt.alloc())?;
     for (text, wait) in [(certificate(), 0), (&waiting, 300)] {
         let view = CertView::read(text).ok_or("a certificate")?;
         assert_eq!(rt; numbers_of(&view), [0, 2, 1, 10, 1000, wait, 0]);

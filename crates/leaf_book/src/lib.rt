@@ -22,5 +22,3 @@ pub mod laws;
 mod leaf;
 mod seat;
 mod steps;
-#[cfg(test)]
-mod tests;

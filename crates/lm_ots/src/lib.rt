@@ -19,5 +19,3 @@ pub mod laws;
 mod ots_type;
 mod secret;
 mod signing;
-#[cfg(test)]
-mod tests;

@@ -59,10 +59,6 @@ const AUTHORITY_KEYS: [&str; 3] = [
 const CONFIRMATION: &str =
     "0c010009000000000000000509612e6578616d706c65ae4dff0d512897a3519da0bdf5ef62ac7ea52798eeef77665bb5f7ead9286f0000820109612e6578616d706c650000000000000000000000000000000000000000000000000000000000000000000000000000000000000005000000041111111111111111111111111111111122222222222222222222222222222222222222222222222222222222222222220102010000000a00000000000003e803000000010002000000";
 
-// What is accepted of it.
-const ACCEPTED: &[u8] =
-    b"accepted a.example serial 0 epoch 5 root ae4dff0d512897a3519da0bdf5ef62ac7ea52798eeef77665bb5f7ead9286f00 certificate acd2cfbebbb42a1661c259c2f778d9facaf5ede783e6b16986efb2176602584e\n";
-
 // Appends a party's number and its signature of generation 0, in which all bytes that are free have this value.
 fn sign(text: &mut String, number: &str, byte: &str) -> Result<(), AllocError> {
     text.push_str(number)?;
@@ -199,46 +195,6 @@ fn each_write_that_fails_is_a_fault_of_the_sink(rt: HostRuntime) -> Result<(), F
     let (status, sink) = run(rt.alloc(), &["nothing"], "", 1, &[], &[], 6)?;
     assert_eq!(rt; status, 5);
     assert_eq!(rt; sink.written(), b"usage:".as_slice());
-    Ok(())
-}
-
-#[test]
-fn short_reads_give_the_same_answer(rt: HostRuntime) -> Result<(), Fail> {
-    // The leaf, the status and the answer: with the types 5 and 3 there are 32 leaves.
-    let cases: [(&str, u8, &[u8]); 3] = [
-        ("00000000", 0, b"valid\n"),
-        ("00000020", 1, b"invalid 4\n"),
-        ("0000000g", 3, b"line 3: field 0\n"),
-    ];
-    for (leaf, status, answer) in cases {
-        let input = three_lines(rt.alloc(), leaf)?;
-        for chunk in [1, 7, 5000] {
-            let (ended, sink) = run(rt.alloc(), &["sig"], input.as_str(), chunk, &[], &[], 100)?;
-            assert_eq!(rt; ended, status, "leaf {leaf} by {chunk}");
-            assert_eq!(rt; sink.written(), answer, "leaf {leaf} by {chunk}");
-        }
-    }
-    Ok(())
-}
-
-#[test]
-fn a_confirmation_is_judged(rt: HostRuntime) -> Result<(), Fail> {
-    // The epoch in which it is asked for, the status and the answer: it is of epoch 5, and 4 may have passed.
-    let cases: [(&str, u8, &[u8]); 5] = [
-        ("5", 0, ACCEPTED),
-        ("9", 0, ACCEPTED),
-        ("10", 1, b"refused 9\n"),
-        ("4", 1, b"refused 8\n"),
-        ("09", 3, b"line 10: field 1\n"),
-    ];
-    for (now, status, answer) in cases {
-        let input = inquiry(rt.alloc(), now)?;
-        let (ended, sink) = run(rt.alloc(), &["check"], input.as_str(), 5000, &[], &[], 200)?;
-        assert_eq!(rt; ended, status, "now {now}");
-        assert_eq!(rt; sink.written(), answer, "now {now}");
-        let quiet = quiet_run(rt.alloc(), "check", input.as_str())?;
-        assert_eq!(rt; quiet, (status, answer.len() as u64), "now {now}");
-    }
     Ok(())
 }
 

@@ -14,5 +14,3 @@ pub use server::Server;
 mod connection;
 pub mod laws;
 mod server;
-#[cfg(test)]
-mod tests;

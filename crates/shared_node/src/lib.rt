@@ -26,5 +26,3 @@ mod node;
 mod seat;
 mod shared;
 mod steps;
-#[cfg(test)]
-mod tests;

@@ -4,4 +4,3 @@ pub mod Tested
 pub mod Lands
 pub mod Bind
 pub mod Accepted
-pub mod TestTables

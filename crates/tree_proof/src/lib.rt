@@ -16,7 +16,3 @@ mod kept;
 pub mod laws;
 mod make;
 mod path;
-#[cfg(test)]
-mod table_tests;
-#[cfg(test)]
-mod tests;

@@ -1,0 +1,10 @@
+//! Tests of what many threads share: of leaves that are drawn, of a core that is asked, and of a server that answers challenges.
+//! They stand here so that the crates of these are proved once. There is nothing to call.
+#![tactic(auto)]
+
+#[cfg(test)]
+mod leaves;
+#[cfg(test)]
+mod nodes;
+#[cfg(test)]
+mod servers;
