@@ -39,7 +39,8 @@ use Rattle.ar_world.specs.Founding.{authorities_line, dishonest_line, honest_key
 use Rattle.ar_founding.specs.Founding.{genesis_of}
 use Rattle.ar_founding.specs.FirstKeys.{key_made, keys_made}
 use Rattle.ar_nodes.specs.Parties.{leaves_of}
-use Rattle.ar_world.specs.Judging.{judge_line, judged_number, said_of}
+use Rattle.report_text.specs.Verdicts.{said_of}
+use Rattle.ar_world.specs.Judging.{judge_line, judged_number}
 use Rattle.ar_world.specs.Learning.{learn_line, refused_by}
 use Rattle.client_rule.specs.Notes.{note_of}
 use Rattle.ar_world.specs.Logs.{log_answers, log_rolls, log_steps}

@@ -7,10 +7,9 @@ use Rattle.ar_statement.specs.declared.party.Role.TheVariants as role
 use Rattle.client_rule.specs.declared.judgement.Judgement.{Judgement}
 use Rattle.client_rule.specs.declared.judgement.Judgement.TheVariants as judgement
 use Rattle.report_text.specs.declared.happening.Happening.TheVariants.{Judged}
-use Rattle.report_text.specs.declared.happening.Said.{Said}
-use Rattle.report_text.specs.declared.happening.Said.TheVariants as said
 use Rattle.report_text.specs.declared.happening.Target.{Target}
 use Rattle.report_text.specs.declared.happening.Target.TheVariants.{Logs, Nobody, One}
+use Rattle.report_text.specs.Verdicts.{said_of}
 use Rattle.ar_world.specs.Finding.{Effect, message_at}
 use Rattle.ar_nodes.specs.Finding.{named}
 use Rattle.ar_nodes.specs.Pool.{Pooled}
@@ -46,13 +45,7 @@ abbrev pub judged_number : World → Option ℕ → Option ℕ
 judged_number w (Some message) = Some message
 judged_number w None = newest_from 1 w.pool
 
--- ---- what is said
-
--- what is said of a name, as it is printed
-abbrev pub said_of : List ℕ → Judgement → Said
-said_of name (judgement.Accepted certificate digest epoch root) = said.Accepted name certificate.serial epoch root digest
-said_of name (judgement.Absent epoch root) = said.Absent name epoch root
-said_of name (judgement.Refused check) = said.Refused check
+-- ---- what the client holds
 
 -- the client acts on it: there is a certificate, or it is shown that there is none
 abbrev pub is_accepted : Judgement → Bool

@@ -1,42 +1,23 @@
 -- What honest parties and clients of a world hold, of which the theorem speaks; and which messages and steps are told of it.
-use Rattle.std.specs.Prelude.{◌≡◌, ℕ, List, All, map, nat_le, true, Option, Some}
-use Rattle.std.specs.List.{filter_map}
+use Rattle.std.specs.Prelude.{◌≡◌, ℕ, List, All, nat_le, true, Option, Some}
 use Rattle.std.specs.Option.{option_map}
 use Rattle.ar_base.specs.Bytes.{AreBytes}
-use Rattle.ar_council.specs.Council.{council_of}
 use Rattle.ar_safety.specs.Held.{Held}
-use Rattle.authority_core.specs.Honest.{HonestAuthority}
-use Rattle.epoch_log.specs.Honest.{HonestLog}
 use Rattle.party_keys.specs.Directory.{IsDirectory}
 use Rattle.ar_world.specs.Finding.{authority_at, log_at, message_at}
+use Rattle.ar_records.specs.Records.{AuthorityKeepsRecord, LogKeepsRecord, held_by}
 use Rattle.ar_world.specs.Founding.{place_of}
 use Rattle.ar_nodes.specs.Parties.{AuthorityNode, LogNode}
 use Rattle.ar_world.specs.State.{World}
 use Rattle.ar_nodes.specs.declared.event.LogEvent.{LogEvent}
 
--- the clients' directory, the dishonest parties, the records of the honest logs and of the honest authorities, each ascending by
--- number, what clients accepted, and the Rolls that their directory learnt
+-- the records by all that the world has of parties and clients
 abbrev pub held_of : World → Held
-held_of w = record {
-  directory = w.clients;
-  dishonest = map (λ forger. forger.party) w.forgers;
-  logs = filter_map (λ node. option_map (λ n. n.core.log.past) node) w.logs;
-  authorities = filter_map (λ node. option_map (λ n. n.state.past) node) w.authorities;
-  judged = w.judged;
-  learned = w.learned;
-}
+held_of w = held_by w.clients w.forgers w.logs w.authorities w.judged w.learned
 
 -- the logs and authorities are there
 abbrev pub HasParties : World → Type 0
 HasParties w = nat_le 4 (place_of w.phase) ≡ true
-
--- an honest log's record is that of one with its number, by its council
-abbrev pub LogKeepsRecord : LogNode → Type 0
-LogKeepsRecord node = HonestLog node.core.log.council node.core.log.me node.core.log.past
-
--- the same of an honest authority, by the council of its directory
-abbrev pub AuthorityKeepsRecord : AuthorityNode → Type 0
-AuthorityKeepsRecord node = HonestAuthority (council_of node.state.keys) node.state.me node.state.past
 
 -- What each party keeps of itself: the clients' directory is one; the record of each honest log and authority is an honest
 -- one's; and what clients accepted are bytes.

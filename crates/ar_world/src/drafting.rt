@@ -1,6 +1,6 @@
 //! The lines that make drafts of certificates.
 
-ghost use Rattle.std.specs.Prelude.{◌≡◌, ◌≤◌, ◌<◌, ◌+◌, ◌^◌, ◌++◌, ◌∷◌, [], length, map, position, slice_index_or, true, false, vec_len, vec_capacity, ℕ, List, All, IfOk, IfErr, OnOk, Ok, Err, Some};
+ghost use Rattle.std.specs.Prelude.{◌≡◌, ◌≤◌, ◌<◌, ◌+◌, ◌++◌, ◌∷◌, [], length, map, position, slice_index_or, true, false, vec_len, vec_capacity, ℕ, List, All, IfOk, IfErr, OnOk, Ok, Err, Some};
 ghost use Rattle.ar_cert.specs.Certificate.{digest_of};
 ghost use Rattle.owner_core.specs.Drafts.{begun_draft};
 ghost use Rattle.owner_core.specs.State.{Owner as OwnerState};

@@ -1,6 +1,6 @@
 //! The lines of the setup.
 
-ghost use Rattle.std.specs.Prelude.{◌≡◌, ◌≤◌, ◌<◌, [], ◌∷◌, ◌++◌, length, slice_set, true, vec_len, vec_capacity, Ok, None, Some, IfSome, MatchOption, option_and_then};
+ghost use Rattle.std.specs.Prelude.{◌≡◌, ◌≤◌, ◌<◌, [], ◌∷◌, ◌++◌, length, slice_set, true, vec_len, vec_capacity, Ok, None, Some, MatchOption, option_and_then};
 ghost use Rattle.ar_statement.specs.declared.party.Role.TheVariants.{Authority, LogServer};
 ghost use Rattle.report_text.specs.declared.happening.Happening.TheVariants.{Dishonest};
 ghost use Rattle.ar_nodes.specs.Finding.{honest_in};

@@ -1,23 +1,24 @@
 //! The line `judge`.
 
-ghost use Rattle.std.specs.Prelude.{◌≡◌, ◌∷◌, ◌++◌, [], nat_le, true, IfOk, OnOk, OnErr};
+ghost use Rattle.std.specs.Prelude.{◌≡◌, ◌∷◌, [], nat_le, true, IfOk, OnOk, OnErr};
+ghost use Rattle.report_text.specs.Verdicts.{said_of};
 ghost use Rattle.report_text.specs.declared.happening.Happening.TheVariants as happening;
 ghost use Rattle.ar_world.specs.Founding.{place_of};
 ghost use Rattle.ar_safety.specs.Held.{verdict_on};
-ghost use Rattle.ar_world.specs.Judging.{accepted_with, is_accepted, is_to_client, judge_line, judged_number, newest_from, said_of};
+ghost use Rattle.ar_world.specs.Judging.{accepted_with, is_accepted, is_to_client, judge_line, judged_number, newest_from};
 ghost use Rattle.ar_world.specs.Step.{StepsBy};
 
-use crate::drafted::Judged;
 use crate::world::World;
 use ar_base::Items;
 use ar_names::{Name, NameView};
 use ar_nodes::sending::tell;
 use ar_nodes::{Pooled, WorldFault};
+use ar_records::Judged;
 use ar_statement::Role;
 use client_rule::Judgement;
 use owner_check::OwnerCheck;
 use party_keys::Directory;
-use report_text::{Happening, Said, Target};
+use report_text::{Happening, Target, said_of};
 use std::alloc::{AllocError, Global};
 
 // ---- which message
@@ -48,33 +49,7 @@ fn newest(messages: &[Pooled]) -> Option<u64>
     None
 }
 
-// ---- what is said
-
-/// What a client says that came to this verdict on a name, as it is printed.
-pub fn said_of(name: Name, verdict: &Judgement<'_>) -> Said
-    ensures { result ≡ said_of name verdict.now }
-{
-    match verdict {
-        Judgement::Accepted {
-            certificate,
-            digest,
-            epoch,
-            root,
-        } => Said::Accepted {
-            name,
-            serial: certificate.serial(),
-            epoch: *epoch,
-            root: *root,
-            certificate: *digest,
-        },
-        Judgement::Absent { epoch, root } => Said::Absent {
-            name,
-            epoch: *epoch,
-            root: *root,
-        },
-        Judgement::Refused(check) => Said::Refused(*check),
-    }
-}
+// ---- what the client holds
 
 /// Whether the client acts on it.
 fn is_accepted(verdict: &Judgement<'_>) -> bool

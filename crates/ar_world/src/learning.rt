@@ -1,6 +1,6 @@
 //! The line `learn`.
 
-ghost use Rattle.std.specs.Prelude.{◌≡◌, ◌<◌, ◌≤◌, ◌+◌, ◌&&◌, ◌∷◌, [], nat_le, true, is_some, vec_len, vec_capacity, IfOk, OnOk, OnErr, Some};
+ghost use Rattle.std.specs.Prelude.{◌≡◌, ◌<◌, ◌∷◌, [], nat_le, true, is_some, vec_len, vec_capacity, IfOk, OnOk, OnErr, Some};
 ghost use Rattle.ar_message.specs.Messages.{message_in};
 ghost use Rattle.report_text.specs.declared.happening.Happening.TheVariants.{Learnt};
 ghost use Rattle.ar_world.specs.Founding.{place_of};

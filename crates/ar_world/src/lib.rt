@@ -38,9 +38,7 @@ mod submitting;
 mod world;
 
 pub use ar_nodes::{LogEvent, WorldFault};
+pub use ar_records::{Judged, Records};
 pub use cause::Cause;
-pub use drafted::Judged;
-pub use judging::said_of;
 pub use phase::Phase;
-pub use records::Records;
 pub use world::World;

@@ -1,6 +1,6 @@
 //! The policies that words of a script say.
 
-ghost use Rattle.std.specs.Prelude.{◌≡◌, ◌<◌, ◌≤◌, ◌^◌, length, true, All, IfOk, IfErr, OnOk, Ok, Err};
+ghost use Rattle.std.specs.Prelude.{◌≡◌, ◌<◌, ◌≤◌, length, true, All, IfOk, IfErr, OnOk, Ok, Err};
 ghost use Rattle.std.specs.Result.{is_ok};
 ghost use Rattle.ar_world.specs.Drafting.{ascend, may_wait, policy_of, terms_of};
 ghost use Rattle.ar_nodes.specs.Finding.{named};

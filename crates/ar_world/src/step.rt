@@ -1,8 +1,8 @@
 //! The step of a line.
 
 ghost use Rattle.std.specs.Prelude.{◌≡◌, ◌≢◌, nat_le, true, Some, OnOk};
-ghost use Rattle.ar_world.specs.Founding.{in_order, led_to, may_come, place_of};
-ghost use Rattle.ar_world.specs.Step.{StepsBy, StepsBySome, effect, leads_to, step};
+ghost use Rattle.ar_world.specs.Founding.{led_to, may_come, place_of};
+ghost use Rattle.ar_world.specs.Step.{StepsBySome, effect, leads_to, step};
 ghost use Rattle.ar_world.specs.declared.phase.Phase.TheVariants as phases;
 
 use crate::order::{leads_to, may_come};

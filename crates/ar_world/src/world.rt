@@ -1,15 +1,16 @@
 //! A world between two lines.
 
-ghost use Rattle.std.specs.Prelude.{◌≡◌, [], length};
-ghost use Rattle.std.specs.Option.{option_copied, option_map};
+ghost use Rattle.std.specs.Prelude.{◌≡◌, length};
+ghost use Rattle.std.specs.Option.{option_map};
 ghost use Rattle.ar_nodes.specs.Parties.{checks_told};
 ghost use Rattle.ar_world.specs.Records.{bytes_at, taken_at};
 ghost use Rattle.ar_world.specs.State.{first_world};
 
-use crate::drafted::{Drafted, Judged};
+use crate::drafted::Drafted;
 use crate::phase::Phase;
 use ar_founding::{Directories, FirstKeys, Setup};
 use ar_nodes::{Forger, HonestAuthority, HonestLog, LogEvent, Pool};
+use ar_records::Judged;
 use ar_statement::SeenText;
 use owner_check::OwnerCheck;
 use owner_core::Owner;

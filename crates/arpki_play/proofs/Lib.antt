@@ -1,5 +1,1 @@
-pub mod KeyLines
-pub mod Readings
-pub mod Writings
-pub mod RollLines
 pub mod Played

@@ -20,7 +20,7 @@ use Rattle.run_safety.specs.Headline.{IsSafeRun}
 use Rattle.script_play.specs.Playing as playing
 use Rattle.script_play.specs.Playing.{Played, Plays, WritesUpTo}
 use Rattle.script_play.proofs.Written.{failing, line-written, wrote-no_more, written-answered, written-failed}
-use Rattle.arpki_play.specs.Answers.{refused_line, too_long}
+use Rattle.arpki_ask.specs.Answers.{refused_line, too_long}
 use Rattle.arpki_play.specs.Plays.{made_answer, play_answer, run_answer, run_status, summed}
 use Rattle.arpki_play.specs.Program.{Answers, IsPlayed, PlaysFront, RunsWhole, Stops, Sums}
 use Rattle.arpki_play.specs.declared.request.Request.TheVariants.{Play}

@@ -11,7 +11,7 @@ use Rattle.script_make.specs.Script.{last_epoch, script}
 use Rattle.ar_world.specs.declared.cause.Cause.{Cause}
 use Rattle.script_play.specs.Playing.{Played, played_of, refusal_of, written_of}
 use Rattle.script_play.specs.declared.counts.Counts.{Counts}
-use Rattle.arpki_play.specs.Answers.{refused_line, too_long}
+use Rattle.arpki_ask.specs.Answers.{refused_line, too_long}
 
 -- ---- `play`
 

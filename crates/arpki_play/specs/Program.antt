@@ -1,5 +1,5 @@
 -- What a run of the program takes of its source, and what it writes to its sink.
-use Rattle.std.specs.Prelude.{◌≡◌, ◌<◌, ◌≤◌, ◌⊎◌, ℕ, List, [], ◌∷◌, length, Option, Some, None, Result, IfOk, OnOk, Vec}
+use Rattle.std.specs.Prelude.{◌≡◌, ◌≤◌, ◌⊎◌, ℕ, List, [], ◌∷◌, length, Option, Some, None, Result, IfOk, OnOk, Vec}
 use Rattle.std.specs.declared.alloc.Global.{Global}
 use Rattle.ar_io.specs.Wrote.{Appended, AppendedFront, Unchanged}
 use Rattle.ar_run.specs.Answers.{Answer, written_of}
@@ -10,8 +10,9 @@ use Rattle.ar_world.specs.Run.{Saying, run}
 use Rattle.run_safety.specs.Headline.{IsSafeRun}
 use Rattle.script_make.specs.Script.{script}
 use Rattle.script_play.specs.Playing.{AppendedUpTo, WritesUpTo}
-use Rattle.arpki_play.specs.Answers.{answer_to, usage}
+use Rattle.arpki_ask.specs.Answers.{answer_to}
 use Rattle.arpki_play.specs.Plays.{made_answer, made_of, play_answer}
+use Rattle.arpki_play.specs.Words.{usage}
 use Rattle.arpki_play.specs.declared.request.Request.{Request}
 use Rattle.arpki_play.specs.declared.request.Request.TheVariants as requests
 

@@ -3,19 +3,14 @@ use Rattle.std.specs.Prelude.{ℕ, nat_le, ◌&&◌, if◌then◌else◌, List, 
 use Rattle.std.specs.Str.{bytes_eq}
 use Rattle.std.specs.declared.alloc.Global.{Global}
 use Rattle.ar_lines.specs.Forms.{number_of, passing}
-use Rattle.arpki_play.specs.declared.command.Command.{Command}
-use Rattle.arpki_play.specs.declared.command.Command.TheVariants.{Sig, Check}
+use Rattle.ar_run.specs.Answers.{Answer as Written, one_line}
+use Rattle.arpki_ask.specs.Commands.{command_named}
 use Rattle.arpki_play.specs.declared.request.Request.{Request}
 use Rattle.arpki_play.specs.declared.request.Request.TheVariants.{Answer, Make, Play, Run}
 
 -- the bytes of each word
 abbrev pub texts : List (String Global) → List (List ℕ)
 texts words = map string_bytes words
-
--- the command of a name
-abbrev pub command_named : List ℕ → Option Command
-command_named word =
-    if bytes_eq word (codes "sig") then Some Sig else (if bytes_eq word (codes "check") then Some Check else None)
 
 -- how many domains a word says that a script is for: 1 to 400
 unfoldable pub domains_of : List ℕ → Option ℕ
@@ -34,3 +29,7 @@ request_of (name ∷ number ∷ []) = if bytes_eq name (codes "make") then optio
 request_of (name ∷ number ∷ last ∷ []) =
     if bytes_eq name (codes "make") && bytes_eq last (codes "run") then option_map Run (domains_of number) else None
 request_of (name ∷ number ∷ last ∷ next ∷ more) = None
+
+-- the words are of no form: the usage line
+abbrev pub usage : Written
+usage = one_line (codes "usage: arpki play | check | sig | make <number> [run] | restart <log> <k> | audit | follow") 2

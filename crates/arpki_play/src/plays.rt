@@ -1,6 +1,6 @@
 //! The commands that play a script.
 
-ghost use Rattle.std.specs.Prelude.{◌≡◌, ◌≢◌, ◌<◌, ◌≤◌, ◌+◌, [], ◌∷◌, ℕ, List, Err, Some, IfOk, IfErr, length};
+ghost use Rattle.std.specs.Prelude.{◌≡◌, ◌≢◌, ◌<◌, ◌≤◌, ◌+◌, [], ◌∷◌, ℕ, List, Err, Some, IfOk, length};
 ghost use Rattle.ar_base.specs.Faults.{HasRisen};
 ghost use Rattle.ar_io.specs.Wrote.{AppendedFront, Unchanged};
 ghost use Rattle.ar_run.specs.Answers.{written_of};
@@ -13,10 +13,10 @@ ghost use Rattle.arpki_play.specs.Program.{Answers, IsPlayed, PlaysFront, RunsWh
 ghost use Rattle.arpki_play.specs.declared.request.Request.TheVariants.{Play};
 
 use crate::request::Domains;
-use crate::verdicts::refuse_long;
 use ar_io::{QuietSink, Sink, Source};
 use ar_run::{Fault, read_input, write_answer, write_line};
 use ar_text::{Part, append};
+use arpki_ask::refuse_long;
 use owner_check::OwnerCheck;
 use script_make::last_epoch;
 use script_play::{Counts, Played, play, refused_line};

@@ -5,11 +5,10 @@ ghost use Rattle.ar_run.specs.Answers.{written_of};
 ghost use Rattle.ar_run.specs.Runs.{TakesAtMost, most_bytes};
 ghost use Rattle.ar_run.specs.Writing.{Writes};
 ghost use Rattle.ar_nodes.specs.Parties.{checks_told};
-ghost use Rattle.arpki_play.specs.Answers.{usage};
 ghost use Rattle.arpki_play.specs.Program.{Answers, BreaksOff, Stops};
 ghost use Rattle.script_make.specs.Script.{script};
 ghost use Rattle.arpki_play.specs.declared.request.Request.TheVariants.{Make, Run};
-ghost use Rattle.arpki_play.specs.Words.{request_of, texts};
+ghost use Rattle.arpki_play.specs.Words.{request_of, texts, usage};
 
 use crate::plays::{play_input, run_made};
 use crate::request::{Domains, Request};

@@ -2,8 +2,8 @@ ghost use Rattle.std.specs.Prelude.{◌≡◌, ◌≤◌, IfOk};
 ghost use Rattle.arpki_play.specs.Words.{domains_of, request_of, texts};
 ghost use Rattle.script_make.specs.Script.{script};
 
-use crate::command::Command;
 use ar_lines::number_of;
+use arpki_ask::Command;
 use script_make::make;
 use std::alloc::{AllocError, Global};
 use std::marker::Model;

@@ -1,15 +1,18 @@
 //! The lines that the program prints of what happens in a world: one for each happening.
 //!
-//! `specs/Lines.antt` says what each line is, and `Held` what the types keep of a happening. `laws` says that no two
+//! `specs/Lines.antt` says what each line is, `Verdicts` what is said of a client's judgement, and `Held` what the types keep
+//! of a happening. `laws` says that no two
 //! happenings print one line.
 #![tactic(auto)]
 
 pub use happening::{Code, Happening, Kind, Said, Shown, Target, Unlearnt, Values, What};
 pub use printing::print;
 pub use said::say;
+pub use verdicts::said_of;
 
 mod happening;
 pub mod laws;
 mod printing;
 mod said;
+mod verdicts;
 mod words;

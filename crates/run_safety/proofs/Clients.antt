@@ -8,7 +8,8 @@ use Rattle.ar_council.proofs.Members.{council-learning}
 use Rattle.ar_council.specs.Council.{council_of}
 use Rattle.ar_safety.specs.Held.{IsTaken, Taken, asked_by, verdict_on}
 use Rattle.ar_world.specs.Founding.{place_of}
-use Rattle.ar_world.specs.Judging.{accepted_with, judged_by_rule, said_of}
+use Rattle.ar_world.specs.Judging.{accepted_with, judged_by_rule}
+use Rattle.report_text.specs.Verdicts.{said_of}
 use Rattle.ar_world.specs.Learning.{knows_by, learning}
 use Rattle.ar_world.specs.State.{World}
 use Rattle.client_rule.proofs.Learning.{still_absent, still_accepted}

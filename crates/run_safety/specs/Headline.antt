@@ -8,7 +8,7 @@ use Rattle.report_text.specs.declared.happening.Said.{Said}
 use Rattle.report_text.specs.declared.happening.Said.TheVariants.{Absent, Accepted, Refused}
 use Rattle.ar_safety.specs.Held.{AreKept, AreSafe, Held, Taken, records_of, verdict_on}
 use Rattle.ar_safety.specs.Theorem.{Few, NoCollision, NoForgery}
-use Rattle.ar_world.specs.Judging.{said_of}
+use Rattle.report_text.specs.Verdicts.{said_of}
 use Rattle.ar_world.specs.Records.{HasParties, held_of}
 use Rattle.ar_world.specs.Run.{Run}
 use Rattle.ar_world.specs.State.{World}

@@ -1,6 +1,0 @@
-use Rattle.std.proofs.Common.{◌≡◌, map, take}
-use Rattle.ar_world.proofs.records.dishonest_parties.Given as goal
-
--- the parties so far
-abbrev pub invariant-loop-forger : goal.invariant-loop-forger
-invariant-loop-forger l = l.parties.items ≡ map (λ forger. forger.party) (take l.forger-index l.forgers)

@@ -1,0 +1,4 @@
+pub mod KeyLines
+pub mod Readings
+pub mod RollLines
+pub mod Writings

@@ -1,0 +1,120 @@
+-- Inputs as they are written: the lines that put a question to `sig`, and an inquiry to `check`.
+use Rattle.std.specs.Prelude.{◌≡◌, ◌<◌, ◌≤◌, ◌^◌, ℕ, List, [], ◌∷◌, ◌++◌, codes, length, map, All, Option, Some, option_and_then}
+use Rattle.std.specs.Fmt.{decimal}
+use Rattle.hex.specs.Hex.{IsBytes, encode_lower}
+use Rattle.ar_names.specs.Names.{IsName}
+use Rattle.lms_tree.specs.declared.public_key.LmsPublic.{LmsPublic}
+use Rattle.party_keys.specs.Directory.{Directory, IsDirectory, directory_with}
+use Rattle.ar_lines.specs.Written.{IsKey, hex_of_key, text_of_lines}
+use Rattle.arpki_ask.specs.Inquiries.{Inquiry, most_rolls}
+use Rattle.arpki_ask.specs.Notes.{learnt_from}
+use Rattle.arpki_ask.specs.Questions.{Question}
+
+-- ---- the question of `sig`
+
+-- the question of a program that holds a key and two strings of bytes
+pub record IsQuestion (question : Question) : Type 0 where
+  pub key : IsKey question.key
+  pub message : IsBytes question.message
+  pub signature : IsBytes question.signature
+
+-- its three lines: the key, the message and the signature, each in hex
+abbrev pub question_lines : Question → List (List ℕ)
+question_lines question =
+    hex_of_key question.key ∷ encode_lower question.message ∷ encode_lower question.signature ∷ []
+
+-- the question as it is written
+abbrev pub question_text : Question → List ℕ
+question_text question = text_of_lines (question_lines question)
+
+-- ---- the inquiry of `check`
+
+-- what an inquiry is written from: the key of generation 0 of each log and of each authority, how many logs
+-- make a quorum, the bytes of RollNotes and the directory behind them, the name, the epoch, the age and the
+-- bytes of the confirmation
+pub record Asking : Type 0 where
+  pub logs : List LmsPublic
+  pub authorities : List LmsPublic
+  pub quorum : ℕ
+  pub rolls : List (List ℕ)
+  pub keys : Directory
+  pub name : List ℕ
+  pub now : ℕ
+  pub age : ℕ
+  pub confirmation : List ℕ
+
+-- the directory behind all of these bytes, where it learns from each
+abbrev pub learnt_from_all : Directory → List (List ℕ) → Option Directory
+learnt_from_all keys [] = Some keys
+learnt_from_all keys (note ∷ notes) = option_and_then (λ learnt. learnt_from_all learnt notes) (learnt_from keys note)
+
+-- the directory of the keys of generation 0
+abbrev pub first_directory : Asking → Directory
+first_directory asking = directory_with asking.logs asking.authorities asking.quorum
+
+-- the directory learns from each of the RollNotes, and is this one then
+abbrev pub IsLearnt : Asking → Type 0
+IsLearnt asking = learnt_from_all (first_directory asking) asking.rolls ≡ Some asking.keys
+
+-- the inquiry that is written so
+abbrev pub inquiry_of : Asking → Inquiry
+inquiry_of asking = record {
+  keys = asking.keys;
+  name = asking.name;
+  now = asking.now;
+  age = asking.age;
+  confirmation = asking.confirmation;
+}
+
+-- the inquiry of a program that holds a directory, at most 64 RollNotes from which it learns, a name, two
+-- numbers of 64 bits and a string of bytes
+pub record IsAsking (asking : Asking) : Type 0 where
+  pub directory : IsDirectory (first_directory asking)
+  pub logs : All IsKey asking.logs
+  pub authorities : All IsKey asking.authorities
+  pub few_rolls : length asking.rolls ≤ most_rolls
+  pub rolls : All IsBytes asking.rolls
+  pub learnt : IsLearnt asking
+  pub name : IsName asking.name
+  pub now : asking.now < 2 ^ 64
+  pub age : asking.age < 2 ^ 64
+  pub confirmation : IsBytes asking.confirmation
+
+-- `logs <N> <q>`: how many logs there are, and how many of them make a quorum
+abbrev pub logs_line : ℕ → ℕ → List ℕ
+logs_line count quorum = codes "logs " ++ (decimal count ++ (codes " " ++ decimal quorum))
+
+-- `authorities <M>`: how many authorities there are
+abbrev pub authorities_line : ℕ → List ℕ
+authorities_line count = codes "authorities " ++ decimal count
+
+-- `key <112 hex>`: the key of a party
+abbrev pub key_line : LmsPublic → List ℕ
+key_line key = codes "key " ++ hex_of_key key
+
+-- the lines of a directory: the logs and a line for each key, and then the authorities so
+abbrev pub directory_lines : Asking → List (List ℕ)
+directory_lines asking =
+    logs_line (length asking.logs) asking.quorum
+    ∷ (map key_line asking.logs ++ (authorities_line (length asking.authorities) ∷ map key_line asking.authorities))
+
+-- `roll <hex of a RollNote>`
+abbrev pub roll_line : List ℕ → List ℕ
+roll_line bytes = codes "roll " ++ encode_lower bytes
+
+-- the lines behind them: the name, the epoch, the age and the confirmation
+abbrev pub asked_lines : Asking → List (List ℕ)
+asked_lines asking =
+    (codes "name " ++ asking.name)
+    ∷ (codes "now " ++ decimal asking.now)
+    ∷ (codes "age " ++ decimal asking.age)
+    ∷ (codes "confirmation " ++ encode_lower asking.confirmation)
+    ∷ []
+
+-- all lines of the inquiry
+abbrev pub inquiry_lines : Asking → List (List ℕ)
+inquiry_lines asking = directory_lines asking ++ (map roll_line asking.rolls ++ asked_lines asking)
+
+-- the inquiry as it is written
+abbrev pub inquiry_text : Asking → List ℕ
+inquiry_text asking = text_of_lines (inquiry_lines asking)

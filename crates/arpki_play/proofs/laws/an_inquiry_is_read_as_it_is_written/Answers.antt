@@ -1,5 +1,0 @@
-use Rattle.arpki_play.proofs.Readings.{inquiry_reads}
-use Rattle.arpki_play.proofs.laws.an_inquiry_is_read_as_it_is_written.Goals as goal
-
-pub returns : goal.returns
-returns c = inquiry_reads

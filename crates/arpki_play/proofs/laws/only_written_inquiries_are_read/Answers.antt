@@ -1,5 +1,0 @@
-use Rattle.arpki_play.proofs.Writings.{inquiry_alone}
-use Rattle.arpki_play.proofs.laws.only_written_inquiries_are_read.Goals as goal
-
-pub returns : goal.returns
-returns c = inquiry_alone
