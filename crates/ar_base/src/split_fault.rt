@@ -11,7 +11,7 @@ pub enum SplitFault {
     #[error("the share is too small to be split")]
     Narrow,
     /// Memory ran out.
-    #[error("out of memory")]
+    #[error("memory ran out")]
     Memory,
 }
 

@@ -19,7 +19,7 @@ pub enum ReadFault {
     #[error("there are more bytes than the limit")]
     Long,
     /// There was no memory for the bytes.
-    #[error("out of memory")]
+    #[error("memory ran out")]
     Memory,
 }
 

@@ -11,7 +11,7 @@ pub enum NameFault {
     #[error("no name, at place {0}")]
     Refused(usize),
     /// Memory ran out.
-    #[error("out of memory")]
+    #[error("memory ran out")]
     Memory,
 }
 

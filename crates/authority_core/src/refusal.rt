@@ -11,47 +11,47 @@ use std::alloc::{AllocError, AllocFailed};
 use thiserror::Error;
 
 /// Why an authority refused a step. After each of these it stands as before; after `CheckFault`, `NotOwner` and
-/// `Spent` its check has kept an answer.
+/// `Spent` its check has kept an answer. Behind each stands its code in printed lines.
 #[derive(Clone, Copy, Debug, Error, PartialEq, Eq)]
 pub enum AuthorityRefusal {
-    /// The bytes are no message: the offset of the first byte of the field that fails.
+    /// A1: the bytes are no message. The first field that fails begins at this place.
     #[error("the field at byte {0} is of no such text")]
     Form(usize),
-    /// The message is for another, or the authority has retired and endorses no more.
+    /// A2: the message is for another, or the authority has retired and endorses no more.
     #[error("the message is not for this authority")]
     NotForAuthority,
-    /// The party is not in the directory; the first such in the listed order.
+    /// A3: the party is not in the directory; the first such in the listed order.
     #[error("a signer is not in the directory")]
     Unknown(Party),
-    /// The party's signature is not valid, by the number of `VerifyFault::Bad`; the first such in the listed order.
+    /// A4: the party's signature is not valid, by the number of `VerifyFault::Bad`; the first such in the listed order.
     #[error("a signature is bad, by check {1}")]
     BadSignature(Party, u8),
-    /// So many logs voted for the base and the root, which are no quorum.
+    /// A5: so many logs voted for the base and the root, which are no quorum.
     #[error("{0} logs are no quorum")]
     FewVotes(usize),
-    /// The path does not lead to the root, or the certificate is of another name.
+    /// A6: the path does not lead to the root, or the certificate is of another name.
     #[error("the path does not lead to the root")]
     BadPath,
-    /// The client chose one authority twice.
+    /// A7: the client chose one authority twice.
     #[error("the two authorities are one")]
     SameAuthority,
-    /// The check failed. The count of its faults rose in this step.
+    /// A8: the check failed. The count of its faults rose in this step.
     #[error("the owner check failed")]
     CheckFault,
-    /// The check answered no.
+    /// A9: the check answered no.
     #[error("the key is not the owner's")]
     NotOwner,
-    /// Each leaf of the newest generation but the last serves another statement, and the statement is new.
+    /// A10: each leaf of the newest generation but the last serves another statement, and the statement is new.
     #[error("no leaf is left")]
     Spent,
-    /// Another key is known as the next of the party behind this generation.
+    /// A11: another key is known as the next of the party behind this generation.
     #[error("another key is known behind generation {1}")]
     OtherRoll(Party, u32),
-    /// The newest generation is the last, 999.
+    /// A12: the newest generation is the last, 999.
     #[error("the last generation has no next")]
     LastGeneration,
     /// Memory ran out.
-    #[error("out of memory")]
+    #[error("memory ran out")]
     Memory,
 }
 

@@ -8,6 +8,6 @@ pub enum ApplyFault {
     #[error("{0}")]
     Change(ChangeRefusal),
     /// Memory is wanting.
-    #[error("out of memory")]
+    #[error("memory ran out")]
     Memory,
 }

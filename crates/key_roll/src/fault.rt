@@ -12,7 +12,7 @@ pub enum BookFault {
     #[error("no leaf is left")]
     Spent,
     /// Memory ran out.
-    #[error("out of memory")]
+    #[error("memory ran out")]
     Memory,
 }
 
@@ -31,7 +31,7 @@ pub enum RollFault {
     #[error("the last generation has no next")]
     Last,
     /// Memory ran out.
-    #[error("out of memory")]
+    #[error("memory ran out")]
     Memory,
 }
 

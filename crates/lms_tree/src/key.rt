@@ -25,7 +25,7 @@ pub enum KeyFault {
     #[error("no key of these types is made")]
     Kind,
     /// Memory ran out.
-    #[error("out of memory")]
+    #[error("memory ran out")]
     Memory,
 }
 

@@ -11,7 +11,7 @@ pub enum AskFault {
     #[error("the owner check failed")]
     Failed,
     /// There was no memory to keep the answer.
-    #[error("out of memory")]
+    #[error("memory ran out")]
     Memory,
 }
 

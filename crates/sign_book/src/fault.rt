@@ -11,7 +11,7 @@ pub enum BookFault {
     #[error("no leaf is left")]
     Spent,
     /// Memory ran out.
-    #[error("out of memory")]
+    #[error("memory ran out")]
     Memory,
 }
 
