@@ -3,7 +3,8 @@
 //!
 //! `read_all` and `write_all` are generic over every source and sink. `MemSource` and `MemSink` are
 //! lists in memory whose calls give little and fail on demand, `QuietSource` and `QuietSink` never
-//! fail, and `StdSource` and `StdSink` stand over std's readers and writers.
+//! fail, and `StdSource` and `StdSink` stand over std's readers and writers. `words` gives the words of a program's
+//! command line.
 //!
 //! `specs/Calls.antt` says which calls of an object in memory fail, `specs/ReadAll.antt` what was taken from a
 //! source that could not be read to its end, and `specs/Wrote.antt` what a call did to what a sink wrote.
@@ -21,6 +22,7 @@ pub use sink::Sink;
 pub use source::Source;
 pub use std_sink::StdSink;
 pub use std_source::StdSource;
+pub use words::words;
 pub use writing::write_all;
 
 mod calls;
@@ -36,4 +38,5 @@ mod source;
 mod std_sink;
 mod std_source;
 mod unread;
+mod words;
 mod writing;

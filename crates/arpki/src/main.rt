@@ -5,31 +5,17 @@
 //! first.
 #![tactic(auto)]
 
-use ar_io::{StdSink, StdSource};
+use ar_io::{StdSink, StdSource, words};
 use arpki_play::arpki_main;
 use owner_check::BookCheck;
 use std::alloc::{AllocError, Global};
-use std::env;
-use std::io::ErrorKind;
 use std::process::ExitCode;
-use std::rt::Env;
 
 /// The status where there is no memory for the words and the checks.
 const OUT_OF_MEMORY: u8 = 6;
 
 /// The most authorities of a script.
 const MOST_AUTHORITIES: usize = 16;
-
-/// The words behind the program's name. Where one of them is no text they are of no form, as no words
-/// are.
-fn words(rt: &(impl Env + AllocGlobal)) -> Result<Vec<String>, AllocError> {
-    let alloc = rt.alloc();
-    match env::args(rt) {
-        Ok(args) => args.skip(1).collect(alloc),
-        Err(error) if error.kind() == ErrorKind::InvalidData => Ok(Vec::new(alloc)),
-        Err(_) => Err(AllocError),
-    }
-}
 
 /// A check with an empty book for each authority that there may be.
 fn checks(alloc: Global) -> Result<Vec<BookCheck>, AllocError> {

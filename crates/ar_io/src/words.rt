@@ -1,0 +1,15 @@
+use std::alloc::AllocError;
+use std::env;
+use std::io::ErrorKind;
+use std::rt::Env;
+
+/// The words behind a program's name. Where one of them is no text they are of no form, as no words are. The only error is
+/// want of memory.
+pub fn words(rt: &(impl Env + AllocGlobal)) -> Result<Vec<String>, AllocError> {
+    let alloc = rt.alloc();
+    match env::args(rt) {
+        Ok(args) => args.skip(1).collect(alloc),
+        Err(error) if error.kind() == ErrorKind::InvalidData => Ok(Vec::new(alloc)),
+        Err(_) => Err(AllocError),
+    }
+}
