@@ -1,11 +1,11 @@
 -- What an authority is whose check tells something else of itself.
-use Rattle.std.proofs.Common.{◌≡◌, ◌∙◌, ◌<◌, ℕ, zero, suc, List, [], ◌∷◌, length, get_or, Option, Some, None, IfSome, is_none, is_some, refl, ap, true, arith}
-use Rattle.std.specs.Prelude.{option_and_then}
+use Rattle.std.proofs.Common.{◌≡◌, ◌∙◌, ◌<◌, ℕ, zero, suc, List, [], ◌∷◌, length, get_or, Option, Some, None, IfSome, is_none, is_some, refl, sym, ap, subst, true, arith}
+use Rattle.std.specs.Prelude.{option_and_then, slice_set, OnOk, Result, Ok, Err}
 use Rattle.std.specs.Option.{option_map}
 use Rattle.owner_check.specs.Answers.{Told}
 use Rattle.owner_check.specs.declared.answer.Answer.{Answer}
 use Rattle.ar_nodes.specs.Finding.{checking_in, with_check}
-use Rattle.ar_nodes.specs.Parties.{AuthorityNode, check_told}
+use Rattle.ar_nodes.specs.Parties.{AuthorityNode, CheckParts, check_told}
 use Rattle.ar_nodes.specs.Teaching.{retelling}
 
 -- the check that tells this
@@ -39,10 +39,29 @@ checking_within (a ∷ more) zero there = omega arith
 checking_within (a ∷ more) (suc number) there = let h = checking_within more number there in omega arith
 
 -- and it is what stands there
-pub checking_spot : (authorities : List (Option AuthorityNode)) (number : ℕ) (slot : Option AuthorityNode) → is_some (checking_in authorities number) ≡ true
-    → get_or authorities number slot ≡ slot → checking_in authorities number ≡ option_and_then with_check slot
-checking_spot [] number slot there is = absurd (cc)
-checking_spot (a ∷ more) zero slot there is = ap (option_and_then with_check) is
-checking_spot (a ∷ more) (suc number) slot there is = checking_spot more number slot there is
+pub checking_there : (authorities : List (Option AuthorityNode)) (number : ℕ) (other : Option AuthorityNode) → is_some (checking_in authorities number) ≡ true
+    → checking_in authorities number ≡ option_and_then with_check (get_or authorities number other)
+checking_there [] number other there = absurd (cc)
+checking_there (a ∷ more) zero other there = refl
+checking_there (a ∷ more) (suc number) other there = checking_there more number other there
 
-pub ruleset checking_spots = (checking_within, checking_spot)
+set-made : (o : Option (AuthorityNode × CheckParts)) (authorities : List (Option AuthorityNode)) (number : ℕ) (after : Option AuthorityNode) (made : AuthorityNode × CheckParts → AuthorityNode)
+    → IfSome o (λ found. after ≡ Some (made found)) → IfSome o (λ found. slice_set authorities number after ≡ slice_set authorities number (Some (made found)))
+set-made None authorities number after made so = so
+set-made (Some found) authorities number after made so = ap (slice_set authorities number) so
+
+-- so what is made of it comes into its place
+pub made_there : (authorities : List (Option AuthorityNode)) (number : ℕ) (other after : Option AuthorityNode) (made : AuthorityNode × CheckParts → AuthorityNode)
+    → is_some (checking_in authorities number) ≡ true → IfSome (option_and_then with_check (get_or authorities number other)) (λ found. after ≡ Some (made found))
+    → IfSome (checking_in authorities number) (λ found. slice_set authorities number after ≡ slice_set authorities number (Some (made found)))
+made_there authorities number other after made there so =
+    subst (λ o. IfSome o (λ found. slice_set authorities number after ≡ slice_set authorities number (Some (made found))))
+    (sym (checking_there authorities number other there)) (set-made (option_and_then with_check (get_or authorities number other)) authorities number after made so)
+
+-- the same where it could be made
+pub made_there_ok : {E : Type 0} (result : Result (Unit {0}) E) (authorities : List (Option AuthorityNode)) (number : ℕ) (other after : Option AuthorityNode)
+    (made : AuthorityNode × CheckParts → AuthorityNode) → is_some (checking_in authorities number) ≡ true
+    → OnOk result (IfSome (option_and_then with_check (get_or authorities number other)) (λ found. after ≡ Some (made found)))
+    → OnOk result (IfSome (checking_in authorities number) (λ found. slice_set authorities number after ≡ slice_set authorities number (Some (made found))))
+made_there_ok (Ok _) authorities number other after made there so = made_there authorities number other after made there so
+made_there_ok (Err _) authorities number other after made there so = so

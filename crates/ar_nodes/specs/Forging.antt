@@ -1,5 +1,5 @@
 -- What dishonest parties sign.
-use Rattle.std.specs.Prelude.{ℕ, ◌+◌, List, ◌++◌}
+use Rattle.std.specs.Prelude.{ℕ, List, ◌++◌}
 use Rattle.std.specs.Int.{w32}
 use Rattle.ar_bytes.specs.RoundTrip.{number_text}
 use Rattle.lms_tree.specs.Key.{signature_of}

@@ -10,7 +10,7 @@ ghost use Rattle.ar_nodes.specs.Teaching.{lesson_said, retelling, retold, told_b
 ghost use Rattle.ar_nodes.specs.declared.fault.WorldFault.TheVariants.{Memory};
 
 use crate::fault::WorldFault;
-use crate::finding::owner_place;
+use crate::finding::{honest, owner_place};
 use crate::lesson::Lesson;
 use crate::parties::HonestAuthority;
 use crate::sending::tell;
@@ -35,9 +35,9 @@ pub fn known_key(owners: &[Owner], number: u16) -> Option<[u8; 56]>
 pub fn is_checking<C: OwnerCheck>(authorities: &[Option<HonestAuthority<C>>], number: u16) -> bool
     ensures { result ≡ is_some (checking_in authorities.now number) }
 {
-    match authorities.get(number as usize) {
-        Some(Some(node)) => !node.authority.retired(),
-        _ => false,
+    match honest(authorities, number) {
+        Some(node) => !node.authority.retired(),
+        None => false,
     }
 }
 
@@ -123,7 +123,7 @@ fn retire_there<C: OwnerCheck>(slot: &mut Option<HonestAuthority<C>>)
 }
 
 /// The check of the authority with a number takes a lesson on the name and the key. After an error it is as before.
-#[tactic(auto, using(crate::proofs::Retold::checking_spots))]
+#[tactic(auto, using(crate::proofs::Retold::checking_within))]
 fn instruct_at<C: OwnerCheck>(
     alloc: Global,
     authorities: &mut [Option<HonestAuthority<C>>],
@@ -142,7 +142,7 @@ fn instruct_at<C: OwnerCheck>(
 }
 
 /// The authority with a number drops its check.
-#[tactic(auto, using(crate::proofs::Retold::checking_spots))]
+#[tactic(auto, using(crate::proofs::Retold::checking_within))]
 fn retire_at<C: OwnerCheck>(authorities: &mut [Option<HonestAuthority<C>>], number: u16)
     requires { is_some (checking_in authorities.old number) ≡ true }
     ensures set { IfSome (checking_in authorities.old number) (λ found. authorities.new
