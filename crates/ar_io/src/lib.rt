@@ -12,6 +12,7 @@
 //! contracts see of each kind.
 #![tactic(auto)]
 
+pub use command_line::words;
 pub use faults::{Failed, ReadFault};
 pub use mem_sink::MemSink;
 pub use mem_source::MemSource;
@@ -22,10 +23,10 @@ pub use sink::Sink;
 pub use source::Source;
 pub use std_sink::StdSink;
 pub use std_source::StdSource;
-pub use words::words;
 pub use writing::write_all;
 
 mod calls;
+mod command_line;
 mod faults;
 pub mod laws;
 mod mem_sink;
@@ -38,5 +39,4 @@ mod source;
 mod std_sink;
 mod std_source;
 mod unread;
-mod words;
 mod writing;

@@ -19,7 +19,7 @@ const USAGE: &[u8] = b"usage: arpki_answer check | sig\n";
 const OUT_OF_MEMORY: u8 = 6;
 
 /// The command that the words name, if they are of this form.
-fn command(words: &[String]) -> Option<Command> {
+fn asked(words: &[String]) -> Option<Command> {
     match words {
         [word] => Command::of(word),
         _ => None,
@@ -33,7 +33,7 @@ fn answer<S: Source, K: Sink>(
     source: &mut S,
     sink: &mut K,
 ) -> Result<u8, Fault> {
-    let Some(command) = command(words) else {
+    let Some(command) = asked(words) else {
         write_line(sink, USAGE)?;
         return Ok(2);
     };
