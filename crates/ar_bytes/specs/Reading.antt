@@ -16,7 +16,7 @@
 -- A count and the bytes that it counts are two fields (`counted_at`). A counted part that has a grammar
 -- of its own is read `within` its count: no field in it reads past its end, its places are those in
 -- the whole input, and bytes left over in it fail at the first of them, as in a whole input (`whole`).
-use Rattle.std.specs.Prelude.{◌≡◌, ℕ, ◌+◌, List, length, take, drop, Option, Some, None, Result, Ok, Err, IsErr, Bool, nat_lt, ◌==◌, if◌then◌else◌}
+use Rattle.std.specs.Prelude.{◌≡◌, ℕ, ◌+◌, List, length, take, drop, Option, Some, None, Result, Ok, Err, Bool, nat_lt, ◌==◌, if◌then◌else◌}
 use Rattle.std.specs.Int.{Width, w16, byte_len, from_be_bytes}
 use Rattle.ar_base.specs.Chaining.{◌>>=◌}
 use Rattle.ar_base.specs.Gives.{with_error, GivesOrWants}
@@ -92,12 +92,6 @@ within n field at = do
 abbrev pub Reads : {T V : Type 0} → (T → V) → Option T → Cursor → Cursor → Reading V → Type 0
 Reads view (Some x) old new field = field ≡ Ok (view x, new)
 Reads view None old new field = (field ≡ Err old.place) × (new ≡ old)
-
--- The answer of a reader of several fields: their value, and it stands behind them; or none, where one
--- of them fails, and nothing is taken.
-abbrev pub ReadsAll : {T V : Type 0} → (T → V) → Option T → Cursor → Cursor → Reading V → Type 0
-ReadsAll view (Some x) old new fields = fields ≡ Ok (view x, new)
-ReadsAll view None old new fields = IsErr fields × (new ≡ old)
 
 -- The answer of a reader that tells where it fails: the fields' value, and it stands behind them; or the
 -- place of the field that fails.

@@ -27,7 +27,7 @@ impl<'a> Model for Fields<'a> {
 }
 
 impl<'a> Fields<'a> {
-    ghost use Rattle.ar_bytes.specs.Reading.{start_of, bytes_at, number_at, counted_at, part_at, Reads, ReadsAll};
+    ghost use Rattle.ar_bytes.specs.Reading.{start_of, bytes_at, number_at, part_at, Reads};
 
     /// A reader that stands before the first of the bytes, which are the whole input.
     pub fn new(bytes: &'a [u8]) -> Fields<'a>
@@ -101,22 +101,6 @@ impl<'a> Fields<'a> {
         ensures none { IsNone result ↔ (length self.old.ahead < N) }
     {
         self.bytes(N)?.as_array()
-    }
-
-    /// A count of two bytes, and so many bytes, borrowed. `None` takes nothing, also not the count.
-    #[tactic(auto, unfolding(crate::specs::Reading::counted_at))]
-    pub fn counted(&mut self) -> Option<&'a [u8]>
-        ensures fields { ReadsAll (λ piece. piece.now) result self.old self.new (counted_at self.old) }
-        ensures len { IfSome result (λ piece. length piece.now < 2 ^ 16) }
-    {
-        let mut after = Fields {
-            left: self.left,
-            place: self.place,
-        };
-        let count = after.u16()?;
-        let piece = after.bytes(count as usize)?;
-        *self = after;
-        Some(piece)
     }
 
     /// The next `n` bytes as a reader of their own, which tells its places in the whole input.

@@ -1,5 +1,5 @@
 -- The fields that statements, certificates and messages share.
-use Rattle.std.specs.Prelude.{ℕ, ◌^◌, ◌≤◌, Bool, ◌&&◌, nat_le, List}
+use Rattle.std.specs.Prelude.{ℕ, ◌^◌, Bool, List}
 use Rattle.std.specs.Int.{w8, w64}
 use Rattle.ar_base.specs.Chaining.{◌>>=◌}
 use Rattle.ar_base.specs.Ranges.{IsFromTo, is_from_to}

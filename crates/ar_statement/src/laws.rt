@@ -4,7 +4,7 @@
 ghost use Rattle.std.specs.Prelude.{◌≡◌, ◌++◌, Bool, List, ℕ, IsTrue};
 ghost use Rattle.ar_bytes.specs.RoundTrip.{IsSpelledBy, ReadsBack};
 ghost use Rattle.ar_statement.specs.Claims.{Claim, text_of};
-ghost use Rattle.ar_statement.specs.Ranges.{IsHeld, IsTextOf, IsValid};
+ghost use Rattle.ar_statement.specs.Ranges.{IsHeld, IsTextOf};
 ghost use Rattle.ar_statement.specs.Texts.{statement_at};
 
 /// No two statements have one text, and no text of a statement begins that of another: of all statements

@@ -1,12 +1,10 @@
 ghost use Rattle.std.specs.Prelude.{◌≡◌, Some, IfSome};
 ghost use Rattle.std.specs.Option.{option_map};
 ghost use Rattle.std.specs.Result.{result_ok};
-ghost use Rattle.std.specs.Int.{w64};
-ghost use Rattle.ar_bytes.specs.Joined.{optional_at, pair_at};
-ghost use Rattle.ar_bytes.specs.Reading.{Tells, number_at, whole};
+ghost use Rattle.ar_bytes.specs.Reading.{Tells, whole};
 ghost use Rattle.ar_statement.specs.Claims.{Claim, claim_of, text_of};
 ghost use Rattle.ar_statement.specs.Ranges.{IsValid};
-ghost use Rattle.ar_statement.specs.Texts.{party_at, role_at, roots_at, endorse_at, handover_at, propose_at, vote_at, confirm_at, absent_at, answer_at, status_at, roll_at, object_at, fields_at, statement_at};
+ghost use Rattle.ar_statement.specs.Texts.{party_at, endorse_at, handover_at, propose_at, vote_at, confirm_at, absent_at, answer_at, status_at, roll_at, object_at, fields_at, statement_at};
 
 use crate::fields::{digest, name, role, roots, value};
 use crate::party::Party;

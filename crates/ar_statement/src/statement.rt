@@ -86,7 +86,7 @@ pub enum Statement<'a> {
 impl Statement<'_> {
     ghost use Rattle.std.specs.Prelude.{◌≡◌};
     ghost use Rattle.ar_statement.specs.Claims.{claim_of, signer_of};
-    ghost use Rattle.ar_statement.specs.Ranges.{IsHeld, is_in_range};
+    ghost use Rattle.ar_statement.specs.Ranges.{is_in_range};
 
     /// Who signs the statement. An owner's number is 0, since its key names it.
     pub fn signer(&self) -> Party

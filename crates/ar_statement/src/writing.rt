@@ -1,5 +1,5 @@
 ghost use Rattle.std.specs.Prelude.{◌≡◌, ◌+◌, ◌≤◌, ◌++◌, length, take, drop};
-ghost use Rattle.std.specs.Int.{w8, w32, w64};
+ghost use Rattle.std.specs.Int.{w32, w64};
 ghost use Rattle.ar_bytes.specs.RoundTrip.{number_text};
 ghost use Rattle.ar_bytes.specs.Joined.{optional_text};
 ghost use Rattle.ar_statement.specs.Claims.{head, party, name_text, roots_text, text_of, claim_of};

@@ -1,22 +1,17 @@
 -- Counts are of sets: lists with the same numbers have the same counts.
-use Rattle.std.proofs.Common.{◌≡◌, ℕ, List, refl, sym, ap, ◌∙◌, Bool, true, false, ◌↔◌}
+use Rattle.std.proofs.Common.{◌≡◌, ℕ, List, sym, ap, ◌∙◌, ◌↔◌}
 use Rattle.std.specs.Prelude.{Contains}
 use Rattle.std.specs.FinSet.{len, intersection, contains-from_list_nat, same_set, nat_cmp-IsAntisymmetric}
-use Rattle.std.proofs.lemmas.Bool.{both_ways}
+use Rattle.std.specs.Cmp.{both_ways}
 use Rattle.std.proofs.lemmas.Cmp.{nat_cmp_total}
 use Rattle.vote_quorum.specs.Numbers.{set_of, distinct_count, shared_count}
 use Rattle.vote_quorum.proofs.Counting.{Contains-from_among, among-from_Contains}
-
-same_tests : (a b : Bool) → (a ≡ true → b ≡ true) → (b ≡ true → a ≡ true) → a ≡ b
-same_tests true b there back = sym (there refl)
-same_tests false true there back = absurd (both_ways false refl (back refl))
-same_tests false false there back = refl
 
 pub same_numbers : (one other : List ℕ) → ((number : ℕ) → Contains one number ↔ Contains other number) → set_of one ≡ set_of other
 same_numbers one other same =
     same_set nat_cmp_total nat_cmp-IsAntisymmetric _ _ (λ q.
     contains-from_list_nat one q
-    ∙ same_tests _ _ (λ h. among-from_Contains other q ((same q).0 (Contains-from_among one q h))) (λ h. among-from_Contains one q ((same q).1 (Contains-from_among other q h)))
+    ∙ both_ways _ _ (λ h. among-from_Contains other q ((same q).0 (Contains-from_among one q h))) (λ h. among-from_Contains one q ((same q).1 (Contains-from_among other q h)))
     ∙ sym (contains-from_list_nat other q))
 
 pub same_distinct : (one other : List ℕ) → ((number : ℕ) → Contains one number ↔ Contains other number) → distinct_count one ≡ distinct_count other

@@ -1,5 +1,5 @@
-ghost use Rattle.std.specs.Prelude.{◌≡◌, ◌↔◌, Ok, IsOk, IsTrue, not};
-ghost use Rattle.cert_policy.specs.Clauses.{Follows, Recovers, Registers, common_clauses, follow_answer, has_own, is_well_formed, own_clauses, recovery_clauses, registration_answer, update_answer};
+ghost use Rattle.std.specs.Prelude.{◌≡◌, ◌↔◌, Ok, IsOk};
+ghost use Rattle.cert_policy.specs.Clauses.{Follows, Recovers, Registers, common_clauses, follow_answer, is_well_formed, own_clauses, recovery_clauses, registration_answer, update_answer};
 ghost use Rattle.ar_base.specs.FirstFailing.{first_failing};
 ghost use Rattle.cert_policy.specs.Terms.{cert_terms, policy_terms};
 ghost use Rattle.cert_policy.specs.declared.manner.Manner.TheVariants.{Full, Recovery};

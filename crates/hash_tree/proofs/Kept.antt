@@ -1,8 +1,7 @@
 -- What a kept tree tells of its map, and how trees of the halves make one.
 use Rattle.std.proofs.Common.{◌≡◌, ◌≢◌, ℕ, zero, suc, ◌⊎◌, inl, inr, ⊎_elim, ◌+◌, ◌-◌, ◌/◌, ◌%◌, ◌<◌, ◌≤◌, List, [], ◌∷◌, ◌++◌, length, length-append, refl, sym, ap, ◌∙◌, subst, arith, Bool, true, false, cond, eqb, Option, Some, None}
-use Rattle.std.specs.Prelude.{IsTrue, is_some}
 use Rattle.std.specs.Ordering.{eq_by_cmp}
-use Rattle.std.specs.FinMap.{get, contains_key, insert, remove, entries, find, same_map, get-entries, get-insert, get-remove, get-from_entries, get-empty}
+use Rattle.std.specs.FinMap.{get, entries, find, same_map, get-entries, get-from_entries, get-empty}
 use Rattle.std.proofs.lemmas.Nat.Bits.{bit_at-lt}
 use Rattle.sha2.specs.Sha256.{sha256}
 use Rattle.hash_tree.specs.Strings.{node_digest}

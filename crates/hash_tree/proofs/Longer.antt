@@ -1,8 +1,8 @@
 -- How long a path is, and that what goes out leaves no trace.
-use Rattle.std.proofs.Common.{◌≡◌, ◌≢◌, ℕ, zero, suc, ◌+◌, ◌-◌, ◌<◌, ◌≤◌, List, length, sym, ap, ◌∙◌, subst, ⊎_elim, arith, refl, Bool, true, false, cond, Some, None}
+use Rattle.std.proofs.Common.{◌≡◌, ◌≢◌, ℕ, zero, suc, ◌+◌, ◌-◌, ◌<◌, ◌≤◌, List, length, sym, ap, ◌∙◌, ⊎_elim, arith, refl, Bool, true, false, cond, Some, None}
 use Rattle.std.specs.Prelude.{IsTrue, is_some}
 use Rattle.std.specs.Ordering.{eq_by_cmp}
-use Rattle.std.specs.FinMap.{get, contains_key, insert, remove, entries, same_map, get-insert, get-remove}
+use Rattle.std.specs.FinMap.{get, contains_key, insert, remove, same_map, get-insert, get-remove}
 use Rattle.std.proofs.lemmas.Bool.{cases_lt}
 use Rattle.hash_tree.specs.Entries.{Entries, key_cmp, bit, Agree, half}
 use Rattle.hash_tree.specs.Path.{steps_below, steps_of}

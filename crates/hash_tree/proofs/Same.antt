@@ -1,8 +1,7 @@
 -- One map has one kept tree.
-use Rattle.std.proofs.Common.{◌≡◌, ◌∙◌, sym, ap, refl, ℕ, ◌+◌, ◌<◌, ◌≤◌, List, [], ◌∷◌, length, arith}
+use Rattle.std.proofs.Common.{◌≡◌, ◌∙◌, sym, ap, refl, ℕ, ◌+◌, ◌≤◌, [], ◌∷◌, length, arith}
 use Rattle.std.specs.FinMap.{entries}
 use Rattle.hash_tree.specs.Entries.{Entry, Entries, half}
-use Rattle.hash_tree.specs.Strings.{entry_digest}
 use Rattle.hash_tree.specs.Kept.{entry_of, IsStored, Keeps, AreSame}
 use Rattle.hash_tree.specs.declared.node.Stored.{Stored}
 use Rattle.hash_tree.specs.declared.node.Node.{Node}

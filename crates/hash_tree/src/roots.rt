@@ -2,7 +2,6 @@ ghost use Rattle.std.specs.Prelude.{◌≡◌, ◌<◌, ◌≤◌, ◌==◌, ◌
 ghost use Rattle.std.specs.List.Sorted.{IsPartitionedBy, IsPartitionPoint};
 ghost use Rattle.ar_base.specs.Bytes.{IsDigest};
 ghost use Rattle.hash_tree.specs.Entries.{entries_of, HasAscendingKeys, AgreeAmong, bit, of_side};
-ghost use Rattle.hash_tree.specs.Strings as strings;
 ghost use Rattle.hash_tree.specs.Root as tree;
 
 use crate::bits::read_key;

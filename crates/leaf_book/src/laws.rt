@@ -1,6 +1,6 @@
 //! Laws on the rule of a book, over the definitions alone: each is the contract of a function with an
 //! empty body. The rule holds between any two steps of any threads, for any number of seats.
-ghost use Rattle.std.specs.Prelude.{◌≡◌, ◌≢◌, ◌<◌, ◌≤◌, ◌^◌, ◌↔◌, ℕ, List, [], min, length, Contains};
+ghost use Rattle.std.specs.Prelude.{◌≡◌, ◌≢◌, ◌<◌, ◌≤◌, ◌^◌, ℕ, List, [], min, Contains};
 ghost use mathlib.Core.Option.{some};
 ghost use lib.ListN.{get_elem?};
 ghost use Rattle.ar_base.specs.Shares.{whole};

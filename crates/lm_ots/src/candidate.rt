@@ -1,5 +1,5 @@
-ghost use Rattle.std.specs.Prelude.{◌≡◌, ◌+◌, ◌*◌, ◌<◌, ◌≤◌, ◌++◌, length, take, drop};
-ghost use Rattle.lm_ots.specs.OtsKind.{count_of, signature_len_of};
+ghost use Rattle.std.specs.Prelude.{◌≡◌, ◌+◌, ◌*◌, ◌<◌, ◌≤◌, length};
+ghost use Rattle.lm_ots.specs.OtsKind.{signature_len_of};
 ghost use Rattle.lm_ots.specs.Candidate.{candidate, candidate_key, element};
 
 use crate::OtsType;

@@ -1,8 +1,6 @@
-ghost use Rattle.std.specs.Prelude.{◌≡◌, ◌≤◌, ◌∷◌, ◌++◌, take, drop};
-ghost use Rattle.std.specs.Int.{w16, w32, to_be_bytes};
-ghost use Rattle.sha2.specs.Hashers.{Holds256};
+ghost use Rattle.std.specs.Prelude.{◌≡◌, ◌∷◌, ◌++◌, take, drop};
 ghost use Rattle.sha2.specs.Sha256.{sha256};
-ghost use Rattle.lm_ots.specs.Chain.{chain, domain_text, step_text};
+ghost use Rattle.lm_ots.specs.Chain.{chain, step_text};
 
 use ar_bytes::{write_bytes, write_u8, write_u16, write_u32};
 use sha2::{Digest, Sha256};

@@ -1,6 +1,6 @@
 //! Laws of the definitions: each is the contract of a function that does nothing.
 
-ghost use Rattle.std.specs.Prelude.{◌≡◌, ◌∷◌, [], List, ℕ, Some, length, replicate};
+ghost use Rattle.std.specs.Prelude.{◌≡◌, ◌∷◌, [], List, ℕ, Some, replicate};
 ghost use Rattle.lm_ots.specs.declared.ots_type.OtsType.TheVariants.{W1, W2, W4, W8};
 ghost use Rattle.lm_ots.specs.declared.secret.OtsSecret.{OtsSecret};
 ghost use Rattle.lm_ots.specs.Candidate.{candidate};

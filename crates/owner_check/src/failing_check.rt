@@ -2,8 +2,7 @@ ghost use Rattle.std.specs.Prelude.{◌≡◌, ◌+◌, [], Some, OnOk, OnErr};
 ghost use Rattle.owner_check.specs.Answers.{ask_number, fails_at};
 ghost use Rattle.owner_check.specs.Book.{with_pair, without_pair};
 
-use crate::book::keep;
-use crate::{Answer, AskFault, BookCheck, Outcome, OwnerCheck};
+use crate::{AskFault, BookCheck, OwnerCheck};
 use std::alloc::{AllocError, Global};
 use std::marker::Model;
 

@@ -7,7 +7,7 @@ ghost use Rattle.party_keys.specs.declared.fault.LearnFault.TheVariants.{Memory}
 ghost use Rattle.party_keys.specs.declared.learning.Learned.TheVariants.{New};
 
 use crate::Directory;
-use crate::fault::{LearnFault, VerifyFault};
+use crate::fault::LearnFault;
 use ar_statement::{Party, Role, Statement, Text};
 use lms_tree::LmsPublic;
 use std::alloc::{AllocError, Global};

@@ -1,11 +1,9 @@
 //! Laws on the rule of a node, over the definitions alone: each is the contract of a function with an
 //! empty body. The rule holds between any two steps of any threads, for any number of seats.
-ghost use Rattle.std.specs.Prelude.{◌≡◌, ◌≢◌, ◌<◌, ℕ, List, [], length, Contains, Option};
+ghost use Rattle.std.specs.Prelude.{◌≡◌, ◌≢◌, ◌<◌, ℕ, List, length, Contains, Option};
 ghost use mathlib.Core.Option as home;
 ghost use mathlib.Core.Option.{some};
 ghost use lib.ListN.{get_elem?};
-ghost use Rattle.ar_base.specs.Shares.{whole};
-ghost use Rattle.ar_seats.specs.Numbers.{HasEachBelow};
 ghost use Rattle.ar_seats.specs.Prefixes.{BeginsWith, longer};
 ghost use Rattle.shared_node.specs.Rule.{Keeps};
 ghost use Rattle.shared_node.specs.declared.held.Held.{Held};

@@ -1,4 +1,4 @@
-ghost use Rattle.std.specs.Prelude.{◌≡◌, ◌<◌, ◌≤◌, ◌↔◌, [], ◌∷◌, ◌++◌, true, false, length, Some, None, Err, IsOk, IfOk, IfErr, OnErr};
+ghost use Rattle.std.specs.Prelude.{◌≡◌, ◌<◌, ◌↔◌, [], ◌∷◌, ◌++◌, true, false, length, Some, None, Err, IsOk, IfOk, IfErr, OnErr};
 ghost use Rattle.ar_base.specs.Shares.{whole};
 ghost use Rattle.ar_seats.specs.Numbers.{HasEachBelow, IsRising};
 ghost use Rattle.ar_seats.specs.Prefixes.{BeginsWith};
@@ -6,7 +6,6 @@ ghost use Rattle.shared_node.specs.History.{Replays};
 ghost use Rattle.shared_node.specs.Seats.{IsSeatOf, Asked, SeesOn, first_seat, left_seat, given_seat, joined_seat};
 ghost use Rattle.ar_base.specs.declared.split_fault.SplitFault.TheVariants.{Narrow};
 
-use crate::held::Held;
 use crate::node::{Node, NodeOf, answer};
 use crate::seat::{HeldOf, Token};
 use crate::steps::{Compare, Count, Enter, Halve, Leave, Look, NodeRule, Unite};

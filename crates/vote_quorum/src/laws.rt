@@ -1,5 +1,5 @@
 //! What holds of the definitions: each is the contract of a function that does nothing.
-ghost use Rattle.std.specs.Prelude.{◌≡◌, ◌≢◌, ℕ, ◌+◌, ◌*◌, ◌<◌, ◌≤◌, ◌↔◌, ◌⊎◌, ◌==◌, Bool, List, ◌++◌, ◌∷◌, [], Option, Some, None, All, Contains, IsTrue, length};
+ghost use Rattle.std.specs.Prelude.{◌≡◌, ◌≢◌, ℕ, ◌+◌, ◌*◌, ◌<◌, ◌≤◌, ◌↔◌, ◌⊎◌, ◌==◌, Bool, List, Option, Some, None, All, Contains, IsTrue, length};
 ghost use Rattle.std.specs.List.{IsDistinct, filter};
 ghost use Rattle.vote_quorum.specs.Ballots.{Ballot, has_ballot, is_same, log_count, quorum_of, with_ballot};
 ghost use Rattle.vote_quorum.specs.Counted.{AtLeast, Shares, count_below};
