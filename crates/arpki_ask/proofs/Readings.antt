@@ -19,7 +19,7 @@ use Rattle.ar_lines.specs.Rows.{is_next}
 use Rattle.arpki_ask.specs.Notes.{learnt_from}
 use Rattle.arpki_ask.specs.Questions.{Question, question_at}
 use Rattle.ar_lines.specs.Written.{IsKey, hex_of_key}
-use Rattle.arpki_ask.specs.Written.{Asking, IsAsking, IsQuestion, first_directory, learnt_from_all, roll_line, asked_lines, authorities_line, directory_lines, inquiry_lines, inquiry_of, inquiry_text, key_line, logs_line, question_lines, question_text}
+use Rattle.arpki_ask.specs.Written.{Asking, IsAsking, IsQuestion, first_directory, learnt_from_all, roll_line, asked_lines, authorities_line, directory_lines, inquiry_lines, inquiry_text, key_line, logs_line, question_lines, question_text}
 use Rattle.ar_lines.proofs.Spelled.{bytes_of_hex-encode, decimal_is_word, hex_is_word, key_is_word, key_of_hex-key, name_is_word, name_of-name, number_of-decimal}
 use Rattle.ar_lines.proofs.TextLaws.{is_word, words_of-first, text_joined, word_is_text}
 use Rattle.ar_lines.proofs.RowsRead.{before, named_is_text, start_of-text, two_fields_read, value_reads, word_reads}
@@ -140,12 +140,12 @@ directory_is_text asking d l a =
     let parts = list_all-append is_text (map key_line asking.logs) (authorities_line (length asking.authorities) ∷ map key_line asking.authorities) in
     rw (logs, parts, key_lines_are_text asking.logs l, authorities, key_lines_are_text asking.authorities a) refl
 
-asked_are_text : (asking : Asking) → IsAsking asking → list_all is_text (asked_lines asking) ≡ true
+asked_are_text : (asking : Asking) → IsAsking asking → list_all is_text (asked_lines asking.inquiry) ≡ true
 asked_are_text asking h =
-    let name : is_text (codes "name " ++ asking.name) ≡ true = named_is_text (codes "name") asking.name refl (name_is_word asking.name h.name) in
-    let now : is_text (codes "now " ++ decimal asking.now) ≡ true = named_is_text (codes "now") (decimal asking.now) refl (decimal_is_word asking.now h.now) in
-    let age : is_text (codes "age " ++ decimal asking.age) ≡ true = named_is_text (codes "age") (decimal asking.age) refl (decimal_is_word asking.age h.age) in
-    let confirmation : is_text (codes "confirmation " ++ encode_lower asking.confirmation) ≡ true = named_is_text (codes "confirmation") (encode_lower asking.confirmation) refl (hex_is_word asking.confirmation h.confirmation) in
+    let name : is_text (codes "name " ++ asking.inquiry.name) ≡ true = named_is_text (codes "name") asking.inquiry.name refl (name_is_word asking.inquiry.name h.name) in
+    let now : is_text (codes "now " ++ decimal asking.inquiry.now) ≡ true = named_is_text (codes "now") (decimal asking.inquiry.now) refl (decimal_is_word asking.inquiry.now h.now) in
+    let age : is_text (codes "age " ++ decimal asking.inquiry.age) ≡ true = named_is_text (codes "age") (decimal asking.inquiry.age) refl (decimal_is_word asking.inquiry.age h.age) in
+    let confirmation : is_text (codes "confirmation " ++ encode_lower asking.inquiry.confirmation) ≡ true = named_is_text (codes "confirmation") (encode_lower asking.inquiry.confirmation) refl (hex_is_word asking.inquiry.confirmation h.confirmation) in
     rw (name, now, age, confirmation) refl
 
 -- ---- what the directory learns
@@ -192,23 +192,23 @@ roll_lines_are_text (note ∷ rolls) h =
 
 inquiry_is_text : (asking : Asking) → IsAsking asking → list_all is_text (inquiry_lines asking) ≡ true
 inquiry_is_text asking h =
-    list_all-append is_text (directory_lines asking) (map roll_line asking.rolls ++ asked_lines asking)
-    ∙ rw (directory_is_text asking (bounds asking h.directory) h.logs h.authorities, list_all-append is_text (map roll_line asking.rolls) (asked_lines asking), roll_lines_are_text asking.rolls h.rolls, asked_are_text asking h) refl
+    list_all-append is_text (directory_lines asking) (map roll_line asking.rolls ++ asked_lines asking.inquiry)
+    ∙ rw (directory_is_text asking (bounds asking h.directory) h.logs h.authorities, list_all-append is_text (map roll_line asking.rolls) (asked_lines asking.inquiry), roll_lines_are_text asking.rolls h.rolls, asked_are_text asking h) refl
 
-pub inquiry_reads : (asking : Asking) → IsAsking asking → inquiry_at (start_of_lines (inquiry_text asking)) ≡ Ok (inquiry_of asking)
+pub inquiry_reads : (asking : Asking) → IsAsking asking → inquiry_at (start_of_lines (inquiry_text asking)) ≡ Ok asking.inquiry
 unfolding inquiry_at directory_at
 inquiry_reads asking h =
     let start = behind_directory asking in
     let next = start + length asking.rolls in
-    let confirmation_line = codes "confirmation " ++ encode_lower asking.confirmation in
-    let age_line = codes "age " ++ decimal asking.age in
-    let now_line = codes "now " ++ decimal asking.now in
+    let confirmation_line = codes "confirmation " ++ encode_lower asking.inquiry.confirmation in
+    let age_line = codes "age " ++ decimal asking.inquiry.age in
+    let now_line = codes "now " ++ decimal asking.inquiry.now in
     let behind_name = now_line ∷ age_line ∷ confirmation_line ∷ [] in
-    let first = directory_reads asking (map roll_line asking.rolls ++ asked_lines asking) (bounds asking h.directory) h.logs h.authorities in
-    let rolls = rolls_read most_rolls (first_directory asking) asking.keys asking.rolls start asking.name behind_name h.few_rolls h.rolls h.learnt in
-    let name = name_reads asking.name next behind_name h.name in
-    let now = number_reads (codes "now") asking.now (next + 1) (age_line ∷ confirmation_line ∷ []) refl h.now in
-    let age = number_reads (codes "age") asking.age (next + 1 + 1) (confirmation_line ∷ []) refl h.age in
-    let confirmation = confirmation_reads asking.confirmation (next + 1 + 1 + 1) [] h.confirmation in
+    let first = directory_reads asking (map roll_line asking.rolls ++ asked_lines asking.inquiry) (bounds asking h.directory) h.logs h.authorities in
+    let rolls = rolls_read most_rolls (first_directory asking) asking.inquiry.keys asking.rolls start asking.inquiry.name behind_name h.few_rolls h.rolls h.learnt in
+    let name = name_reads asking.inquiry.name next behind_name h.name in
+    let now = number_reads (codes "now") asking.inquiry.now (next + 1) (age_line ∷ confirmation_line ∷ []) refl h.now in
+    let age = number_reads (codes "age") asking.inquiry.age (next + 1 + 1) (confirmation_line ∷ []) refl h.age in
+    let confirmation = confirmation_reads asking.inquiry.confirmation (next + 1 + 1 + 1) [] h.confirmation in
     ap inquiry_at (start_of-text (inquiry_lines asking) (inquiry_is_text asking h))
     ∙ rw (first, rolls, name, now, age, confirmation) refl

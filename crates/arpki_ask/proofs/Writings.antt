@@ -16,7 +16,7 @@ use Rattle.ar_base.proofs.Shown.{bind_ok, ok_is}
 use Rattle.arpki_ask.specs.Notes.{learnt_from}
 use Rattle.arpki_ask.specs.Questions.{Question, question_at}
 use Rattle.ar_lines.specs.Written.{hex_of_key, named}
-use Rattle.arpki_ask.specs.Written.{Asking, IsLearnt, authorities_line, inquiry_lines, inquiry_of, key_line, learnt_from_all, roll_line, logs_line, question_lines}
+use Rattle.arpki_ask.specs.Written.{Asking, IsLearnt, authorities_line, inquiry_lines, key_line, learnt_from_all, roll_line, logs_line, question_lines}
 use Rattle.ar_lines.proofs.RowsWritten.{behind, field_is, hex_writes, no_line_is, no_row_is, spelled_some, two_fields_are, value_is, word_is}
 use Rattle.ar_lines.proofs.Respelled.{key_hex_own, name_own, number_own}
 
@@ -194,7 +194,7 @@ rolls_are (suc most) keys last at new h = by_next (λ learnt behind e. rolls_are
 
 -- the inquiry is written so
 abbrev pub IsWritten : Inquiry → List (List ℕ) → Type 0
-IsWritten inquiry lines = (asking : Asking) × (IsLearnt asking × ((lines ≡ inquiry_lines asking) × (inquiry_of asking ≡ inquiry)))
+IsWritten inquiry lines = (asking : Asking) × (IsLearnt asking × ((lines ≡ inquiry_lines asking) × (asking.inquiry ≡ inquiry)))
 
 inquiry_is : (at : LineCursor) (inquiry : Inquiry) → inquiry_at at ≡ Ok inquiry → IsWritten inquiry at.ahead
 unfolding inquiry_at directory_at
@@ -219,11 +219,7 @@ inquiry_is at inquiry h =
       authorities = roster.authorities;
       quorum = roster.quorum;
       rolls = rolled.rolls;
-      keys = keys.0.0;
-      name = name.0.0;
-      now = now.0.0;
-      age = age.0.0;
-      confirmation = confirmation.0.0;
+      inquiry = whole;
     } in
     let learnt : IsLearnt asking = rw roster.is rolled.learns in
     let behind_keys = rolled.lines ∙ ap (λ (l : List (List ℕ)). map roll_line rolled.rolls ++ l) first in

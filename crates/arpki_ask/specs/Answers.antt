@@ -69,8 +69,10 @@ abbrev pub answer_of : Command → List ℕ → Answer
 answer_of Sig input = unless_refused judged (question_at (start_of_lines input))
 answer_of Check input = unless_refused found (inquiry_at (start_of_lines input))
 
+-- this answer to an input, where the input is not too long
+abbrev pub unless_long : List ℕ → Answer → Answer
+unless_long input answer = if nat_lt most_bytes (length input) then refused_line too_long else answer
+
 -- the answer of a command to an input
 abbrev pub answer_to : Command → List ℕ → Answer
-answer_to command input =
-    if nat_lt most_bytes (length input) then refused_line too_long
-    else answer_of command input
+answer_to command input = unless_long input (answer_of command input)

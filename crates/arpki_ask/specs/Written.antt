@@ -30,18 +30,13 @@ question_text question = text_of_lines (question_lines question)
 -- ---- the inquiry of `check`
 
 -- what an inquiry is written from: the key of generation 0 of each log and of each authority, how many logs
--- make a quorum, the bytes of RollNotes and the directory behind them, the name, the epoch, the age and the
--- bytes of the confirmation
+-- make a quorum, the bytes of RollNotes, and the inquiry, whose directory is the one behind them
 pub record Asking : Type 0 where
   pub logs : List LmsPublic
   pub authorities : List LmsPublic
   pub quorum : ℕ
   pub rolls : List (List ℕ)
-  pub keys : Directory
-  pub name : List ℕ
-  pub now : ℕ
-  pub age : ℕ
-  pub confirmation : List ℕ
+  pub inquiry : Inquiry
 
 -- the directory behind all of these bytes, where it learns from each
 abbrev pub learnt_from_all : Directory → List (List ℕ) → Option Directory
@@ -52,19 +47,9 @@ learnt_from_all keys (note ∷ notes) = option_and_then (λ learnt. learnt_from_
 abbrev pub first_directory : Asking → Directory
 first_directory asking = directory_with asking.logs asking.authorities asking.quorum
 
--- the directory learns from each of the RollNotes, and is this one then
+-- the directory learns from each of the RollNotes, and is that of the inquiry then
 abbrev pub IsLearnt : Asking → Type 0
-IsLearnt asking = learnt_from_all (first_directory asking) asking.rolls ≡ Some asking.keys
-
--- the inquiry that is written so
-abbrev pub inquiry_of : Asking → Inquiry
-inquiry_of asking = record {
-  keys = asking.keys;
-  name = asking.name;
-  now = asking.now;
-  age = asking.age;
-  confirmation = asking.confirmation;
-}
+IsLearnt asking = learnt_from_all (first_directory asking) asking.rolls ≡ Some asking.inquiry.keys
 
 -- the inquiry of a program that holds a directory, at most 64 RollNotes from which it learns, a name, two
 -- numbers of 64 bits and a string of bytes
@@ -75,10 +60,10 @@ pub record IsAsking (asking : Asking) : Type 0 where
   pub few_rolls : length asking.rolls ≤ most_rolls
   pub rolls : All IsBytes asking.rolls
   pub learnt : IsLearnt asking
-  pub name : IsName asking.name
-  pub now : asking.now < 2 ^ 64
-  pub age : asking.age < 2 ^ 64
-  pub confirmation : IsBytes asking.confirmation
+  pub name : IsName asking.inquiry.name
+  pub now : asking.inquiry.now < 2 ^ 64
+  pub age : asking.inquiry.age < 2 ^ 64
+  pub confirmation : IsBytes asking.inquiry.confirmation
 
 -- `logs <N> <q>`: how many logs there are, and how many of them make a quorum
 abbrev pub logs_line : ℕ → ℕ → List ℕ
@@ -103,17 +88,17 @@ abbrev pub roll_line : List ℕ → List ℕ
 roll_line bytes = codes "roll " ++ encode_lower bytes
 
 -- the lines behind them: the name, the epoch, the age and the confirmation
-abbrev pub asked_lines : Asking → List (List ℕ)
-asked_lines asking =
-    (codes "name " ++ asking.name)
-    ∷ (codes "now " ++ decimal asking.now)
-    ∷ (codes "age " ++ decimal asking.age)
-    ∷ (codes "confirmation " ++ encode_lower asking.confirmation)
+abbrev pub asked_lines : Inquiry → List (List ℕ)
+asked_lines inquiry =
+    (codes "name " ++ inquiry.name)
+    ∷ (codes "now " ++ decimal inquiry.now)
+    ∷ (codes "age " ++ decimal inquiry.age)
+    ∷ (codes "confirmation " ++ encode_lower inquiry.confirmation)
     ∷ []
 
 -- all lines of the inquiry
 abbrev pub inquiry_lines : Asking → List (List ℕ)
-inquiry_lines asking = directory_lines asking ++ (map roll_line asking.rolls ++ asked_lines asking)
+inquiry_lines asking = directory_lines asking ++ (map roll_line asking.rolls ++ asked_lines asking.inquiry)
 
 -- the inquiry as it is written
 abbrev pub inquiry_text : Asking → List ℕ

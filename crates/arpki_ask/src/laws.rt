@@ -5,7 +5,7 @@ ghost use Rattle.arpki_ask.specs.Inquiries.{Inquiry, inquiry_at};
 ghost use Rattle.ar_lines.specs.Lines.{lines_of};
 ghost use Rattle.ar_lines.specs.Readings.{start_of_lines};
 ghost use Rattle.arpki_ask.specs.Questions.{Question, question_at};
-ghost use Rattle.arpki_ask.specs.Written.{Asking, IsAsking, IsLearnt, IsQuestion, inquiry_lines, inquiry_of, inquiry_text, question_lines, question_text};
+ghost use Rattle.arpki_ask.specs.Written.{Asking, IsAsking, IsLearnt, IsQuestion, inquiry_lines, inquiry_text, question_lines, question_text};
 
 /// A question that is written is read as just this question.
 pub fn a_question_is_read_as_it_is_written()
@@ -22,11 +22,11 @@ pub fn only_written_questions_are_read()
 /// An inquiry that is written is read as just this inquiry.
 pub fn an_inquiry_is_read_as_it_is_written()
     ensures { (asking : Asking) → IsAsking asking
-        → inquiry_at (start_of_lines (inquiry_text asking)) ≡ Ok (inquiry_of asking) }
+        → inquiry_at (start_of_lines (inquiry_text asking)) ≡ Ok asking.inquiry }
 {}
 
 /// An inquiry is read from the lines that write it, and from no others.
 pub fn only_written_inquiries_are_read()
     ensures { (input : List ℕ) (inquiry : Inquiry) → inquiry_at (start_of_lines input) ≡ Ok inquiry
-        → (asking : Asking) × (IsLearnt asking × ((lines_of input ≡ inquiry_lines asking) × (inquiry_of asking ≡ inquiry))) }
+        → (asking : Asking) × (IsLearnt asking × ((lines_of input ≡ inquiry_lines asking) × (asking.inquiry ≡ inquiry))) }
 {}

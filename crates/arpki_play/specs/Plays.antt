@@ -1,17 +1,16 @@
 -- What `play` and `make <number> run` write, and with which status.
-use Rattle.std.specs.Prelude.{ℕ, nat_lt, if◌then◌else◌, List, [], ◌∷◌, ◌++◌, codes, length, Option, Some, None}
+use Rattle.std.specs.Prelude.{ℕ, List, [], ◌∷◌, ◌++◌, codes, length, Option, Some, None}
 use Rattle.std.specs.Fmt.{decimal}
 use Rattle.hex.specs.Hex.{encode_lower}
 use Rattle.sha2.specs.Sha256.{sha256}
 use Rattle.ar_run.specs.Answers.{Answer}
-use Rattle.ar_run.specs.Runs.{most_bytes}
 use Rattle.ar_nodes.specs.Parties.{CheckParts}
 use Rattle.ar_world.specs.Run as world
 use Rattle.script_make.specs.Script.{last_epoch, script}
 use Rattle.ar_world.specs.declared.cause.Cause.{Cause}
 use Rattle.script_play.specs.Playing.{Played, played_of, refusal_of, written_of}
 use Rattle.script_play.specs.declared.counts.Counts.{Counts}
-use Rattle.arpki_ask.specs.Answers.{refused_line, too_long}
+use Rattle.arpki_ask.specs.Answers.{unless_long}
 
 -- ---- `play`
 
@@ -26,8 +25,7 @@ run_answer r = record { lines = world.lines_of_run r; status = run_status (refus
 
 -- what is answered where an input is played
 abbrev pub play_answer : world.Saying → List CheckParts → List ℕ → Answer
-play_answer saying checks input =
-    if nat_lt most_bytes (length input) then refused_line too_long else run_answer (world.run saying checks input)
+play_answer saying checks input = unless_long input (run_answer (world.run saying checks input))
 
 -- ---- `make <number> run`
 

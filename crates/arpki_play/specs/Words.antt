@@ -1,8 +1,8 @@
 -- The words that the program is called with, after its own name.
-use Rattle.std.specs.Prelude.{ℕ, nat_le, ◌&&◌, if◌then◌else◌, List, [], ◌∷◌, codes, map, Option, Some, None, String, string_bytes, option_map}
+use Rattle.std.specs.Prelude.{ℕ, ◌&&◌, if◌then◌else◌, List, [], ◌∷◌, codes, map, Option, Some, None, String, string_bytes, option_map}
 use Rattle.std.specs.Str.{bytes_eq}
 use Rattle.std.specs.declared.alloc.Global.{Global}
-use Rattle.ar_lines.specs.Forms.{number_of, passing}
+use Rattle.ar_lines.specs.Forms.{number_in}
 use Rattle.ar_run.specs.Answers.{Answer as Written, one_line}
 use Rattle.arpki_ask.specs.Commands.{command_named}
 use Rattle.arpki_play.specs.declared.request.Request.{Request}
@@ -13,8 +13,8 @@ abbrev pub texts : List (String Global) → List (List ℕ)
 texts words = map string_bytes words
 
 -- how many domains a word says that a script is for: 1 to 400
-unfoldable pub domains_of : List ℕ → Option ℕ
-domains_of word = passing (λ n. nat_le 1 n && nat_le n 400) (number_of word)
+abbrev pub domains_of : List ℕ → Option ℕ
+domains_of word = number_in 1 400 word
 
 -- what one word asks for: to play, or the answer of a command
 abbrev pub request_named : List ℕ → Option Request

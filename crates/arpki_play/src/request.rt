@@ -27,7 +27,7 @@ impl Model for Domains {
 
 impl Domains {
     /// The number that a word says.
-    #[tactic(auto, unfolding(crate::specs::Words::domains_of))]
+    #[tactic(auto, unfolding(ar_lines::specs::Forms::number_in))]
     fn of(word: &[u8]) -> Option<Domains>
         ensures { result ≡ domains_of word.now }
     {

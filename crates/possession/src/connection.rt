@@ -1,5 +1,4 @@
 ghost use Rattle.std.specs.Prelude.{◌≡◌};
-ghost use Rattle.ar_names.specs.Names.{IsName};
 ghost use Rattle.client_rule.specs.Rule.{judgement};
 ghost use Rattle.possession.specs.Answering.{answer_text};
 ghost use Rattle.possession.specs.Connections.{connected};

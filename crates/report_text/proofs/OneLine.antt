@@ -1,9 +1,9 @@
 -- A line is its words with one space between each two, and a newline; so two lines that are one have the same words.
-use Rattle.std.proofs.Common.{◌≡◌, ℕ, Bool, true, false, List, [], ◌∷◌, ◌++◌, codes, map, length, Option, Some, None, refl, sym, ap, ◌∙◌, append_assoc, append-nil}
+use Rattle.std.proofs.Common.{◌≡◌, ℕ, true, List, [], ◌∷◌, ◌++◌, codes, map, Option, Some, None, refl, sym, ap, ◌∙◌, append_assoc, append-nil}
 use Rattle.std.proofs.lemmas.List.{append_cancel_right}
 use Rattle.std.specs.Prelude.{IfSome}
 use Rattle.std.specs.Fmt.{decimal}
-use Rattle.std.specs.List.{join_with_byte, list_all}
+use Rattle.std.specs.List.{AllByRecursion, join_with_byte, list_all}
 use Rattle.std.proofs.lemmas.Bool.{and_parts}
 use Rattle.std.proofs.lemmas.Option.{same_Some}
 use Rattle.hex.specs.Hex.{encode_lower}
@@ -16,9 +16,9 @@ use Rattle.ar_statement.specs.Claims.{party}
 use Rattle.ar_statement.specs.declared.party.Party.{Party}
 use Rattle.ar_statement.specs.declared.party.Role.{Role}
 use Rattle.ar_statement.specs.declared.party.Role.TheVariants.{LogServer, Authority, Owner, Client}
-use Rattle.report_text.specs.Held.{AreNumbers, AreValues, IsCode, IsHappening, IsNumber, IsParty, IsSaid, IsShown, IsTarget, IsUnlearnt, IsWhat}
+use Rattle.report_text.specs.Held.{AreValues, IsCode, IsHappening, IsNumber, IsParty, IsSaid, IsShown, IsTarget, IsUnlearnt, IsWhat}
 use Rattle.report_text.specs.Lines.{kind_text, line_of, outcome_text, rule_letter, sender_text, taken_text, target_text, value_text, values_text, what_text}
-use Rattle.report_text.proofs.Told.{ending_words, happening_is_told, learning_words, outcome_words, said_words, told, value_word, values_words, what_then, words_of_happening}
+use Rattle.report_text.proofs.Told.{happening_is_told, learning_words, outcome_words, said_words, told, value_word, values_words, what_then, words_of_happening}
 use Rattle.report_text.specs.declared.happening.Code.{Code}
 use Rattle.report_text.specs.declared.happening.Happening.{Happening}
 use Rattle.report_text.specs.declared.happening.Happening.TheVariants as happening
@@ -194,7 +194,7 @@ said_right (said.Accepted name serial epoch root certificate) h =
 said_right (said.Absent name epoch root) h = rw (name_is_word name h.0, decimal_is_word epoch h.1, digest_word root h.2) refl
 said_right (said.Refused k) h = rw (decimal_is_word k h) refl
 
-numbers_right : (ns : List ℕ) → AreNumbers ns → list_all is_word (map decimal ns) ≡ true
+numbers_right : (ns : List ℕ) → AllByRecursion IsNumber ns → list_all is_word (map decimal ns) ≡ true
 numbers_right [] h = refl
 numbers_right (n ∷ ns) h = rw (decimal_is_word n h.0, numbers_right ns h.1) refl
 

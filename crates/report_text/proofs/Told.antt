@@ -1,7 +1,8 @@
 -- What the words of a line tell: the happening whose words they are.
-use Rattle.std.proofs.Common.{◌≡◌, ℕ, ◌+◌, ◌*◌, ◌<◌, ◌≤◌, ◌^◌, Bool, true, false, ◌&&◌, ltb, ◌==◌, if◌then◌else◌, List, [], ◌∷◌, ◌++◌, length, codes, map, Option, Some, None, refl, sym, ap, ◌∙◌, arith, lit<}
+use Rattle.std.proofs.Common.{◌≡◌, ℕ, ◌<◌, ◌^◌, ◌&&◌, ltb, ◌==◌, if◌then◌else◌, List, [], ◌∷◌, ◌++◌, length, codes, map, Option, Some, None, refl, ap, ◌∙◌, arith, lit<}
 use Rattle.std.specs.Prelude.{IfSome}
 use Rattle.std.specs.Fmt.{decimal}
+use Rattle.std.specs.List.{AllByRecursion}
 use Rattle.std.specs.Str.{bytes_eq}
 use Rattle.std.specs.Str.Parse.{digits_value}
 use Rattle.std.proofs.lemmas.Bool.{and_parts, ltb-true}
@@ -10,7 +11,6 @@ use Rattle.std.proofs.lemmas.Option.{cond_some}
 use Rattle.hex.specs.Hex.{encode_lower, lower_digits}
 use Rattle.hex.proofs.HexLemmas.{length-encode_with}
 use Rattle.ar_base.specs.Bytes.{IsDigest}
-use Rattle.ar_names.specs.Names.{IsName}
 use Rattle.ar_lines.specs.Forms.{bytes_of_hex, is_numeral, number_of}
 use Rattle.ar_lines.specs.Parties.{member_word, party_word, role_of}
 use Rattle.ar_lines.proofs.Respelled.{number_own}
@@ -19,7 +19,7 @@ use Rattle.ar_statement.specs.Claims.{party}
 use Rattle.ar_statement.specs.declared.party.Party.{Party}
 use Rattle.ar_statement.specs.declared.party.Role.{Role}
 use Rattle.ar_statement.specs.declared.party.Role.TheVariants.{LogServer, Authority, Owner, Client}
-use Rattle.report_text.specs.Held.{AreNumbers, AreValues, IsCode, IsHappening, IsNumber, IsParty, IsSaid, IsShown, IsTarget, IsUnlearnt, IsWhat}
+use Rattle.report_text.specs.Held.{AreValues, IsCode, IsHappening, IsNumber, IsParty, IsSaid, IsShown, IsTarget, IsUnlearnt, IsWhat}
 use Rattle.report_text.specs.Lines.{kind_text, rule_letter, sender_text, target_text}
 use Rattle.report_text.specs.declared.happening.Code.{Code}
 use Rattle.report_text.specs.declared.happening.Happening.{Happening}
@@ -298,7 +298,7 @@ unfoldable pub numbers_told : List (List ℕ) → Option (List ℕ)
 numbers_told [] = Some []
 numbers_told (word ∷ words) = bind (number_told word) (λ n. bind (numbers_told words) (λ ns. Some (n ∷ ns)))
 
-numbers_are_told : (ns : List ℕ) → AreNumbers ns → numbers_told (map decimal ns) ≡ Some ns
+numbers_are_told : (ns : List ℕ) → AllByRecursion IsNumber ns → numbers_told (map decimal ns) ≡ Some ns
 unfolding numbers_told
 numbers_are_told [] h = refl
 numbers_are_told (n ∷ ns) h = rw (number_is_told n h.0, numbers_are_told ns h.1) refl

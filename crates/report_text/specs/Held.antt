@@ -1,5 +1,6 @@
 -- What the types keep of a happening: numbers in their ranges, digests of 32 bytes, and names.
-use Rattle.std.specs.Prelude.{ℕ, ◌<◌, ◌^◌, List, [], ◌∷◌, Option, Some, None, IfSome}
+use Rattle.std.specs.Prelude.{ℕ, ◌<◌, ◌^◌, IfSome}
+use Rattle.std.specs.List.{AllByRecursion}
 use Rattle.ar_base.specs.Bytes.{IsDigest}
 use Rattle.ar_names.specs.Names.{IsName}
 use Rattle.ar_statement.specs.declared.party.Party.{Party}
@@ -67,10 +68,6 @@ IsSaid (said.Accepted name serial epoch root certificate) =
 IsSaid (said.Absent name epoch root) = IsName name × IsNumber epoch × IsDigest root
 IsSaid (said.Refused check) = IsNumber check
 
-abbrev pub AreNumbers : List ℕ → Type 0
-AreNumbers [] = Unit {0}
-AreNumbers (n ∷ ns) = IsNumber n × AreNumbers ns
-
 -- a happening of the program
 abbrev pub IsHappening : Happening → Type 0
 IsHappening (happening.Made party digest) = IsParty party × IsDigest digest
@@ -86,4 +83,4 @@ IsHappening (happening.Entered message kind from to length digest) =
     IsNumber message × IfSome from IsParty × IsTarget to × IsNumber length × IsDigest digest
 IsHappening (happening.SignRefused party) = IsParty party
 IsHappening (happening.Judged message said) = IsNumber message × IsSaid said
-IsHappening (happening.Order party taken) = IsParty party × AreNumbers taken
+IsHappening (happening.Order party taken) = IsParty party × AllByRecursion IsNumber taken

@@ -1,22 +1,17 @@
 -- The lines of a script, each for one number.
-use Rattle.std.specs.Prelude.{ℕ, ◌+◌, ◌*◌, ◌%◌, ◌==◌, not, List, [], ◌∷◌, ◌++◌, codes, filter, flat_map, if◌then◌else◌}
+use Rattle.std.specs.Prelude.{ℕ, ◌+◌, ◌*◌, ◌%◌, ◌==◌, not, List, [], ◌∷◌, ◌++◌, codes, filter, flat_map, map, if◌then◌else◌}
 use Rattle.std.specs.Fmt.{decimal}
+use Rattle.std.specs.List.{join_with_byte}
 use Rattle.script_make.specs.declared.rows.Row.{Row}
 use Rattle.script_make.specs.declared.rows.Row.TheVariants.{Owner, Teach, Register, Submit, Update, Handover, Ask, AskAbsent}
-
--- the numbers with a comma between each two
-abbrev pub with_commas : List ℕ → List ℕ
-with_commas [] = []
-with_commas (n ∷ []) = decimal n
-with_commas (n ∷ next ∷ more) = decimal n ++ (44 ∷ with_commas (next ∷ more))
 
 -- the authorities that domain i trusts: 0, 1, 2 and 3 without (i + 3) mod 4
 abbrev pub trusted_by : ℕ → List ℕ
 trusted_by i = filter (λ a. not (a == (i + 3) % 4)) (0 ∷ 1 ∷ 2 ∷ 3 ∷ [])
 
--- their numbers, written with commas
+-- their numbers, written with a comma between each two
 abbrev pub trusted_text : ℕ → List ℕ
-trusted_text i = with_commas (trusted_by i)
+trusted_text i = join_with_byte 44 (map decimal (trusted_by i))
 
 -- a line by which an authority learns of domain i
 abbrev pub teaching_text : ℕ → ℕ → List ℕ

@@ -1,7 +1,8 @@
 -- The script for a number of domains, part by part.
 use Rattle.std.specs.Prelude.{ℕ, ◌+◌, ◌/◌, ◌%◌, List, ◌++◌, codes, flat_map}
 use Rattle.std.specs.Fmt.{decimal}
-use Rattle.script_make.specs.Numbers.{numbers, batch, batches_of}
+use Rattle.std.specs.List.{range_with_len}
+use Rattle.script_make.specs.Numbers.{batch, batches_of}
 use Rattle.script_make.specs.Rows.{row_text}
 use Rattle.script_make.specs.declared.rows.Row.TheVariants.{Owner, Teach, Register, Submit, Update, Handover, Ask, AskAbsent}
 
@@ -20,7 +21,7 @@ ending e = codes "flush\npropose L" ++ (decimal (e % 5) ++ codes "\nflush\n")
 -- the sets of keys and the parties, and what the authorities learn
 abbrev pub setup : ℕ → List ℕ
 setup domains = codes "keys 6 3\nlogs 5 4\nauthorities 4\n"
-    ++ (flat_map (row_text Owner) (numbers 0 domains) ++ flat_map (row_text Teach) (numbers 0 domains))
+    ++ (flat_map (row_text Owner) (range_with_len 0 domains) ++ flat_map (row_text Teach) (range_with_len 0 domains))
 
 -- batch k of the domains is registered, in epoch k + 1
 abbrev pub registration : ℕ → ℕ → List ℕ
@@ -35,11 +36,11 @@ update domains k = flat_map (row_text Update) (batch (updates_of domains) k)
 
 -- a client asks for each domain, and for one name that is not there for each ten domains begun
 abbrev pub questions : ℕ → List ℕ
-questions domains = flat_map (row_text (Ask (last_epoch domains))) (numbers 0 domains)
-    ++ flat_map (row_text (AskAbsent (last_epoch domains))) (numbers 0 ((domains + 9) / 10))
+questions domains = flat_map (row_text (Ask (last_epoch domains))) (range_with_len 0 domains)
+    ++ flat_map (row_text (AskAbsent (last_epoch domains))) (range_with_len 0 ((domains + 9) / 10))
 
 -- the script
 abbrev pub script : ℕ → List ℕ
 script domains = setup domains
-    ++ (flat_map (registration domains) (numbers 0 (batches_of domains))
-    ++ (flat_map (update domains) (numbers 0 (batches_of (updates_of domains))) ++ questions domains))
+    ++ (flat_map (registration domains) (range_with_len 0 (batches_of domains))
+    ++ (flat_map (update domains) (range_with_len 0 (batches_of (updates_of domains))) ++ questions domains))

@@ -1,6 +1,7 @@
 ghost use Rattle.std.specs.Prelude.{◌≡◌, ◌+◌, ◌≤◌, ◌<◌, ◌++◌, flat_map, length, vec_len, vec_capacity, IsOk, OnOk, OnErr};
+ghost use Rattle.std.specs.List.{range_with_len};
 ghost use Rattle.ar_text.specs.Parts.{Appends};
-ghost use Rattle.script_make.specs.Numbers.{batches_of, numbers};
+ghost use Rattle.script_make.specs.Numbers.{batches_of};
 ghost use Rattle.script_make.specs.Script.{ending, last_epoch, questions, registration, script, setup, update, updates_of};
 
 use crate::rows::{Row, Span, batch_of, put_rows};
@@ -96,7 +97,7 @@ fn put_update(alloc: Global, out: &mut Vec<u8>, domains: u32, k: u32) -> Result<
 /// All batches of registrations.
 fn put_registrations(alloc: Global, out: &mut Vec<u8>, domains: u32) -> Result<(), AllocError>
     requires { domains ≤ 400 }
-    ensures { Appends (flat_map (registration domains) (numbers 0 (batches_of domains))) out.old out.new result }
+    ensures { Appends (flat_map (registration domains) (range_with_len 0 (batches_of domains))) out.old out.new result }
 {
     for k in 0..batches_of(domains) {
         put_registration(alloc, out, domains, k)?;
@@ -107,7 +108,7 @@ fn put_registrations(alloc: Global, out: &mut Vec<u8>, domains: u32) -> Result<(
 /// All batches of updates.
 fn put_updates(alloc: Global, out: &mut Vec<u8>, domains: u32) -> Result<(), AllocError>
     requires { domains ≤ 400 }
-    ensures { Appends (flat_map (update domains) (numbers 0 (batches_of (updates_of domains)))) out.old out.new result }
+    ensures { Appends (flat_map (update domains) (range_with_len 0 (batches_of (updates_of domains)))) out.old out.new result }
 {
     for k in 0..batches_of(updates_of(domains)) {
         put_update(alloc, out, domains, k)?;

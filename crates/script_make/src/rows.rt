@@ -1,6 +1,7 @@
 ghost use Rattle.std.specs.Prelude.{◌≡◌, ◌+◌, ◌*◌, ◌<◌, ◌≤◌, ◌^◌, flat_map};
+ghost use Rattle.std.specs.List.{range_with_len};
 ghost use Rattle.ar_text.specs.Parts.{Appends};
-ghost use Rattle.script_make.specs.Numbers.{batch, numbers};
+ghost use Rattle.script_make.specs.Numbers.{batch};
 ghost use Rattle.script_make.specs.Rows.{handover_text, keyed_text, question_on_none_text, question_text, registration_text, row_text, teaching_text, trusted_by, trusted_text, update_text};
 
 use ar_text::{Part, append};
@@ -39,7 +40,7 @@ pub(crate) struct Span {
 /// Batch k, from 0, of so many numbers from 0 on, each batch but the last of 64.
 pub(crate) fn batch_of(count: u32, k: u32) -> Span
     requires { 64 * k < 2 ^ 32 }
-    ensures numbers { numbers result.first result.count ≡ batch count k }
+    ensures numbers { range_with_len result.first result.count ≡ batch count k }
     ensures fits { 64 * k ≤ count → result.first + result.count ≤ count }
 {
     let first = 64 * k;
@@ -245,7 +246,7 @@ pub(crate) fn put_rows(
     span: Span,
 ) -> Result<(), AllocError>
     requires { span.first + span.count ≤ 1000 }
-    ensures { Appends (flat_map (row_text row) (numbers span.first span.count)) out.old out.new result }
+    ensures { Appends (flat_map (row_text row) (range_with_len span.first span.count)) out.old out.new result }
 {
     for i in span.first..span.first + span.count {
         put_row(alloc, out, row, i)?;

@@ -1,5 +1,6 @@
 -- What is counted of a script that is played.
-use Rattle.std.specs.Prelude.{ℕ, ◌+◌, ◌-◌, ◌^◌, List, [], ◌∷◌, min}
+use Rattle.std.specs.Prelude.{ℕ, List, [], ◌∷◌}
+use Rattle.ar_base.specs.Faults.{one_more}
 use Rattle.report_text.specs.declared.happening.Happening.{Happening}
 use Rattle.report_text.specs.declared.happening.Happening.TheVariants.{Judged}
 use Rattle.report_text.specs.declared.happening.Said.{Said}
@@ -10,11 +11,7 @@ use Rattle.script_play.specs.declared.counts.Counts.{Counts}
 abbrev pub no_counts : Counts
 no_counts = record { accepted = 0; absent = 0; refused = 0 }
 
--- one more, up to the greatest number of 64 bits
-abbrev pub one_more : ℕ → ℕ
-one_more count = min (count + 1) (2 ^ 64 - 1)
-
--- one judgement more
+-- one judgement more, each count up to the greatest number of 64 bits
 abbrev pub with_said : Counts → Said → Counts
 with_said n (said.Accepted name serial epoch root certificate) = record n { accepted = one_more n.accepted }
 with_said n (said.Absent name epoch root) = record n { absent = one_more n.absent }

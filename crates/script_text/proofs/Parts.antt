@@ -1,6 +1,5 @@
 -- The first part of a word that is cut, as a scan finds it.
-use Rattle.std.proofs.Common.{◌≡◌, ℕ, ◌+◌, ◌-◌, ◌≤◌, ◌==◌, false, refl, arith, List, [], ◌∷◌, length, take, drop, Option, Some, None, position}
-use Rattle.std.specs.List.{slice_split}
+use Rattle.std.proofs.Common.{◌≡◌, ℕ, ◌+◌, ◌-◌, ◌≤◌, ◌==◌, false, refl, arith, List, [], ◌∷◌, length, take, drop, Some, None, position}
 use Rattle.ar_lines.proofs.LineLaws.{cut_at, uncut}
 use Rattle.std.proofs.lemmas.List.Splits.{length-slice_split}
 use Rattle.std.proofs.lemmas.List.Sums.{count_by-le-length}

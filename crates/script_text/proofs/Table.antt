@@ -1,13 +1,11 @@
 -- A line is read by the row of its first word.
-use Rattle.std.proofs.Common.{◌≡◌, ℕ, Bool, true, false, ◌||◌, cond, List, [], ◌∷◌, Result, Ok, Err, refl, sym, ap, ◌∙◌}
+use Rattle.std.proofs.Common.{◌≡◌, ℕ, Bool, true, false, ◌||◌, cond, List, [], ◌∷◌, Err, refl, ap, ◌∙◌}
 use Rattle.std.specs.Str.{bytes_eq}
-use Rattle.ar_lines.specs.declared.refusal.Reason.{Reason}
 use Rattle.ar_lines.specs.declared.refusal.Reason.TheVariants.{Word}
 use Rattle.script_text.specs.Grammar.{Row, line_by}
 use Rattle.script_text.specs.Rows.{has_word, row_of, table}
 use Rattle.script_text.specs.declared.keyword.Keyword.{Keyword}
 use Rattle.script_text.specs.declared.keyword.Keyword.TheVariants as keyword
-use Rattle.script_text.specs.declared.line.Line.{Line}
 
 of_keyword : (k : Keyword) (words : List (List ℕ)) → line_by table (row_of k).word words ≡ (row_of k).fields words
 of_keyword keyword.Secret words = refl

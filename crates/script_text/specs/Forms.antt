@@ -6,7 +6,7 @@ use Rattle.std.specs.Option.{is_some}
 use Rattle.std.specs.Str.{bytes_eq}
 use Rattle.ar_lines.specs.Forms.{is_hex, number_in, number_of, passing}
 use Rattle.ar_lines.specs.Parties.{party_of}
-use Rattle.ar_statement.specs.Claims.{party, role_number}
+use Rattle.ar_statement.specs.Claims.{role_number}
 use Rattle.ar_statement.specs.Ranges.{is_witness}
 use Rattle.ar_statement.specs.declared.party.Party.{Party}
 use Rattle.ar_statement.specs.declared.party.Role.{Role}

@@ -1,12 +1,11 @@
 -- What a line is read as, by its words: the fields behind the first of them, in their order, each of its
 -- form. The count of the words comes first, and then the leftmost word that is not of its form.
-use Rattle.std.specs.Prelude.{ℕ, ◌+◌, ◌==◌, Bool, true, if◌then◌else◌, List, [], ◌∷◌, Option, Some, None, Result, Ok, Err}
+use Rattle.std.specs.Prelude.{ℕ, ◌+◌, ◌==◌, Bool, true, if◌then◌else◌, List, [], ◌∷◌, Option, Some, Result, Ok, Err}
 use Rattle.std.specs.Option.{ok_or}
 use Rattle.std.specs.Str.{bytes_eq}
 use Rattle.ar_base.specs.Chaining.{◌>>=◌}
-use Rattle.ar_lines.specs.Lines.{is_text, words_of}
 use Rattle.ar_lines.specs.declared.refusal.Reason.{Reason}
-use Rattle.ar_lines.specs.declared.refusal.Reason.TheVariants.{Text, Word, Words, Field}
+use Rattle.ar_lines.specs.declared.refusal.Reason.TheVariants.{Word, Words, Field}
 use Rattle.script_text.specs.Forms.{asks_of, binding_of, is_piece, trusted_of}
 use Rattle.ar_lines.specs.Forms.{number_in, number_of}
 use Rattle.script_text.specs.declared.line.Line.{Line}

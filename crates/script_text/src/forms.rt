@@ -1,11 +1,8 @@
-ghost use Rattle.std.specs.Prelude.{◌≡◌, ◌<◌, ◌≤◌, ◌^◌, ◌∷◌, true, IfSome, length, ℕ};
-ghost use Rattle.std.specs.Option.{option_copied, option_map};
-ghost use Rattle.std.specs.List.{slice_split};
-ghost use Rattle.script_text.specs.Forms.{ascending_of, asks_of, behind, binding_of, is_piece, is_slice, judged_of, lms_of, list_of, new_owner_of, number_with, ots_of, party_count_of, quorum_of, receiver_of, trusted_of, wait_of, witness_of, parts_of};
+ghost use Rattle.std.specs.Prelude.{◌≡◌, ◌<◌, true, IfSome};
+ghost use Rattle.script_text.specs.Forms.{judged_of, lms_of, new_owner_of, number_with, ots_of, party_count_of, quorum_of, receiver_of, witness_of};
 ghost use Rattle.ar_lines.specs.Forms.{number_in, number_of};
 ghost use Rattle.party_keys.specs.Directory.{is_party_count, is_quorum};
 
-use crate::numbers::Numbers;
 use ar_lines::{number_in, number_of, party_of};
 use ar_statement::{Party, Role};
 use party_keys::{is_party_count, is_quorum};

@@ -1,4 +1,4 @@
-ghost use Rattle.std.specs.Prelude.{◌≡◌, ◌++◌, None, IfSome, false};
+ghost use Rattle.std.specs.Prelude.{◌≡◌, None, IfSome, false};
 ghost use Rattle.script_text.specs.Rows.{setup_rows, owners_rows, drafts_rows, orders_rows, messages_rows, bytes_rows, has_word, row_of, table};
 
 /// The first word of a line.

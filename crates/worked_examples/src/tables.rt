@@ -1,7 +1,7 @@
 //! Tables of a.example, change by change.
 mod calls;
 mod changes;
-mod values;
+pub(crate) mod values;
 
 use calls::{FULL, applied, handed_back, judged, listed, play, repeat, seen};
 use changes::{Says, Tried, registering};

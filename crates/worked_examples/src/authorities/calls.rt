@@ -1,5 +1,5 @@
 //! The calls of an authority.
-use super::texts::subject;
+use crate::tables::values::owner_key;
 use ar_message::{Address, Sent};
 use ar_statement::Role;
 use authority_core::{Authority, AuthorityRefusal};
@@ -64,13 +64,13 @@ pub(crate) fn teach(alloc: Global, authority: &mut Checked, name: &[u8]) -> Resu
     if authority.retired() {
         return Err("a retired authority is taught".into());
     }
-    Ok(authority.teach(alloc, name, subject())?)
+    Ok(authority.teach(alloc, name, owner_key())?)
 }
 
 /// Its check forgets it.
 pub(crate) fn forget(authority: &mut Checked, name: &[u8]) {
     if !authority.retired() {
-        authority.forget(name, subject());
+        authority.forget(name, owner_key());
     }
 }
 

@@ -6,7 +6,6 @@ use super::messages::log_confirmed;
 use super::texts::request;
 use ar_message::Address;
 use ar_statement::Role;
-use authority_core::AuthorityRefusal;
 use lms_tree::{LmsKey, LmsPublic};
 use sha2::{Digest, Sha256};
 use std::alloc::Global;

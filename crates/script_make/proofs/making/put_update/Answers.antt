@@ -1,12 +1,13 @@
 use Rattle.std.proofs.Common.{◌≡◌, ℕ, ◌∙◌, ap, codes}
+use Rattle.std.specs.List.{range_with_len}
 use Rattle.ar_text.proofs.Joined.{appends-then}
-use Rattle.script_make.specs.Numbers.{batch, numbers}
+use Rattle.script_make.specs.Numbers.{batch}
 use Rattle.script_make.specs.Script.{updates_of}
 use Rattle.script_make.proofs.making.put_update.Goals as goal
 
 pub returns : goal.returns
 returns c =
-    let e : numbers c.batch_of-batch.result.first c.batch_of-batch.result.count ≡ batch (updates_of c.args.domains) c.args.k =
+    let e : range_with_len c.batch_of-batch.result.first c.batch_of-batch.result.count ≡ batch (updates_of c.args.domains) c.args.k =
     c.batch_of-batch.ensures.numbers ∙ ap (λ (n : ℕ). batch n c.args.k) c.updates_of.ensures.value in
     rw (← e) (appends-then _ _ _ _ _ _ c.in_ok-put_rows.ensures
     (appends-then (codes "flush\n") _ _ _ _ _ c.in_ok-append.ensures.appends

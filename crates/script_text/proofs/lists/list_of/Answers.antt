@@ -1,5 +1,5 @@
 -- The reading ends at a part that is no number, at a number too many, or where no part is left.
-use Rattle.std.proofs.Common.{◌≡◌, ◌∷◌, List, [], ℕ, Some, None, refl, sym, ap, ◌∙◌}
+use Rattle.std.proofs.Common.{◌≡◌, ◌∷◌, [], Some, None, refl, sym, ◌∙◌}
 use Rattle.std.specs.Option.{option_copied}
 use Rattle.ar_lines.specs.Forms.{number_in}
 use Rattle.script_text.specs.Views.{parts_behind}
