@@ -12,14 +12,12 @@ use Rattle.std.proofs.lemmas.List.Elements.{All-cons, All-nil}
 use Rattle.ar_base.specs.Chaining.{◌>>=◌}
 use Rattle.ar_statement.specs.declared.party.Role.{Role}
 use Rattle.ar_statement.specs.declared.party.Role.TheVariants.{LogServer, Authority}
-use Rattle.authority_core.specs.Keyed as authority
 use Rattle.authority_core.specs.State.{AuthorityState}
 use Rattle.key_roll.specs.Ring.{AreKeysOf, RingParts, ring_signature_len}
 use Rattle.lms_tree.specs.Key.{public_of}
 use Rattle.lms_tree.specs.KeyParts.{KeyParts}
 use Rattle.lms_tree.specs.LmsKind.{height_of}
 use Rattle.lms_tree.specs.declared.public_key.LmsPublic.{LmsPublic}
-use Rattle.log_core.specs.Keyed as log
 use Rattle.log_core.specs.State.{CoreState}
 use Rattle.party_keys.specs.Directory.{Directory, directory_of, directory_with, is_party_count, is_quorum}
 use Rattle.party_keys.specs.declared.fault.DirectoryFault.{DirectoryFault}
@@ -29,7 +27,7 @@ use Rattle.ar_nodes.specs.Parties.{leaves_of, AuthorityNode, CheckParts, LogNode
 use Rattle.ar_nodes.specs.declared.fault.WorldFault.{WorldFault}
 use Rattle.ar_nodes.specs.declared.fault.WorldFault.TheVariants.{Absent}
 use Rattle.ar_founding.specs.FirstKeys.{FirstKeys, first_of, first_ring, with_first, Setup, key_for, keys_for}
-use Rattle.ar_founding.specs.Founded.{AreOwn, AreRingsOf, Founded, HaveRings, authorities_of, authority_node, founded_of, founded_with, log_node, logs_of}
+use Rattle.ar_founding.specs.Founded.{AreOwn, EachHasRing, Founded, IsAuthorityRing, IsLogRing, authorities_of, authority_node, founded_of, founded_with, log_node, logs_of}
 use Rattle.ar_founding.specs.Founding.{fresh_core, fresh_log, fresh_state, genesis_of, new_authority}
 
 more-first : (setup : Setup) (role : Role) (n : ℕ) → first_of (keys_for setup role (n + 1)) ≡ with_first (first_of (keys_for setup role n)) (key_for setup role n)
@@ -90,10 +88,10 @@ pub log-joined : (before after : List (Option LogNode)) (cores later : List Core
     → after ++ logs_of later more ≡ before ++ logs_of cores rings
 log-joined before after cores later rings more core ring cores-are rings-are after-is = rw (cores-are, rings-are, after-is, append_assoc)
 
-pub first-own : (cores later : List CoreState) (rings more : List RingParts) (core : CoreState) (ring : RingParts)
-    → cores ≡ core ∷ later → rings ≡ ring ∷ more → AreRingsOf cores rings → log.IsRingOf core ring.keys × AreRingsOf later more
-first-own cores later rings more core ring cores-are rings-are own =
-    subst (λ (rs : List RingParts). AreRingsOf (core ∷ later) rs) rings-are (subst (λ (cs : List CoreState). AreRingsOf cs rings) cores-are own)
+pub first-own : {X : Type 0} (own : X → RingParts → Type 0) (xs later : List X) (rings more : List RingParts) (x : X) (ring : RingParts)
+    → xs ≡ x ∷ later → rings ≡ ring ∷ more → EachHasRing own xs rings → own x ring × EachHasRing own later more
+first-own {X} own xs later rings more x ring xs-are rings-are each =
+    subst (λ (rs : List RingParts). EachHasRing own (x ∷ later) rs) rings-are (subst (λ (ys : List X). EachHasRing own ys rings) xs-are each)
 
 pub authority-joined : {C : Type 0} (parts : C → CheckParts) (before after : List (Option AuthorityNode)) (states later : List AuthorityState) (rings more : List RingParts) (checks left : List C)
     (state : AuthorityState) (ring : RingParts) (check : Option C)
@@ -105,11 +103,6 @@ authority-joined parts before after states later rings more [] left state ring c
 authority-joined parts before after states later rings more (one ∷ checks) left state ring check states-are rings-are first rest after-is =
     rw (states-are, rings-are, after-is, first, rest, append_assoc)
 
-pub first-has : (states later : List AuthorityState) (rings more : List RingParts) (state : AuthorityState) (ring : RingParts)
-    → states ≡ state ∷ later → rings ≡ ring ∷ more → HaveRings states rings → authority.IsRingOf state ring.keys × HaveRings later more
-first-has states later rings more state ring states-are rings-are own =
-    subst (λ (rs : List RingParts). HaveRings (state ∷ later) rs) rings-are (subst (λ (ss : List AuthorityState). HaveRings ss rings) states-are own)
-
 -- ---- all parties
 
 -- a new book has the one key
@@ -120,15 +113,11 @@ book-own key = record {
   bytes = All-cons (λ (k : KeyParts). ring_signature_len key ≡ ring_signature_len k) key [] refl (All-nil (λ (k : KeyParts). ring_signature_len key ≡ ring_signature_len k));
 }
 
-cores-own : (setup : Setup) (genesis : Directory) (a n : ℕ)
-    → AreRingsOf (map (λ number. fresh_core genesis number (key_for setup LogServer number)) (range_with_len a n)) (map first_ring (map (key_for setup LogServer) (range_with_len a n)))
-cores-own setup genesis a zero = tt
-cores-own setup genesis a (suc n) = (book-own (key_for setup LogServer a), cores-own setup genesis (a + 1) n)
-
-states-own : (setup : Setup) (genesis : Directory) (a n : ℕ)
-    → HaveRings (map (λ number. fresh_state genesis number (key_for setup Authority number)) (range_with_len a n)) (map first_ring (map (key_for setup Authority) (range_with_len a n)))
-states-own setup genesis a zero = tt
-states-own setup genesis a (suc n) = (book-own (key_for setup Authority a), states-own setup genesis (a + 1) n)
+-- so each has its first ring
+rings-own : {X : Type 0} (own : X → RingParts → Type 0) (fresh : ℕ → X) (key : ℕ → KeyParts) → ((number : ℕ) → own (fresh number) (first_ring (key number))) → (a n : ℕ)
+    → EachHasRing own (map fresh (range_with_len a n)) (map first_ring (map key (range_with_len a n)))
+rings-own own fresh key each a zero = tt
+rings-own own fresh key each a (suc n) = (each a, rings-own own fresh key each (a + 1) n)
 
 pub logs-from : (setup : Setup) (genesis : Directory) (a n : ℕ)
     → logs_of (map (λ number. fresh_core genesis number (key_for setup LogServer number)) (range_with_len a n)) (map first_ring (map (key_for setup LogServer) (range_with_len a n)))
@@ -189,8 +178,8 @@ founded-own setup count founded is = by (named 1 (genesis_of setup count)) refl 
   where
     own : (genesis : Directory) → setup.logs ≤ 16 → AreOwn setup (founded_with setup count genesis)
     own genesis most = record {
-      logs = cores-own setup genesis 0 setup.logs;
-      authorities = states-own setup genesis 0 count;
+      logs = rings-own IsLogRing (λ number. fresh_core genesis number (key_for setup LogServer number)) (key_for setup LogServer) (λ number. book-own (key_for setup LogServer number)) 0 setup.logs;
+      authorities = rings-own IsAuthorityRing (λ number. fresh_state genesis number (key_for setup Authority number)) (key_for setup Authority) (λ number. book-own (key_for setup Authority number)) 0 count;
       few = subst (λ (n : ℕ). n < 2 ^ 16) (sym (length-map-range_with_len (λ number. fresh_core genesis number (key_for setup LogServer number)) 0 setup.logs)) (omega arith);
     }
 

@@ -58,11 +58,9 @@ logs_of [] rings = []
 logs_of (core ∷ cores) [] = []
 logs_of (core ∷ cores) (ring ∷ rings) = Some (log_node core ring) ∷ logs_of cores rings
 
--- each ring is that of its log's book
-abbrev pub AreRingsOf : List CoreState → List RingParts → Type 0
-AreRingsOf [] rings = Unit {0}
-AreRingsOf (core ∷ cores) [] = ⊥
-AreRingsOf (core ∷ cores) (ring ∷ rings) = log.IsRingOf core ring.keys × AreRingsOf cores rings
+-- the ring is that of the log's book
+abbrev pub IsLogRing : CoreState → RingParts → Type 0
+IsLogRing core ring = log.IsRingOf core ring.keys
 
 -- an authority that stands here, with its ring and its check
 abbrev pub authority_node : AuthorityState → RingParts → Option CheckParts → AuthorityNode
@@ -75,11 +73,15 @@ authorities_of (state ∷ states) [] checks = []
 authorities_of (state ∷ states) (ring ∷ rings) checks =
     Some (authority_node state ring (slice_get checks 0)) ∷ authorities_of states rings (drop 1 checks)
 
--- each ring is that of its authority's book
-abbrev pub HaveRings : List AuthorityState → List RingParts → Type 0
-HaveRings [] rings = Unit {0}
-HaveRings (state ∷ states) [] = ⊥
-HaveRings (state ∷ states) (ring ∷ rings) = authority.IsRingOf state ring.keys × HaveRings states rings
+-- the ring is that of the authority's book
+abbrev pub IsAuthorityRing : AuthorityState → RingParts → Type 0
+IsAuthorityRing state ring = authority.IsRingOf state ring.keys
+
+-- each of these has its ring
+abbrev pub EachHasRing : {X : Type 0} → (X → RingParts → Type 0) → List X → List RingParts → Type 0
+EachHasRing own [] rings = Unit {0}
+EachHasRing own (x ∷ xs) [] = ⊥
+EachHasRing own (x ∷ xs) (ring ∷ rings) = own x ring × EachHasRing own xs rings
 
 -- the rings of the logs, whose keys were made before
 abbrev pub log_rings : Setup → List RingParts
@@ -87,6 +89,6 @@ log_rings setup = map first_ring (keys_for setup LogServer setup.logs)
 
 -- each has the ring of its book, and each log a number that a party can have
 pub record AreOwn (setup : Setup) (founded : Founded) : Type 0 where
-  pub logs : AreRingsOf founded.cores (log_rings setup)
-  pub authorities : HaveRings founded.states founded.rings
+  pub logs : EachHasRing IsLogRing founded.cores (log_rings setup)
+  pub authorities : EachHasRing IsAuthorityRing founded.states founded.rings
   pub few : length founded.cores < 2 ^ 16

@@ -1,7 +1,10 @@
 //! The keys with which logs and authorities begin.
 
 ghost use Rattle.std.specs.Prelude.{◌≡◌, [], IfOk, OnOk};
-ghost use Rattle.ar_founding.specs.FirstKeys.{first_of, with_first, key_made, keys_made, key_for, keys_for};
+ghost use Rattle.lms_tree.specs.PublicKey.{key_text};
+ghost use Rattle.report_text.specs.declared.happening.Happening.TheVariants.{Made};
+ghost use Rattle.sha2.specs.Sha256.{sha256};
+ghost use Rattle.ar_founding.specs.FirstKeys.{first_of, with_first, keys_made, key_for, keys_for};
 
 use crate::setup::Setup;
 use ar_statement::{Party, Role};
@@ -57,8 +60,8 @@ impl FirstKeys {
     }
 }
 
-/// The first key of a log or authority. It takes as long as a key does. The only error is want of memory.
-fn make_key(alloc: Global, setup: &Setup, role: Role, number: u16) -> Result<LmsKey, AllocError>
+/// The first key of a party by what the setup says. It takes as long as a key does. The only error is want of memory.
+pub fn make_key(alloc: Global, setup: &Setup, role: Role, number: u16) -> Result<LmsKey, AllocError>
     ensures { IfOk result (λ key. key ≡ key_for setup.now role number) }
 {
     let seed = party_seed(&setup.secret, role, number);
@@ -70,11 +73,11 @@ fn make_key(alloc: Global, setup: &Setup, role: Role, number: u16) -> Result<Lms
 }
 
 /// That the key of a party is made.
-fn key_made(party: Party, key: &LmsKey) -> Happening
-    ensures { result ≡ key_made party key.now }
+pub fn key_made(party: Party, key: &LmsPublic) -> Happening
+    ensures { result ≡ Made party (sha256 (key_text key.now)) }
 {
     let mut hasher = Sha256::new();
-    hasher.update(&key.public().bytes());
+    hasher.update(&key.bytes());
     Happening::Made {
         party,
         digest: hasher.finalize(),
@@ -95,7 +98,7 @@ pub fn make_first_keys(
     let mut said = Vec::new(alloc);
     for number in 0..count {
         let key = make_key(alloc, setup, role, number)?;
-        said.push(key_made(role.party(number), &key))?;
+        said.push(key_made(role.party(number), &key.public()))?;
         keys.add(alloc, key)?;
     }
     Ok((keys, said))

@@ -4,7 +4,7 @@ ghost use Rattle.std.specs.Prelude.{◌≡◌, ◌≤◌, ◌<◌, ◌+◌, ◌+
 ghost use Rattle.std.specs.Option.{option_map};
 ghost use Rattle.log_core.specs.Keyed as log;
 ghost use Rattle.authority_core.specs.Keyed as authority;
-ghost use Rattle.ar_founding.specs.Founded.{AreRingsOf, HaveRings, authorities_of, authority_node, log_node, logs_of};
+ghost use Rattle.ar_founding.specs.Founded.{EachHasRing, IsAuthorityRing, IsLogRing, authorities_of, authority_node, log_node, logs_of};
 ghost use Rattle.ar_nodes.specs.Parties.{check_told, checks_told};
 
 use ar_nodes::{HonestAuthority, HonestLog};
@@ -77,7 +77,7 @@ pub fn join_logs(
     cores: Vec<LogCore>,
     rings: Vec<KeyRing>,
 )
-    requires own { AreRingsOf cores.items rings.items }
+    requires own { EachHasRing IsLogRing cores.items rings.items }
     requires room { vec_len logs.old + length cores.items ≤ vec_capacity logs.old }
     ensures { logs.new.items ≡ logs.old.items ++ logs_of cores.items rings.items }
 {
@@ -97,11 +97,11 @@ fn join_log(
     rings: &mut VecDeque<KeyRing>,
 )
     requires some { 0 < length cores.old.items }
-    requires own { AreRingsOf cores.old.items rings.old.items }
+    requires own { EachHasRing IsLogRing cores.old.items rings.old.items }
     requires room { vec_len logs.old + length cores.old.items ≤ vec_capacity logs.old }
     ensures same { logs.new.items ++ logs_of cores.new.items rings.new.items ≡ logs.old.items ++ logs_of cores.old.items rings.old.items }
     ensures left { length cores.new.items + 1 ≡ length cores.old.items }
-    ensures own { AreRingsOf cores.new.items rings.new.items }
+    ensures own { EachHasRing IsLogRing cores.new.items rings.new.items }
     ensures room { vec_len logs.new + length cores.new.items ≤ vec_capacity logs.new }
 {
     let core = take_first(cores);
@@ -116,7 +116,7 @@ pub fn join_authorities<C: OwnerCheck>(
     rings: Vec<KeyRing>,
     checks: Vec<C>,
 )
-    requires own { HaveRings states.items rings.items }
+    requires own { EachHasRing IsAuthorityRing states.items rings.items }
     requires room { vec_len authorities.old + length states.items ≤ vec_capacity authorities.old }
     ensures { authorities.new.items ≡ authorities.old.items ++ authorities_of states.items rings.items
         (checks_told C.told C.answers checks.items) }
@@ -143,12 +143,12 @@ fn join_authority<C: OwnerCheck>(
     checks: &mut VecDeque<C>,
 )
     requires some { 0 < length states.old.items }
-    requires own { HaveRings states.old.items rings.old.items }
+    requires own { EachHasRing IsAuthorityRing states.old.items rings.old.items }
     requires room { vec_len authorities.old + length states.old.items ≤ vec_capacity authorities.old }
     ensures same { authorities.new.items ++ authorities_of states.new.items rings.new.items (checks_told C.told C.answers checks.new.items)
         ≡ authorities.old.items ++ authorities_of states.old.items rings.old.items (checks_told C.told C.answers checks.old.items) }
     ensures left { length states.new.items + 1 ≡ length states.old.items }
-    ensures own { HaveRings states.new.items rings.new.items }
+    ensures own { EachHasRing IsAuthorityRing states.new.items rings.new.items }
     ensures room { vec_len authorities.new + length states.new.items ≤ vec_capacity authorities.new }
 {
     let state = take_first(states);

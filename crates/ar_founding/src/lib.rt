@@ -13,7 +13,7 @@ mod joined;
 mod setup;
 
 pub use directories::Directories;
-pub use first_keys::{FirstKeys, make_first_keys};
+pub use first_keys::{FirstKeys, key_made, make_first_keys, make_key};
 pub use founded::{Founded, found};
 pub use joined::{join_authorities, join_logs};
 pub use setup::Setup;

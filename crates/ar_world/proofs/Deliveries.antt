@@ -109,20 +109,20 @@ can-parts w None t free u e = absurd cc
 can-be : (w : World) (message : ℕ) (who : Party) (u : Unit {0}) → deliverable w message who ≡ Ok u → (is_some (message_at w message) ≡ true) × ((is_some (taker_at w who) ≡ true) × (has_room w ≡ true))
 can-be w message who u e = can-parts w (message_at w message) (taker_at w who) (has_room w) u e
 
-some-behind : {X Y : Type 0} (f : X → Y) (o : Option X) → is_some (option_map f o) ≡ true → is_some o ≡ true
-some-behind f (Some x) e = refl
-some-behind f None e = absurd cc
+pub some-mapped : {X Y : Type 0} (f : X → Y) (o : Option X) → is_some (option_map f o) ≡ is_some o
+some-mapped f (Some x) = refl
+some-mapped f None = refl
 
 -- so there is the log
 pub log_there : (w : World) (message number : ℕ) (result : Result (Unit {0}) WorldFault) → result ≡ deliverable w message (log_party number)
     → OnOk result (is_some (honest_in w.logs number) ≡ true)
-log_there w message number (Ok u) e = some-behind a_log (log_at w number) (can-be w message (log_party number) u (sym e)).1.0
+log_there w message number (Ok u) e = sym (some-mapped a_log (log_at w number)) ∙ (can-be w message (log_party number) u (sym e)).1.0
 log_there w message number (Err fault) e = tt
 
 -- or the authority
 pub authority_there : (w : World) (message number : ℕ) (result : Result (Unit {0}) WorldFault) → result ≡ deliverable w message (authority_party number)
     → OnOk result (is_some (honest_in w.authorities number) ≡ true)
-authority_there w message number (Ok u) e = some-behind an_authority (authority_at w number) (can-be w message (authority_party number) u (sym e)).1.0
+authority_there w message number (Ok u) e = sym (some-mapped an_authority (authority_at w number)) ∙ (can-be w message (authority_party number) u (sym e)).1.0
 authority_there w message number (Err fault) e = tt
 
 -- ---- refusals
@@ -175,13 +175,10 @@ pub ruleset roles = (is_log, is_authority, is_an_owner, not_delivered)
 no-client : (w : World) (r : Role) (number : ℕ) → r ≡ role.Client → is_some (taker_in w r number) ≡ false
 no-client w r number is = ap (λ (r : Role). is_some (taker_in w r number)) is
 
-pub client_no_message : (w : World) (message : ℕ) (who : Party) → is_some (message_at w message) ≡ false → deliverable w message who ≡ Err (Absent 1)
-client_no_message w message who a = can_no_message w message who a
-
 pub client_no_taker : (w : World) (message : ℕ) (who : Party) → who.role ≡ role.Client → is_some (message_at w message) ≡ true → deliverable w message who ≡ Err (Absent 2)
 client_no_taker w message who is a = can_no_taker w message who a (no-client w who.role who.number is)
 
-pub ruleset clients = (client_no_message, client_no_taker)
+pub ruleset clients = (can_no_message, client_no_taker)
 
 -- ---- the pool in which the delivery is noted
 

@@ -2,6 +2,7 @@
 use Rattle.std.proofs.Common.{◌≡◌, ℕ, zero, suc, ◌+◌, List, [], ◌∷◌, ◌++◌, refl, ap}
 use Rattle.std.specs.Prelude.{Bool, true, false, if◌then◌else◌, map, Option, Some, None, Result, Ok, Err, IfOk, is_none, length, nat_lt}
 use Rattle.std.specs.List.{list_any, range_with_len}
+use Rattle.std.specs.Result.{result_unwrap_or}
 use Rattle.ar_base.specs.Chaining.{◌>>=◌}
 use Rattle.ar_base.proofs.Shown.{if-chained}
 use Rattle.ar_message.specs.declared.sent.Sent.{Sent}
@@ -56,20 +57,21 @@ use Rattle.ar_world.specs.Sending.{does, posted}
 use Rattle.ar_nodes.specs.Sending.{ending_of}
 use Rattle.ar_world.specs.State.{Drafted, World, with_authority, with_log}
 use Rattle.ar_founding.specs.FirstKeys.{Setup, key_for}
-use Rattle.ar_world.specs.Submitting.{attached, attached_by, handed, handover_line, object_line, owner_answers, submit_line, submitted}
+use Rattle.ar_world.specs.Submitting.{attached_by, handed, handover_line, object_line, owner_answers, submit_line, submitted}
 use Rattle.ar_nodes.specs.declared.event.LogEvent.{LogEvent}
 use Rattle.ar_nodes.specs.declared.fault.WorldFault.{WorldFault}
 use Rattle.ar_nodes.specs.declared.fault.WorldFault.TheVariants.{Absent}
 use Rattle.client_rule.specs.Rule.{judgement}
 use Rattle.ar_cert.specs.Certificate.{Certificate, digest_of}
 use Rattle.ar_message.specs.Filling.{filled}
-use Rattle.owner_core.specs.Rows.{Row, attach_row, begin_row, handover_row, object_row, step_row, submit_row}
+use Rattle.owner_core.specs.Rows.{Row, begin_row, handover_row, object_row, step_row, submit_row}
 use Rattle.party_keys.specs.Seen.{authority_party, log_party}
 use Rattle.report_text.specs.declared.happening.Target.TheVariants.{Nobody}
 use Rattle.report_text.specs.declared.happening.What.TheVariants as whats
 use Rattle.report_text.specs.declared.happening.What.TheVariants.{Handover, Object, Submit, Take}
 use Rattle.ar_nodes.specs.Codes.{authority_code, log_code, owner_code}
 use Rattle.ar_nodes.specs.declared.event.LogEvent.TheVariants as events
+use Rattle.ar_world.proofs.OwnerReplies.{attached-by-alone}
 use Rattle.ar_world.proofs.Pools.{set-alike, tells-both, tells-from, tells-messages, tells-none}
 
 -- ---- outcomes
@@ -140,20 +142,12 @@ submitted-tells : (w : World) (number : ℕ) (what : What) (r : Result Sent Owne
 submitted-tells w number what (Ok sent) = does-tells w (owner_party number) what sent
 submitted-tells w number what (Err refusal) = quiet w.pool (Step (owner_party number) what (Some (owner_code refusal)) ∷ []) refl
 
-attached-pool : (w : World) (r : Row (Unit {0})) → (attached w r).pool ≡ w.pool
-attached-pool w (Ok made) = refl
-attached-pool w (Err refusal) = refl
-
-attached-by-pool : (w : World) (o : Option Owner) (digest handover : List ℕ) → (attached_by w o digest handover).pool ≡ w.pool
-attached-by-pool w None digest handover = refl
-attached-by-pool w (Some owner) digest handover = attached-pool w (attach_row owner digest handover)
-
 handed-tells : (w : World) (number draft : ℕ) (found : Drafted) (r : Row (List ℕ)) → Tells w.pool (handed w number draft found r)
 handed-tells w number draft found (Ok made) =
     let signed = with_owner w made.1
     in let owner = owner_at signed found.owner
     in tells-none w.pool (attached_by signed owner (digest_of found.cert) made.0).pool (Step (owner_party number) (Handover draft) None ∷ [])
-    (ap (map as_it_came) (attached-by-pool signed owner (digest_of found.cert) made.0)) refl
+    (ap (λ (v : World). map as_it_came v.pool) (attached-by-alone signed owner (digest_of found.cert) made.0)) refl
 handed-tells w number draft found (Err refusal) = quiet w.pool (Step (owner_party number) (Handover draft) (Some (owner_code refusal)) ∷ []) refl
 
 begun-tells : (w : World) (number : ℕ) (r : Row Sent) → Tells w.pool (begun w number r)
@@ -169,17 +163,13 @@ drafted-tells w owner cert asks =
 
 -- ---- deliveries
 
-abbrev value-in : {A E : Type 0} → Result A E → A → A
-value-in (Ok x) other = x
-value-in (Err e) other = other
-
 -- the message of a delivery is the one with its number
 can-found : (o : Option Pooled) (t : Option Taker) (r : Result (Unit {0}) WorldFault) (found : Pooled × Taker)
     → (named 1 o >>= λ p. named 2 t >>= λ taker. r >>= λ free. Ok (p, taker)) ≡ Ok found → o ≡ Some found.0
 can-found None t r found same = absurd cc
 can-found (Some p) None r found same = absurd cc
 can-found (Some p) (Some taker) (Err e) found same = absurd cc
-can-found (Some p) (Some taker) (Ok u) found same = ap (λ (x : Result (Pooled × Taker) WorldFault). Some (value-in x (p, taker)).0) same
+can-found (Some p) (Some taker) (Ok u) found same = ap (λ (x : Result (Pooled × Taker) WorldFault). Some (result_unwrap_or x (p, taker)).0) same
 
 -- in the place of a message stands one that came alike
 numbered-alike : (xs : List Pooled) (number : ℕ) (p q : Pooled) → numbered xs number ≡ Some p → as_it_came q ≡ as_it_came p

@@ -1,9 +1,9 @@
 -- What the steps of owners make of a world, by what they make of the owner and the pool.
-use Rattle.std.proofs.Common.{◌≡◌, ℕ, List, length, get_or, Option, Some, Result, Ok, Err, IfOk, refl, sym, ap, ◌∙◌}
+use Rattle.std.proofs.Common.{◌≡◌, ℕ, List, length, get_or, Option, Some, None, Result, Ok, Err, IfOk, refl, sym, ap, ◌∙◌}
 use Rattle.std.specs.Prelude.{position, slice_get, slice_set}
 use Rattle.std.proofs.lemmas.Option.{slice_get_read}
 use Rattle.ar_message.specs.declared.sent.Sent.{Sent}
-use Rattle.owner_core.specs.Rows.{Row}
+use Rattle.owner_core.specs.Rows.{Row, attach_row}
 use Rattle.owner_core.specs.State.{Owner}
 use Rattle.report_text.specs.declared.happening.Happening.{Happening}
 use Rattle.report_text.specs.declared.happening.What.{What}
@@ -14,10 +14,19 @@ use Rattle.ar_nodes.specs.Owners.{owner_party}
 use Rattle.ar_nodes.specs.Pool.{Pooled}
 use Rattle.ar_world.specs.State.{Moved, World}
 use Rattle.ar_world.specs.Step.{StepsBy}
-use Rattle.ar_world.specs.Submitting.{owner_answers}
+use Rattle.ar_world.specs.Submitting.{attached, attached_by, owner_answers}
 use Rattle.ar_nodes.specs.declared.fault.WorldFault.{WorldFault}
 use Rattle.ar_world.proofs.Drafts.{owner_number, owner_within}
 use Rattle.ar_world.proofs.Orders.{acts-steps, same-there}
+
+-- a handover that is put to a draft changes owners alone
+attached-alone : (w : World) (r : Row (Unit {0})) → attached w r ≡ record w { owners = (attached w r).owners }
+attached-alone w (Ok made) = refl
+attached-alone w (Err refusal) = refl
+
+pub attached-by-alone : (w : World) (o : Option Owner) (digest handover : List ℕ) → attached_by w o digest handover ≡ record w { owners = (attached_by w o digest handover).owners }
+attached-by-alone w None digest handover = refl
+attached-by-alone w (Some owner) digest handover = attached-alone w (attach_row owner digest handover)
 
 -- the world with the owner at its place, and the pool, as they are now
 abbrev pub owner_made : World → ℕ → Owner × (List Pooled × List Happening) → Moved

@@ -1,6 +1,6 @@
 -- A line that is none of the setup leaves the phase as it is; that it came is noted by the step.
-use Rattle.std.proofs.Common.{◌≡◌, ℕ, List, [], ◌∷◌, ◌++◌, refl, ap, ◌∙◌, subst, true, Bool, false, nat_le, Option, Some, None, IfOk}
-use Rattle.std.specs.Prelude.{is_none, Result, Ok, Err, nat_lt}
+use Rattle.std.proofs.Common.{◌≡◌, ℕ, List, [], ◌∷◌, ◌++◌, refl, ap, ◌∙◌, subst, true, Bool, false, nat_le, Option, Some, IfOk}
+use Rattle.std.specs.Prelude.{is_none, Result, Ok, Err, OnOk, nat_lt}
 use Rattle.ar_cert.specs.Certificate.{Certificate, digest_of}
 use Rattle.ar_message.specs.Messages.{message_in}
 use Rattle.ar_message.specs.declared.sent.Sent.{Sent}
@@ -15,7 +15,7 @@ use Rattle.log_core.specs.Row.{row}
 use Rattle.log_core.specs.State as log_input
 use Rattle.owner_check.specs.Answers.{Told, forgotten, learnt}
 use Rattle.owner_check.specs.declared.answer.Outcome.{Outcome}
-use Rattle.owner_core.specs.Rows.{Row, attach_row, begin_row, handover_row, object_row, step_row, submit_row}
+use Rattle.owner_core.specs.Rows.{Row, begin_row, handover_row, object_row, step_row, submit_row}
 use Rattle.owner_core.specs.State.{Owner}
 use Rattle.owner_core.specs.declared.refusal.OwnerRefusal.{OwnerRefusal}
 use Rattle.report_text.specs.declared.happening.Happening.{Happening}
@@ -41,13 +41,16 @@ use Rattle.ar_nodes.specs.Parties.{next_of}
 use Rattle.ar_world.specs.Ordering.{log_order, roll_of}
 use Rattle.ar_world.specs.Owning.{check_line}
 use Rattle.ar_nodes.specs.Parties.{AuthorityNode, Forger, LogNode}
+use Rattle.ar_world.specs.Records.{HasParties}
 use Rattle.ar_world.specs.State.{Drafted, Moved, World}
-use Rattle.ar_world.specs.Step.{effect, leads_to}
-use Rattle.ar_world.specs.Submitting.{attached, attached_by, handed, handover_line, object_line, owner_answers, submit_line, submitted}
+use Rattle.ar_world.specs.Step.{StepsBySome, effect, leads_to}
+use Rattle.ar_world.specs.Submitting.{handed, handover_line, object_line, owner_answers, submit_line, submitted}
 use Rattle.ar_nodes.specs.declared.event.LogEvent.{LogEvent}
 use Rattle.ar_nodes.specs.declared.event.LogEvent.TheVariants as events
+use Rattle.ar_nodes.specs.declared.fault.WorldFault.{WorldFault}
 use Rattle.ar_nodes.specs.declared.fault.WorldFault.TheVariants.{Absent}
 use Rattle.ar_world.specs.declared.phase.Phase.TheVariants as phase
+use Rattle.ar_world.proofs.OwnerReplies.{attached-by-alone}
 use Rattle.ar_base.proofs.Shown.{if-chained}
 
 -- the phase is the same behind it
@@ -98,18 +101,10 @@ submitted-stays : (w : World) (number : ℕ) (what : What) (r : Result Sent Owne
 submitted-stays w number what (Ok sent) = refl
 submitted-stays w number what (Err refusal) = refl
 
-attached-stays : (w : World) (r : Row (Unit {0})) → (attached w r).phase ≡ w.phase
-attached-stays w (Ok made) = refl
-attached-stays w (Err refusal) = refl
-
-attached-by-stays : (w : World) (o : Option Owner) (digest handover : List ℕ) → (attached_by w o digest handover).phase ≡ w.phase
-attached-by-stays w None digest handover = refl
-attached-by-stays w (Some owner) digest handover = attached-stays w (attach_row owner digest handover)
-
 handed-stays : (w : World) (number draft : ℕ) (found : Drafted) (r : Row (List ℕ)) → Stays w (handed w number draft found r)
 handed-stays w number draft found (Ok made) =
     let signed = with_owner w made.1
-    in attached-by-stays signed (owner_at signed found.owner) (digest_of found.cert) made.0
+    in ap (λ (v : World). v.phase) (attached-by-alone signed (owner_at signed found.owner) (digest_of found.cert) made.0)
 handed-stays w number draft found (Err refusal) = refl
 
 begun-stays : (w : World) (number : ℕ) (r : Row Sent) → Stays w (begun w number r)
@@ -249,10 +244,9 @@ effect-stays says w line.Burst leads = tt
 effect-stays says w line.End leads = tt
 
 -- authorities that are there stay there
-pub peopled-still : (says : Outcome) (w v : World) (said : List Happening) (l : Line) → leads_to l ≡ Some phase.Running
-    → effect says w l ≡ Ok (v, said) → nat_le 4 (place_of w.phase) ≡ true → nat_le 4 (place_of v.phase) ≡ true
-peopled-still says w v said l leads is there =
-    let same : v.phase ≡ w.phase = subst (λ e. IfOk e (Stays w)) is (effect-stays says w l leads)
+pub still-peopled : (result : Result (List Happening) WorldFault) (w v : World) (l : Line) → leads_to l ≡ Some phase.Running
+    → StepsBySome result w v (λ says. effect says w l) → HasParties w → OnOk result (HasParties v)
+still-peopled (Ok said) w v l leads made there =
+    let same : v.phase ≡ w.phase = subst (λ e. IfOk e (Stays w)) made.steps (effect-stays made.says w l leads)
     in ap (λ p. nat_le 4 (place_of p)) same ∙ there
-
-pub ruleset still_peopled = (peopled-still)
+still-peopled (Err fault) w v l leads made there = tt

@@ -1,5 +1,5 @@
--- What a whole script prints of messages is its pool.
-use Rattle.std.proofs.Common.{◌≡◌, ℕ, zero, suc, ◌+◌, List, [], ◌∷◌, refl, sym, ◌∙◌, Bool, true, false, nat_lt, Option, Some, None, IfOk}
+-- What holds of each step and each delivery holds of a whole script; and what it prints of messages is its pool.
+use Rattle.std.proofs.Common.{◌≡◌, ℕ, zero, suc, ◌+◌, List, [], ◌∷◌, ◌++◌, refl, sym, ◌∙◌, Bool, true, false, nat_lt, Option, Some, None, IfOk}
 use Rattle.std.specs.Prelude.{if◌then◌else◌, Result, Ok, Err}
 use Rattle.ar_lines.specs.Lines.{lines_of}
 use Rattle.ar_lines.specs.declared.refusal.Reason.{Reason}
@@ -8,6 +8,7 @@ use Rattle.ar_statement.specs.declared.party.Party.{Party}
 use Rattle.log_core.specs.State.{passes, proposes}
 use Rattle.owner_check.specs.Answers.{forgotten, learnt}
 use Rattle.owner_check.specs.declared.answer.Outcome.{Outcome}
+use Rattle.report_text.specs.declared.happening.Happening.{Happening}
 use Rattle.report_text.specs.declared.happening.Happening.TheVariants.{Forgot, Taught}
 use Rattle.report_text.specs.declared.happening.What.TheVariants as whats
 use Rattle.script_text.specs.Rows.{read_of}
@@ -20,7 +21,7 @@ use Rattle.ar_world.specs.Founding.{may_come}
 use Rattle.ar_nodes.specs.Parties.{CheckParts}
 use Rattle.ar_nodes.specs.Pool.{entries_from}
 use Rattle.ar_world.specs.Printed.{Tells, TellsPool, entries_in}
-use Rattle.ar_world.specs.Run.{Progress, Run, Saying, delivering, flushed, follows, line_taken, most_deliveries, most_lines, progress_of, refusing, run, run_behind, run_from, taken, taken_as, then_if, then_on}
+use Rattle.ar_world.specs.Run.{Progress, Run, Saying, delivering, flushed, follows, line_taken, most_deliveries, most_lines, progress_of, refusing, run, run_behind, run_from, taken_as, then_if}
 use Rattle.ar_world.specs.State.{World, first_world}
 use Rattle.ar_world.specs.Step.{effect, leads_to, step, stepped}
 use Rattle.ar_world.specs.declared.cause.Cause.{Cause}
@@ -72,77 +73,94 @@ stepped-tells w (Some next) (Err why) tells = if-chained (need (may_come w.phase
 pub step-tells : (says : Outcome) (w : World) (l : Line) → IfOk (step says w l) (Tells w.pool)
 step-tells says w l = stepped-tells w (leads_to l) (effect says w l) (effect-tells says w l)
 
--- ---- lines
+-- ---- what holds of a run
+
+-- What holds of a world, a later one and what is printed between them: where nothing happens, of one thing behind another, of
+-- each step, and of each delivery.
+pub record HoldsOfSteps (R : World → World → List Happening → Type 0) : Type 0 where
+  pub still : (w : World) → R w w []
+  pub both : (u v w : World) (said later : List Happening) → R u v said → R v w later → R u w (said ++ later)
+  pub steps : (says : Outcome) (w : World) (l : Line) → IfOk (step says w l) (λ made. R w made.0 made.1)
+  pub delivers : (says : Outcome) (w : World) (message : ℕ) (who : Party) → IfOk (deliver_line says w message who) (λ made. R w made.0 made.1)
+
+-- it holds of what some lines came to
+abbrev Goes : (World → World → List Happening → Type 0) → World → Progress → Type 0
+Goes R w p = R w p.world p.said
+
+effect-goes : (R : World → World → List Happening → Type 0) → HoldsOfSteps R → (w : World) (made : Effect) → IfOk made (λ made. R w made.0 made.1) → Goes R w (progress_of w made)
+effect-goes R holds w (Ok m) made = made
+effect-goes R holds w (Err why) made = holds.still w
+
+if-goes : (R : World → World → List Happening → Type 0) → HoldsOfSteps R → (w : World) (cause : Option Cause) (p : Progress) (next : World → Progress)
+    → Goes R w p → ((v : World) → Goes R v (next v)) → Goes R w (then_if cause p next)
+if-goes R holds w None p next first rest = holds.both w p.world (next p.world).world p.said (next p.world).said first (rest p.world)
+if-goes R holds w (Some cause) p next first rest = first
+
+delivering-goes : (R : World → World → List Happening → Type 0) → HoldsOfSteps R → (says : Outcome) (w : World) (due : Option (ℕ × Party)) (next : World → Progress)
+    → ((v : World) → Goes R v (next v)) → Goes R w (delivering says w due next)
+delivering-goes R holds says w None next rest = holds.still w
+delivering-goes R holds says w (Some due) next rest =
+    let p = progress_of w (deliver_line says w due.0 due.1)
+    in if-goes R holds w p.refused p next (effect-goes R holds w (deliver_line says w due.0 due.1) (holds.delivers says w due.0 due.1)) rest
+
+flushed-goes : (R : World → World → List Happening → Type 0) → HoldsOfSteps R → (most : ℕ) (says : ℕ → Outcome) (number : ℕ) (w : World) → Goes R w (flushed most says number w)
+unfolding flushed
+flushed-goes R holds zero says number w = holds.still w
+flushed-goes R holds (suc more) says number w =
+    delivering-goes R holds (says number) w (next_due w) (flushed more says (number + 1)) (flushed-goes R holds more says (number + 1))
+
+follows-goes : (R : World → World → List Happening → Type 0) → HoldsOfSteps R → (says : ℕ → Outcome) (l : Line) (w : World) → Goes R w (follows says l w)
+follows-goes R holds says line.Flush w = flushed-goes R holds most_deliveries says 0 w
+follows-goes R holds says _ w = holds.still w
+
+taken-goes : (R : World → World → List Happening → Type 0) → HoldsOfSteps R → (says : ℕ → Outcome) (w : World) (read : Result (Option Line) Reason) → Goes R w (taken_as says w read)
+taken-goes R holds says w (Ok (Some l)) =
+    let p = progress_of w (step (says 0) w l)
+    in if-goes R holds w p.refused p (follows says l) (effect-goes R holds w (step (says 0) w l) (holds.steps (says 0) w l)) (follows-goes R holds says l)
+taken-goes R holds says w (Ok None) = holds.still w
+taken-goes R holds says w (Err why) = holds.still w
+
+line-goes : (R : World → World → List Happening → Type 0) → HoldsOfSteps R → (says : ℕ → Outcome) (number : ℕ) (w : World) (text : List ℕ) → Goes R w (line_taken says number w text)
+unfolding line_taken
+line-goes R holds says number w text = by (nat_lt most_lines number)
+  where
+    by : (b : Bool) → Goes R w (if b then refusing w (Unread reason.Limit) else taken_as says w (read_of text))
+    by true = holds.still w
+    by false = taken-goes R holds says w (read_of text)
+
+behind-goes : (R : World → World → List Happening → Type 0) → HoldsOfSteps R → (number : ℕ) (w : World) (p : Progress) (cause : Option Cause) (rest : World → Run)
+    → Goes R w p → ((v : World) → R v (rest v).world (rest v).said) → R w (run_behind number p cause rest).world (run_behind number p cause rest).said
+behind-goes R holds number w p None rest first later = holds.both w p.world (rest p.world).world p.said (rest p.world).said first (later p.world)
+behind-goes R holds number w p (Some cause) rest first later = first
+
+from-goes : (R : World → World → List Happening → Type 0) → HoldsOfSteps R → (saying : Saying) (number : ℕ) (w : World) (texts : List (List ℕ))
+    → R w (run_from saying number w texts).world (run_from saying number w texts).said
+unfolding run_from
+from-goes R holds saying number w [] = holds.still w
+from-goes R holds saying number w (text ∷ texts) =
+    let p = line_taken (saying number) number w text
+    in behind-goes R holds number w p p.refused (λ later. run_from saying (number + 1) later texts) (line-goes R holds (saying number) number w text)
+    (λ later. from-goes R holds saying (number + 1) later texts)
+
+-- so it holds of each run
+pub run-holds : (R : World → World → List Happening → Type 0) → HoldsOfSteps R → (saying : Saying) (checks : List CheckParts) (input : List ℕ)
+    → R (first_world checks) (run saying checks input).world (run saying checks input).said
+run-holds R holds saying checks input = from-goes R holds saying 1 (first_world checks) (lines_of input)
+
+-- ---- what is printed of a run
 
 -- what was printed since tells what the pool has more
-abbrev Goes : World → Progress → Type 0
-Goes w p = TellsPool w.pool p.world.pool p.said
-
-effect-goes : (w : World) (made : Effect) → IfOk made (Tells w.pool) → Goes w (progress_of w made)
-effect-goes w (Ok m) tells = tells
-effect-goes w (Err why) tells = quiet w.pool [] refl
-
-if-goes : (w : World) (cause : Option Cause) (p : Progress) (next : World → Progress) → Goes w p → ((v : World) → Goes v (next v)) → Goes w (then_if cause p next)
-if-goes w None p next first rest = tells-both w.pool p.world.pool (next p.world).world.pool p.said (next p.world).said first (rest p.world)
-if-goes w (Some cause) p next first rest = first
-
-then-goes : (w : World) (p : Progress) (next : World → Progress) → Goes w p → ((v : World) → Goes v (next v)) → Goes w (then_on p next)
-then-goes w p next first rest = if-goes w p.refused p next first rest
-
-delivering-goes : (says : Outcome) (w : World) (due : Option (ℕ × Party)) (next : World → Progress) → ((v : World) → Goes v (next v)) → Goes w (delivering says w due next)
-delivering-goes says w None next rest = quiet w.pool [] refl
-delivering-goes says w (Some due) next rest =
-    then-goes w (progress_of w (deliver_line says w due.0 due.1)) next
-    (effect-goes w (deliver_line says w due.0 due.1) (deliver-tells says w due.0 due.1)) rest
-
-flushed-goes : (most : ℕ) (says : ℕ → Outcome) (number : ℕ) (w : World) → Goes w (flushed most says number w)
-unfolding flushed
-flushed-goes zero says number w = quiet w.pool [] refl
-flushed-goes (suc more) says number w = delivering-goes (says number) w (next_due w) (flushed more says (number + 1)) (flushed-goes more says (number + 1))
-
-follows-goes : (says : ℕ → Outcome) (l : Line) (w : World) → Goes w (follows says l w)
-follows-goes says line.Flush w = flushed-goes most_deliveries says 0 w
-follows-goes says _ w = quiet w.pool [] refl
-
-taken-goes : (says : ℕ → Outcome) (w : World) (l : Line) → Goes w (taken says w l)
-taken-goes says w l =
-    then-goes w (progress_of w (step (says 0) w l)) (follows says l) (effect-goes w (step (says 0) w l) (step-tells (says 0) w l)) (follows-goes says l)
-
-taken-as-goes : (says : ℕ → Outcome) (w : World) (read : Result (Option Line) Reason) → Goes w (taken_as says w read)
-taken-as-goes says w (Ok (Some l)) = taken-goes says w l
-taken-as-goes says w (Ok None) = quiet w.pool [] refl
-taken-as-goes says w (Err why) = quiet w.pool [] refl
-
-either-goes : (w : World) (b : Bool) (p q : Progress) → Goes w p → Goes w q → Goes w (if b then p else q)
-either-goes w true p q one other = one
-either-goes w false p q one other = other
-
-line-goes : (says : ℕ → Outcome) (number : ℕ) (w : World) (text : List ℕ) → Goes w (line_taken says number w text)
-unfolding line_taken
-line-goes says number w text =
-    either-goes w (nat_lt most_lines number) (refusing w (Unread reason.Limit)) (taken_as says w (read_of text))
-    (quiet w.pool [] refl) (taken-as-goes says w (read_of text))
-
--- ---- a script
-
-abbrev Runs : World → Run → Type 0
-Runs w r = TellsPool w.pool r.world.pool r.said
-
-behind-runs : (number : ℕ) (w : World) (p : Progress) (cause : Option Cause) (rest : World → Run) → Goes w p → ((v : World) → Runs v (rest v)) → Runs w (run_behind number p cause rest)
-behind-runs number w p None rest first later = tells-both w.pool p.world.pool (rest p.world).world.pool p.said (rest p.world).said first (later p.world)
-behind-runs number w p (Some cause) rest first later = first
-
-from-runs : (saying : Saying) (number : ℕ) (w : World) (texts : List (List ℕ)) → Runs w (run_from saying number w texts)
-unfolding run_from
-from-runs saying number w [] = quiet w.pool [] refl
-from-runs saying number w (text ∷ texts) =
-    let p = line_taken (saying number) number w text
-    in behind-runs number w p p.refused (λ later. run_from saying (number + 1) later texts) (line-goes (saying number) number w text)
-    (λ later. from-runs saying (number + 1) later texts)
+tells-of-steps : HoldsOfSteps (λ w v said. TellsPool w.pool v.pool said)
+tells-of-steps = record {
+  still = λ w. quiet w.pool [] refl;
+  both = λ u v w said later. tells-both u.pool v.pool w.pool said later;
+  steps = step-tells;
+  delivers = deliver-tells;
+}
 
 -- the printed messages are those of the pool, numbered from 1
 pub run-tells : (saying : Saying) (checks : List CheckParts) (input : List ℕ)
     → entries_in (run saying checks input).said ≡ entries_from 1 (run saying checks input).world.pool
 run-tells saying checks input =
-    let tells = from-runs saying 1 (first_world checks) (lines_of input)
+    let tells = run-holds (λ w v said. TellsPool w.pool v.pool said) tells-of-steps saying checks input
     in tells.told ∙ sym (entries-alike 1 (run saying checks input).world.pool tells.more tells.grown)

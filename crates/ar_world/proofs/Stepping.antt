@@ -17,12 +17,13 @@ use Rattle.ar_world.specs.Founding.{authorities_line, dishonest_line, keys_line,
 use Rattle.ar_world.specs.Judging.{judge_line}
 use Rattle.ar_world.specs.Learning.{learn_line}
 use Rattle.ar_world.specs.Ordering.{pass_line, propose_line, roll_line}
-use Rattle.ar_world.specs.Owning.{forget_line, owner_line, retire_line, teach_line}
+use Rattle.ar_world.specs.Owning.{lesson_line, owner_line, retire_line}
 use Rattle.ar_world.specs.State.{World, silent}
 use Rattle.ar_world.specs.Step.{StepsBy, StepsBySome, effect, leads_to, step, stepped}
 use Rattle.ar_world.specs.Submitting.{handover_line, object_line, submit_line}
 use Rattle.ar_nodes.specs.declared.fault.WorldFault.{WorldFault}
 use Rattle.ar_nodes.specs.declared.fault.WorldFault.TheVariants.{Order}
+use Rattle.ar_nodes.specs.declared.lesson.Lesson.TheVariants as lesson
 use Rattle.ar_world.specs.declared.phase.Phase.{Phase}
 use Rattle.ar_world.specs.declared.phase.Phase.TheVariants as phase
 
@@ -34,11 +35,11 @@ pub owner-some : (result : Answered) (old new : World) (owner : ℕ) → StepsBy
 unfolding effect
 owner-some result old new owner steps = record { says = No; steps = steps }
 
-pub teach-some : (result : Answered) (old new : World) (authority : ℕ) (name : List ℕ) (owner : ℕ) → StepsBy result old new (teach_line old authority name owner) → StepsBySome result old new (λ says. effect says old (line.Teach authority name owner))
+pub teach-some : (result : Answered) (old new : World) (authority : ℕ) (name : List ℕ) (owner : ℕ) → StepsBy result old new (lesson_line old lesson.Learn authority name owner) → StepsBySome result old new (λ says. effect says old (line.Teach authority name owner))
 unfolding effect
 teach-some result old new authority name owner steps = record { says = No; steps = steps }
 
-pub forget-some : (result : Answered) (old new : World) (authority : ℕ) (name : List ℕ) (owner : ℕ) → StepsBy result old new (forget_line old authority name owner) → StepsBySome result old new (λ says. effect says old (line.Forget authority name owner))
+pub forget-some : (result : Answered) (old new : World) (authority : ℕ) (name : List ℕ) (owner : ℕ) → StepsBy result old new (lesson_line old lesson.Forget authority name owner) → StepsBySome result old new (λ says. effect says old (line.Forget authority name owner))
 unfolding effect
 forget-some result old new authority name owner steps = record { says = No; steps = steps }
 

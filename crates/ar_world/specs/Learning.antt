@@ -1,11 +1,12 @@
 -- The line `learn`: the clients' directory takes a message.
 use Rattle.std.specs.Prelude.{ℕ, List, [], ◌∷◌, Option, Some, None, Result, Ok, Err}
 use Rattle.ar_base.specs.Chaining.{◌>>=◌}
-use Rattle.ar_council.specs.Seen.{with_seen}
+use Rattle.ar_council.specs.Seen.{seen_of, with_seen}
 use Rattle.ar_message.specs.Messages.{message_in}
+use Rattle.ar_statement.specs.Claims.{roll}
 use Rattle.ar_statement.specs.declared.text.SeenText.{SeenText}
 use Rattle.client_rule.specs.Notes.{note_of}
-use Rattle.key_roll.specs.Entry.{roll_text}
+use Rattle.lms_tree.specs.PublicKey.{key_text}
 use Rattle.party_keys.specs.Directory.{Directory}
 use Rattle.party_keys.specs.Learning.{Announced, after_learning, learned}
 use Rattle.party_keys.specs.declared.fault.LearnFault.{LearnFault}
@@ -17,10 +18,6 @@ use Rattle.report_text.specs.declared.happening.Unlearnt.TheVariants as unlearnt
 use Rattle.ar_nodes.specs.Finding.{named}
 use Rattle.ar_world.specs.Finding.{Effect, message_at}
 use Rattle.ar_world.specs.State.{Moved, World}
-
--- the Roll that was learnt, with its party
-abbrev pub roll_seen : Announced → SeenText
-roll_seen a = record { party = a.party; text = roll_text a.party a.generation a.key }
 
 -- why a key is not learnt, as it is printed; want of memory is never printed
 abbrev pub unlearnt_of : LearnFault → Unlearnt
@@ -38,12 +35,12 @@ knows_by keys (Some a) = after_learning keys a
 
 -- the Rolls that were learnt, with this one where its key is learnt, now or before
 abbrev pub rolls_with : List SeenText → SeenText → Result Learned LearnFault → List SeenText
-rolls_with rolls roll (Ok how) = with_seen rolls roll
-rolls_with rolls roll (Err why) = rolls
+rolls_with rolls new (Ok how) = with_seen rolls new
+rolls_with rolls new (Err why) = rolls
 
 abbrev pub rolls_by : Directory → List SeenText → Option Announced → List SeenText
 rolls_by keys rolls None = rolls
-rolls_by keys rolls (Some a) = rolls_with rolls (roll_seen a) (learned keys a)
+rolls_by keys rolls (Some a) = rolls_with rolls (seen_of a.party (roll a.party a.generation (key_text a.key))) (learned keys a)
 
 -- why it is not learnt, where it is not
 abbrev pub why_not : Result Learned LearnFault → Option Unlearnt

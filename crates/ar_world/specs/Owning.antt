@@ -2,30 +2,27 @@
 use Rattle.std.specs.Prelude.{ℕ, List, [], ◌∷◌, ◌++◌, None, is_none, Ok}
 use Rattle.ar_base.specs.Chaining.{◌>>=◌}
 use Rattle.ar_statement.specs.declared.party.Role.TheVariants as role
-use Rattle.lm_ots.specs.declared.ots_type.OtsType.TheVariants.{W4}
 use Rattle.lms_tree.specs.KeyParts.{KeyParts}
-use Rattle.lms_tree.specs.declared.lms_type.LmsType.TheVariants.{H5}
-use Rattle.owner_check.specs.Answers.{Told, forgotten, learnt}
+use Rattle.owner_check.specs.Answers.{Told}
 use Rattle.owner_core.specs.Rows.{first_owner}
 use Rattle.owner_core.specs.State.{Owner}
-use Rattle.party_keys.specs.Seeds.{seed_of}
 use Rattle.report_text.specs.declared.happening.Happening.{Happening}
-use Rattle.report_text.specs.declared.happening.Happening.TheVariants.{Forgot, Retired, Taught}
+use Rattle.report_text.specs.declared.happening.Happening.TheVariants.{Retired}
 use Rattle.ar_nodes.specs.Finding.{named, need}
 use Rattle.ar_nodes.specs.Owners.{owner_party, known_key}
 use Rattle.ar_nodes.specs.Parties.{leaves_of}
 use Rattle.ar_nodes.specs.Teaching.{retold, told_behind, lesson_said}
 use Rattle.ar_nodes.specs.declared.fault.WorldFault.TheVariants.{Absent}
 use Rattle.ar_nodes.specs.declared.lesson.Lesson.{Lesson}
-use Rattle.ar_founding.specs.FirstKeys.{key_made}
+use Rattle.ar_founding.specs.FirstKeys.{key_for, key_made, plain_setup}
 use Rattle.ar_world.specs.Finding.{Effect, checking_at, owner_at}
 use Rattle.ar_world.specs.State.{World, with_authority}
 
 -- ---- `owner`
 
--- the key of an owner, which has the types 5 and 3 whatever the setup says
+-- the key of an owner, which has the types 5 and 3 of the plain setup, whatever the setup says
 abbrev pub owner_key : List ℕ → ℕ → KeyParts
-owner_key secret number = record { seed = seed_of secret role.Owner number; lms = H5; ots = W4 }
+owner_key secret number = key_for (record plain_setup { secret = secret }) role.Owner number
 
 -- an owner that has done nothing yet, and knows the first keys of logs and authorities
 abbrev pub new_owner : World → ℕ → Owner
@@ -48,17 +45,9 @@ check_line w authority owner tells said = do
   holder ← named 3 (owner_at w owner)
   Ok (with_authority w authority (retold (tells (known_key holder)) found), said ∷ [])
 
--- the check takes a lesson on the name
+-- the check takes a lesson on the name: that it is the owner's, or no longer
 abbrev pub lesson_line : World → Lesson → ℕ → List ℕ → ℕ → Effect
 lesson_line w l authority name owner = check_line w authority owner (told_behind l name) (lesson_said l authority)
-
--- the check learns that the name is the owner's
-abbrev pub teach_line : World → ℕ → List ℕ → ℕ → Effect
-teach_line w authority name owner = check_line w authority owner (learnt name) (Taught authority)
-
--- the check forgets it
-abbrev pub forget_line : World → ℕ → List ℕ → ℕ → Effect
-forget_line w authority name owner = check_line w authority owner (forgotten name) (Forgot authority)
 
 -- ---- `retire`
 

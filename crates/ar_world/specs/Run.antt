@@ -108,16 +108,12 @@ line_taken says number w text =
 
 -- ---- a script
 
--- the line that was refused, and why
-pub record Refused : Type 0 where
-  pub line : ℕ
-  pub cause : Cause
-
--- what a script came to: the world behind it, all that was printed, and the line that was refused, if one was
+-- what a script came to: the world behind it, all that was printed, and the number of the line that was refused, and why, if
+-- one was
 pub record Run : Type 0 where
   pub world : World
   pub said : List Happening
-  pub refused : Option Refused
+  pub refused : Option (ℕ × Cause)
 
 -- what was printed before
 abbrev pub behind_run : List Happening → Run → Run
@@ -126,7 +122,7 @@ behind_run said r = record r { said = said ++ r.said }
 -- the lines behind one with this number, unless it was refused
 abbrev pub run_behind : ℕ → Progress → Option Cause → (World → Run) → Run
 run_behind number p None rest = behind_run p.said (rest p.world)
-run_behind number p (Some cause) rest = record { world = p.world; said = p.said; refused = Some (record { line = number; cause = cause }) }
+run_behind number p (Some cause) rest = record { world = p.world; said = p.said; refused = Some (number, cause) }
 
 -- these lines, the first of which has this number
 unfoldable pub run_from : Saying → ℕ → World → List (List ℕ) → Run
@@ -153,12 +149,12 @@ cause_text (Unread why) = reason_text why
 cause_text (Untaken why) = fault_text why
 
 -- the line that tells which line is refused, and why
-abbrev pub refused_text : Refused → List ℕ
-refused_text r = codes "line " ++ (decimal r.line ++ (codes ": " ++ (cause_text r.cause ++ codes "\n")))
+abbrev pub refused_text : ℕ × Cause → List ℕ
+refused_text refusal = codes "line " ++ (decimal refusal.0 ++ (codes ": " ++ (cause_text refusal.1 ++ codes "\n")))
 
-abbrev pub refused_lines : Option Refused → List (List ℕ)
+abbrev pub refused_lines : Option (ℕ × Cause) → List (List ℕ)
 refused_lines None = []
-refused_lines (Some r) = refused_text r ∷ []
+refused_lines (Some refusal) = refused_text refusal ∷ []
 
 -- all lines that are written of a run, each with its newline
 abbrev pub lines_of_run : Run → List (List ℕ)

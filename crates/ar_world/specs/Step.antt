@@ -13,11 +13,12 @@ use Rattle.ar_world.specs.Founding.{authorities_line, dishonest_line, in_order, 
 use Rattle.ar_world.specs.Judging.{judge_line}
 use Rattle.ar_world.specs.Learning.{learn_line}
 use Rattle.ar_world.specs.Ordering.{pass_line, propose_line, roll_line}
-use Rattle.ar_world.specs.Owning.{forget_line, owner_line, retire_line, teach_line}
+use Rattle.ar_world.specs.Owning.{lesson_line, owner_line, retire_line}
 use Rattle.ar_world.specs.State.{World, silent}
 use Rattle.ar_world.specs.Submitting.{handover_line, object_line, submit_line}
 use Rattle.ar_nodes.specs.declared.fault.WorldFault.{WorldFault}
 use Rattle.ar_nodes.specs.declared.fault.WorldFault.TheVariants.{Memory, Order}
+use Rattle.ar_nodes.specs.declared.lesson.Lesson.TheVariants as lesson
 use Rattle.ar_world.specs.declared.phase.Phase.{Phase}
 use Rattle.ar_world.specs.declared.phase.Phase.TheVariants as phase
 
@@ -41,8 +42,8 @@ effect says w (line.Logs n q) = logs_line w n q
 effect says w (line.Authorities m) = authorities_line w m
 effect says w (line.Dishonest party) = dishonest_line w party
 effect says w (line.Owner owner) = owner_line w owner
-effect says w (line.Teach authority name owner) = teach_line w authority name owner
-effect says w (line.Forget authority name owner) = forget_line w authority name owner
+effect says w (line.Teach authority name owner) = lesson_line w lesson.Learn authority name owner
+effect says w (line.Forget authority name owner) = lesson_line w lesson.Forget authority name owner
 effect says w (line.Retire authority) = retire_line w authority
 effect says w (line.Register owner name policy asks) = register_line w owner name policy asks
 effect says w (line.Update owner draft policy asks) = update_line w owner draft policy asks

@@ -37,8 +37,8 @@ impl<C: OwnerCheck> World<C> {
         ensures { result ≡ is_some (taker_at self.now who) }
     {
         match who.role {
-            Role::LogServer => matches!(self.logs.get(who.number as usize), Some(Some(_))),
-            Role::Authority => matches!(self.authorities.get(who.number as usize), Some(Some(_))),
+            Role::LogServer => self.honest_log(who.number).is_some(),
+            Role::Authority => self.honest_authority(who.number).is_some(),
             Role::Owner => has_owner(&self.owners, who.number),
             Role::Client => false,
         }

@@ -1,9 +1,9 @@
 //! The line `judge`.
 
-ghost use Rattle.std.specs.Prelude.{◌≡◌, ◌∷◌, [], nat_le, true, IfOk, OnOk, OnErr};
+ghost use Rattle.std.specs.Prelude.{◌≡◌, ◌∷◌, [], true, IfOk, OnOk, OnErr};
 ghost use Rattle.report_text.specs.Verdicts.{said_of};
 ghost use Rattle.report_text.specs.declared.happening.Happening.TheVariants as happening;
-ghost use Rattle.ar_world.specs.Founding.{place_of};
+ghost use Rattle.ar_world.specs.Records.{HasParties};
 ghost use Rattle.ar_safety.specs.Held.{verdict_on};
 ghost use Rattle.ar_world.specs.Judging.{accepted_with, is_accepted, is_to_client, judge_line, judged_number, newest_from};
 ghost use Rattle.ar_world.specs.Step.{StepsBy};
@@ -138,7 +138,7 @@ impl<C: OwnerCheck> World<C> {
         now: u64,
         age: u64,
     ) -> Result<Items<Happening>, WorldFault>
-        requires { nat_le 4 (place_of self.old.phase) ≡ true }
+        requires { HasParties self.old }
         ensures { StepsBy result self.old self.new (judge_line self.old message name.now now age) }
     {
         let Some(number) = self.judged_number(message) else {

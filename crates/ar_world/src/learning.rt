@@ -1,44 +1,41 @@
 //! The line `learn`.
 
-ghost use Rattle.std.specs.Prelude.{◌≡◌, ◌<◌, ◌∷◌, [], nat_le, true, is_some, vec_len, vec_capacity, IfOk, OnOk, OnErr, Some};
+ghost use Rattle.std.specs.Prelude.{◌≡◌, ◌<◌, ◌∷◌, [], true, is_some, vec_len, vec_capacity, IfOk, OnOk, OnErr, Some};
+ghost use Rattle.ar_council.specs.Seen.{seen_of};
 ghost use Rattle.ar_message.specs.Messages.{message_in};
+ghost use Rattle.ar_statement.specs.Claims.{roll};
+ghost use Rattle.lms_tree.specs.PublicKey.{key_text};
 ghost use Rattle.report_text.specs.declared.happening.Happening.TheVariants.{Learnt};
-ghost use Rattle.ar_world.specs.Founding.{place_of};
+ghost use Rattle.ar_world.specs.Records.{HasParties};
 ghost use Rattle.ar_world.specs.Kept.{clients_in, genesis_in};
-ghost use Rattle.ar_world.specs.Learning.{knows_by, learn_line, refused_by, roll_seen, rolls_by, unlearnt_of};
+ghost use Rattle.ar_world.specs.Learning.{knows_by, learn_line, refused_by, rolls_by, unlearnt_of};
 ghost use Rattle.client_rule.specs.Notes.{note_of};
 ghost use Rattle.ar_world.specs.Step.{StepsBy};
 
 use crate::world::World;
 use ar_base::Items;
-use ar_council::see;
+use ar_council::{see, seen_text};
 use ar_founding::Directories;
 use ar_nodes::WorldFault;
 use ar_nodes::sending::say;
-use ar_statement::{SeenText, Statement, Text};
+use ar_statement::{SeenText, Statement};
 use client_rule::RollNote;
 use owner_check::OwnerCheck;
 use party_keys::{Directory, LearnFault};
 use report_text::{Happening, Unlearnt};
 use std::alloc::{AllocError, Global};
 
-// ---- the Rolls that were learnt
-
 /// The Roll of which a note tells, with its party.
 fn roll_seen(note: &RollNote) -> SeenText
-    ensures { result ≡ roll_seen note.now }
+    ensures { result ≡ seen_of note.now.party (roll note.now.party note.now.generation (key_text note.now.key)) }
 {
-    SeenText {
-        party: note.party,
-        text: Text::of(&Statement::Roll {
-            signer: note.party,
-            generation: note.generation,
-            key: note.key.bytes(),
-        }),
-    }
+    let roll = Statement::Roll {
+        signer: note.party,
+        generation: note.generation,
+        key: note.key.bytes(),
+    };
+    seen_text(note.party, &roll)
 }
-
-// ---- what becomes of a message
 
 /// Why a key is not learnt, as it is printed.
 fn unlearnt_of(fault: LearnFault) -> Unlearnt
@@ -148,7 +145,7 @@ impl<C: OwnerCheck> World<C> {
         alloc: Global,
         message: u64,
     ) -> Result<Items<Happening>, WorldFault>
-        requires { nat_le 4 (place_of self.old.phase) ≡ true }
+        requires { HasParties self.old }
         ensures { StepsBy result self.old self.new (learn_line self.old message) }
     {
         let Some(pooled) = self.pool.get(message) else {

@@ -27,13 +27,11 @@ impl<C: OwnerCheck> World<C> {
         ensures known { OnOk result (is_some (log_at self.now number) ≡ true) }
         ensures keyed { IfSome (log_at self.now number) (λ node. 0 < length node.keys) }
     {
-        match self.logs.get(number as usize) {
-            Some(Some(node)) => {
-                node.told();
-                Ok(())
-            }
-            _ => Err(WorldFault::Absent(1)),
-        }
+        let Some(node) = self.honest_log(number) else {
+            return Err(WorldFault::Absent(1));
+        };
+        node.told();
+        Ok(())
     }
 
     /// Refuses a first word that names no honest authority. One that is there has a key.
@@ -42,13 +40,11 @@ impl<C: OwnerCheck> World<C> {
         ensures known { OnOk result (is_some (authority_at self.now number) ≡ true) }
         ensures keyed { IfSome (authority_at self.now number) (λ node. 0 < length node.keys) }
     {
-        match self.authorities.get(number as usize) {
-            Some(Some(node)) => {
-                node.told();
-                Ok(())
-            }
-            _ => Err(WorldFault::Absent(1)),
-        }
+        let Some(node) = self.honest_authority(number) else {
+            return Err(WorldFault::Absent(1));
+        };
+        node.told();
+        Ok(())
     }
 
     /// An honest log does what it is asked, which is not to go on to a key.

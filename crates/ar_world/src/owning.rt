@@ -1,44 +1,37 @@
 //! The lines `owner`, `teach`, `forget` and `retire`.
 
-ghost use Rattle.std.specs.Prelude.{◌≡◌, ◌++◌, ◌∷◌, [], nat_le, true, IfOk, OnOk, OnErr, Some};
+ghost use Rattle.std.specs.Prelude.{◌≡◌, ◌++◌, ◌∷◌, [], IfOk, OnOk, OnErr, Some};
 ghost use Rattle.owner_core.specs.Rows.{first_owner};
-ghost use Rattle.lms_tree.specs.PublicKey.{key_text};
-ghost use Rattle.report_text.specs.declared.happening.Happening.TheVariants.{Made};
-ghost use Rattle.sha2.specs.Sha256.{sha256};
 ghost use Rattle.ar_founding.specs.FirstKeys.{key_made};
 ghost use Rattle.ar_nodes.specs.Owners.{owner_party};
 ghost use Rattle.ar_nodes.specs.Parties.{leaves_of};
-ghost use Rattle.ar_world.specs.Founding.{place_of};
+ghost use Rattle.ar_world.specs.Records.{HasParties};
 ghost use Rattle.ar_world.specs.Owning.{lesson_line, owner_key, owner_line, retire_line};
 ghost use Rattle.ar_world.specs.Step.{StepsBy};
-ghost use Rattle.ar_nodes.specs.declared.fault.WorldFault.TheVariants.{Memory};
 
 use crate::world::World;
 use ar_base::Items;
+use ar_founding::{Setup, key_made, make_key};
 use ar_names::NameView;
 use ar_nodes::finding::has_owner;
 use ar_nodes::sending::tell;
 use ar_nodes::teaching::{instructed, is_checking, known_key, retired};
 use ar_nodes::{Lesson, WorldFault};
-use ar_statement::{Party, Role};
-use lms_tree::{KeyFault, LmsKey, LmsPublic};
+use ar_statement::Role;
+use lms_tree::LmsKey;
 use owner_check::OwnerCheck;
 use owner_core::Owner;
-use party_keys::{Directory, party_seed};
+use party_keys::Directory;
 use report_text::Happening;
-use sha2::{Digest, Sha256};
 use std::alloc::{AllocError, Global};
 
 /// The key of an owner. It takes as long as a key does. The only error is want of memory.
 fn owner_key(alloc: Global, secret: &[u8; 32], number: u16) -> Result<LmsKey, AllocError>
     ensures { IfOk result (λ key. key ≡ owner_key secret.now number) }
 {
-    let seed = party_seed(secret, Role::Owner, number);
-    match LmsKey::make(alloc, &seed, 5, 3) {
-        Ok(key) => Ok(key),
-        Err(KeyFault::Memory) => Err(AllocError),
-        Err(KeyFault::Kind) => unreachable!(),
-    }
+    let mut setup = Setup::plain();
+    setup.tell_secret(*secret);
+    make_key(alloc, &setup, Role::Owner, number)
 }
 
 /// An owner that has done nothing yet, and knows the first keys. The only error is want of memory.
@@ -53,18 +46,6 @@ fn new_owner(
 {
     let key = owner_key(alloc, secret, number)?;
     Owner::new(alloc, number, genesis.copy(alloc)?, key)
-}
-
-/// That a key of a party is made.
-fn key_made(party: Party, key: &LmsPublic) -> Happening
-    ensures { result ≡ Made party (sha256 (key_text key.now)) }
-{
-    let mut hasher = Sha256::new();
-    hasher.update(&key.bytes());
-    Happening::Made {
-        party,
-        digest: hasher.finalize(),
-    }
 }
 
 /// Puts a new owner behind the others.
@@ -94,7 +75,7 @@ impl<C: OwnerCheck> World<C> {
         alloc: Global,
         owner: u16,
     ) -> Result<Items<Happening>, WorldFault>
-        requires { nat_le 4 (place_of self.old.phase) ≡ true }
+        requires { HasParties self.old }
         ensures { StepsBy result self.old self.new (owner_line self.old owner) }
     {
         if has_owner(&self.owners, owner) {

@@ -1,7 +1,8 @@
 //! The step of a line.
 
-ghost use Rattle.std.specs.Prelude.{◌≡◌, ◌≢◌, nat_le, true, Some, OnOk};
-ghost use Rattle.ar_world.specs.Founding.{led_to, may_come, place_of};
+ghost use Rattle.std.specs.Prelude.{◌≡◌, ◌≢◌, true, Some, OnOk};
+ghost use Rattle.ar_world.specs.Founding.{led_to, may_come};
+ghost use Rattle.ar_world.specs.Records.{HasParties};
 ghost use Rattle.ar_world.specs.Step.{StepsBySome, effect, leads_to, step};
 ghost use Rattle.ar_world.specs.declared.phase.Phase.TheVariants as phases;
 
@@ -25,7 +26,7 @@ impl<C: OwnerCheck> World<C> {
 
     /// No line of the setup may come from here on.
     fn run(&mut self)
-        requires { nat_le 4 (place_of self.old.phase) ≡ true }
+        requires { HasParties self.old }
         ensures { self.new ≡ record self.old { phase = phases.Running } }
     {
         self.phase = Phase::Running;
@@ -57,7 +58,7 @@ impl<C: OwnerCheck> World<C> {
     #[tactic(auto, using(crate::proofs::Stepping::some_check))]
     fn later_line(&mut self, alloc: Global, line: &Line) -> Result<Items<Happening>, WorldFault>
         requires leads { leads_to line.now ≡ Some phases.Running }
-        requires peopled { nat_le 4 (place_of self.old.phase) ≡ true }
+        requires peopled { HasParties self.old }
         ensures { StepsBySome result self.old self.new (λ says. effect says self.old line.now) }
     {
         match line {
@@ -115,12 +116,11 @@ impl<C: OwnerCheck> World<C> {
     }
 
     /// The same: the authorities are still there.
-    #[tactic(auto, using(crate::proofs::Phases::still_peopled))]
     fn event_line(&mut self, alloc: Global, line: &Line) -> Result<Items<Happening>, WorldFault>
         requires leads { leads_to line.now ≡ Some phases.Running }
-        requires peopled { nat_le 4 (place_of self.old.phase) ≡ true }
+        requires peopled { HasParties self.old }
         ensures steps { StepsBySome result self.old self.new (λ says. effect says self.old line.now) }
-        ensures peopled { OnOk result (nat_le 4 (place_of self.new.phase) ≡ true) }
+        ensures peopled { OnOk result (HasParties self.new) }
     {
         self.later_line(alloc, line)
     }
@@ -128,7 +128,7 @@ impl<C: OwnerCheck> World<C> {
     /// The same; no line of the setup may come from then on.
     fn run_line(&mut self, alloc: Global, line: &Line) -> Result<Items<Happening>, WorldFault>
         requires leads { leads_to line.now ≡ Some phases.Running }
-        requires peopled { nat_le 4 (place_of self.old.phase) ≡ true }
+        requires peopled { HasParties self.old }
         ensures { StepsBySome result self.old self.new (λ says. led_to phases.Running (effect says self.old line.now)) }
     {
         let said = self.event_line(alloc, line)?;

@@ -111,7 +111,7 @@ impl<C: OwnerCheck> World<C> {
     pub fn taken(&self, log: u16) -> Option<&[LogEvent]>
         ensures { option_map (λ taken. taken.now) result ≡ taken_at self.now log }
     {
-        let node = self.logs.get(log as usize)?.as_ref()?;
+        let node = self.honest_log(log)?;
         Some(node.taken.as_slice())
     }
 }

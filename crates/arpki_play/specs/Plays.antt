@@ -8,7 +8,7 @@ use Rattle.ar_nodes.specs.Parties.{CheckParts}
 use Rattle.ar_world.specs.Run as world
 use Rattle.script_make.specs.Script.{last_epoch, script}
 use Rattle.ar_world.specs.declared.cause.Cause.{Cause}
-use Rattle.script_play.specs.Playing.{Played, played_of, refusal_of, written_of}
+use Rattle.script_play.specs.Playing.{Played, played_of, written_of}
 use Rattle.script_play.specs.declared.counts.Counts.{Counts}
 use Rattle.arpki_ask.specs.Answers.{unless_long}
 
@@ -21,7 +21,7 @@ run_status (Some refusal) = 3
 
 -- all lines that are written of a run
 abbrev pub run_answer : world.Run → Answer
-run_answer r = record { lines = world.lines_of_run r; status = run_status (refusal_of r.refused) }
+run_answer r = record { lines = world.lines_of_run r; status = run_status r.refused }
 
 -- what is answered where an input is played
 abbrev pub play_answer : world.Saying → List CheckParts → List ℕ → Answer
@@ -37,20 +37,16 @@ summary_line domains messages n output =
     ++ (decimal (last_epoch domains) ++ (codes " accepted " ++ (decimal n.accepted ++ (codes " absent " ++ (decimal n.absent
     ++ (codes " refused " ++ (decimal n.refused ++ (codes " output " ++ (encode_lower output ++ codes "\n")))))))))))))
 
--- the line of a refusal
-abbrev pub refusal_text : ℕ × Cause → List ℕ
-refusal_text refusal = world.refused_text (record { line = refusal.0; cause = refusal.1 })
-
 -- the summary of what a script came to, where this is the digest of what is written of it, or the line that is refused
 abbrev pub summed : ℕ → Played → List ℕ → Option (ℕ × Cause) → Answer
 summed domains p output None = record { lines = summary_line domains (length p.world.pool) p.counts output ∷ []; status = 0 }
-summed domains p output (Some refusal) = record { lines = refusal_text refusal ∷ []; status = 3 }
+summed domains p output (Some refusal) = record { lines = world.refused_text refusal ∷ []; status = 3 }
 
 -- what is answered where this script for so many domains is played
 abbrev pub made_of : world.Saying → List CheckParts → ℕ → List ℕ → Answer
 made_of saying checks domains text =
     let r = world.run saying checks text
-    in summed domains (played_of r) (sha256 (written_of r)) (refusal_of r.refused)
+    in summed domains (played_of r) (sha256 (written_of r)) r.refused
 
 -- what is answered where the script for so many domains is made and played
 abbrev pub made_answer : world.Saying → List CheckParts → ℕ → Answer

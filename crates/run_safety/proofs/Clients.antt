@@ -1,13 +1,13 @@
 -- What clients learn and accept: what they accepted stays accepted, and each judgement that accepts is written and held.
 use Rattle.std.proofs.Common.{◌≡◌, ◌∙◌, ℕ, List, [], ◌∷◌, ◌++◌, All, append-nil, refl, sym, ap, subst, true, false, Option, Some, None}
-use Rattle.std.specs.Prelude.{map, nat_le, slice_get}
+use Rattle.std.specs.Prelude.{map, slice_get}
 use Rattle.std.specs.List.{filter_map}
 use Rattle.std.proofs.lemmas.List.{map-append}
 use Rattle.std.proofs.lemmas.List.Elements.{All-cons, All-head, All-nil, All-push, All-tail}
 use Rattle.ar_council.proofs.Members.{council-learning}
 use Rattle.ar_council.specs.Council.{council_of}
 use Rattle.ar_safety.specs.Held.{IsTaken, Taken, asked_by, verdict_on}
-use Rattle.ar_world.specs.Founding.{place_of}
+use Rattle.ar_world.specs.Records.{HasParties}
 use Rattle.ar_world.specs.Judging.{accepted_with, judged_by_rule}
 use Rattle.report_text.specs.Verdicts.{said_of}
 use Rattle.ar_world.specs.Learning.{knows_by, learning}
@@ -113,7 +113,7 @@ held-by keys judged t (Absent epoch root) is = record {
 }
 held-by keys judged t (Refused number) is = record { taken = λ all. all; told = λ message. append-nil (map (told_by keys) judged) }
 
-pub judging-makes : (w : World) (message : ℕ) (t : Taken) → nat_le 4 (place_of w.phase) ≡ true → Makes w (judged_by_rule w message t)
+pub judging-makes : (w : World) (message : ℕ) (t : Taken) → HasParties w → Makes w (judged_by_rule w message t)
 judging-makes w message t late = record {
   phase = refl;
   keeps = record {

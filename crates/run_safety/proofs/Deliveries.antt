@@ -1,7 +1,6 @@
 -- What a delivery does to the pool: a few messages come behind it, and who takes deliveries stays.
 use Rattle.std.proofs.Common.{◌≡◌, ◌∙◌, ◌≤◌, ℕ, zero, suc, List, [], ◌∷◌, ◌++◌, append-nil, length, refl, sym, ap, arith, Bool, true, false, cond, get_or, Option, Some, None, is_some, Ok, Err}
 use Rattle.std.specs.Prelude.{find, is_none, map, position, slice_set, ◌==◌}
-use Rattle.std.specs.Option.{option_map}
 use Rattle.std.proofs.lemmas.Bool.{eqb-true}
 use Rattle.std.proofs.lemmas.List.{length-map, length-set}
 use Rattle.std.proofs.lemmas.List.Quantifiers.{position-Some}
@@ -41,6 +40,7 @@ use Rattle.owner_core.specs.State.{Owner}
 use Rattle.party_keys.specs.Seen.{authority_party, log_party}
 use Rattle.report_text.specs.declared.happening.What.{What}
 use Rattle.report_text.specs.declared.happening.What.TheVariants.{Take}
+use Rattle.ar_world.proofs.Deliveries.{some-mapped}
 use Rattle.run_safety.proofs.Lines.{authority-takes, log-takes}
 
 -- A step sends a few messages; how many logs there are, and who takes deliveries, stays.
@@ -52,10 +52,6 @@ pub record Sends (w v : World) : Type 0 where
   pub few : length new ≤ 2
 
 -- ---- who takes deliveries
-
-some-mapped : {X Y : Type 0} (f : X → Y) (o : Option X) → is_some (option_map f o) ≡ is_some o
-some-mapped f None = refl
-some-mapped f (Some x) = refl
 
 -- one that is put in the place of an honest party is one too
 honest-stays : {X : Type 0} (parties : List (Option X)) (n : ℕ) (was is : X) (m : ℕ) → honest_in parties n ≡ Some was

@@ -27,7 +27,8 @@ use Rattle.ar_world.specs.Finding.{authority_at, checking_at, draft_at, existing
 use Rattle.ar_nodes.specs.Finding.{is_forger, named, need, set_if, with_check}
 use Rattle.ar_world.specs.Forging.{composed_in, inject_line, receiver_in, sign_line, signing_if}
 use Rattle.ar_nodes.specs.Forging.{forged}
-use Rattle.ar_world.specs.Founding.{dishonest_line, honest_key, keys_line, logs_line, place_of, turned}
+use Rattle.ar_world.specs.Founding.{dishonest_line, honest_key, keys_line, logs_line, turned}
+use Rattle.ar_world.specs.Records.{HasParties}
 use Rattle.ar_founding.specs.FirstKeys.{first_key, key_made, keys_made}
 use Rattle.ar_nodes.specs.Parties.{leaves_of}
 use Rattle.ar_world.specs.Judging.{judge_line, judged_number}
@@ -41,7 +42,7 @@ use Rattle.ar_nodes.specs.Teaching.{retold}
 use Rattle.ar_nodes.specs.Parties.{AuthorityNode, CheckParts, Forger, LogNode}
 use Rattle.ar_nodes.specs.Pool.{Pooled, raw}
 use Rattle.ar_world.specs.State.{Drafted, World}
-use Rattle.ar_world.specs.Submitting.{attached, attached_by, handed, handover_line, object_line, submit_line}
+use Rattle.ar_world.specs.Submitting.{handed, handover_line, object_line, submit_line}
 use Rattle.ar_nodes.specs.declared.event.LogEvent.{LogEvent}
 use Rattle.ar_nodes.specs.declared.event.LogEvent.TheVariants as events
 use Rattle.ar_nodes.specs.declared.fault.WorldFault.{WorldFault}
@@ -52,7 +53,7 @@ use Rattle.lms_tree.specs.KeyParts.{KeyParts}
 use Rattle.log_core.specs.State as log_input
 use Rattle.owner_check.specs.Answers.{Told}
 use Rattle.owner_check.specs.declared.answer.Outcome.{Outcome}
-use Rattle.owner_core.specs.Rows.{Row, attach_row, begin_row, handover_row, object_row, step_row, submit_row}
+use Rattle.owner_core.specs.Rows.{Row, begin_row, handover_row, object_row, step_row, submit_row}
 use Rattle.owner_core.specs.State.{Owner}
 use Rattle.party_keys.specs.Directory.{is_party_count, is_quorum}
 use Rattle.party_keys.specs.Seen.{authority_party, log_party}
@@ -64,6 +65,7 @@ use Rattle.report_text.specs.declared.happening.What.TheVariants.{Handover, Obje
 use Rattle.script_text.specs.declared.line.PolicyWords.{PolicyWords}
 use Rattle.run_safety.specs.Headline.{accepted_in}
 use Rattle.run_safety.specs.Seats.{IsAuthorityOf, IsLogOf, honest_count}
+use Rattle.ar_world.proofs.OwnerReplies.{attached-by-alone}
 use Rattle.run_safety.proofs.Chains.{named-there, need-holds}
 use Rattle.run_safety.proofs.Clients.{judging-makes, learning-makes}
 use Rattle.run_safety.proofs.Founded.{keys-quiet}
@@ -73,19 +75,11 @@ use Rattle.run_safety.proofs.Places.{seated-beside, seated-without, count-withou
 
 -- ---- owners and drafts
 
-attached-part : (w : World) (r : Row (Unit {0})) → part_of (attached w r) ≡ part_of w
-attached-part w (Ok made) = refl
-attached-part w (Err refusal) = refl
-
-attached-by-part : (w : World) (o : Option Owner) (digest handover : List ℕ) → part_of (attached_by w o digest handover) ≡ part_of w
-attached-by-part w None digest handover = refl
-attached-by-part w (Some owner) digest handover = attached-part w (attach_row owner digest handover)
-
 handed-makes : (w : World) (number draft : ℕ) (found : Drafted) (r : Row (List ℕ)) → Makes w (handed w number draft found r)
 handed-makes w number draft found (Ok made) =
     let signed = with_owner w made.1
     in still _ _ (Step (owner_party number) (Handover draft) None ∷ [])
-    (attached-by-part signed (owner_at signed found.owner) (digest_of found.cert) made.0) refl
+    (ap part_of (attached-by-alone signed (owner_at signed found.owner) (digest_of found.cert) made.0)) refl
 handed-makes w number draft found (Err refusal) = still _ _ (Step (owner_party number) (Handover draft) (Some (owner_code refusal)) ∷ []) refl refl
 
 begun-makes : (w : World) (number : ℕ) (r : Row Sent) → Makes w (begun w number r)
@@ -166,7 +160,7 @@ logs-makes w count quorum =
 -- ---- who becomes dishonest
 
 -- a world in which one more is dishonest, and nothing is told otherwise
-turns : (w : World) (who : Party) (key : KeyParts) (logs : List (Option LogNode)) (authorities : List (Option AuthorityNode)) → nat_le 4 (place_of w.phase) ≡ true
+turns : (w : World) (who : Party) (key : KeyParts) (logs : List (Option LogNode)) (authorities : List (Option AuthorityNode)) → HasParties w
     → (SeatedIn (part_of w) → SeatedIn (record (part_of w) { logs = logs; authorities = authorities; dishonest = (part_of w).dishonest ++ who ∷ [] }))
     → Goes (part_of w) (part_of (record w { logs = logs; authorities = authorities; forgers = w.forgers ++ record { party = who; key = key; next = 0 } ∷ [] })) (Dishonest who ∷ [])
 turns w who key logs authorities late sits =
@@ -190,7 +184,7 @@ less-other dishonest who was now others all less sum =
     let more : length (dishonest ++ who ∷ []) ≡ length dishonest + 1 = length-append dishonest (who ∷ []) in
     omega (arith, less, sum, more)
 
-turned-makes : (w : World) (r : Role) (number : ℕ) (key : KeyParts) → nat_le 4 (place_of w.phase) ≡ true → honest_key w r number ≡ Some key
+turned-makes : (w : World) (r : Role) (number : ℕ) (key : KeyParts) → HasParties w → honest_key w r number ≡ Some key
     → Makes w (turned w (party r number) key, Dishonest (party r number) ∷ [])
 turned-makes w role.LogServer number key late there =
     option_and_then_some (λ (node : LogNode). first_key node.keys) (log_at w number) key there (λ node is has.
@@ -218,7 +212,7 @@ turned-makes w role.Authority number key late there =
 turned-makes w role.Owner number key late there = absurd cc
 turned-makes w role.Client number key late there = absurd cc
 
-pub dishonest-makes : (w : World) (who : Party) → nat_le 4 (place_of w.phase) ≡ true → IfOk (dishonest_line w who) (Makes w)
+pub dishonest-makes : (w : World) (who : Party) → HasParties w → IfOk (dishonest_line w who) (Makes w)
 dishonest-makes w who late =
     if-chained (named 1 (honest_key w who.role who.number)) _ (Makes w) (λ key same.
     turned-makes w who.role who.number key late (named-there 1 (honest_key w who.role who.number) key same))
@@ -346,7 +340,7 @@ ask-makes w asked name first second client =
     if-chained (room w) _ (Makes w) (λ free all.
     posted-makes w (party role.Client client) (question asked name first second client)))))
 
-pub judge-makes : (w : World) (which : Option ℕ) (name : List ℕ) (now age : ℕ) → nat_le 4 (place_of w.phase) ≡ true → IfOk (judge_line w which name now age) (Makes w)
+pub judge-makes : (w : World) (which : Option ℕ) (name : List ℕ) (now age : ℕ) → HasParties w → IfOk (judge_line w which name now age) (Makes w)
 judge-makes w which name now age late =
     if-chained (named 1 (judged_number w which)) _ (Makes w) (λ message same.
     if-chained (named 1 (message_at w message)) _ (Makes w) (λ p there.

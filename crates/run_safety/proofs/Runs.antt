@@ -1,37 +1,31 @@
 -- What a step, the deliveries of a `flush` and a whole script keep: who sits where, and what clients hold.
-use Rattle.std.proofs.Common.{◌≡◌, ◌∙◌, ◌≤◌, ℕ, zero, suc, ◌+◌, List, [], ◌∷◌, arith, refl, sym, ap, subst, Bool, true, false, Option, Some, None, Ok, Err, Result, IfOk}
-use Rattle.std.specs.Prelude.{if◌then◌else◌, length, map, nat_le, nat_lt, ◌==◌}
+use Rattle.std.proofs.Common.{◌≡◌, ◌∙◌, ◌≤◌, ℕ, List, [], arith, refl, sym, ap, subst, true, false, Option, Some, None, Ok, Err, IfOk}
+use Rattle.std.specs.Prelude.{length, map, nat_le, nat_lt, ◌==◌}
 use Rattle.std.specs.List.{filter_map}
 use Rattle.std.proofs.lemmas.Bool.{false_from_ne_true, leb-true, ltb-true}
 use Rattle.std.proofs.lemmas.List.Elements.{All-nil}
 use Rattle.std.proofs.lemmas.Option.{same_Some}
-use Rattle.ar_lines.specs.Lines.{lines_of}
-use Rattle.ar_lines.specs.declared.refusal.Reason.{Reason}
-use Rattle.ar_lines.specs.declared.refusal.Reason.TheVariants as reason
 use Rattle.ar_safety.specs.Held.{IsTaken, verdict_on}
-use Rattle.ar_statement.specs.declared.party.Party.{Party}
-use Rattle.ar_world.specs.Delivering.{deliver_line, next_due}
+use Rattle.ar_world.specs.Delivering.{deliver_line}
 use Rattle.ar_world.specs.Finding.{Effect}
 use Rattle.ar_nodes.specs.Finding.{need}
 use Rattle.ar_world.specs.Founding.{led_to, may_come, place_of}
 use Rattle.ar_nodes.specs.Parties.{CheckParts}
 use Rattle.ar_world.specs.Records.{held_of}
-use Rattle.ar_world.specs.Run.{Progress, Run, Saying, delivering, flushed, follows, line_taken, most_deliveries, most_lines, progress_of, refusing, run, run_behind, run_from, taken, taken_as, then_if, then_on}
+use Rattle.ar_world.specs.Run.{Saying, run}
 use Rattle.ar_world.specs.State.{Moved, World, first_world, no_directory}
 use Rattle.ar_world.specs.Step.{effect, leads_to, step, stepped}
-use Rattle.ar_world.specs.declared.cause.Cause.{Cause}
-use Rattle.ar_world.specs.declared.cause.Cause.TheVariants.{Unread}
 use Rattle.ar_nodes.specs.declared.event.LogEvent.TheVariants as events
 use Rattle.ar_nodes.specs.declared.fault.WorldFault.TheVariants.{Order}
 use Rattle.ar_world.specs.declared.phase.Phase.{Phase}
 use Rattle.ar_world.specs.declared.phase.Phase.TheVariants as phase
 use Rattle.ar_world.proofs.FirstParties.{came}
+use Rattle.ar_world.proofs.Runs.{HoldsOfSteps, run-holds}
 use Rattle.log_core.specs.State.{passes, proposes}
 use Rattle.owner_check.specs.Answers.{forgotten, learnt}
 use Rattle.owner_check.specs.declared.answer.Outcome.{Outcome}
 use Rattle.report_text.specs.declared.happening.Happening.TheVariants.{Forgot, Taught}
 use Rattle.report_text.specs.declared.happening.What.TheVariants as whats
-use Rattle.script_text.specs.Rows.{read_of}
 use Rattle.script_text.specs.declared.line.Line.{Line}
 use Rattle.script_text.specs.declared.line.Line.TheVariants as line
 use Rattle.run_safety.specs.Headline.{accepted_in, said_by}
@@ -134,80 +128,24 @@ stepped-keeps w (Some next) made makes = if-chained (need (may_come w.phase next
 step-keeps : (says : Outcome) (w : World) (l : Line) → IfOk (step says w l) (KeptBy w)
 step-keeps says w l = stepped-keeps w (leads_to l) (effect says w l) (effect-makes says w l)
 
--- ---- lines
-
--- what was done since keeps all
-abbrev Leaves : World → Progress → Type 0
-Leaves w p = Keeps (part_of w) (part_of p.world) p.said
-
-unmoved-leaves : (w : World) → Keeps (part_of w) (part_of w) []
-unmoved-leaves w = (still (part_of w) (part_of w) [] refl refl).keeps
-
-effect-leaves : (w : World) (made : Effect) → IfOk made (KeptBy w) → Leaves w (progress_of w made)
-effect-leaves w (Ok m) keeps = keeps
-effect-leaves w (Err why) keeps = unmoved-leaves w
-
-if-leaves : (w : World) (cause : Option Cause) (p : Progress) (next : World → Progress) → Leaves w p → ((v : World) → Leaves v (next v)) → Leaves w (then_if cause p next)
-if-leaves w None p next first rest = both (part_of w) (part_of p.world) (part_of (next p.world).world) p.said (next p.world).said first (rest p.world)
-if-leaves w (Some cause) p next first rest = first
-
-then-leaves : (w : World) (p : Progress) (next : World → Progress) → Leaves w p → ((v : World) → Leaves v (next v)) → Leaves w (then_on p next)
-then-leaves w p next first rest = if-leaves w p.refused p next first rest
+-- ---- a script
 
 delivered-keeps : (w : World) (made : Effect) → IfOk made (Makes w) → IfOk made (KeptBy w)
 delivered-keeps w (Ok m) makes = makes.keeps
 delivered-keeps w (Err why) makes = tt
 
-delivering-leaves : (says : Outcome) (w : World) (due : Option (ℕ × Party)) (next : World → Progress) → ((v : World) → Leaves v (next v)) → Leaves w (delivering says w due next)
-delivering-leaves says w None next rest = unmoved-leaves w
-delivering-leaves says w (Some due) next rest =
-    let made = deliver_line says w due.0 due.1
-    in then-leaves w (progress_of w made) next (effect-leaves w made (delivered-keeps w made (deliver-makes says w due.0 due.1))) rest
+-- what was done since keeps all
+keeps-of-steps : HoldsOfSteps (λ w v said. Keeps (part_of w) (part_of v) said)
+keeps-of-steps = record {
+  still = λ w. (still (part_of w) (part_of w) [] refl refl).keeps;
+  both = λ u v w said later. both (part_of u) (part_of v) (part_of w) said later;
+  steps = step-keeps;
+  delivers = λ says w message who. delivered-keeps w (deliver_line says w message who) (deliver-makes says w message who);
+}
 
-flushed-leaves : (most : ℕ) (says : ℕ → Outcome) (number : ℕ) (w : World) → Leaves w (flushed most says number w)
-unfolding flushed
-flushed-leaves zero says number w = unmoved-leaves w
-flushed-leaves (suc more) says number w = delivering-leaves (says number) w (next_due w) (flushed more says (number + 1)) (flushed-leaves more says (number + 1))
-
-follows-leaves : (says : ℕ → Outcome) (l : Line) (w : World) → Leaves w (follows says l w)
-follows-leaves says line.Flush w = flushed-leaves most_deliveries says 0 w
-follows-leaves says _ w = unmoved-leaves w
-
-taken-leaves : (says : ℕ → Outcome) (w : World) (l : Line) → Leaves w (taken says w l)
-taken-leaves says w l =
-    then-leaves w (progress_of w (step (says 0) w l)) (follows says l) (effect-leaves w (step (says 0) w l) (step-keeps (says 0) w l)) (follows-leaves says l)
-
-taken-as-leaves : (says : ℕ → Outcome) (w : World) (read : Result (Option Line) Reason) → Leaves w (taken_as says w read)
-taken-as-leaves says w (Ok (Some l)) = taken-leaves says w l
-taken-as-leaves says w (Ok None) = unmoved-leaves w
-taken-as-leaves says w (Err why) = unmoved-leaves w
-
-either-leaves : (w : World) (b : Bool) (p q : Progress) → Leaves w p → Leaves w q → Leaves w (if b then p else q)
-either-leaves w true p q one other = one
-either-leaves w false p q one other = other
-
-line-leaves : (says : ℕ → Outcome) (number : ℕ) (w : World) (text : List ℕ) → Leaves w (line_taken says number w text)
-unfolding line_taken
-line-leaves says number w text =
-    either-leaves w (nat_lt most_lines number) (refusing w (Unread reason.Limit)) (taken_as says w (read_of text))
-    (unmoved-leaves w) (taken-as-leaves says w (read_of text))
-
--- ---- a script
-
-abbrev Runs : World → Run → Type 0
-Runs w r = Keeps (part_of w) (part_of r.world) r.said
-
-behind-runs : (number : ℕ) (w : World) (p : Progress) (cause : Option Cause) (rest : World → Run) → Leaves w p → ((v : World) → Runs v (rest v)) → Runs w (run_behind number p cause rest)
-behind-runs number w p None rest first later = both (part_of w) (part_of p.world) (part_of (rest p.world).world) p.said (rest p.world).said first (later p.world)
-behind-runs number w p (Some cause) rest first later = first
-
-from-runs : (saying : Saying) (number : ℕ) (w : World) (texts : List (List ℕ)) → Runs w (run_from saying number w texts)
-unfolding run_from
-from-runs saying number w [] = unmoved-leaves w
-from-runs saying number w (text ∷ texts) =
-    let p = line_taken (saying number) number w text
-    in behind-runs number w p p.refused (λ later. run_from saying (number + 1) later texts) (line-leaves (saying number) number w text)
-    (λ later. from-runs saying (number + 1) later texts)
+run-keeps : (saying : Saying) (checks : List CheckParts) (input : List ℕ)
+    → Keeps (part_of (first_world checks)) (part_of (run saying checks input).world) (run saying checks input).said
+run-keeps saying checks input = run-holds (λ w v said. Keeps (part_of w) (part_of v) said) keeps-of-steps saying checks input
 
 -- before the first line nobody is there
 first-stands : (checks : List CheckParts) → Stands (part_of (first_world checks))
@@ -227,15 +165,14 @@ first-stands checks = record {
 
 pub run-seated : (saying : Saying) (checks : List CheckParts) (input : List ℕ) → IsSeated (run saying checks input).world
 run-seated saying checks input =
-    let runs = from-runs saying 1 (first_world checks) (lines_of input)
-    in seated (run saying checks input).world (runs.stands (first-stands checks)).seated
+    seated (run saying checks input).world ((run-keeps saying checks input).stands (first-stands checks)).seated
 
 pub run-told : (saying : Saying) (checks : List CheckParts) (input : List ℕ)
     → filter_map accepted_in (run saying checks input).said ≡ map (said_by (held_of (run saying checks input).world)) (held_of (run saying checks input).world).judged
-run-told saying checks input = (from-runs saying 1 (first_world checks) (lines_of input)).told (first-stands checks)
+run-told saying checks input = (run-keeps saying checks input).told (first-stands checks)
 
 -- there are no more logs than the line `logs` may say
 pub run-few : (saying : Saying) (checks : List CheckParts) (input : List ℕ) → length (run saying checks input).world.logs ≤ 16
 run-few saying checks input =
-    let stands = (from-runs saying 1 (first_world checks) (lines_of input)).stands (first-stands checks)
+    let stands = (run-keeps saying checks input).stands (first-stands checks)
     in subst (λ n. n ≤ 16) (sym stands.seated.logs.all) stands.founded

@@ -12,12 +12,12 @@ use Rattle.owner_check.specs.declared.answer.Outcome.TheVariants.{Failed}
 use Rattle.report_text.specs.Lines.{line_of}
 use Rattle.ar_nodes.specs.Parties.{CheckParts}
 use Rattle.ar_world.specs.Records.{HasParties, KeepsRecords}
-use Rattle.ar_world.specs.Run.{Progress, Refused, Run, Saying, behind_run, line_taken, refused_lines, run, run_behind, run_from}
+use Rattle.ar_world.specs.Run.{Progress, Run, Saying, behind_run, line_taken, refused_lines, run, run_behind, run_from}
 use Rattle.ar_world.specs.State.{World, first_world}
 use Rattle.ar_world.specs.declared.cause.Cause.{Cause}
 use Rattle.run_safety.proofs.Safe.{safe-run}
 use Rattle.script_play.specs.Counts.{counted_from, no_counts}
-use Rattle.script_play.specs.Playing.{Plays, PlaysAll, PlaysLines, PlaysPart, Stand, WritesUpTo, refusal_of, refusal_told, refused_of, told, written_of}
+use Rattle.script_play.specs.Playing.{Plays, PlaysAll, PlaysLines, PlaysPart, Stand, WritesUpTo, refusal_told, told, written_of}
 use Rattle.script_play.specs.declared.counts.Counts.{Counts}
 use Rattle.script_play.proofs.Deliveries.{said-later, said-there, with_said_at}
 use Rattle.script_play.proofs.Taking.{TakesText}
@@ -50,7 +50,7 @@ lines-end faults wrote a s number = record { saying = λ _ _. Failed; refused = 
 
 -- a line that is refused ends them
 refused-here : (number : ℕ) (p : Progress) (why : Option Cause) (cause : Cause) (rest : World → Run) → Some cause ≡ why
-    → run_behind number p why rest ≡ record { world = p.world; said = p.said; refused = Some (record { line = number; cause = cause }) }
+    → run_behind number p why rest ≡ record { world = p.world; said = p.said; refused = Some (number, cause) }
 refused-here number p why cause rest is = ap (λ (c : Option Cause). run_behind number p c rest) (sym is)
 
 pub lines-refused : {K : Type 0} (faults : K → ℕ) (wrote : K → List ℕ → Type 0) (a b : K) (s t : Stand) (number : ℕ) (text : List ℕ) (texts : List (List ℕ)) (cause : Cause)
@@ -60,11 +60,11 @@ lines-refused faults wrote a b s t number text texts cause first =
     let saying : Saying = λ _. first.says in
     let answer : Option (ℕ × Cause) = Some (number, cause) in
     let p = line_taken first.says number s.world text in
-    let is : run_from saying number s.world (text ∷ texts) ≡ record { world = p.world; said = p.said; refused = Some (record { line = number; cause = cause }) } =
+    let is : run_from saying number s.world (text ∷ texts) ≡ record { world = p.world; said = p.said; refused = answer } =
     refused-here number p p.refused cause (λ v. run_from saying (number + 1) v texts) first.plays.refused in
     record {
       saying = saying;
-      refused = ap (λ (r : Run). r.refused) is;
+      refused = sym (ap (λ (r : Run). r.refused) is);
       stands = first.plays.stands ∙ ap (λ (r : Run). record { world = r.world; counts = counted_from s.counts r.said }) (sym is);
       written = subst (λ (r : Run). WritesUpTo faults wrote a b (told r.said) (Ok answer)) (sym is)
           (written-answered faults wrote a b (told p.said) (Some cause) answer first.plays.written);
@@ -110,7 +110,7 @@ lines-behind : {K : Type 0} (faults : K → ℕ) (wrote : K → List ℕ → Typ
     → PlaysPart faults wrote a b s t p (Ok None) → PlaysLines faults wrote b c t u (λ _. r) result → whole saying ≡ behind_run p.said r → PlaysLines faults wrote a c s u whole result
 lines-behind faults wrote a b c s t u p r whole saying (Ok refusal) first later is = record {
   saying = saying;
-  refused = ap (λ (x : Run). x.refused) is ∙ later.refused;
+  refused = later.refused ∙ sym (ap (λ (x : Run). x.refused) is);
   stands = later.stands
       ∙ ap (λ (n : Counts). record { world = r.world; counts = n }) (ap (λ (v : Stand). counted_from v.counts r.said) first.stands ∙ sym (counted-append p.said r.said s.counts))
       ∙ ap (λ (x : Run). record { world = x.world; counts = counted_from s.counts x.said }) (sym is);
@@ -129,7 +129,7 @@ lines-fixed : {K : Type 0} (faults : K → ℕ) (wrote : K → List ℕ → Type
     → (p : PlaysLines faults wrote a b s t from result) → from p.saying ≡ r → PlaysLines faults wrote a b s t (λ _. r) result
 lines-fixed faults wrote a b s t from r result p is = record {
   saying = p.saying;
-  refused = subst (λ (x : Run). IfOk result (λ refusal. x.refused ≡ refused_of refusal)) is p.refused;
+  refused = subst (λ (x : Run). IfOk result (λ refusal. refusal ≡ x.refused)) is p.refused;
   stands = subst (λ (x : Run). OnOk result (t ≡ record { world = x.world; counts = counted_from s.counts x.said })) is p.stands;
   written = subst (λ (x : Run). WritesUpTo faults wrote a b (told x.said) result) is p.written;
 }
@@ -227,16 +227,12 @@ written-so r = flat_map-append (λ line. line) (map line_of r.said) (refused_lin
 abbrev pub All : {K : Type 0} → (K → ℕ) → (K → List ℕ → Type 0) → K → K → Stand → Stand → List ℕ → Result (Option (ℕ × Cause)) Fault → Type 0
 All faults wrote a b s t input result = PlaysAll faults wrote a b s t (λ saying. run_from saying 1 s.world (lines_of input)) result
 
-same-refusal : (refusal : Option (ℕ × Cause)) → refusal_of (refused_of refusal) ≡ refusal
-same-refusal None = refl
-same-refusal (Some refusal) = refl
-
 written-all : {K T : Type 0} (faults : K → ℕ) (wrote : K → List ℕ → Type 0) (a b c : K) (r : Run) (refusal : Option (ℕ × Cause)) (result : Result T Fault)
-    → r.refused ≡ refused_of refusal → WritesUpTo faults wrote a b (told r.said) (Ok refusal) → WritesUpTo faults wrote b c (refusal_told refusal) result
+    → refusal ≡ r.refused → WritesUpTo faults wrote a b (told r.said) (Ok refusal) → WritesUpTo faults wrote b c (refusal_told refusal) result
     → WritesUpTo faults wrote a c (written_of r) result
 written-all faults wrote a b c r refusal result is first later =
     subst (λ (bytes : List ℕ). WritesUpTo faults wrote a c bytes result)
-    (ap (λ (refused : Option Refused). told r.said ++ flat_map (λ line. line) (refused_lines refused)) (sym is) ∙ sym (written-so r))
+    (ap (λ (refused : Option (ℕ × Cause)). told r.said ++ flat_map (λ line. line) (refused_lines refused)) is ∙ sym (written-so r))
     (written-both faults wrote a b c (told r.said) (refusal_told refusal) refusal result first later)
 
 -- all lines, and the refused one, are told
@@ -246,7 +242,7 @@ all-told faults wrote a b c s t input refusal lines later =
     let r = run_from lines.saying 1 s.world (lines_of input) in
     record {
       saying = lines.saying;
-      refused = sym (same-refusal refusal) ∙ ap refusal_of (sym lines.refused);
+      refused = lines.refused;
       stands = lines.stands;
       written = written-answered faults wrote a c (written_of r) (tt {0}) refusal (written-all faults wrote a b c r refusal done lines.refused lines.written later);
     }

@@ -1,5 +1,5 @@
 -- What it is to play a script: its lines are taken by a world, one after the other, and what happens is written at once.
-use Rattle.std.specs.Prelude.{◌≡◌, ◌≢◌, ◌≤◌, ℕ, List, ◌++◌, map, Option, Some, None, Result, IfOk, OnErr, OnOk, Ok, Err}
+use Rattle.std.specs.Prelude.{◌≡◌, ◌≢◌, ◌≤◌, ℕ, List, ◌++◌, map, Option, Some, Result, IfOk, OnErr, OnOk, Ok, Err}
 use Rattle.std.specs.List.{flat_map}
 use Rattle.ar_base.specs.Faults.{HasRisen}
 use Rattle.ar_io.specs.Wrote.{Appended}
@@ -8,7 +8,7 @@ use Rattle.ar_run.specs.declared.fault.Fault.TheVariants as fault
 use Rattle.report_text.specs.Lines.{line_of}
 use Rattle.report_text.specs.declared.happening.Happening.{Happening}
 use Rattle.ar_nodes.specs.Parties.{CheckParts}
-use Rattle.ar_world.specs.Run.{Progress, Refused, Run, Saying, lines_of_run, refused_lines, run}
+use Rattle.ar_world.specs.Run.{Progress, Run, Saying, lines_of_run, refused_lines, run}
 use Rattle.run_safety.specs.Headline.{IsSafeRun}
 use Rattle.ar_world.specs.State.{World}
 use Rattle.ar_world.specs.declared.cause.Cause.{Cause}
@@ -74,33 +74,23 @@ refused_by why = Ok (Some (Untaken why))
 
 -- ---- lines
 
--- the line that was refused, and why
-abbrev pub refused_of : Option (ℕ × Cause) → Option Refused
-refused_of None = None
-refused_of (Some refusal) = Some (record { line = refusal.0; cause = refusal.1 })
-
--- the same line and cause, of a run
-abbrev pub refusal_of : Option Refused → Option (ℕ × Cause)
-refusal_of None = None
-refusal_of (Some refused) = Some (refused.line, refused.cause)
-
--- the bytes that are written of it
+-- the bytes that are written of the line that was refused, if one was
 abbrev pub refusal_told : Option (ℕ × Cause) → List ℕ
-refusal_told refusal = flat_map (λ line. line) (refused_lines (refused_of refusal))
+refusal_told refusal = flat_map (λ line. line) (refused_lines refusal)
 
 -- Lines were played: to their end, or to the first that is refused, which is answered, and all that happened was written. Or memory
 -- ran out, or a write failed, and a front was written. The run is that of some answers of the checks that tell nothing of
 -- themselves.
 pub record PlaysLines {K : Type 0} (faults : K → ℕ) (wrote : K → List ℕ → Type 0) (old new : K) (before after : Stand) (run : Saying → Run) (result : Result (Option (ℕ × Cause)) Fault) : Type 0 where
   pub saying : Saying
-  pub refused : IfOk result (λ refusal. (run saying).refused ≡ refused_of refusal)
+  pub refused : IfOk result (λ refusal. refusal ≡ (run saying).refused)
   pub stands : OnOk result (after ≡ record { world = (run saying).world; counts = counted_from before.counts (run saying).said })
   pub written : WritesUpTo faults wrote old new (told (run saying).said) result
 
 -- The same, and the line that was refused was told too.
 pub record PlaysAll {K : Type 0} (faults : K → ℕ) (wrote : K → List ℕ → Type 0) (old new : K) (before after : Stand) (run : Saying → Run) (result : Result (Option (ℕ × Cause)) Fault) : Type 0 where
   pub saying : Saying
-  pub refused : IfOk result (λ refusal. refusal ≡ refusal_of (run saying).refused)
+  pub refused : IfOk result (λ refusal. refusal ≡ (run saying).refused)
   pub stands : OnOk result (after ≡ record { world = (run saying).world; counts = counted_from before.counts (run saying).said })
   pub written : WritesUpTo faults wrote old new (written_of (run saying)) result
 
@@ -114,7 +104,7 @@ pub record Played : Type 0 where
 
 -- what a run comes to
 abbrev pub played_of : Run → Played
-played_of r = record { world = r.world; counts = counted_from no_counts r.said; refused = refusal_of r.refused }
+played_of r = record { world = r.world; counts = counted_from no_counts r.said; refused = r.refused }
 
 -- A script was played to its end, or to the first line that is refused, and all of its run was written, which is safe; or memory
 -- ran out, or a write failed, and a front of that was written. The run is that of some answers of the checks that tell nothing

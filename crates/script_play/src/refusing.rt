@@ -12,7 +12,7 @@ use std::alloc::{AllocError, Global};
 
 /// The line that tells that the line with this number is refused, and why, with its newline.
 pub fn refused_line(alloc: Global, number: u64, cause: Cause) -> Result<Vec<u8>, AllocError>
-    ensures { IfOk result (λ line. line.items ≡ refused_text (record { line = number; cause = cause })) }
+    ensures { IfOk result (λ line. line.items ≡ refused_text (number, cause)) }
 {
     let line = match cause {
         Cause::Unread(reason) => format!(in alloc; "line {number}: {reason}\n")?,

@@ -1,9 +1,10 @@
 use Rattle.std.proofs.Common.{arith, ap, length}
-use Rattle.ar_founding.proofs.FirstParties.{authority-joined, first-has}
+use Rattle.ar_founding.specs.Founded.{IsAuthorityRing}
+use Rattle.ar_founding.proofs.FirstParties.{authority-joined, first-own}
 use Rattle.ar_founding.proofs.joined.join_authority.Goals as goal
 
 pub authority_node-requires-clause-own : goal.authority_node-requires-clause-own
-authority_node-requires-clause-own g c κs within = (first-has _ _ _ _ _ _ c.take_first-state.ensures c.take_first-ring.ensures c.requires.own).0
+authority_node-requires-clause-own g c κs within = (first-own IsAuthorityRing _ _ _ _ _ _ c.take_first-state.ensures c.take_first-ring.ensures c.requires.own).0
 
 pub returns-clause-same : goal.returns-clause-same
 returns-clause-same g c =
@@ -13,7 +14,7 @@ pub returns-clause-left : goal.returns-clause-left
 returns-clause-left g c = omega (arith, ap length c.take_first-state.ensures)
 
 pub returns-clause-own : goal.returns-clause-own
-returns-clause-own g c = (first-has _ _ _ _ _ _ c.take_first-state.ensures c.take_first-ring.ensures c.requires.own).1
+returns-clause-own g c = (first-own IsAuthorityRing _ _ _ _ _ _ c.take_first-state.ensures c.take_first-ring.ensures c.requires.own).1
 
 pub returns-clause-room : goal.returns-clause-room
 returns-clause-room g c = omega (arith, ap length c.take_first-state.ensures)
