@@ -127,6 +127,10 @@ hit q (Some e) = if eq_by_cmp key_cmp q e.0 then Some e.1 else None
 abbrev pub with_row : RowData → List Change → Option Pending → Marks → RowData
 with_row r chain waiting marks = record { name = r.name; chain = chain; waiting = waiting; marks = marks }
 
+-- the change waits since this epoch, or nothing does where none is told
+abbrev pub waits : Change → Option ℕ → Option Pending
+waits change since = option_map (λ epoch. record { change = change; since = epoch }) since
+
 -- the row at a place has these changes and this that waits, all other rows are as before, and the tree is theirs
 pub record IsChanged (old new : List RowData) (trie : Entries) (i : ℕ) (r : RowData) (chain : List Change) (waiting : Option Pending) : Type 0 where
   pub marks : Marks

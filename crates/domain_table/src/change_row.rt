@@ -1,7 +1,8 @@
-ghost use Rattle.std.specs.Prelude.{◌≡◌, ◌<◌, ◌+◌, ◌++◌, ◌∷◌, [], length, take, drop, get_or, None, Some, IfErr, OnOk, OnErr, vec_len, vec_capacity};
+ghost use Rattle.std.specs.Prelude.{◌≡◌, ◌<◌, ◌+◌, ◌++◌, ◌∷◌, [], length, take, drop, get_or, None, IfErr, OnOk, OnErr, vec_len, vec_capacity};
 ghost use Rattle.std.specs.FinMap.{from_entries};
+ghost use Rattle.std.specs.Option.{option_map};
 ghost use Rattle.domain_table.specs.Tree.{pending_value, value_of_cert};
-ghost use Rattle.domain_table.specs.Rows.{RowData, AreRows, IsChanged, data_in, data_of, marked, marks_of, with_row};
+ghost use Rattle.domain_table.specs.Rows.{RowData, AreRows, IsChanged, data_in, data_of, marked, marks_of, waits, with_row};
 
 use crate::row::{Marks, Row, Waiting};
 use crate::tree::{retrie_both, retrie_name, retrie_pending};
@@ -23,11 +24,14 @@ fn newest_value(change: &Change) -> [u8; 32]
     value_of(&change.cert)
 }
 
-/// The value of a change in the tree while it waits since this epoch.
-fn waiting_value(change: &Change, since: u64) -> [u8; 32]
-    ensures { result ≡ pending_value (record { change = change.now; since = since }) }
+/// The value in the tree of a change that waits since this epoch, if it waits.
+fn waiting_value(change: &Change, since: Option<u64>) -> Option<[u8; 32]>
+    ensures { result ≡ option_map pending_value (waits change.now since) }
 {
-    pending_digest(since, &change.cert.digest())
+    match since {
+        Some(since) => Some(pending_digest(since, &change.cert.digest())),
+        None => None,
+    }
 }
 
 /// The rows before a place, and those behind it.
@@ -118,36 +122,32 @@ pub(crate) fn append(
     Ok(())
 }
 
-/// The change waits in a row since this epoch.
-fn hold(row: &mut Row, change: Change, since: u64, marks: Marks)
-    ensures { data_of row.new ≡ with_row (data_of row.old) (data_of row.old).chain (Some (record { change = change; since = since })) marks }
+/// The change waits in a row since this epoch, or nothing waits there where none is told.
+fn hold(row: &mut Row, change: Change, since: Option<u64>, marks: Marks)
+    ensures { data_of row.new ≡ with_row (data_of row.old) (data_of row.old).chain (waits change since) marks }
 {
-    row.waiting = Some(Waiting { change, since });
+    row.waiting = match since {
+        Some(since) => Some(Waiting { change, since }),
+        None => None,
+    };
     row.marks = marks;
 }
 
-/// Nothing waits in a row.
-fn release(row: &mut Row, marks: Marks)
-    ensures { data_of row.new ≡ with_row (data_of row.old) (data_of row.old).chain None marks }
-{
-    row.waiting = None;
-    row.marks = marks;
-}
-
-/// The change waits in the row at a place since this epoch, and the tree is brought up to date.
+/// The change waits in the row at a place since this epoch, or nothing waits there any longer where none is told; and
+/// the tree is brought up to date.
 pub(crate) fn wait(
     alloc: Global,
     rows: &mut Vec<Row>,
     trie: &mut Trie,
     i: usize,
     change: Change,
-    since: u64,
+    since: Option<u64>,
 ) -> Result<(), (Change, AllocError)>
     requires place { i < length rows.old.items }
     requires are { AreRows (data_in rows.old.items) }
     requires tree { trie.old ≡ from_entries (marked (marks_of (data_in rows.old.items))) }
     ensures ok { OnOk result ((d : RowData) → IsChanged (data_in rows.old.items) (data_in rows.new.items) trie.new i (get_or (data_in rows.old.items) i d)
-        (get_or (data_in rows.old.items) i d).chain (Some (record { change = change; since = since }))) }
+        (get_or (data_in rows.old.items) i d).chain (waits change since)) }
     ensures back { IfErr result (λ e. e.0 ≡ change) }
     ensures same { OnErr result (data_in rows.new.items ≡ data_in rows.old.items) }
     ensures same_tree { OnErr result (trie.new ≡ trie.old) }
@@ -157,40 +157,12 @@ pub(crate) fn wait(
         key: old.key,
         value: old.value,
         pending_key: old.pending_key,
-        pending_value: Some(waiting_value(&change, since)),
+        pending_value: waiting_value(&change, since),
     };
     let (front, back) = parts(rows, i);
     if let Err(error) = retrie_pending(alloc, trie, front, &old, &new, back) {
         return Err((change, error));
     }
     hold(&mut rows[i], change, since, new);
-    Ok(())
-}
-
-/// Nothing waits in the row at a place any longer, and the tree is brought up to date.
-pub(crate) fn end_wait(
-    alloc: Global,
-    rows: &mut Vec<Row>,
-    trie: &mut Trie,
-    i: usize,
-) -> Result<(), AllocError>
-    requires place { i < length rows.old.items }
-    requires are { AreRows (data_in rows.old.items) }
-    requires tree { trie.old ≡ from_entries (marked (marks_of (data_in rows.old.items))) }
-    ensures ok { OnOk result ((d : RowData) → IsChanged (data_in rows.old.items) (data_in rows.new.items) trie.new i (get_or (data_in rows.old.items) i d)
-        (get_or (data_in rows.old.items) i d).chain None) }
-    ensures same { OnErr result (data_in rows.new.items ≡ data_in rows.old.items) }
-    ensures same_tree { OnErr result (trie.new ≡ trie.old) }
-{
-    let old = rows[i].marks;
-    let new = Marks {
-        key: old.key,
-        value: old.value,
-        pending_key: old.pending_key,
-        pending_value: None,
-    };
-    let (front, back) = parts(rows, i);
-    retrie_pending(alloc, trie, front, &old, &new, back)?;
-    release(&mut rows[i], new);
     Ok(())
 }

@@ -3,7 +3,7 @@ ghost use Rattle.domain_table.specs.declared.row.Row.{Row};
 ghost use Rattle.domain_table.specs.Applying.{judge_ripe, taken};
 ghost use Rattle.domain_table.specs.Rows.{IsKept, data_in, data_of, table_of, waiting_count};
 
-use crate::change_row::{append, end_wait, wait};
+use crate::change_row::{append, wait};
 use crate::new_row::come;
 use crate::row::Row;
 use crate::rows::{find, name_of};
@@ -51,13 +51,13 @@ fn take_behind(
             Ok(kept + 1 - waits)
         }
         Manner::Recovery => {
-            wait(alloc, rows, trie, i, change, epoch)?;
+            wait(alloc, rows, trie, i, change, Some(epoch))?;
             Ok(kept + 1 - waits)
         }
-        Manner::Objected => match end_wait(alloc, rows, trie, i) {
-            Ok(()) => Ok(kept - waits),
-            Err(error) => Err((change, error)),
-        },
+        Manner::Objected => {
+            wait(alloc, rows, trie, i, change, None)?;
+            Ok(kept - waits)
+        }
     }
 }
 

@@ -6,12 +6,12 @@ use Rattle.domain_table.proofs.Changed.{taken_full, taken_recovery, taken_object
 use Rattle.domain_table.proofs.Taking.{MayTake, may_take, kept_more, waits_kept, waits_at_most}
 use Rattle.domain_table.proofs.take.take_behind.Goals as goal
 
-pub overflow_sub-result-in-Ok : goal.overflow_sub-result-in-Ok
-overflow_sub-result-in-Ok c =
+pub overflow_sub-result-in-Objected : goal.overflow_sub-result-in-Objected
+overflow_sub-result-in-Objected c =
     let d : RowData = data_of c.index.result.now in
     let row : get_or (data_in c.args.rows.now.items) c.args.i d ≡ d = get_data c.args.rows.now.items c.args.i c.index.result.now d c.requires.place ∙ ap data_of (sym c.index.ensures) in
-    waits_kept (data_in c.args.rows.now.items) (data_in c.end_wait.new.rows.items) c.args.trie.now c.end_wait.new.trie c.args.i d c.args.kept c.count_waiting-waits.result c.requires.kept
-    (omega (arith, c.requires.place, length_data c.args.rows.now.items)) (c.in-Ok.ensures.ok d) (c.count_waiting-waits.ensures ∙ ap (λ r. waiting_count r.waiting) (sym row))
+    waits_kept (data_in c.args.rows.now.items) (data_in c.wait-in-Objected.new.rows.items) c.args.trie.now c.wait-in-Objected.new.trie c.args.i d c.args.kept c.count_waiting-waits.result c.requires.kept
+    (omega (arith, c.requires.place, length_data c.args.rows.now.items)) (c.in_ok-wait-in-Objected.ensures.ok d) (c.count_waiting-waits.ensures ∙ ap (λ r. waiting_count r.waiting) (sym row))
 
 pub returns-in_ok-append-in-Full-clause-kept : goal.returns-in_ok-append-in-Full-clause-kept
 returns-in_ok-append-in-Full-clause-kept c =
@@ -55,22 +55,22 @@ returns-in_ok-wait-in-Recovery-clause-ok c =
     (ap (λ (r : RowData). r.name) (get_data c.args.rows.now.items c.args.i c.index.result.now d c.requires.place) ∙ c.requires.name c.index.result.now)
     (c.in_ok-wait-in-Recovery.ensures.ok d) ∙ ap (taken (table_of (data_in c.args.rows.now.items)) c.args.epoch c.args.change) (sym c.in-Recovery.is)
 
-pub returns-in-Ok-clause-kept : goal.returns-in-Ok-clause-kept
-returns-in-Ok-clause-kept c =
+pub returns-in_ok-wait-in-Objected-clause-kept : goal.returns-in_ok-wait-in-Objected-clause-kept
+returns-in_ok-wait-in-Objected-clause-kept c =
     let d : RowData = data_of c.index.result.now in
     let old = data_in c.args.rows.now.items in
     let within : c.args.i < length old = omega (arith, c.requires.place, length_data c.args.rows.now.items) in
     let row : get_or old c.args.i d ≡ d = get_data c.args.rows.now.items c.args.i c.index.result.now d c.requires.place ∙ ap data_of (sym c.index.ensures) in
     let waits : c.count_waiting-waits.result ≡ waiting_count (get_or old c.args.i d).waiting = c.count_waiting-waits.ensures ∙ ap (λ r. waiting_count r.waiting) (sym row) in
-    let least = waits_kept old (data_in c.end_wait.new.rows.items) c.args.trie.now c.end_wait.new.trie c.args.i d c.args.kept c.count_waiting-waits.result c.requires.kept within (c.in-Ok.ensures.ok d) waits in
-    kept_more old (data_in c.end_wait.new.rows.items) c.args.trie.now c.end_wait.new.trie c.args.i d (get_or old c.args.i d).chain None
-    c.args.kept (c.args.kept - c.count_waiting-waits.result) c.count_waiting-waits.result 0 c.requires.kept within (c.in-Ok.ensures.ok d) waits
+    let least = waits_kept old (data_in c.wait-in-Objected.new.rows.items) c.args.trie.now c.wait-in-Objected.new.trie c.args.i d c.args.kept c.count_waiting-waits.result c.requires.kept within (c.in_ok-wait-in-Objected.ensures.ok d) waits in
+    kept_more old (data_in c.wait-in-Objected.new.rows.items) c.args.trie.now c.wait-in-Objected.new.trie c.args.i d (get_or old c.args.i d).chain None
+    c.args.kept (c.args.kept - c.count_waiting-waits.result) c.count_waiting-waits.result 0 c.requires.kept within (c.in_ok-wait-in-Objected.ensures.ok d) waits
     (omega arith) (omega (arith, least)) (omega (arith, c.requires.kept.most))
 
-pub returns-in-Ok-clause-ok : goal.returns-in-Ok-clause-ok
-returns-in-Ok-clause-ok c =
+pub returns-in_ok-wait-in-Objected-clause-ok : goal.returns-in_ok-wait-in-Objected-clause-ok
+returns-in_ok-wait-in-Objected-clause-ok c =
     let d : RowData = data_of c.index.result.now in
-    taken_objected (data_in c.args.rows.now.items) (data_in c.end_wait.new.rows.items) c.end_wait.new.trie c.args.i d c.args.epoch c.args.change
+    taken_objected (data_in c.args.rows.now.items) (data_in c.wait-in-Objected.new.rows.items) c.wait-in-Objected.new.trie c.args.i d c.args.epoch c.args.change
     (omega (arith, c.requires.place, length_data c.args.rows.now.items)) c.requires.kept.are
     (ap (λ (r : RowData). r.name) (get_data c.args.rows.now.items c.args.i c.index.result.now d c.requires.place) ∙ c.requires.name c.index.result.now)
-    (c.in-Ok.ensures.ok d) ∙ ap (taken (table_of (data_in c.args.rows.now.items)) c.args.epoch c.args.change) (sym c.in-Objected.is)
+    (c.in_ok-wait-in-Objected.ensures.ok d) ∙ ap (taken (table_of (data_in c.args.rows.now.items)) c.args.epoch c.args.change) (sym c.in-Objected.is)
