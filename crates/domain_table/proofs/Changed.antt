@@ -4,6 +4,7 @@ use Rattle.std.specs.Prelude.{IsTrue, All, unwrap_or}
 use Rattle.std.specs.Ordering.{eq_by_cmp}
 use Rattle.std.specs.FinMap.{FinMap, get, insert, is_sorted, same_map, get-insert}
 use Rattle.std.proofs.lemmas.List.Elements.{All-append, All-cons, All-take, All-drop}
+use Rattle.std.specs.Option.{option_len}
 use Rattle.hash_tree.specs.Entries.{Entries, key_cmp}
 use Rattle.hash_tree.proofs.Maps.{total, exact}
 use Rattle.hash_tree.proofs.Changed.{same_key}
@@ -11,7 +12,7 @@ use Rattle.cert_policy.specs.declared.manner.Manner.TheVariants.{Full, Recovery,
 use Rattle.ar_cert.specs.Changes.{Change}
 use Rattle.domain_table.specs.Tables.{Pending, chain_of, size}
 use Rattle.domain_table.specs.Applying.{taken}
-use Rattle.domain_table.specs.Rows.{RowData, chain_pair, table_of, with_row, IsMarked, AreRows, IsChanged, waiting_count}
+use Rattle.domain_table.specs.Rows.{RowData, chain_pair, table_of, with_row, IsMarked, AreRows, IsChanged}
 use Rattle.domain_table.proofs.RowLists.{changed_chains, changed_waiting, with_pending, rise_changed, places, places_split, size_rows}
 use Rattle.domain_table.proofs.RipeRows.{Stands, stands}
 use Rattle.domain_table.proofs.Places.{split_at}
@@ -54,7 +55,7 @@ module _ (old new : List RowData) (trie : Entries) (i : ℕ) (d : RowData) (chai
       ∙ changed_waiting (take i old) (get_or old i d) other (drop (i + 1) old) old_rise refl
       ∙ ap (λ xs. with_pending (table_of xs).waiting (get_or old i d).name waiting) (sym (split_at old i d within))
 
-  pub size_is : size (table_of new) + (length (get_or old i d).chain + waiting_count (get_or old i d).waiting) ≡ size (table_of old) + (length chain + waiting_count waiting)
+  pub size_is : size (table_of new) + (length (get_or old i d).chain + option_len (get_or old i d).waiting) ≡ size (table_of old) + (length chain + option_len waiting)
   size_is =
       let before = size_rows old are.rise in
       let after = size_rows new new_rise in

@@ -2,7 +2,7 @@
 use Rattle.std.proofs.Common.{◌≡◌, ℕ, ◌+◌, ◌<◌, List, [], ◌∷◌, ◌++◌, map, length, get_or, take, drop, refl, sym, ap, ◌∙◌, subst, arith, Bool, true, false, cond, ◌&&◌, length-append, Option, Some, None}
 use Rattle.std.specs.Prelude.{IsTrue, All, unwrap_or, if◌then◌else◌}
 use Rattle.std.specs.List.{filter_map, cons_option, AllByRecursion}
-use Rattle.std.specs.Option.{option_map, option_or}
+use Rattle.std.specs.Option.{option_len, option_map, option_or}
 use Rattle.std.specs.Ordering.{eq_by_cmp, is_lt}
 use Rattle.std.specs.FinMap.Entries.{below_all}
 use Rattle.std.specs.FinMap.{get, find, is_sorted, same_map, get-from_entries}
@@ -12,7 +12,7 @@ use Rattle.hash_tree.proofs.Maps.{total, exact}
 use Rattle.hash_tree.proofs.Changed.{same_key, own_key}
 use Rattle.domain_table.specs.Tables.{Pending, Table, chain_of, newest, size}
 use Rattle.domain_table.specs.Applying.{is_ripe, is_ripe_behind, ripened, change_list, ripen}
-use Rattle.domain_table.specs.Rows.{RowData, chain_pair, pending_pair, table_of, is_ripe_row, newest_at, pending_at, waiting_count}
+use Rattle.domain_table.specs.Rows.{RowData, chain_pair, pending_pair, table_of, is_ripe_row, newest_at, pending_at}
 use Rattle.domain_table.proofs.Maps.{get-ripen, waiting-ripen}
 use Rattle.domain_table.proofs.RowLists.{split_map, between, Between, none_waits, waits_at, places, size_rows}
 use Rattle.domain_table.proofs.Places.{split_at}
@@ -121,7 +121,7 @@ ripe_places (r ∷ rows) e = ap2 (one r.waiting (is_ripe_row e r) refl) (ripe_pl
   ap2 p q = λ i. p i + q i
 
   one : (w : Option Pending) (b : Bool) → is_ripe_behind e (newest r.chain) w ≡ b
-      → length (cond b (r.chain ++ change_list w) r.chain) + waiting_count (cond b None w) ≡ length r.chain + waiting_count w
+      → length (cond b (r.chain ++ change_list w) r.chain) + option_len (cond b None w) ≡ length r.chain + option_len w
   one None true is = omega (arith, length-append r.chain [])
   one None false is = refl
   one (Some p) true is = omega (arith, length-append r.chain (p.change ∷ []))

@@ -1,5 +1,5 @@
 -- Rows that ripen one by one.
-use Rattle.std.proofs.Common.{◌≡◌, ℕ, zero, suc, ◌+◌, ◌<◌, ◌≤◌, List, [], ◌∷◌, ◌++◌, map, length, get_or, take, drop, refl, sym, ap, ◌∙◌, arith, length-append, Bool, true, false, cond, Some, None}
+use Rattle.std.proofs.Common.{◌≡◌, ℕ, zero, suc, ◌+◌, ◌<◌, ◌≤◌, List, [], ◌∷◌, ◌++◌, map, length, get_or, take, drop, refl, sym, ap, ◌∙◌, arith, length-append, Bool, true, false, cond, ◌||◌, Some, None}
 use Rattle.std.proofs.Math.Numerals.{suc-eq-add-one}
 use Rattle.std.specs.Prelude.{IsTrue, Result, Ok, option_and_then}
 use Rattle.std.specs.List.{filter_map, cons_option}
@@ -30,23 +30,22 @@ unripe e r is = λ j. record {
 no_ripe : (e : ℕ) (rows : List RowData) → any_ripe e rows ≡ false → map (ripe_data e) rows ≡ rows
 no_ripe e [] none = refl
 no_ripe e (r ∷ rows) none = at (is_ripe_row e r) refl none (no_ripe e rows) where
-  at : (b : Bool) → is_ripe_row e r ≡ b → cond b true (any_ripe e rows) ≡ false → (any_ripe e rows ≡ false → map (ripe_data e) rows ≡ rows) → ripe_data e r ∷ map (ripe_data e) rows ≡ r ∷ rows
+  at : (b : Bool) → is_ripe_row e r ≡ b → (b || any_ripe e rows) ≡ false → (any_ripe e rows ≡ false → map (ripe_data e) rows ≡ rows) → ripe_data e r ∷ map (ripe_data e) rows ≡ r ∷ rows
   at true is none rest = absurd (cc)
   at false is none rest = λ j. unripe e r is j ∷ rest none j
 
 pub unripe_table : (rows : List RowData) (e : ℕ) → IsTrue (is_sorted key_cmp (map chain_pair rows)) → any_ripe e rows ≡ false → ripen (table_of rows) e ≡ table_of rows
 unripe_table rows e rise none = sym (ripe_table rows e rise) ∙ ap table_of (no_ripe e rows none)
 
--- without anything that waits nothing is ripe
 -- one more row that isn't ripe
 done_step : (e : ℕ) (old : List RowData) (i : ℕ) (other : RowData) (back : List RowData) → i ≤ length old → any_ripe e (take i old) ≡ false → is_ripe_row e other ≡ false
     → any_ripe e (take (suc i) (take i old ++ other ∷ back)) ≡ false
-done_step e old zero other back l done is = ap (λ b. cond b true false) is
+done_step e old zero other back l done is = ap (λ b. b || false) is
 done_step e [] (suc i) other back l done is = absurd (omega (arith, l))
 done_step e (r ∷ old) (suc i) other back l done is = at (is_ripe_row e r) done (done_step e old i other back (omega (arith, l))) where
-  at : (b : Bool) → cond b true (any_ripe e (take i old)) ≡ false
+  at : (b : Bool) → (b || any_ripe e (take i old)) ≡ false
       → (any_ripe e (take i old) ≡ false → is_ripe_row e other ≡ false → any_ripe e (take (suc i) (take i old ++ other ∷ back)) ≡ false)
-      → cond b true (any_ripe e (take (suc i) (take i old ++ other ∷ back))) ≡ false
+      → (b || any_ripe e (take (suc i) (take i old ++ other ∷ back))) ≡ false
   at true done rest = absurd (cc)
   at false done rest = rest done is
 
@@ -98,7 +97,7 @@ all_done : (e : ℕ) (rows : List RowData) (i : ℕ) → length rows ≤ i → a
 all_done e [] i l done = refl
 all_done e (r ∷ rows) zero l done = absurd (omega (arith, l))
 all_done e (r ∷ rows) (suc i) l done = at (is_ripe_row e r) done (all_done e rows i (omega (arith, l))) where
-  at : (b : Bool) → cond b true (any_ripe e (take i rows)) ≡ false → (any_ripe e (take i rows) ≡ false → any_ripe e rows ≡ false) → cond b true (any_ripe e rows) ≡ false
+  at : (b : Bool) → (b || any_ripe e (take i rows)) ≡ false → (any_ripe e (take i rows) ≡ false → any_ripe e rows ≡ false) → (b || any_ripe e rows) ≡ false
   at true done rest = absurd (cc)
   at false done rest = rest done
 

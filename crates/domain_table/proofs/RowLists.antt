@@ -3,7 +3,7 @@
 use Rattle.std.proofs.Common.{◌≡◌, ℕ, ◌+◌, List, [], ◌∷◌, ◌++◌, map, length, refl, sym, ap, ◌∙◌, arith, Bool, true, false, cond, ◌&&◌, Option, Some, None}
 use Rattle.std.specs.Prelude.{IsTrue, sum}
 use Rattle.std.specs.List.{filter_map, cons_option, AllByRecursion}
-use Rattle.std.specs.Option.{option_map, option_or}
+use Rattle.std.specs.Option.{option_len, option_map, option_or}
 use Rattle.std.specs.declared.cmp.Ordering.TheVariants.{Less}
 use Rattle.std.specs.Ordering.{eq_by_cmp, is_eq, is_lt, ordering_reverse}
 use Rattle.std.specs.FinMap.{FinMap, get, insert, remove, find, entries, is_sorted, from_entries, from_sorted, same_map, get-from_entries, get-from_sorted, entries-from_sorted, get-insert, get-remove}
@@ -23,7 +23,7 @@ use Rattle.ar_cert.specs.Changes.{Change}
 use Rattle.domain_table.specs.declared.row.Marks.{Marks}
 use Rattle.domain_table.specs.Tables.{Pending, size}
 use Rattle.domain_table.specs.Tree.{value_of, pending_value, tagged, keyed, tree_entries}
-use Rattle.domain_table.specs.Rows.{RowData, hit, chain_pair, pending_pair, table_of, name_entry, pending_entry, marked, marks_of, with_entry, IsMarked, AreRows, waiting_count}
+use Rattle.domain_table.specs.Rows.{RowData, hit, chain_pair, pending_pair, table_of, name_entry, pending_entry, marked, marks_of, with_entry, IsMarked, AreRows}
 use Rattle.domain_table.proofs.Keyed.{find_both}
 use Rattle.ar_base.proofs.Shown.{or_none}
 
@@ -300,9 +300,9 @@ tree_rows rows are =
 
 abbrev pub places : List RowData → ℕ
 places [] = 0
-places (r ∷ rows) = (length r.chain + waiting_count r.waiting) + places rows
+places (r ∷ rows) = (length r.chain + option_len r.waiting) + places rows
 
-pub places_split : (front : List RowData) (r : RowData) (back : List RowData) → places (front ++ r ∷ back) ≡ places (front ++ back) + (length r.chain + waiting_count r.waiting)
+pub places_split : (front : List RowData) (r : RowData) (back : List RowData) → places (front ++ r ∷ back) ≡ places (front ++ back) + (length r.chain + option_len r.waiting)
 places_split [] r back = omega arith
 places_split (f ∷ front) r back = let rest = places_split front r back in omega (arith, rest)
 
@@ -315,7 +315,7 @@ lengths (r ∷ rows) =
       at : (w : Option Pending) → sum (length r.chain ∷ map (λ e. length e.1) (map chain_pair rows)) ≡ length r.chain + sum (map (λ e. length e.1) (map chain_pair rows))
           → sum (map (λ e. length e.1) (map chain_pair rows)) + length (filter_map pending_pair rows) ≡ places rows
           → sum (length r.chain ∷ map (λ e. length e.1) (map chain_pair rows)) + length (cons_option (option_map (λ p. (r.name, p)) w) (filter_map pending_pair rows))
-          ≡ (length r.chain + waiting_count w) + places rows
+          ≡ (length r.chain + option_len w) + places rows
       at None first rest = omega (arith, first, rest)
       at (Some w) first rest = omega (arith, first, rest)
 

@@ -8,6 +8,7 @@ use Rattle.std.specs.FinMap.{get, find, insert, remove, empty, is_sorted, get-fr
 use Rattle.std.specs.FinMap.Entries.{below_all}
 use Rattle.std.proofs.lemmas.Bool.{leb-false}
 use Rattle.std.proofs.lemmas.List.Elements.{All-nil, All-append, All-cons, All-take, All-drop}
+use Rattle.std.specs.Option.{option_len}
 use Rattle.hash_tree.specs.Entries.{Entries, key_cmp}
 use Rattle.hash_tree.proofs.Maps.{total}
 use Rattle.cert_policy.specs.declared.refusal.PolicyRefusal.{PolicyRefusal}
@@ -23,7 +24,7 @@ use Rattle.domain_table.specs.declared.row.Row.{Row}
 use Rattle.domain_table.specs.Tables.{Pending, Table, chain_of, newest, size}
 use Rattle.domain_table.specs.Applying.{judge, judge_ripe, manner_of, most_kept, ripen, taken, takes_a_place, with_room}
 use Rattle.domain_table.specs.Tree.{tree_entries}
-use Rattle.domain_table.specs.Rows.{RowData, chain_pair, data_in, data_of, first_row, table_of, IsMarked, IsChanged, IsCome, IsKept, IsPlace, waiting_count}
+use Rattle.domain_table.specs.Rows.{RowData, chain_pair, data_in, data_of, first_row, table_of, IsMarked, IsChanged, IsCome, IsKept, IsPlace}
 use Rattle.domain_table.proofs.RowLists.{came_chains, came_waiting, rise_came, none_waits, places, places_split, size_rows, tree_rows}
 use Rattle.domain_table.proofs.RipeRows.{Stands, stands, size-ripen}
 use Rattle.domain_table.proofs.Places.{data_take, data_drop, get_data, length_data, join_at, none_found, less_before, greater_from, is_greater}
@@ -98,13 +99,13 @@ first_full p c m e = at (is_some c.objection) (judgement None c) e where
 
 -- ---- after a change behind others
 
-pub waits_at_most : (o : Option Pending) → waiting_count o ≤ 1
+pub waits_at_most : (o : Option Pending) → option_len o ≤ 1
 waits_at_most None = omega arith
 waits_at_most (Some p) = omega arith
 
 pub kept_after : (old new : List RowData) (before trie : Entries) (i : ℕ) (d : RowData) (chain : List Change) (waiting : Option Pending) (kept after : ℕ)
     → IsKept old before kept → i < length old → IsChanged old new trie i (get_or old i d) chain waiting
-    → after + (length (get_or old i d).chain + waiting_count (get_or old i d).waiting) ≡ kept + (length chain + waiting_count waiting) → after ≤ most_kept → IsKept new trie after
+    → after + (length (get_or old i d).chain + option_len (get_or old i d).waiting) ≡ kept + (length chain + option_len waiting) → after ≤ most_kept → IsKept new trie after
 kept_after old new before trie i d chain waiting kept after is within changed sum most =
     let sizes = size_is old new trie i d chain waiting within is.are changed in
     let count = is.count in
@@ -112,14 +113,14 @@ kept_after old new before trie i d chain waiting kept after is within changed su
 
 -- where the row has some more places than before, and so much waited there
 pub kept_more : (old new : List RowData) (before trie : Entries) (i : ℕ) (d : RowData) (chain : List Change) (waiting : Option Pending) (kept after waits more : ℕ)
-    → IsKept old before kept → i < length old → IsChanged old new trie i (get_or old i d) chain waiting → waits ≡ waiting_count (get_or old i d).waiting
-    → length chain + waiting_count waiting ≡ length (get_or old i d).chain + more → after + waits ≡ kept + more → kept + more ≤ most_kept → IsKept new trie after
+    → IsKept old before kept → i < length old → IsChanged old new trie i (get_or old i d) chain waiting → waits ≡ option_len (get_or old i d).waiting
+    → length chain + option_len waiting ≡ length (get_or old i d).chain + more → after + waits ≡ kept + more → kept + more ≤ most_kept → IsKept new trie after
 kept_more old new before trie i d chain waiting kept after waits more is within changed wait sum at most =
     kept_after old new before trie i d chain waiting kept after is within changed (omega (arith, wait, sum, at)) (omega (arith, at, most))
 
 -- what waits in a row is counted
 pub waits_kept : (old new : List RowData) (before trie : Entries) (i : ℕ) (d : RowData) (kept waits : ℕ) → IsKept old before kept → i < length old
-    → IsChanged old new trie i (get_or old i d) (get_or old i d).chain None → waits ≡ waiting_count (get_or old i d).waiting → waits ≤ kept
+    → IsChanged old new trie i (get_or old i d) (get_or old i d).chain None → waits ≡ option_len (get_or old i d).waiting → waits ≤ kept
 waits_kept old new before trie i d kept waits is within changed wait =
     let sizes = size_is old new trie i d (get_or old i d).chain None within is.are changed in
     let count = is.count in

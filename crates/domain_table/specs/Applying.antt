@@ -2,7 +2,7 @@
 -- the changes of a list are applied one after another.
 use Rattle.std.specs.Prelude.{◌≡◌, ℕ, ◌+◌, ◌≤◌, nat_le, Bool, true, false, not, ◌&&◌, if◌then◌else◌, List, [], ◌∷◌, ◌++◌, map, Option, Some, None, is_some, option_and_then, Result, Ok, Err}
 use Rattle.std.specs.List.{flat_map}
-use Rattle.std.specs.Option.{option_map}
+use Rattle.std.specs.Option.{option_map, option_to_list}
 use Rattle.std.specs.FinMap.{entries, from_entries, get, insert, remove, retain_keys}
 use Rattle.cert_policy.specs.declared.refusal.PolicyRefusal.{PolicyRefusal}
 use Rattle.cert_policy.specs.declared.refusal.PolicyRefusal.TheVariants.{NotPending}
@@ -46,8 +46,7 @@ pub record IsRipe (table : Table) (epoch : ℕ) (name : List ℕ) : Type 0 where
 
 -- what waits, as a list of at most one change
 abbrev pub change_list : Option Pending → List Change
-change_list None = []
-change_list (Some p) = p.change ∷ []
+change_list pending = option_to_list (option_map (λ p. p.change) pending)
 
 -- a name's chain, with what is ripe for the name behind it
 abbrev pub ripened : Table → ℕ → List ℕ → List Change → List Change

@@ -1,7 +1,7 @@
 -- What the code keeps for a table: rows whose names ascend, each with what it has in the integrity tree.
 use Rattle.std.specs.Borrow.{Bor}
 use Rattle.std.specs.Prelude.{[], ◌≡◌, ℕ, ◌<◌, ◌≤◌, List, ◌∷◌, ◌++◌, map, length, take, drop, ◌+◌, Bool, true, false, if◌then◌else◌, All, IsTrue, Option, Some, None}
-use Rattle.std.specs.List.{filter_map}
+use Rattle.std.specs.List.{filter_map, list_any}
 use Rattle.std.specs.Option.{option_map}
 use Rattle.std.specs.Ordering.{eq_by_cmp, is_lt}
 use Rattle.std.specs.List.Sorted.{IsPartitionPoint}
@@ -156,8 +156,7 @@ pub record IsCome (old new : List RowData) (trie : Entries) (i : ℕ) (change : 
 
 -- whether what waits in some row is ripe
 abbrev pub any_ripe : ℕ → List RowData → Bool
-any_ripe epoch [] = false
-any_ripe epoch (r ∷ rows) = if is_ripe_row epoch r then true else any_ripe epoch rows
+any_ripe epoch rows = list_any (is_ripe_row epoch) rows
 
 -- up to a place nothing is ripe any longer, and the rows ripen to the table to which the first ones do
 pub record IsRipeUpTo (epoch : ℕ) (first rows : List RowData) (trie : Entries) (i : ℕ) : Type 0 where
@@ -166,8 +165,3 @@ pub record IsRipeUpTo (epoch : ℕ) (first rows : List RowData) (trie : Entries)
   pub count : length rows ≡ length first
   pub done : any_ripe epoch (take i rows) ≡ false
   pub same : ripen (table_of rows) epoch ≡ ripen (table_of first) epoch
-
--- how many changes wait in a row
-abbrev pub waiting_count : Option Pending → ℕ
-waiting_count None = 0
-waiting_count (Some w) = 1

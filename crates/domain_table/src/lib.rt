@@ -8,11 +8,13 @@
 //! A `Table` keeps rows in the order of their names, and the tree of their entries: `specs/Rows.antt` says which
 //! table rows are, and what the tree has of them. A row is found and a change judged among them (`rows`); a row
 //! comes in (`new_row`) or changes (`change_row`), and the tree follows (`tree`); `take` does so by the manner in
-//! which a change is judged; `ripe_rows` appends what is ripe; `listing` lists the entries by their keys.
+//! which a change is judged; `ripe_rows` appends what is ripe; `listing` lists the entries by their keys; `row_copy`
+//! copies rows, and changes for the crates above.
 #![tactic(auto)]
 
 pub use fault::ApplyFault;
 pub use refusal::ChangeRefusal;
+pub use row_copy::copy_changes;
 pub use table::Table;
 
 mod change_row;

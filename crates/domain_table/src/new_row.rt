@@ -11,7 +11,6 @@ use crate::row::{Marks, Row};
 use crate::rows::name_of;
 use crate::tree::refresh;
 use ar_cert::Change;
-use ar_names::Name;
 use hash_tree::{Trie, pending_key};
 use std::alloc::{AllocError, Global};
 

@@ -6,12 +6,12 @@ use crate::row::{Row, Waiting};
 use ar_cert::Change;
 use std::alloc::{AllocError, Global};
 
-/// Changes that say the same.
-fn copy_chain(alloc: Global, chain: &[Change]) -> Result<Vec<Change>, AllocError>
-    ensures { IfOk result (λ copies. copies.items ≡ chain.now) }
+/// Copies of changes, in their order. The only error is want of memory.
+pub fn copy_changes(alloc: Global, changes: &[Change]) -> Result<Vec<Change>, AllocError>
+    ensures { IfOk result (λ copies. copies.items ≡ changes.now) }
 {
-    let mut copies = Vec::with_capacity(alloc, chain.len())?;
-    for change in chain {
+    let mut copies = Vec::with_capacity(alloc, changes.len())?;
+    for change in changes {
         copies.push(change.copy(alloc)?)?;
     }
     Ok(copies)
@@ -35,7 +35,7 @@ fn copy_row(alloc: Global, row: &Row) -> Result<Row, AllocError>
     ensures { IfOk result (λ copy. data_of copy ≡ data_of row.now) }
 {
     let name = Vec::from_slice(alloc, row.name.as_slice())?;
-    let chain = copy_chain(alloc, row.chain.as_slice())?;
+    let chain = copy_changes(alloc, row.chain.as_slice())?;
     let waiting = copy_waiting(alloc, &row.waiting)?;
     Ok(Row {
         name,

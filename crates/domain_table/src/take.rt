@@ -1,7 +1,8 @@
 ghost use Rattle.std.specs.Prelude.{◌≡◌, ◌<◌, length, get_or, Ok, IfErr, IfOk, OnOk, OnErr};
+ghost use Rattle.std.specs.Option.{option_len};
 ghost use Rattle.domain_table.specs.declared.row.Row.{Row};
 ghost use Rattle.domain_table.specs.Applying.{judge_ripe, taken};
-ghost use Rattle.domain_table.specs.Rows.{IsKept, data_in, data_of, table_of, waiting_count};
+ghost use Rattle.domain_table.specs.Rows.{IsKept, data_in, data_of, table_of};
 
 use crate::change_row::{append, wait};
 use crate::new_row::come;
@@ -14,7 +15,7 @@ use std::alloc::{AllocError, Global};
 
 /// How many changes wait in a row.
 fn count_waiting(row: &Row) -> usize
-    ensures { result ≡ waiting_count (data_of row.now).waiting }
+    ensures { result ≡ option_len (data_of row.now).waiting }
 {
     match &row.waiting {
         None => 0,

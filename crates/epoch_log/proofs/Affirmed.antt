@@ -5,8 +5,8 @@ use Rattle.ar_base.specs.Bytes.{IsDigest}
 use Rattle.ar_council.specs.Room.{HasRoom}
 use Rattle.ar_names.specs.Names.{IsName}
 use Rattle.ar_statement.specs.Claims.{text_of}
-use Rattle.epoch_log.specs.Answers.{confirming}
-use Rattle.epoch_log.specs.Calls.{after_confirm, confirmation_claim, confirmed_of}
+use Rattle.epoch_log.specs.Told.{confirmation_claim}
+use Rattle.epoch_log.specs.Calls.{after_confirm, confirmed_of, confirming}
 use Rattle.epoch_log.specs.Log.{IsLog, moved, parts_of, state_in}
 use Rattle.epoch_log.specs.Right.{newest_digest}
 use Rattle.epoch_log.specs.State.{LogState, table_of}

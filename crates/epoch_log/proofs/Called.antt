@@ -1,9 +1,10 @@
 -- Each call keeps what is kept of where a log stands.
-use Rattle.std.proofs.Common.{◌≡◌, ℕ, ◌+◌, ◌<◌, ◌≤◌, ◌^◌, List, [], ◌∷◌, refl, sym, ap, subst, arith, Bool, true, false, cond, eqb, nat_lt, Option, Some, None}
+use Rattle.std.proofs.Common.{◌≡◌, ℕ, ◌+◌, ◌<◌, ◌≤◌, ◌^◌, List, [], ◌∷◌, refl, sym, subst, arith, Bool, true, false, cond, eqb, nat_lt, Option, Some, None}
 use Rattle.std.specs.Prelude.{All, ◌%◌, Contains, IfSome, flat_map, map}
 use Rattle.std.specs.List.{AllByRecursion}
 use Rattle.std.proofs.lemmas.Bool.{and_parts, ltb-true}
 use Rattle.std.proofs.lemmas.List.Elements.{All-append, All-cons, All-from_recursion, All-head, All-map, All-nil, All-tail, recursion_from_All}
+use mathlib.Core.List.{map-map}
 use Rattle.ar_cert.specs.Certificate.{digest_of}
 use Rattle.ar_cert.specs.Changes.{Change}
 use Rattle.ar_cert.specs.Judging.{endorsers_of}
@@ -22,9 +23,8 @@ use Rattle.ar_council.specs.Room.{HasRoom}
 use Rattle.ar_council.specs.Seen.{seen_after, seen_of}
 use Rattle.ar_council.specs.Values.{IsValue, status_claim, vote_claim}
 use Rattle.ar_council.specs.Votes.{SawVotes}
-use Rattle.epoch_log.specs.Calls.{AreEndorsers, IsProposed, IsTurn, MayDecide, MaySkip, MayState, MayVote, SignedStatus, after_ballot, after_decide, after_endorsed, after_learn, after_propose, after_skip, after_state, after_status_seen, after_vote, casting, counting_own, decision_seen, endorsements_of, fresh, is_turn, own_status_text, own_value, own_vote_text, proposal_of, proposal_texts, propose_claim, proposing, seeing, stating, statuses_seen, vote_of, votes_seen}
+use Rattle.epoch_log.specs.Calls.{AreEndorsers, IsProposed, IsTurn, MayDecide, MaySkip, MayState, MayVote, SignedStatus, after_ballot, after_decide, after_endorsed, after_learn, after_propose, after_skip, after_state, after_status_seen, after_vote, casting, counting_own, decision_seen, endorsements_of, fresh, is_turn, own_status_text, own_value, own_vote_text, proposal_of, proposal_texts, propose_claim, proposing, seeing, stating, statuses_seen, vote_of, votes_seen, with_ballot, with_report}
 use Rattle.epoch_log.specs.Ending.{decided, may_end, skipped}
-use Rattle.epoch_log.specs.Plans.{with_ballot, with_report}
 use Rattle.epoch_log.specs.Record.{current, ending}
 use Rattle.epoch_log.specs.Right.{LeadsTo, SawEndorsements}
 use Rattle.epoch_log.specs.State.{IsKept, LogState, epoch_of, reports_of, table_of}
@@ -144,8 +144,7 @@ kept-state s kept may room = by (is_turn s.council s.me (epoch_of s + 1)) refl
     by false other = stated
 
 signed-logs : (votes : List (ℕ × List ℕ)) → map (λ (v : ℕ × Option (List ℕ)). v.0) (map (λ (v : ℕ × List ℕ). (v.0, Some v.1)) votes) ≡ map (λ (v : ℕ × List ℕ). v.0) votes
-signed-logs [] = refl
-signed-logs (v ∷ votes) = ap (λ l. v.0 ∷ l) (signed-logs votes)
+signed-logs votes = map-map (λ (v : ℕ × Option (List ℕ)). v.0) (λ (v : ℕ × List ℕ). (v.0, Some v.1)) votes
 
 pub kept-decide : (s : LogState) (value : Value) (changes : List Change) (votes : List (ℕ × List ℕ)) → IsKept s → MayDecide s value changes votes → IsKept (after_decide s value changes votes)
 kept-decide s value changes votes kept may = by (may_end s.past) refl

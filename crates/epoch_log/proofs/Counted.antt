@@ -9,6 +9,7 @@ use Rattle.std.proofs.lemmas.List.Elements.{All-filter, All-map, filter_passes}
 use Rattle.std.proofs.lemmas.List.Kept.{AllPairs-from_increasing}
 use Rattle.std.proofs.lemmas.List.Sums.{sum_by-cons}
 use Rattle.std.proofs.lemmas.Slice.Eq.{bytes_eq-Decides}
+use mathlib.Core.List.{map-map}
 use Rattle.ar_statement.specs.declared.text.SeenText.{SeenText}
 use Rattle.party_keys.specs.Seen.{Saw, log_party}
 use Rattle.vote_quorum.specs.Ballots.{has_ballot, is_same, log_count}
@@ -95,8 +96,7 @@ quorum-seen council seen epoch votes value all many =
 -- ---- one more status
 
 logs-plain : (l : List CountedStatus) → logs_of (reports_of l) ≡ map (λ (s : CountedStatus). s.0) l
-logs-plain [] = refl
-logs-plain (s ∷ l) = ap (λ m. s.0 ∷ m) (logs-plain l)
+logs-plain l = map-map (λ (s : Status). s.0) (λ (s : CountedStatus). (s.0, s.1)) l
 
 ordered-from : (l : List CountedStatus) → IsStrictlyIncreasing (logs_of (reports_of l)) → AllPairs (λ s t. s.0 < t.0) l
 ordered-from l rises i j d before within =

@@ -8,10 +8,10 @@ use Rattle.ar_council.specs.Council.{Council}
 use Rattle.vote_quorum.specs.Ballots.{Ballot}
 use Rattle.vote_quorum.specs.Statuses.{Status}
 use Rattle.vote_quorum.specs.declared.value.Value.{Value}
-use Rattle.epoch_log.specs.Calls.{after_ballot, after_propose, after_status_seen, casting, own_value, proposing, stating, vote_of, with_status, with_vote}
+use Rattle.epoch_log.specs.Calls.{after_ballot, after_propose, after_status_seen, casting, own_value, proposing, stating, vote_of, with_ballot, with_report, with_status, with_vote}
 use Rattle.epoch_log.specs.Ending.{closed, own_vote}
 use Rattle.epoch_log.specs.Foreseeing.{IsForeseen, foretold, foretold_by, foretold_in, newest_by}
-use Rattle.epoch_log.specs.Plans.{verdict_at, verdict_of, with_ballot, with_report}
+use Rattle.epoch_log.specs.Plans.{verdict_at, verdict_of}
 use Rattle.epoch_log.specs.State.{CountedStatus, CountedVote, LogState, ballots_of, epoch_of, reports_of}
 use Rattle.epoch_log.specs.declared.closing.Verdict.{Verdict}
 use Rattle.epoch_log.specs.declared.closing.Verdict.TheVariants as verdicts

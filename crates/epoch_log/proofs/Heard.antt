@@ -9,12 +9,12 @@ use Rattle.domain_table.specs.Applying.{apply}
 use Rattle.domain_table.specs.Sound.{IsSound}
 use Rattle.domain_table.specs.Tables.{Table}
 use Rattle.domain_table.specs.Tree.{root_of}
-use Rattle.epoch_log.specs.Calls.{SignedStatus, after_decide, after_skip, decision_seen, seeing, statuses_seen}
+use Rattle.epoch_log.specs.Calls.{SignedStatus, after_decide, after_skip, decision_seen, seeing, signed_votes, statuses_seen}
 use Rattle.epoch_log.specs.Ending.{decided, may_end, skipped}
 use Rattle.epoch_log.specs.Honest.{EndsInOrder}
 use Rattle.epoch_log.specs.Log.{IsLog, LogParts, moved, parts_of, state_in}
 use Rattle.epoch_log.specs.State.{IsKept, LogState, epoch_of, reports_of, table_of}
-use Rattle.epoch_log.specs.Telling.{CanDecide, CanSkip, IsTableBehind, signed_votes}
+use Rattle.epoch_log.specs.Telling.{CanDecide, CanSkip, IsTableBehind}
 use Rattle.epoch_log.specs.declared.parts.Parts.{Parts}
 use Rattle.epoch_log.proofs.Applying.{sound-applied}
 use Rattle.epoch_log.proofs.Called.{kept-decide, kept-skip}

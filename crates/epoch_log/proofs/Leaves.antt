@@ -1,6 +1,6 @@
 -- Leaves for statements: how many are needed, and when one is given.
-use Rattle.std.proofs.Common.{◌≡◌, ℕ, ◌+◌, ◌<◌, ◌≤◌, ◌⊎◌, inl, inr, List, [], ◌∷◌, length, get_or, refl, sym, ap, ◌∙◌, subst, arith, Bool, true, false, cond, not, Option, Some, None}
-use Rattle.std.specs.Prelude.{IsOk, Ok, Err, count_by, is_ok, is_some, option_and_then, slice_get}
+use Rattle.std.proofs.Common.{◌≡◌, ℕ, ◌+◌, ◌<◌, ◌≤◌, ◌⊎◌, inl, inr, List, [], ◌∷◌, length, get_or, refl, sym, ap, ◌∙◌, subst, arith, Bool, true, false, cond, Option, Some, None}
+use Rattle.std.specs.Prelude.{IsOk, Ok, Err, is_ok, is_some, option_and_then, slice_get}
 use Rattle.std.specs.Option.{ok_or, option_map}
 use Rattle.std.proofs.lemmas.Bool.{le-leb, leb-false, leb-true, ltb-true}
 use Rattle.std.proofs.lemmas.List.{length-map}

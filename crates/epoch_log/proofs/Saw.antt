@@ -8,11 +8,9 @@ use Rattle.ar_council.specs.Values.{status_claim, vote_claim}
 use Rattle.party_keys.specs.Seen.{log_party}
 use Rattle.ar_statement.specs.declared.text.SeenText.{SeenText}
 use Rattle.vote_quorum.specs.declared.value.Value.{Value}
-use Rattle.epoch_log.specs.Calls.{SignedStatus, after_ballot, after_decide, after_propose, after_skip, after_state, after_status_seen, casting, counting_own, decision_seen, is_turn, own_value, proposing, seeing, stating, statuses_seen, vote_of}
+use Rattle.epoch_log.specs.Calls.{SignedStatus, after_ballot, after_decide, after_propose, after_skip, after_state, after_status_seen, casting, counting_own, decision_seen, is_turn, own_value, proposing, seeing, signed_votes, stating, statuses_seen, vote_of, with_ballot, with_report}
 use Rattle.epoch_log.specs.Ending.{closed, closed_by, closed_by_statuses, decided, excludes_all, has_quorum, may_end, own_vote, skipped, votes_for}
-use Rattle.epoch_log.specs.Plans.{with_ballot, with_report}
 use Rattle.epoch_log.specs.State.{LogState, SeesMore, epoch_of, reports_of}
-use Rattle.epoch_log.specs.Telling.{signed_votes}
 use Rattle.epoch_log.specs.Told.{value_of}
 use Rattle.epoch_log.specs.declared.entries.Closing.{Closing}
 use Rattle.epoch_log.specs.declared.entries.Closing.TheVariants as closings

@@ -4,7 +4,7 @@ use Rattle.ar_cert.specs.Changes.{Change}
 use Rattle.ar_statement.specs.Claims.{text_of}
 use Rattle.key_roll.specs.Book.{RollBook}
 use Rattle.key_roll.specs.Due.{DueParts}
-use Rattle.key_roll.specs.Entry.{after_entry, entered}
+use Rattle.key_roll.specs.Entry.{entered}
 use Rattle.key_roll.specs.declared.fault.BookFault.{BookFault}
 use Rattle.key_roll.specs.declared.fault.BookFault.TheVariants.{Spent}
 use Rattle.ar_council.specs.Room.{has_leaves}
@@ -12,10 +12,9 @@ use Rattle.vote_quorum.specs.declared.value.Value.{Value}
 use Rattle.domain_table.specs.Applying.{apply}
 use Rattle.domain_table.specs.Tables.{Table}
 use Rattle.domain_table.specs.Tree.{root_of}
-use Rattle.epoch_log.specs.Calls.{after_propose, after_state, confirmation_text, own_status_text, own_vote_text, propose_claim, with_confirmed}
+use Rattle.epoch_log.specs.Calls.{after_propose, after_state, confirmation_text, own_status_text, own_vote_text, propose_claim}
 use Rattle.epoch_log.specs.State.{LogState, epoch_of, table_of}
 use Rattle.epoch_log.specs.declared.entries.Closing.{Closing}
-use Rattle.epoch_log.specs.declared.entries.Confirmed.{Confirmed}
 use Rattle.epoch_log.specs.declared.entries.Newest.{Newest}
 
 -- ---- what calls need
@@ -43,14 +42,6 @@ voted s value = entered s.past.signed (own_vote_text s value)
 -- what `confirm` answers: the confirmation's leaf, or that there is none
 abbrev pub confirmed : LogState → Newest → List ℕ → Result DueParts BookFault
 confirmed s w name = entered s.past.signed (confirmation_text s w name)
-
--- ---- one confirmation
-
--- the log signed the text of this confirmation, and the record tells of it
-abbrev pub confirming : LogState → List ℕ → Confirmed → LogState
-confirming s text c = record s {
-  past = record s.past { confirmed = with_confirmed s.past.confirmed c; signed = after_entry s.past.signed text };
-}
 
 -- ---- what calls answer with which the epoch may end
 

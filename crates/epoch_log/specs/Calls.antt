@@ -17,18 +17,18 @@ use Rattle.lms_tree.specs.declared.public_key.LmsPublic.{LmsPublic}
 use Rattle.party_keys.specs.Learning.{Announced, after_adopting, after_learning}
 use Rattle.party_keys.specs.Seen.{authority_party, log_party}
 use Rattle.vote_quorum.specs.Ballots.{has_ballot}
-use Rattle.vote_quorum.specs.Statuses.{AreStatuses, Excludes, Status}
+use Rattle.vote_quorum.specs.Statuses.{AreStatuses, Excludes}
 use Rattle.vote_quorum.specs.Numbers.{distinct_count}
 use Rattle.vote_quorum.specs.declared.value.Value.{Value}
 use Rattle.domain_table.specs.Tree.{root_of}
 use Rattle.ar_council.specs.Council.{Council}
-use Rattle.ar_council.specs.Values.{IsValue, confirm_claim, is_same_digest, status_claim, vote_claim}
+use Rattle.ar_council.specs.Values.{IsValue, is_same_digest, status_claim, vote_claim}
 use Rattle.ar_council.specs.Seen.{seen_after, seen_of}
-use Rattle.epoch_log.specs.Ending.{closed, decided, may_end, own_vote, skipped}
+use Rattle.epoch_log.specs.Ending.{closed, decided_if, own_vote, skipped_if}
 use Rattle.epoch_log.specs.Log.{LogParts}
 use Rattle.epoch_log.specs.Right.{AppliesTo, newest_digest}
 use Rattle.epoch_log.specs.State.{CountedStatus, CountedVote, LogState, ballots_of, epoch_of, reports_of, table_of}
-use Rattle.epoch_log.specs.Told.{value_of}
+use Rattle.epoch_log.specs.Told.{confirmation_claim, value_of}
 use Rattle.epoch_log.specs.declared.entries.Closing.{Closing}
 use Rattle.epoch_log.specs.declared.entries.Closing.TheVariants as closings
 use Rattle.epoch_log.specs.declared.entries.Confirmed.{Confirmed}
@@ -76,6 +76,16 @@ counting_vote s v = record s { votes = with_vote s.votes v }
 
 abbrev pub counting_status : LogState → CountedStatus → LogState
 counting_status s status = record s { statuses = with_status s.statuses status }
+
+-- a log's ballot is seen and counted
+abbrev pub with_ballot : LogState → ℕ → Value → Option (List ℕ) → LogState
+with_ballot s log value signature =
+    counting_vote (seeing s (seen_of (log_party log) (vote_claim log (epoch_of s) value) ∷ [])) (log, value, signature)
+
+-- a log's status is seen, and counted where it is the log's first
+abbrev pub with_report : LogState → ℕ → Option Value → Option (List ℕ) → LogState
+with_report s log value signature =
+    counting_status (seeing s (seen_of (log_party log) (status_claim log (epoch_of s) value) ∷ [])) (log, value, signature)
 
 -- it is this log's turn in an epoch: its number is the epoch's remainder by the number of logs
 abbrev pub IsTurn : Council → ℕ → ℕ → Type 0
@@ -148,8 +158,7 @@ proposal_texts s value = text_of (propose_claim s value) ∷ (own_vote_text s va
 
 -- the log's own ballot is seen and counted at once
 abbrev pub counting_own : LogState → Value → LogState
-counting_own s value =
-    counting_vote (seeing s (seen_of (log_party s.me) (vote_claim s.me (epoch_of s) value) ∷ [])) (s.me, value, None)
+counting_own s value = with_ballot s s.me value None
 
 -- the log proposes: it signs the proposal and then its own vote, which is seen and counted, and the closing rule
 -- follows
@@ -160,8 +169,7 @@ after_propose s value changes = closed (counting_own (casting (proposing s value
 
 -- another log's ballot, or one of its own that comes as a message, is seen and counted, and the closing rule follows
 abbrev pub after_ballot : LogState → ℕ → Value → List ℕ → LogState × Closing
-after_ballot s log value signature =
-    closed (counting_vote (seeing s (seen_of (log_party log) (vote_claim log (epoch_of s) value) ∷ [])) (log, value, Some signature))
+after_ballot s log value signature = closed (with_ballot s log value (Some signature))
 
 -- ---- a status
 
@@ -188,8 +196,7 @@ own_status_text s = text_of (status_claim s.me (epoch_of s) (own_value s))
 
 -- a log's status of the current epoch is seen, and counted where it is the log's first, and the closing rule follows
 abbrev pub after_status_seen : LogState → ℕ → Option Value → Option (List ℕ) → LogState × Closing
-after_status_seen s log value signature =
-    closed (counting_status (seeing s (seen_of (log_party log) (status_claim log (epoch_of s) value) ∷ [])) (log, value, signature))
+after_status_seen s log value signature = closed (with_report s log value signature)
 
 -- The log states what it did in the epoch. Where it counts the statuses itself, its own is seen and counted at once.
 abbrev pub after_state : LogState → LogState × Closing
@@ -217,12 +224,13 @@ pub record MayDecide (s : LogState) (value : Value) (changes : List Change) (vot
 abbrev pub decision_seen : LogState → Value → List Change → List (ℕ × List ℕ) → List SeenText
 decision_seen s value changes votes = votes_seen (epoch_of s) value votes ++ flat_map endorsements_of changes
 
+-- the votes as they are kept
+abbrev pub signed_votes : List (ℕ × List ℕ) → List (ℕ × Option (List ℕ))
+signed_votes votes = map (λ v. (v.0, Some v.1)) votes
+
 -- the epoch ends as decided
 abbrev pub after_decide : LogState → Value → List Change → List (ℕ × List ℕ) → LogState
-after_decide s value changes votes =
-    if may_end s.past
-    then decided (seeing s (decision_seen s value changes votes)) changes value (map (λ v. (v.0, Some v.1)) votes)
-    else seeing s (decision_seen s value changes votes)
+after_decide s value changes votes = decided_if (seeing s (decision_seen s value changes votes)) changes value (signed_votes votes)
 
 -- statuses of logs with their signatures
 abbrev pub SignedStatus : Type 0
@@ -240,10 +248,7 @@ pub record MaySkip (s : LogState) (statuses : List SignedStatus) : Type 0 where
 
 -- the epoch ends as skipped
 abbrev pub after_skip : LogState → List SignedStatus → LogState
-after_skip s statuses =
-    if may_end s.past
-    then skipped (seeing s (statuses_seen (epoch_of s) statuses)) (reports_of statuses)
-    else seeing s (statuses_seen (epoch_of s) statuses)
+after_skip s statuses = skipped_if (seeing s (statuses_seen (epoch_of s) statuses)) (reports_of statuses)
 
 -- ---- a confirmation
 
@@ -258,10 +263,6 @@ pub record MayConfirm (s : LogState) (w : Newest) (name : List ℕ) : Type 0 whe
   pub certificate : IfSome (newest_digest (table_of s) name) IsDigest
   pub root : IsDigest w.root
 
--- the statement of a confirmation
-abbrev pub confirmation_claim : ℕ → Confirmed → Claim
-confirmation_claim me c = confirm_claim me c.epoch c.name c.certificate c.root
-
 abbrev pub is_same_confirmation : Confirmed → Confirmed → Bool
 is_same_confirmation c d = (c.epoch == d.epoch) && (bytes_eq c.name d.name && (is_same_digest c.certificate d.certificate && bytes_eq c.root d.root))
 
@@ -273,14 +274,15 @@ with_confirmed confirmed c = if list_any (λ d. is_same_confirmation d c) confir
 abbrev pub confirmation_text : LogState → Newest → List ℕ → List ℕ
 confirmation_text s w name = text_of (confirmation_claim s.me (confirmed_of s w name))
 
+-- the log signed the text of this confirmation, and the record tells of it
+abbrev pub confirming : LogState → List ℕ → Confirmed → LogState
+confirming s text c = record s {
+  past = record s.past { confirmed = with_confirmed s.past.confirmed c; signed = after_entry s.past.signed text };
+}
+
 -- the log confirms what a name has, and the record tells of it
 abbrev pub after_confirm : LogState → Newest → List ℕ → LogState
-after_confirm s w name = record s {
-  past = record s.past {
-    confirmed = with_confirmed s.past.confirmed (confirmed_of s w name);
-    signed = after_entry s.past.signed (text_of (confirmation_claim s.me (confirmed_of s w name)));
-  };
-}
+after_confirm s w name = confirming s (confirmation_text s w name) (confirmed_of s w name)
 
 -- ---- Rolls
 

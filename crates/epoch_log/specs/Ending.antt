@@ -1,8 +1,8 @@
 -- How an epoch ends: when the counted ballots decide it, when the counted statuses skip it, and what stands then.
-use Rattle.std.specs.Prelude.{ℕ, ◌+◌, ◌-◌, ◌^◌, ◌==◌, Bool, ◌&&◌, nat_le, nat_lt, if◌then◌else◌, List, [], ◌∷◌, ◌++◌, map, filter, find, length, Option, Some, None}
+use Rattle.std.specs.Prelude.{ℕ, ◌+◌, ◌-◌, ◌^◌, ◌==◌, Bool, false, ◌&&◌, nat_le, nat_lt, if◌then◌else◌, List, [], ◌∷◌, ◌++◌, map, filter, find, length, Option, Some, None}
 use Rattle.std.specs.List.{list_all}
 use Rattle.ar_cert.specs.Changes.{Change}
-use Rattle.vote_quorum.specs.Ballots.{is_same, log_count}
+use Rattle.vote_quorum.specs.Ballots.{Ballot, is_same, log_count}
 use Rattle.vote_quorum.specs.Statuses.{Status, report_count}
 use Rattle.vote_quorum.specs.declared.value.Value.{Value}
 use Rattle.ar_council.specs.Council.{Council}
@@ -47,6 +47,13 @@ skipped s statuses = record {
   newest = s.newest;
 }
 
+-- the same, unless the epoch is the last that a statement can name
+abbrev pub decided_if : LogState → List Change → Value → List (ℕ × Option (List ℕ)) → LogState
+decided_if s changes value votes = if may_end s.past then decided s changes value votes else s
+
+abbrev pub skipped_if : LogState → List Status → LogState
+skipped_if s statuses = if may_end s.past then skipped s statuses else s
+
 -- ---- the closing rule
 
 -- the log's own vote of an epoch
@@ -77,9 +84,14 @@ closed_by_statuses s =
     then (skipped s (reports_of s.statuses), closings.Skipped s.statuses)
     else (s, closings.Open)
 
--- whether the counted ballots are a quorum for what the own vote is for
+-- whether the ballots are a quorum for what the own vote is for
+abbrev pub backs : ℕ → List Ballot → Option Voted → Bool
+backs quorum ballots None = false
+backs quorum ballots (Some v) = nat_le quorum (log_count ballots (value_of v))
+
+-- whether the counted ballots are
 abbrev pub has_quorum : LogState → Voted → Bool
-has_quorum s v = nat_le s.council.quorum (log_count (ballots_of s.votes) (value_of v))
+has_quorum s v = backs s.council.quorum (ballots_of s.votes) (Some v)
 
 -- the epoch is decided where there is an own vote and a quorum for it
 abbrev pub closed_by : LogState → Option Voted → LogState × Closing

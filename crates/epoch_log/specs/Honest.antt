@@ -8,10 +8,10 @@ use Rattle.key_roll.specs.Book.{RollBook, IsRollBook, texts_of}
 use Rattle.vote_quorum.specs.Statuses.{Status}
 use Rattle.ar_council.specs.Seen.{SeesMembers}
 use Rattle.ar_council.specs.Council.{Council}
-use Rattle.ar_council.specs.Values.{confirm_claim, status_claim, vote_claim}
+use Rattle.ar_council.specs.Values.{status_claim, vote_claim}
 use Rattle.epoch_log.specs.Record.{LogRecord, current, ending}
 use Rattle.epoch_log.specs.Right.{Fits, IsRightConfirmation, IsRightDecision, IsRightSkip, IsRightVote}
-use Rattle.epoch_log.specs.Told.{Told, value_of}
+use Rattle.epoch_log.specs.Told.{Told, confirmation_claim, value_of}
 use Rattle.epoch_log.specs.declared.entries.Confirmed.{Confirmed}
 use Rattle.epoch_log.specs.declared.entries.Ended.{Ended}
 use Rattle.epoch_log.specs.declared.entries.How.TheVariants.{Decided, Skipped}
@@ -62,7 +62,7 @@ pub record SignsWhatItTells (me : ℕ) (book : RollBook) (voted : List Voted) (s
   pub told : All (IsTextOf (Told me voted stated confirmed)) (texts_of book)
   pub votes : All (λ v. Contains (texts_of book) (text_of (vote_claim me v.epoch (value_of v)))) voted
   pub statuses : All (λ s. Contains (texts_of book) (text_of (status_claim me s.epoch s.value))) stated
-  pub confirmations : All (λ c. Contains (texts_of book) (text_of (confirm_claim me c.epoch c.name c.certificate c.root))) confirmed
+  pub confirmations : All (λ c. Contains (texts_of book) (text_of (confirmation_claim me c))) confirmed
 
 -- 9. What it saw is of logs and authorities of the council (`SeesMembers`).
 

@@ -1,16 +1,11 @@
 -- What is planned of an epoch: whether it ends with what is counted, and what its end takes.
-use Rattle.std.specs.Prelude.{◌≡◌, ℕ, ◌^◌, ◌≤◌, nat_le, nat_lt, Bool, false, if◌then◌else◌, List, [], ◌∷◌, length, Option, Some, None, vec_capacity}
+use Rattle.std.specs.Prelude.{◌≡◌, ℕ, ◌^◌, ◌≤◌, nat_lt, if◌then◌else◌, List, [], length, Option, Some, vec_capacity}
 use Rattle.ar_council.specs.Council.{Council}
-use Rattle.ar_council.specs.Seen.{seen_of}
-use Rattle.ar_council.specs.Values.{status_claim, vote_claim}
-use Rattle.vote_quorum.specs.Ballots.{Ballot, log_count}
+use Rattle.vote_quorum.specs.Ballots.{Ballot}
 use Rattle.vote_quorum.specs.Statuses.{Status}
-use Rattle.vote_quorum.specs.declared.value.Value.{Value}
 use Rattle.domain_table.specs.Applying.{apply}
 use Rattle.domain_table.specs.Tables.{Table}
-use Rattle.party_keys.specs.Seen.{log_party}
-use Rattle.epoch_log.specs.Calls.{counting_status, counting_vote, seeing}
-use Rattle.epoch_log.specs.Ending.{excludes_all, own_vote}
+use Rattle.epoch_log.specs.Ending.{backs, excludes_all, own_vote}
 use Rattle.epoch_log.specs.State.{LogState, ballots_of, epoch_of, reports_of}
 use Rattle.epoch_log.specs.Told.{value_of}
 use Rattle.epoch_log.specs.declared.ending.Decision.{Decision}
@@ -19,11 +14,6 @@ use Rattle.epoch_log.specs.declared.closing.Plan.TheVariants as plans
 use Rattle.epoch_log.specs.declared.closing.Verdict.{Verdict}
 use Rattle.epoch_log.specs.declared.closing.Verdict.TheVariants as verdicts
 use Rattle.epoch_log.specs.declared.entries.Voted.{Voted}
-
--- whether the ballots are a quorum for the own vote
-abbrev pub backs : ℕ → List Ballot → Option Voted → Bool
-backs quorum ballots None = false
-backs quorum ballots (Some v) = nat_le quorum (log_count ballots (value_of v))
 
 -- how the epoch ends, by the own vote, the counted ballots and the counted statuses
 abbrev pub verdict_of : Council → Option Voted → List Ballot → List Status → Verdict
@@ -64,15 +54,3 @@ IsPlan council epoch table own ballots reports plan =
 -- the plan is for a log that stands so, with this table
 abbrev pub IsPlanIn : LogState → Table → Plan → Type 0
 IsPlanIn s table plan = IsPlan s.council (epoch_of s) table (own_vote s.past.voted (epoch_of s)) (ballots_of s.votes) (reports_of s.statuses) plan
-
--- ---- what is seen and counted before the epoch may end
-
--- a log's ballot
-abbrev pub with_ballot : LogState → ℕ → Value → Option (List ℕ) → LogState
-with_ballot s log value signature =
-    counting_vote (seeing s (seen_of (log_party log) (vote_claim log (epoch_of s) value) ∷ [])) (log, value, signature)
-
--- a log's status
-abbrev pub with_report : LogState → ℕ → Option Value → Option (List ℕ) → LogState
-with_report s log value signature =
-    counting_status (seeing s (seen_of (log_party log) (status_claim log (epoch_of s) value) ∷ [])) (log, value, signature)

@@ -3,14 +3,14 @@ use Rattle.std.specs.Prelude.{◌≡◌, ℕ, ◌<◌, ◌≤◌, List, All, map
 use Rattle.std.specs.declared.alloc.Global.{Global}
 use Rattle.ar_cert.specs.Changes.{Change}
 use Rattle.vote_quorum.specs.Numbers.{distinct_count}
-use Rattle.vote_quorum.specs.Statuses.{AreStatuses, Excludes, Status}
+use Rattle.vote_quorum.specs.Statuses.{AreStatuses, Excludes}
 use Rattle.vote_quorum.specs.declared.value.Value.{Value}
 use Rattle.domain_table.specs.Applying.{apply}
 use Rattle.domain_table.specs.Tables.{Table}
 use Rattle.domain_table.specs.Tree.{root_of}
 use Rattle.epoch_log.specs.Answers.{Reaches}
 use Rattle.epoch_log.specs.Calls.{AreEndorsers, SignedStatus}
-use Rattle.epoch_log.specs.Ending.{decided, may_end, skipped}
+use Rattle.epoch_log.specs.Ending.{may_end}
 use Rattle.epoch_log.specs.State.{LogState, epoch_of, reports_of, table_of}
 
 -- statuses of logs with their signatures
@@ -22,17 +22,9 @@ pub record CanSkip (s : LogState) (statuses : List SignedStatus) : Type 0 where
   pub of_logs : AreStatuses s.council.logs (reports_of statuses)
   pub excludes : Excludes s.council.logs s.council.quorum (reports_of statuses)
 
--- the epoch ended as skipped, unless it is the last that a statement can name
-abbrev pub skipped_if : LogState → List Status → LogState
-skipped_if s statuses = if may_end s.past then skipped s statuses else s
-
 -- votes of logs with their signatures
 abbrev pub votes_in : List (ℕ × Vec ℕ Global) → List (ℕ × List ℕ)
 votes_in votes = map (λ v. (v.0, v.1.items)) votes
-
--- the same, as they are kept
-abbrev pub signed_votes : List (ℕ × List ℕ) → List (ℕ × Option (List ℕ))
-signed_votes votes = map (λ v. (v.0, Some v.1)) votes
 
 -- a decision for this root, over the base of the current epoch
 abbrev pub to_root : LogState → List ℕ → Value
@@ -45,10 +37,6 @@ pub record CanDecide (s : LogState) (changes : List Change) (root : List ℕ) (v
   pub endorsers : All (AreEndorsers s.council) changes
   pub logs : All (λ v. v.0 < s.council.logs) votes
   pub many : s.council.quorum ≤ distinct_count (map (λ v. v.0) votes)
-
--- the epoch ended as decided, unless it is the last that a statement can name
-abbrev pub decided_if : LogState → List Change → Value → List (ℕ × Option (List ℕ)) → LogState
-decided_if s changes value votes = if may_end s.past then decided s changes value votes else s
 
 -- the table in which the next epoch begins, unless the epoch is the last
 abbrev pub table_if : LogState → Table → Table → Table

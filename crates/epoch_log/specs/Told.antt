@@ -4,7 +4,7 @@ use Rattle.std.specs.Option.{option_map}
 use Rattle.ar_statement.specs.Claims.{Claim, endorse, handover, propose, vote, confirm, confirm_absent, answer, status, roll, object}
 use Rattle.party_keys.specs.Seen.{log_party}
 use Rattle.vote_quorum.specs.declared.value.Value.{Value}
-use Rattle.ar_council.specs.Values.{value_of_roots}
+use Rattle.ar_council.specs.Values.{confirm_claim, value_of_roots}
 use Rattle.epoch_log.specs.declared.entries.Confirmed.{Confirmed}
 use Rattle.epoch_log.specs.declared.entries.Stated.{Stated}
 use Rattle.epoch_log.specs.declared.entries.Voted.{Voted}
@@ -14,6 +14,10 @@ use Rattle.epoch_log.specs.declared.entries.Voted.{Voted}
 -- what an entry's vote is for
 abbrev pub value_of : Voted → Value
 value_of v = record { base = v.base; root = v.root }
+
+-- the statement of a confirmation
+abbrev pub confirmation_claim : ℕ → Confirmed → Claim
+confirmation_claim me c = confirm_claim me c.epoch c.name c.certificate c.root
 
 -- ---- what the record tells of
 

@@ -1,8 +1,8 @@
 //! Ballots of other logs, and of the log itself.
 ghost use Rattle.std.specs.Prelude.{◌≡◌, ◌<◌, ℕ, List, Option, IfOk, OnOk, OnErr, vec_len, vec_capacity};
-ghost use Rattle.epoch_log.specs.Calls.{after_ballot};
+ghost use Rattle.epoch_log.specs.Calls.{after_ballot, with_ballot};
 ghost use Rattle.epoch_log.specs.Log.{IsLog, moved, parts_of, state_in};
-ghost use Rattle.epoch_log.specs.Plans.{IsPlanIn, with_ballot};
+ghost use Rattle.epoch_log.specs.Plans.{IsPlanIn};
 ghost use Rattle.epoch_log.specs.State.{epoch_of};
 
 use crate::Closing;

@@ -6,14 +6,14 @@ ghost use Rattle.vote_quorum.specs.Ballots.{is_same, log_count};
 ghost use Rattle.vote_quorum.specs.Statuses.{AreStatuses};
 ghost use Rattle.domain_table.specs.Applying.{apply};
 ghost use Rattle.domain_table.specs.Sound.{IsSound};
-ghost use Rattle.epoch_log.specs.Ending.{excludes_all};
-ghost use Rattle.epoch_log.specs.Plans.{IsDecision, IsOwnDecision, IsPlan, backs, verdict_of};
+ghost use Rattle.epoch_log.specs.Ending.{backs, excludes_all};
+ghost use Rattle.epoch_log.specs.Plans.{IsDecision, IsOwnDecision, IsPlan, verdict_of};
 
 use crate::Voted;
 use crate::ending::{Decision, LAST_EPOCH};
 use crate::statements::changes_told;
-use crate::tables::{copies, table_after};
-use domain_table::Table;
+use crate::tables::table_after;
+use domain_table::{Table, copy_changes};
 use party_keys::Directory;
 use std::alloc::{AllocError, Global};
 use vote_quorum::{Value, distinct_count, excluded};
@@ -69,15 +69,7 @@ fn backs(
     ensures { IfOk result (λ enough. enough ≡ backs quorum ballots.now (option_map (λ v. v.now) own.entry)) }
 {
     match own {
-        Some(vote) => has_quorum(
-            alloc,
-            quorum,
-            ballots,
-            &Value {
-                base: vote.base,
-                root: vote.root,
-            },
-        ),
+        Some(vote) => has_quorum(alloc, quorum, ballots, &vote.value()),
         None => Ok(false),
     }
 }
@@ -122,16 +114,13 @@ fn decision_of(
     requires applies { IsSome (apply table.now epoch vote.now.changes) }
     ensures { IfOk result (IsDecision epoch table.now vote.now room) }
 {
-    let changes = copies(alloc, vote.changes.as_slice())?;
+    let changes = copy_changes(alloc, vote.changes.as_slice())?;
     changes_told(&changes);
     let table = table_after(alloc, epoch, table, &changes)?;
     let votes = Vec::with_capacity(alloc, room)?;
     Ok(Decision {
         changes,
-        value: Value {
-            base: vote.base,
-            root: vote.root,
-        },
+        value: vote.value(),
         table,
         votes,
     })

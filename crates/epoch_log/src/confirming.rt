@@ -1,7 +1,6 @@
 //! Confirmations of what a name has.
-ghost use Rattle.std.specs.Prelude.{◌≡◌, ◌<◌, ◌≤◌, ◌+◌, [], ◌∷◌, Option, IfOk, IfSome, IsSome, OnOk, OnErr, false, vec_len, vec_capacity};
+ghost use Rattle.std.specs.Prelude.{◌≡◌, ◌<◌, [], ◌∷◌, Option, IfSome, IsSome, OnOk, OnErr, false, vec_len, vec_capacity};
 ghost use Rattle.std.specs.List.{list_any};
-ghost use Rattle.std.specs.Option.{option_map};
 ghost use Rattle.ar_base.specs.Bytes.{IsDigest};
 ghost use Rattle.ar_base.specs.Gives.{GivesOrWants};
 ghost use Rattle.ar_council.specs.Room.{HasRoom};
@@ -11,8 +10,8 @@ ghost use Rattle.key_roll.specs.Entry.{entered};
 ghost use Rattle.key_roll.specs.Rolls.{is_roll};
 ghost use Rattle.key_roll.specs.declared.fault.BookFault.TheVariants as book_fault;
 ghost use Rattle.domain_table.specs.Tables.{newest};
-ghost use Rattle.epoch_log.specs.Answers.{confirmed, confirming};
-ghost use Rattle.epoch_log.specs.Calls.{after_confirm, is_same_confirmation, with_confirmed};
+ghost use Rattle.epoch_log.specs.Answers.{confirmed};
+ghost use Rattle.epoch_log.specs.Calls.{after_confirm, confirming, is_same_confirmation, with_confirmed};
 ghost use Rattle.epoch_log.specs.Log.{IsLog, moved, parts_of, state_in};
 ghost use Rattle.epoch_log.specs.Right.{newest_digest};
 

@@ -1,11 +1,12 @@
 //! What is counted, with the signatures, in memory of its own.
-ghost use Rattle.std.specs.Prelude.{◌≡◌, ◌<◌, IfOk, vec_len, vec_capacity};
+ghost use Rattle.std.specs.Prelude.{◌≡◌, ◌<◌, IfOk};
 ghost use Rattle.std.specs.Option.{option_map};
 ghost use Rattle.epoch_log.specs.Calls.{with_status, with_vote};
 
 use crate::counting::{count_status, count_vote};
 use crate::parts::{Counted, CountedStatus, CountedVote};
 use ar_base::Items;
+use ar_cert::copy_signature;
 use std::alloc::{AllocError, Global};
 use vote_quorum::Value;
 
@@ -19,16 +20,6 @@ fn signature_copy(alloc: Global, signature: Option<&[u8]>) -> Result<Option<Item
     }
 }
 
-/// A copy of a signature that is kept, where it is.
-fn kept_copy(alloc: Global, signature: &Option<Items<u8>>) -> Result<Option<Items<u8>>, AllocError>
-    ensures { IfOk result (λ copy. copy ≡ signature.now) }
-{
-    match signature {
-        Some(signature) => signature_copy(alloc, Some(signature.as_slice())),
-        None => Ok(None),
-    }
-}
-
 /// Copies of what is counted.
 pub(crate) fn counted_copies<V: Copy>(
     alloc: Global,
@@ -38,7 +29,7 @@ pub(crate) fn counted_copies<V: Copy>(
 {
     let mut list = Vec::new(alloc);
     for one in counted {
-        list.push((one.0, one.1, kept_copy(alloc, &one.2)?))?;
+        list.push((one.0, one.1, copy_signature(alloc, &one.2)?))?;
     }
     Ok(list)
 }

@@ -1,9 +1,9 @@
 //! An epoch ends: its ending is kept, and what was counted is dropped.
 ghost use Rattle.std.specs.Prelude.{◌≡◌, ◌<◌, vec_len, vec_capacity};
-ghost use Rattle.epoch_log.specs.Ending.{decided, skipped};
+ghost use Rattle.epoch_log.specs.Ending.{decided, decided_if, skipped, skipped_if};
 ghost use Rattle.epoch_log.specs.Log.{moved, parts_of, state_in};
 ghost use Rattle.epoch_log.specs.State.{epoch_of};
-ghost use Rattle.epoch_log.specs.Telling.{decided_if, skipped_if, table_if};
+ghost use Rattle.epoch_log.specs.Telling.{table_if};
 
 use crate::parts::{CountedStatus, Parts};
 use crate::{Ended, How, Newest};

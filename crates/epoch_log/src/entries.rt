@@ -1,3 +1,7 @@
+ghost use Rattle.std.specs.Prelude.{◌≡◌};
+ghost use Rattle.epoch_log.specs.State.{newest_value};
+ghost use Rattle.epoch_log.specs.Told.{value_of};
+
 use ar_base::Items;
 use ar_cert::Change;
 use ar_names::Name;
@@ -15,6 +19,18 @@ pub struct Voted {
     pub changes: Items<Change>,
     /// The root of the table that they lead to.
     pub root: [u8; 32],
+}
+
+impl Voted {
+    /// What the vote is for.
+    pub fn value(&self) -> Value
+        ensures { result ≡ value_of self.now }
+    {
+        Value {
+            base: self.base,
+            root: self.root,
+        }
+    }
 }
 
 /// What a log stated of an epoch: the ballot that it had cast, or that it had cast none.
@@ -77,6 +93,18 @@ pub struct Newest {
     /// The logs that voted for it, each with its signature; `None` stands for the log's own vote, which was counted
     /// without one.
     pub votes: Items<(u16, Option<Items<u8>>)>,
+}
+
+impl Newest {
+    /// What was decided.
+    pub fn value(&self) -> Value
+        ensures { result ≡ newest_value self.now }
+    {
+        Value {
+            base: self.base,
+            root: self.root,
+        }
+    }
 }
 
 /// Whether an epoch ended.

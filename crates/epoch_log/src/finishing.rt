@@ -29,10 +29,7 @@ pub(crate) fn own_value(voted: &[Voted], epoch: u64) -> Option<Value>
     ensures { result ≡ option_map value_of (own_vote voted.now epoch) }
 {
     match own_vote(voted, epoch) {
-        Some(vote) => Some(Value {
-            base: vote.base,
-            root: vote.root,
-        }),
+        Some(vote) => Some(vote.value()),
         None => None,
     }
 }

@@ -15,12 +15,12 @@ use crate::copying::{counted_copies, statuses_with, votes_with};
 use crate::counting::{ballots, ballots_with, reports, reports_with};
 use crate::ending::LAST_EPOCH;
 use crate::finishing::{own_vote, votes_for};
-use crate::parts::{CountedStatus, CountedVote, Parts};
-use crate::tables::copies;
+use crate::parts::{CountedVote, Parts};
 use crate::{Newest, Voted};
 use ar_base::Items;
 use ar_cert::Change;
 use ar_council::ballot_told;
+use domain_table::copy_changes;
 use std::alloc::{AllocError, Global};
 use vote_quorum::Value;
 
@@ -48,17 +48,15 @@ fn decided_by(
 ) -> Result<Foreseen, AllocError>
     ensures { IfOk result (λ f. f ≡ foreseen.Decided vote.now.changes (newest_by epoch vote.now counted.items)) }
 {
-    let changes = Items::from_vec(copies(alloc, vote.changes.as_slice())?);
+    let changes = Items::from_vec(copy_changes(alloc, vote.changes.as_slice())?);
     let list = Vec::with_capacity(alloc, counted.len())?;
-    let base = vote.base;
-    let root = vote.root;
-    let votes = Items::from_vec(votes_for(counted, &Value { base, root }, list));
+    let votes = Items::from_vec(votes_for(counted, &vote.value(), list));
     Ok(Foreseen::Decided {
         changes,
         newest: Newest {
             epoch,
-            base,
-            root,
+            base: vote.base,
+            root: vote.root,
             votes,
         },
     })
@@ -257,7 +255,7 @@ impl Parts {
         Ok(Voted {
             epoch: self.epoch(),
             base: value.base,
-            changes: Items::from_vec(copies(alloc, changes)?),
+            changes: Items::from_vec(copy_changes(alloc, changes)?),
             root: value.root,
         })
     }

@@ -42,4 +42,4 @@ pub use finishing::own_vote;
 pub use foreseeing::Foreseen;
 pub use log::EpochLog;
 pub use past::Record;
-pub use tables::{apply_one, copies};
+pub use tables::apply_one;

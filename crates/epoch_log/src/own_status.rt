@@ -1,5 +1,5 @@
 //! The log's own status.
-ghost use Rattle.std.specs.Prelude.{◌≡◌, ◌<◌, ◌+◌, ◌%◌, ◌&&◌, ◌==◌, nat_lt, [], ◌∷◌, None, Ok, Err, IfErr, IsOk, OnOk, OnErr, vec_len, vec_capacity};
+ghost use Rattle.std.specs.Prelude.{◌≡◌, ◌<◌, ◌+◌, ◌%◌, ◌&&◌, ◌==◌, [], ◌∷◌, None, Ok, Err, IfErr, IsOk, OnOk, OnErr, vec_len, vec_capacity};
 ghost use Rattle.ar_base.specs.Gives.{GivesOrWants};
 ghost use Rattle.ar_council.specs.Room.{HasRoom};
 ghost use Rattle.key_roll.specs.Entry.{entered};

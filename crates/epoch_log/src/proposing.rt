@@ -1,5 +1,5 @@
 //! The log's own proposal.
-ghost use Rattle.std.specs.Prelude.{◌≡◌, ◌<◌, [], ◌∷◌, None, Ok, Err, Some, All, IfErr, IfOk, IsOk, IsSome, OnOk, OnErr, vec_len, vec_capacity};
+ghost use Rattle.std.specs.Prelude.{◌≡◌, ◌<◌, None, Ok, Err, Some, All, IfErr, IfOk, IsOk, IsSome, OnOk, OnErr, vec_len, vec_capacity};
 ghost use Rattle.ar_base.specs.Gives.{GivesOrWants};
 ghost use Rattle.ar_council.specs.Room.{HasRoom};
 ghost use Rattle.ar_statement.specs.Claims.{text_of};
@@ -48,10 +48,7 @@ impl Parts {
         ensures { IfOk result (IsPlan (state_in self.now).council (epoch_of (state_in self.now)) self.now.table (Some vote.now)
             (ballots_of (with_vote (state_in self.now).votes ((state_in self.now).me, value_of vote.now, None))) (reports_of (state_in self.now).statuses)) }
     {
-        let value = Value {
-            base: vote.base,
-            root: vote.root,
-        };
+        let value = vote.value();
         let ballots = ballots_with(alloc, &self.votes, self.number, &value)?;
         let reports = reports(alloc, &self.statuses)?;
         plan_for(
@@ -78,9 +75,7 @@ impl Parts {
         ensures ended { self.new.past.ended ≡ self.old.past.ended }
         ensures votes { self.new.votes ≡ self.old.votes }
     {
-        let base = vote.base;
-        let root = vote.root;
-        let value = Value { base, root };
+        let value = vote.value();
         let proposal = propose_statement(self.number, vote.epoch, &value);
         let statement = vote_statement(self.number, vote.epoch, &value);
         let due = sign(alloc, &mut self.past.signed, &proposal);

@@ -1,9 +1,9 @@
 //! Statuses of logs.
 ghost use Rattle.std.specs.Prelude.{◌≡◌, ◌<◌, ℕ, List, Option, Some, IfOk, IfSome, OnOk, OnErr, vec_len, vec_capacity};
 ghost use Rattle.ar_council.specs.Values.{IsValue};
-ghost use Rattle.epoch_log.specs.Calls.{after_status_seen};
+ghost use Rattle.epoch_log.specs.Calls.{after_status_seen, with_report};
 ghost use Rattle.epoch_log.specs.Log.{IsLog, moved, parts_of, state_in};
-ghost use Rattle.epoch_log.specs.Plans.{IsPlanIn, with_report};
+ghost use Rattle.epoch_log.specs.Plans.{IsPlanIn};
 ghost use Rattle.epoch_log.specs.State.{epoch_of};
 
 use crate::Closing;

@@ -1,5 +1,5 @@
 //! The table to which the changes of an epoch lead, in memory of its own.
-ghost use Rattle.std.specs.Prelude.{◌≡◌, ◌<◌, ◌^◌, [], ◌∷◌, All, Some, IfOk, IsOk, IsSome, OnOk};
+ghost use Rattle.std.specs.Prelude.{◌≡◌, ◌<◌, [], ◌∷◌, All, Some, IfOk, IsOk, IsSome, OnOk};
 ghost use Rattle.ar_cert.specs.Changes.{IsChange};
 ghost use Rattle.domain_table.specs.Applying.{apply, judge, ripen};
 ghost use Rattle.domain_table.specs.Sound.{IsSound};
@@ -7,17 +7,6 @@ ghost use Rattle.domain_table.specs.Sound.{IsSound};
 use ar_cert::Change;
 use domain_table::{ApplyFault, Table};
 use std::alloc::{AllocError, Global};
-
-/// Copies of changes, in their order. The only error is want of memory.
-pub fn copies(alloc: Global, changes: &[Change]) -> Result<Vec<Change>, AllocError>
-    ensures { IfOk result (λ list. list.items ≡ changes.now) }
-{
-    let mut list = Vec::with_capacity(alloc, changes.len())?;
-    for change in changes {
-        list.push(change.copy(alloc)?)?;
-    }
-    Ok(list)
-}
 
 /// Applies a copy of a change that is taken. The only error is want of memory.
 pub fn apply_one(

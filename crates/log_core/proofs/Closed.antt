@@ -15,7 +15,7 @@ use Rattle.epoch_log.specs.State.{LogState, epoch_of}
 use Rattle.epoch_log.specs.declared.entries.Closing.{Closing}
 use Rattle.log_core.specs.Balloted.{ballot_checks, ballot_judged, ballot_reply, ballot_row}
 use Rattle.log_sending.specs.Checks.{Check, first_refusal, leaves_left, not_stated}
-use Rattle.log_core.specs.Steps.{IsStep, by_check}
+use Rattle.log_core.specs.Steps.{IsStep, given_by}
 use Rattle.log_sending.specs.Closings.{closing_drafts, ended_by, queue_after}
 use Rattle.log_core.specs.Replies.{closing_reply, core_after}
 use Rattle.log_core.specs.Kept.{IsKeptCore}
@@ -34,9 +34,9 @@ use Rattle.log_sending.proofs.Sealing.{sealed-drafts}
 
 -- a row that refuses leaves all as it was
 pub row-refused : (check : Check) (s : CoreState) (reply : Reply) (refusal : LogRefusal) → (refusal ≡ refusals.Memory) ⊎ (check ≡ Err refusal)
-    → IsStep (Err refusal) s s (by_check check reply)
+    → IsStep (Err refusal) s s (given_by check reply)
 row-refused check s reply refusal (inl wants) = (refl, inl wants)
-row-refused check s reply refusal (inr is) = (refl, inr (ap (λ c. by_check c reply) is))
+row-refused check s reply refusal (inr is) = (refl, inr (ap (λ c. given_by c reply) is))
 
 -- what is composed before a step and sealed behind it, with what is left of the queue, is the reply of its row
 pub close-step : (s : CoreState) (check : Check) (drafts : List Draft) (x : LogState × Closing) (ready : Composed) (unsigned : Unsigned) (log : LogParts)
@@ -44,7 +44,7 @@ pub close-step : (s : CoreState) (check : Check) (drafts : List Draft) (x : LogS
     → check ≡ Ok tt → ready ≡ with_drafts none_composed (drafts ++ closing_drafts x.1 s.signature_len s.log x.0) → closing ≡ x.1
     → log ≡ record { state = x.0; keys = s.keys } → epoch ≡ epoch_of s.log → queue ≡ queue_after closing log.state s.queue
     → unsigned ≡ sealed log.state.past.signed ready (ended_by closing epoch log.state.newest)
-    → by_check check (closing_reply s s.log drafts x) ≡ made unsigned (core-of s log queue)
+    → given_by check (closing_reply s s.log drafts x) ≡ made unsigned (core-of s log queue)
 close-step s check drafts x ready unsigned log queue closing epoch holds readied closes logs epochs queues sends =
     let all : List Draft = drafts ++ closing_drafts x.1 s.signature_len s.log x.0 in
     let ended : Option (ℕ × Option (List ℕ)) = ended_by x.1 (epoch_of s.log) x.0.newest in
@@ -58,7 +58,7 @@ close-step s check drafts x ready unsigned log queue closing epoch holds readied
     ∙ sealed-drafts x.0.past.signed all ended in
     let keeps : queue ≡ left =
     queues ∙ ap (λ (l : LogParts). queue_after closing l.state s.queue) logs ∙ ap (λ (k : Closing). queue_after k x.0 s.queue) closes in
-    ap (λ c. by_check c (closing_reply s s.log drafts x)) holds
+    ap (λ c. given_by c (closing_reply s s.log drafts x)) holds
     ∙ sym
     (ap (λ (u : Unsigned). made u (core-of s log queue)) sent
     ∙ ap (λ (l : LogParts). made (unsigned_of x.0.past.signed all ended) (core-of s l queue)) logs

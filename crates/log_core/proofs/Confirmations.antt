@@ -20,7 +20,7 @@ use Rattle.epoch_log.specs.Log.{LogParts, moved}
 use Rattle.epoch_log.specs.declared.entries.Newest.{Newest}
 use Rattle.ar_council.specs.Room.{has_leaves}
 use Rattle.log_sending.specs.Checks.{Check, book_refusal, has_decision, leaves_left, unless}
-use Rattle.log_core.specs.Steps.{IsStep, checked, given}
+use Rattle.log_core.specs.Steps.{IsStep, given}
 use Rattle.log_core.specs.Replies.{open_reply}
 use Rattle.log_core.specs.Confirming.{Asked, confirm_reply, confirm_row, confirmation_by, confirmation_prepared, confirmed_draft, leaf_to_confirm}
 use Rattle.log_core.specs.Kept.{IsKeptCore}
@@ -78,7 +78,7 @@ answer-of (Ok composed) reply = Ok reply
 answer-of (Err refusal) reply = Err refusal
 
 refused-by : (one other leaf : Check) (value : Composed) (reply : Reply) (refusal : LogRefusal) → given (one ∷ other ∷ []) value ≡ Err refusal
-    → checked (one ∷ other ∷ leaf ∷ []) reply ≡ Err refusal
+    → given (one ∷ other ∷ leaf ∷ []) reply ≡ Err refusal
 refused-by (Ok u) (Ok v) leaf value reply refusal is = absurd cc
 refused-by (Ok u) (Err other) leaf value reply refusal is = ap (λ (r : Result Composed LogRefusal). answer-of r reply) is
 refused-by (Err one) other leaf value reply refusal is = ap (λ (r : Result Composed LogRefusal). answer-of r reply) is
@@ -134,12 +134,12 @@ none-left s w name kept is = by (has_leaves book (text ∷ [])) refl
 -- ---- the step
 
 row-is : (s : CoreState) (asked : Asked) (w : Newest) → knows s asked ≡ Ok tt → s.log.newest ≡ Some w
-    → confirm_row s asked ≡ checked (leaves_left s.log.past.signed (confirmation_text s.log w asked.name ∷ []) ∷ [])
+    → confirm_row s asked ≡ given (leaves_left s.log.past.signed (confirmation_text s.log w asked.name ∷ []) ∷ [])
     (open_reply s (after_confirm s.log w asked.name) (confirmed_draft s w asked ∷ []))
 unfolding confirm_row
 row-is s asked w known-all decided =
-    ap (λ (c : Check). checked (c ∷ has_decision s.log s.log.newest ∷ leaf_to_confirm s s.log.newest asked.name ∷ []) (confirm_reply s s.log.newest asked)) known-all
-    ∙ ap (λ (o : Option Newest). checked (Ok tt ∷ has_decision s.log o ∷ leaf_to_confirm s o asked.name ∷ []) (confirm_reply s o asked)) decided
+    ap (λ (c : Check). given (c ∷ has_decision s.log s.log.newest ∷ leaf_to_confirm s s.log.newest asked.name ∷ []) (confirm_reply s s.log.newest asked)) known-all
+    ∙ ap (λ (o : Option Newest). given (Ok tt ∷ has_decision s.log o ∷ leaf_to_confirm s o asked.name ∷ []) (confirm_reply s o asked)) decided
 
 -- what the log is behind the confirmation
 abbrev log-confirmed : CoreState → Newest → List ℕ → LogParts
@@ -150,7 +150,7 @@ row-made : (s : CoreState) (asked : Asked) (composed : Composed) (w : Newest) (d
     → confirm_row s asked ≡ Ok (open_reply s (after_confirm s.log w asked.name) (confirmed_draft s w asked ∷ []))
 row-made s asked composed w due kept prepared decided due-is =
     row-is s asked w (prepared-holds s asked composed prepared).0 decided
-    ∙ ap (λ (c : Check). checked (c ∷ []) (open_reply s (after_confirm s.log w asked.name) (confirmed_draft s w asked ∷ []))) (leaf-there s w asked.name due kept due-is)
+    ∙ ap (λ (c : Check). given (c ∷ []) (open_reply s (after_confirm s.log w asked.name) (confirmed_draft s w asked ∷ []))) (leaf-there s w asked.name due kept due-is)
 
 made-by : (s : CoreState) (asked : Asked) (composed : Composed) (w : Newest) (due : DueParts) (new : LogParts) (unsigned : Unsigned) → IsKeptCore s
     → confirmation_prepared s asked ≡ Ok composed → s.log.newest ≡ Some w → confirmed s.log w asked.name ≡ Ok due → new ≡ log-confirmed s w asked.name
@@ -192,7 +192,7 @@ spent-row s asked composed w fault kept prepared decided (inl wants) = inl (ap b
 spent-row s asked composed w book_fault.Memory kept prepared decided (inr is) = inl refl
 spent-row s asked composed w book_fault.Spent kept prepared decided (inr is) =
     inr (row-is s asked w (prepared-holds s asked composed prepared).0 decided
-    ∙ ap (λ (c : Check). checked (c ∷ []) (open_reply s (after_confirm s.log w asked.name) (confirmed_draft s w asked ∷ []))) (none-left s w asked.name kept is))
+    ∙ ap (λ (c : Check). given (c ∷ []) (open_reply s (after_confirm s.log w asked.name) (confirmed_draft s w asked ∷ []))) (none-left s w asked.name kept is))
 
 pub confirm-spent : (s : CoreState) (asked : Asked) (composed : Composed) (fault : BookFault) (new : LogParts) → IsKeptCore s → confirmation_prepared s asked ≡ Ok composed
     → IfSome s.log.newest (λ w. WasNotSigned fault (confirmed s.log w asked.name)) → new ≡ log-in s

@@ -12,10 +12,10 @@ use Rattle.epoch_log.specs.Ending.{may_end}
 use Rattle.epoch_log.specs.Log.{LogParts, moved}
 use Rattle.epoch_log.specs.State.{LogState, epoch_of}
 use Rattle.epoch_log.specs.Telling.{CanDecide, to_root}
-use Rattle.log_core.specs.Steps.{IsStep, by_check}
+use Rattle.log_core.specs.Steps.{IsStep, ended_epoch, given_by}
 use Rattle.log_sending.specs.Checks.{first_refusal}
 use Rattle.log_sending.specs.Closings.{still_wanted}
-use Rattle.log_core.specs.Decided.{Decision, decided_epoch, decision_checks, decision_reply, decision_row, decision_state, plain_votes}
+use Rattle.log_core.specs.Decided.{Decision, decision_checks, decision_reply, decision_row, decision_state, plain_votes}
 use Rattle.log_core.specs.Kept.{IsKeptCore}
 use Rattle.log_core.specs.State.{Answer, CoreState}
 use Rattle.log_sending.specs.declared.refusal.LogRefusal.{LogRefusal}
@@ -29,13 +29,13 @@ use Rattle.log_core.proofs.Replies.{core-of}
 
 decision-made : (s : CoreState) (d : Decision) → first_refusal (decision_checks s d) ≡ Ok tt → decision_row s d ≡ Ok (decision_reply s d)
 unfolding decision_row
-decision-made s d is = ap (λ c. by_check c (decision_reply s d)) is
+decision-made s d is = ap (λ c. given_by c (decision_reply s d)) is
 
 pub decision-refused : (s : CoreState) (d : Decision) (refusal : LogRefusal) → (refusal ≡ refusals.Memory) ⊎ (first_refusal (decision_checks s d) ≡ Err refusal)
     → IsStep (Err refusal) s s (decision_row s d)
 unfolding decision_row
 decision-refused s d refusal (inl wants) = (refl, inl wants)
-decision-refused s d refusal (inr is) = (refl, inr (ap (λ c. by_check c (decision_reply s d)) is))
+decision-refused s d refusal (inr is) = (refl, inr (ap (λ c. given_by c (decision_reply s d)) is))
 
 pub can-decide : (s : CoreState) (d : Decision) (votes : List (ℕ × List ℕ)) → IsKeptCore s → IsValue d.value → All IsChange d.changes → AreVotes d.votes
     → first_refusal (decision_checks s d) ≡ Ok tt → votes ≡ plain_votes d.votes → CanDecide s.log d.changes d.value.root votes
@@ -78,7 +78,7 @@ ended-is true epoch root = refl
 ended-is false epoch root = refl
 
 pub queue-is : (s : CoreState) (root : List ℕ) (after : LogState) (queue : List Change) (ended : Bool) (told : Option (ℕ × Option (List ℕ))) → ended ≡ is_some told
-    → told ≡ decided_epoch s.log root → queue ≡ queue-if ended after s.queue → queue ≡ queue-if (may_end s.log.past) after s.queue
+    → told ≡ ended_epoch s.log (Some root) → queue ≡ queue-if ended after s.queue → queue ≡ queue-if (may_end s.log.past) after s.queue
 queue-is s root after queue ended told tests tells queues =
     queues ∙ ap (λ b. queue-if b after s.queue) (tests ∙ ap is_some tells ∙ ended-is (may_end s.log.past) (epoch_of s.log) root)
 
@@ -94,7 +94,7 @@ decision-keeps s d new queue kept digests are votes-are is news queues =
 
 pub decision-ends : (s : CoreState) (d : Decision) (new : LogParts) (queue : List Change) (unsigned : Unsigned) → first_refusal (decision_checks s d) ≡ Ok tt
     → new ≡ log-decided s d → queue ≡ queue-if (may_end s.log.past) new.state s.queue
-    → unsigned ≡ only_ended (decided_epoch s.log d.value.root)
+    → unsigned ≡ only_ended (ended_epoch s.log (Some d.value.root))
     → decision_row s d ≡ Ok (record { unsigned = unsigned; after = core-of s new queue })
 decision-ends s d new queue unsigned is news queues sends =
     decision-made s d is

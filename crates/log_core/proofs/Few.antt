@@ -19,7 +19,7 @@ use Rattle.epoch_log.specs.declared.entries.Closing.TheVariants as closings
 use Rattle.epoch_log.specs.declared.entries.Newest.{Newest}
 use Rattle.log_core.specs.Balloted.{ballot_checks, ballot_reply, ballot_row}
 use Rattle.log_sending.specs.Checks.{Check}
-use Rattle.log_core.specs.Steps.{checked}
+use Rattle.log_core.specs.Steps.{given}
 use Rattle.log_sending.specs.Closings.{closing_drafts, decision_drafts}
 use Rattle.log_core.specs.Replies.{closing_reply}
 use Rattle.log_core.specs.Confirming.{Asked, confirm_checks, confirm_reply, confirm_row}
@@ -66,19 +66,19 @@ closing-few s before drafts x one =
 
 -- ---- each row
 
-checked-few : (checks : List Check) (reply : Reply) → IsFew reply → SendsFew (checked checks reply)
-checked-few checks reply few r answer = subst IsFew (passed checks reply r answer).1 few
+given-few : (checks : List Check) (reply : Reply) → IsFew reply → SendsFew (given checks reply)
+given-few checks reply few r answer = subst IsFew (passed checks reply r answer).1 few
 
 proposing-few : (s : CoreState) → SendsFew (proposing_row s)
 unfolding proposing_row
 proposing-few s =
-    checked-few (proposing_checks s) (proposing_reply s)
+    given-few (proposing_checks s) (proposing_reply s)
     (closing-few s s.log (proposal_draft s (proposed_value s) (proposal s) ∷ []) (after_propose s.log (proposed_value s) (proposal s)) (omega arith))
 
 passing-few : (s : CoreState) → SendsFew (passing_row s)
 unfolding passing_row
 passing-few s =
-    checked-few (passing_checks s) (passing_reply s)
+    given-few (passing_checks s) (passing_reply s)
     (closing-few s s.log (status_drafts s) (after_state s.log) (by (is_turn s.log.council s.log.me (epoch_of s.log + 1))))
   where
     by : (b : Bool) → length (cond b [] (status_draft s ∷ [])) ≤ 1
@@ -87,39 +87,39 @@ passing-few s =
 
 pub rolling-few : (s : CoreState) (key : LmsPublic) → SendsFew (rolling_row s key)
 unfolding rolling_row
-rolling-few s key = checked-few (rolling_checks s) (rolling_reply s key) (omega arith)
+rolling-few s key = given-few (rolling_checks s) (rolling_reply s key) (omega arith)
 
 submit-few : (s : CoreState) (change : Change) → SendsFew (submit_row s change)
 unfolding submit_row
-submit-few s change = checked-few (submit_checks s change) (submit_reply s change) (omega arith)
+submit-few s change = given-few (submit_checks s change) (submit_reply s change) (omega arith)
 
 proposed-few : (s : CoreState) (p : Proposal) → SendsFew (proposed_row s p)
 unfolding proposed_row
-proposed-few s p = checked-few (proposed_checks s p) (proposed_reply s p) (omega arith)
+proposed-few s p = given-few (proposed_checks s p) (proposed_reply s p) (omega arith)
 
 ballot-few : (s : CoreState) (log epoch : ℕ) (value : Value) (signature : List ℕ) → SendsFew (ballot_row s log epoch value signature)
 unfolding ballot_row
 ballot-few s log epoch value signature =
-    checked-few (ballot_checks s log epoch value signature) (ballot_reply s log value signature)
+    given-few (ballot_checks s log epoch value signature) (ballot_reply s log value signature)
     (closing-few s s.log [] (after_ballot s.log log value signature) (omega arith))
 
 status-few : (s : CoreState) (log epoch : ℕ) (value : Option Value) (signature : List ℕ) → SendsFew (status_row s log epoch value signature)
 unfolding status_row
 status-few s log epoch value signature =
-    checked-few (status_checks s log epoch value signature) (status_reply s log value signature)
+    given-few (status_checks s log epoch value signature) (status_reply s log value signature)
     (closing-few s s.log [] (after_status_seen s.log log value (Some signature)) (omega arith))
 
 decision-few : (s : CoreState) (d : Decision) → SendsFew (decision_row s d)
 unfolding decision_row
-decision-few s d = checked-few (decision_checks s d) (decision_reply s d) (omega arith)
+decision-few s d = given-few (decision_checks s d) (decision_reply s d) (omega arith)
 
 skip-few : (s : CoreState) (epoch : ℕ) (statuses : List LogStatus) → SendsFew (skip_row s epoch statuses)
 unfolding skip_row
-skip-few s epoch statuses = checked-few (skip_checks s epoch statuses) (skip_reply s statuses) (omega arith)
+skip-few s epoch statuses = given-few (skip_checks s epoch statuses) (skip_reply s statuses) (omega arith)
 
 confirm-few : (s : CoreState) (asked : Asked) → SendsFew (confirm_row s asked)
 unfolding confirm_row
-confirm-few s asked = checked-few (confirm_checks s asked) (confirm_reply s s.log.newest asked) (by s.log.newest)
+confirm-few s asked = given-few (confirm_checks s asked) (confirm_reply s s.log.newest asked) (by s.log.newest)
   where
     by : (newest : Option Newest) → IsFew (confirm_reply s newest asked)
     by None = omega arith
@@ -127,7 +127,7 @@ confirm-few s asked = checked-few (confirm_checks s asked) (confirm_reply s s.lo
 
 roll_note-few : (s : CoreState) (a : Announced) → SendsFew (roll_note_row s a)
 unfolding roll_note_row
-roll_note-few s a = checked-few (roll_note_checks s a) (roll_note_reply s a) (omega arith)
+roll_note-few s a = given-few (roll_note_checks s a) (roll_note_reply s a) (omega arith)
 
 message-few : (s : CoreState) (m : Message) → SendsFew (message_row s m)
 message-few s (messages.EndorseAsk owner cert) reply answer = absurd cc

@@ -6,6 +6,7 @@ use Rattle.std.specs.Option.{option_map}
 use Rattle.std.specs.List.Sorted.{IsStrictlyIncreasing}
 use Rattle.std.proofs.lemmas.List.{length-map}
 use Rattle.std.proofs.lemmas.List.Elements.{All-from_recursion, All-weaker}
+use mathlib.Core.List.{map-map}
 use Rattle.key_roll.specs.Entry.{roll_text}
 use Rattle.ar_base.specs.Bytes.{AreBytes, IsDigest}
 use Rattle.ar_base.proofs.Lists.{of-both-lists}
@@ -107,12 +108,10 @@ abbrev silent : List Vote → List Status
 silent votes = map (λ (v : Vote). (v.log, None)) votes
 
 silent-logs : (votes : List Vote) → logs_of (silent votes) ≡ map (λ (v : Vote). v.log) votes
-silent-logs [] = refl
-silent-logs (v ∷ votes) = ap (λ l. v.log ∷ l) (silent-logs votes)
+silent-logs votes = map-map (λ (s : Status). s.0) (λ (v : Vote). (v.log, None)) votes
 
 plain-logs : (votes : List Vote) → map (λ (v : ℕ × List ℕ). v.0) (plain_votes votes) ≡ logs_of (silent votes)
-plain-logs [] = refl
-plain-logs (v ∷ votes) = ap (λ l. v.log ∷ l) (plain-logs votes)
+plain-logs votes = map-map (λ (v : ℕ × List ℕ). v.0) (λ (v : Vote). (v.log, v.signature)) votes ∙ sym (silent-logs votes)
 
 silent-many : (votes : List Vote) → length (silent votes) ≡ length votes
 silent-many votes = length-map votes (λ (v : Vote). (v.log, None))

@@ -21,7 +21,7 @@ use Rattle.epoch_log.specs.State.{LogState, epoch_of, table_of}
 use Rattle.epoch_log.specs.declared.entries.Closing.{Closing}
 use Rattle.epoch_log.specs.declared.foreseeing.Foreseen.{Foreseen}
 use Rattle.log_sending.specs.Checks.{Check, first_refusal, leaves_left, turn_of}
-use Rattle.log_core.specs.Steps.{IsStep, by_check, given, given_by}
+use Rattle.log_core.specs.Steps.{IsStep, given_by, given}
 use Rattle.log_sending.specs.Closings.{closing_drafts, ended_by, queue_after}
 use Rattle.log_core.specs.Replies.{closing_reply}
 use Rattle.log_core.specs.Kept.{IsKeptCore, WasQueued}
@@ -162,7 +162,7 @@ propose-step s value changes ready unsigned parts queue closing epoch is readied
     let check : Check = first_refusal (proposing_checks s) in
     let step = close-step s check (proposal_draft s value changes ∷ []) (after_propose s.log value changes) ready unsigned parts queue closing epoch
     h.0 readied closes logs epochs queues sends in
-    ap (λ v. by_check check (reply-of s v (proposal s))) h.1 ∙ ap (λ l. by_check check (reply-of s value l)) h.2 ∙ step
+    ap (λ v. given_by check (reply-of s v (proposal s))) h.1 ∙ ap (λ l. given_by check (reply-of s value l)) h.2 ∙ step
 
 -- the proposal is made as the row says
 pub propose-made : (s : CoreState) (value : Value) (changes : List Change) (ready : Composed) (unsigned : Unsigned) (parts : LogParts)

@@ -1,5 +1,5 @@
 -- What is judged of a skip, and what it makes of the log, is its row.
-use Rattle.std.proofs.Common.{◌≡◌, ◌⊎◌, inl, inr, ℕ, List, length, refl, sym, ap, ◌∙◌, subst, arith, Bool, true, false, Option}
+use Rattle.std.proofs.Common.{◌≡◌, ◌⊎◌, inl, inr, ℕ, List, length, refl, sym, ap, ◌∙◌, subst, arith, Bool, true, false, Option, None}
 use Rattle.std.specs.Prelude.{Ok, Err}
 use Rattle.std.specs.List.{AllByRecursion}
 use Rattle.ar_message.specs.Lists as lists
@@ -17,10 +17,10 @@ use Rattle.epoch_log.specs.Ending.{excludes_all}
 use Rattle.epoch_log.specs.Log.{LogParts, moved}
 use Rattle.epoch_log.specs.Telling.{CanSkip}
 use Rattle.log_sending.specs.Checks.{Check, none_can_win, unless}
-use Rattle.log_core.specs.Steps.{IsStep, by_check}
+use Rattle.log_core.specs.Steps.{IsStep, ended_epoch, given_by}
 use Rattle.log_core.specs.Kept.{IsKeptCore}
 use Rattle.log_sending.specs.Reported.{most_reported}
-use Rattle.log_core.specs.Skipped.{signed_statuses, skip_checks, skip_judged, skip_reply, skip_row, skipped_epoch}
+use Rattle.log_core.specs.Skipped.{signed_statuses, skip_checks, skip_judged, skip_reply, skip_row}
 use Rattle.log_core.specs.State.{Answer, CoreState, Reply}
 use Rattle.log_sending.specs.declared.refusal.LogRefusal.{LogRefusal}
 use Rattle.log_sending.specs.declared.refusal.LogRefusal.TheVariants as refusals
@@ -76,7 +76,7 @@ can-skip s epoch statuses kept are is =
 
 skip-made : (s : CoreState) (epoch : ℕ) (statuses : List LogStatus) → skip_judged s epoch statuses ≡ Ok tt → skip_row s epoch statuses ≡ Ok (skip_reply s statuses)
 unfolding skip_judged skip_row
-skip-made s epoch statuses is = ap (λ c. by_check c (skip_reply s statuses)) is
+skip-made s epoch statuses is = ap (λ c. given_by c (skip_reply s statuses)) is
 
 abbrev refusal-of : Check → Reply → Answer
 refusal-of (Ok u) reply = Ok reply
@@ -86,7 +86,7 @@ pub skip-refused : (s : CoreState) (epoch : ℕ) (statuses : List LogStatus) (re
     → IsStep (Err refusal) s s (skip_row s epoch statuses)
 unfolding skip_judged skip_row
 skip-refused s epoch statuses refusal (inl wants) = (refl, inl wants)
-skip-refused s epoch statuses refusal (inr is) = (refl, inr (ap (λ c. by_check c (skip_reply s statuses)) is))
+skip-refused s epoch statuses refusal (inr is) = (refl, inr (ap (λ c. given_by c (skip_reply s statuses)) is))
 
 -- what the log is behind a skip
 abbrev log-skipped : CoreState → List LogStatus → LogParts
@@ -99,9 +99,9 @@ skip-keeps s epoch statuses signed new kept are judged same is =
     (kept-skip_row s epoch statuses (skip_reply s statuses) kept are (skip-made s epoch statuses judged))
 
 pub skip-done : (s : CoreState) (epoch : ℕ) (statuses : List LogStatus) (signed : List SignedStatus) (ended : Option (ℕ × Option (List ℕ))) (unsigned : Unsigned) (new : LogParts)
-    → skip_judged s epoch statuses ≡ Ok tt → signed ≡ signed_statuses statuses → ended ≡ skipped_epoch s.log → unsigned ≡ only_ended ended
+    → skip_judged s epoch statuses ≡ Ok tt → signed ≡ signed_statuses statuses → ended ≡ ended_epoch s.log None → unsigned ≡ only_ended ended
     → new ≡ moved (log-in s) (after_skip s.log signed) → skip_row s epoch statuses ≡ Ok (record { unsigned = unsigned; after = core-with s new })
 skip-done s epoch statuses signed ended unsigned new judged same ends sends is =
     let news : new ≡ log-skipped s statuses = is ∙ ap (λ (l : List SignedStatus). moved (log-in s) (after_skip s.log l)) same in
     skip-made s epoch statuses judged
-    ∙ sym (ap (λ (u : Unsigned). made u (core-with s new)) (sends ∙ ap only_ended ends) ∙ ap (λ (n : LogParts). made (only_ended (skipped_epoch s.log)) (core-with s n)) news)
+    ∙ sym (ap (λ (u : Unsigned). made u (core-with s new)) (sends ∙ ap only_ended ends) ∙ ap (λ (n : LogParts). made (only_ended (ended_epoch s.log None)) (core-with s n)) news)

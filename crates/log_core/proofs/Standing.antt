@@ -25,7 +25,7 @@ use Rattle.ar_statement.specs.declared.text.SeenText.{SeenText}
 use Rattle.party_keys.specs.Seen.{log_party}
 use Rattle.log_core.specs.Balloted.{ballot_checks, ballot_reply, ballot_row}
 use Rattle.log_sending.specs.Checks.{Check}
-use Rattle.log_core.specs.Steps.{checked}
+use Rattle.log_core.specs.Steps.{given}
 use Rattle.log_core.specs.Confirming.{Asked, confirm_checks, confirm_reply, confirm_row}
 use Rattle.log_core.specs.Decided.{Decision, decision_checks, decision_reply, decision_row, plain_votes}
 use Rattle.log_core.specs.Learning.{roll_note_checks, roll_note_reply, roll_note_row}
@@ -80,19 +80,19 @@ rule-same s = by (may_end s.past)
 
 -- ---- each row
 
-checked-stays : (s : CoreState) (checks : List Check) (reply : Reply) → Stays s reply → StaysBy s (checked checks reply)
-checked-stays s checks reply stays r answer = subst (Stays s) (passed checks reply r answer).1 stays
+given-stays : (s : CoreState) (checks : List Check) (reply : Reply) → Stays s reply → StaysBy s (given checks reply)
+given-stays s checks reply stays r answer = subst (Stays s) (passed checks reply r answer).1 stays
 
 proposing-stays : (s : CoreState) → StaysBy s (proposing_row s)
 unfolding proposing_row
 proposing-stays s =
     let value : Value = proposed_value s in
-    checked-stays s (proposing_checks s) (proposing_reply s)
+    given-stays s (proposing_checks s) (proposing_reply s)
     (rule-same (counting_own (casting (proposing s.log value) (vote_of s.log value (proposal s))) value))
 
 passing-stays : (s : CoreState) → StaysBy s (passing_row s)
 unfolding passing_row
-passing-stays s = checked-stays s (passing_checks s) (passing_reply s) (by (is_turn s.log.council s.log.me (epoch_of s.log + 1)))
+passing-stays s = given-stays s (passing_checks s) (passing_reply s) (by (is_turn s.log.council s.log.me (epoch_of s.log + 1)))
   where
     more : List SeenText
     more = seen_of (log_party s.log.me) (status_claim s.log.me (epoch_of s.log) (own_value s.log)) ∷ []
@@ -103,11 +103,11 @@ passing-stays s = checked-stays s (passing_checks s) (passing_reply s) (by (is_t
 
 rolling-stays : (s : CoreState) (key : LmsPublic) → StaysBy s (rolling_row s key)
 unfolding rolling_row
-rolling-stays s key = checked-stays s (rolling_checks s) (rolling_reply s key) (refl, refl)
+rolling-stays s key = given-stays s (rolling_checks s) (rolling_reply s key) (refl, refl)
 
 submit-stays : (s : CoreState) (change : Change) → StaysBy s (submit_row s change)
 unfolding submit_row
-submit-stays s change = checked-stays s (submit_checks s change) (submit_reply s change) (by (is_queued s.queue change))
+submit-stays s change = given-stays s (submit_checks s change) (submit_reply s change) (by (is_queued s.queue change))
   where
     by : (b : Bool) → IsSame s.log (cond b s (queueing s change)).log
     by true = (refl, refl)
@@ -115,25 +115,25 @@ submit-stays s change = checked-stays s (submit_checks s change) (submit_reply s
 
 proposed-stays : (s : CoreState) (p : Proposal) → StaysBy s (proposed_row s p)
 unfolding proposed_row
-proposed-stays s p = checked-stays s (proposed_checks s p) (proposed_reply s p) (refl, refl)
+proposed-stays s p = given-stays s (proposed_checks s p) (proposed_reply s p) (refl, refl)
 
 ballot-stays : (s : CoreState) (log epoch : ℕ) (value : Value) (signature : List ℕ) → StaysBy s (ballot_row s log epoch value signature)
 unfolding ballot_row
 ballot-stays s log epoch value signature =
     let more : List SeenText = seen_of (log_party log) (vote_claim log (epoch_of s.log) value) ∷ [] in
-    checked-stays s (ballot_checks s log epoch value signature) (ballot_reply s log value signature)
+    given-stays s (ballot_checks s log epoch value signature) (ballot_reply s log value signature)
     (rule-same (counting_vote (seeing s.log more) (log, value, Some signature)))
 
 status-stays : (s : CoreState) (log epoch : ℕ) (value : Option Value) (signature : List ℕ) → StaysBy s (status_row s log epoch value signature)
 unfolding status_row
 status-stays s log epoch value signature =
     let more : List SeenText = seen_of (log_party log) (status_claim log (epoch_of s.log) value) ∷ [] in
-    checked-stays s (status_checks s log epoch value signature) (status_reply s log value signature)
+    given-stays s (status_checks s log epoch value signature) (status_reply s log value signature)
     (rule-same (counting_status (seeing s.log more) (log, value, Some signature)))
 
 decision-stays : (s : CoreState) (d : Decision) → StaysBy s (decision_row s d)
 unfolding decision_row
-decision-stays s d = checked-stays s (decision_checks s d) (decision_reply s d) (by (may_end s.log.past))
+decision-stays s d = given-stays s (decision_checks s d) (decision_reply s d) (by (may_end s.log.past))
   where
     more : List SeenText
     more = decision_seen s.log d.value d.changes (plain_votes d.votes)
@@ -145,7 +145,7 @@ decision-stays s d = checked-stays s (decision_checks s d) (decision_reply s d) 
 
 skip-stays : (s : CoreState) (epoch : ℕ) (statuses : List LogStatus) → StaysBy s (skip_row s epoch statuses)
 unfolding skip_row
-skip-stays s epoch statuses = checked-stays s (skip_checks s epoch statuses) (skip_reply s statuses) (by (may_end s.log.past))
+skip-stays s epoch statuses = given-stays s (skip_checks s epoch statuses) (skip_reply s statuses) (by (may_end s.log.past))
   where
     more : List SeenText
     more = statuses_seen (epoch_of s.log) (signed_statuses statuses)
@@ -156,7 +156,7 @@ skip-stays s epoch statuses = checked-stays s (skip_checks s epoch statuses) (sk
 
 confirm-stays : (s : CoreState) (asked : Asked) → StaysBy s (confirm_row s asked)
 unfolding confirm_row
-confirm-stays s asked = checked-stays s (confirm_checks s asked) (confirm_reply s s.log.newest asked) (by s.log.newest)
+confirm-stays s asked = given-stays s (confirm_checks s asked) (confirm_reply s s.log.newest asked) (by s.log.newest)
   where
     by : (newest : Option Newest) → Stays s (confirm_reply s newest asked)
     by None = (refl, refl)
@@ -164,7 +164,7 @@ confirm-stays s asked = checked-stays s (confirm_checks s asked) (confirm_reply 
 
 roll_note-stays : (s : CoreState) (a : Announced) → StaysBy s (roll_note_row s a)
 unfolding roll_note_row
-roll_note-stays s a = checked-stays s (roll_note_checks s a) (roll_note_reply s a) (refl, refl)
+roll_note-stays s a = given-stays s (roll_note_checks s a) (roll_note_reply s a) (refl, refl)
 
 message-stays : (s : CoreState) (m : Message) → StaysBy s (message_row s m)
 message-stays s (messages.EndorseAsk owner cert) reply answer = absurd cc

@@ -22,7 +22,7 @@ use Rattle.party_keys.specs.declared.fault.LearnFault.TheVariants as learn_fault
 use Rattle.party_keys.specs.declared.learning.Learned.{Learned}
 use Rattle.epoch_log.specs.Calls.{after_roll, learning, rolling}
 use Rattle.epoch_log.specs.Log.{LogParts}
-use Rattle.log_core.specs.Steps.{IsStep, checked, learn_refusal, noted, roll_refusal}
+use Rattle.log_core.specs.Steps.{IsStep, given, learn_refusal, noted, roll_refusal}
 use Rattle.log_sending.specs.Checks.{unless}
 use Rattle.log_core.specs.Rolling.{roll_draft, rolling_reply, rolling_row}
 use Rattle.log_sending.specs.Sending.{none_composed, sealed, with_draft}
@@ -36,9 +36,9 @@ use Rattle.log_core.proofs.Replies.{made}
 use Rattle.log_sending.proofs.Sealing.{sealed-one}
 
 note-row : (s : CoreState) (a : Announced) (answer : Result Learned LearnFault) → learned s.keys a ≡ answer
-    → roll_note_row s a ≡ checked (is_learned answer a.party a.generation ∷ []) (roll_note_reply s a)
+    → roll_note_row s a ≡ given (is_learned answer a.party a.generation ∷ []) (roll_note_reply s a)
 unfolding roll_note_row
-note-row s a answer is = ap (λ r. checked (is_learned r a.party a.generation ∷ []) (roll_note_reply s a)) is
+note-row s a answer is = ap (λ r. given (is_learned r a.party a.generation ∷ []) (roll_note_reply s a)) is
 
 pub note-learnt : (s : CoreState) (a : Announced) (how : Learned) → learned s.keys a ≡ Ok how → roll_note_row s a ≡ Ok (roll_note_reply s a)
 note-learnt s a how is = note-row s a (Ok how) is
@@ -86,9 +86,9 @@ note-step s a r new out is gives ok err =
 -- ---- the order to roll
 
 rolled-row : (s : CoreState) (key : LmsPublic) (last : Bool) → (s.log.past.signed.newest == 999) ≡ last
-    → rolling_row s key ≡ checked (unless (not last) refusals.LastGeneration ∷ []) (rolling_reply s key)
+    → rolling_row s key ≡ given (unless (not last) refusals.LastGeneration ∷ []) (rolling_reply s key)
 unfolding rolling_row
-rolled-row s key last is = ap (λ b. checked (unless (not b) refusals.LastGeneration ∷ []) (rolling_reply s key)) is
+rolled-row s key last is = ap (λ b. given (unless (not b) refusals.LastGeneration ∷ []) (rolling_reply s key)) is
 
 abbrev roll-due : CoreState → LmsPublic → Result DueParts RollFault
 roll-due s key = announced s.log.past.signed (log_party s.log.me) key

@@ -7,7 +7,7 @@ use Rattle.ar_message.specs.Filling.{nothing}
 use Rattle.epoch_log.specs.Calls.{AreEndorsers, after_endorsed}
 use Rattle.epoch_log.specs.Log.{LogParts}
 use Rattle.log_sending.specs.Checks.{Check, first_refusal}
-use Rattle.log_core.specs.Steps.{IsStep, by_check, given_by}
+use Rattle.log_core.specs.Steps.{IsStep, given_by}
 use Rattle.log_core.specs.Kept.{IsKeptCore}
 use Rattle.log_sending.specs.Signers.{endorsements_in}
 use Rattle.log_core.specs.State.{Answer, CoreState, Reply}
@@ -37,13 +37,13 @@ pub judged-row : (s : CoreState) (change : Change) (queued : Bool) → submit_ju
 unfolding submit_row
 judged-row s change queued is =
     let h = judged-holds s change queued is in
-    ap (λ c. by_check c (submit_reply s change)) h.0 ∙ ap (λ b. Ok (record { unsigned = nothing; after = cond b s (queueing s change) })) h.1
+    ap (λ c. given_by c (submit_reply s change)) h.0 ∙ ap (λ b. Ok (record { unsigned = nothing; after = cond b s (queueing s change) })) h.1
 
 abbrev refusal-in : {A : Type 0} → Result A LogRefusal → Reply → Answer
 refusal-in (Ok a) reply = Ok reply
 refusal-in (Err refusal) reply = Err refusal
 
-pub given-refused : {A : Type 0} (check : Check) (value : A) (reply : Reply) (refusal : LogRefusal) → given_by check value ≡ Err refusal → by_check check reply ≡ Err refusal
+pub given-refused : {A : Type 0} (check : Check) (value : A) (reply : Reply) (refusal : LogRefusal) → given_by check value ≡ Err refusal → given_by check reply ≡ Err refusal
 given-refused (Ok u) value reply refusal is = absurd cc
 given-refused (Err e) value reply refusal is = ap (λ r. refusal-in r reply) is
 

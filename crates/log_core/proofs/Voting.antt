@@ -20,7 +20,7 @@ use Rattle.epoch_log.specs.Answers.{IsOpenTo, voted}
 use Rattle.epoch_log.specs.Calls.{IsProposed, MayVote, after_vote, own_vote_text}
 use Rattle.epoch_log.specs.Log.{LogParts, moved}
 use Rattle.epoch_log.specs.State.{epoch_of}
-use Rattle.log_core.specs.Steps.{IsStep, by_check}
+use Rattle.log_core.specs.Steps.{IsStep, given_by}
 use Rattle.log_sending.specs.Checks.{book_refusal, first_refusal, turn_of}
 use Rattle.log_core.specs.Kept.{IsKeptCore}
 use Rattle.log_core.specs.Proposed.{Proposal, ballot_draft, proposed_checks, proposed_judged, proposed_reply, proposed_row}
@@ -47,7 +47,7 @@ each-holds s p composed is = all-hold (proposed_checks s p) (judged-holds s p co
 
 judged-row : (s : CoreState) (p : Proposal) (composed : Composed) → proposed_judged s p ≡ Ok composed → proposed_row s p ≡ Ok (proposed_reply s p)
 unfolding proposed_row
-judged-row s p composed is = ap (λ c. by_check c (proposed_reply s p)) (judged-holds s p composed is).0
+judged-row s p composed is = ap (λ c. given_by c (proposed_reply s p)) (judged-holds s p composed is).0
 
 judged-refused : (s : CoreState) (p : Proposal) (refusal : LogRefusal) → proposed_judged s p ≡ Err refusal → proposed_row s p ≡ Err refusal
 unfolding proposed_row proposed_judged

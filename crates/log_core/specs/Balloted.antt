@@ -6,7 +6,7 @@ use Rattle.ar_council.specs.Values.{vote_claim}
 use Rattle.epoch_log.specs.Calls.{after_ballot}
 use Rattle.epoch_log.specs.State.{epoch_of}
 use Rattle.log_sending.specs.Checks.{Check, first_refusal, in_epoch, in_turn}
-use Rattle.log_core.specs.Steps.{checked}
+use Rattle.log_core.specs.Steps.{given}
 use Rattle.log_core.specs.Replies.{closing_reply}
 use Rattle.log_sending.specs.Signers.{signed_by, signers}
 use Rattle.log_core.specs.State.{Answer, CoreState, Reply}
@@ -24,7 +24,7 @@ abbrev pub ballot_reply : CoreState → ℕ → Value → List ℕ → Reply
 ballot_reply s log value signature = closing_reply s s.log [] (after_ballot s.log log value signature)
 
 unfoldable pub ballot_row : CoreState → ℕ → ℕ → Value → List ℕ → Answer
-ballot_row s log epoch value signature = checked (ballot_checks s log epoch value signature) (ballot_reply s log value signature)
+ballot_row s log epoch value signature = given (ballot_checks s log epoch value signature) (ballot_reply s log value signature)
 
 -- the refusal of a ballot, if there is one
 unfoldable pub ballot_judged : CoreState → ℕ → ℕ → Value → List ℕ → Check

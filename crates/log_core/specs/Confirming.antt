@@ -12,7 +12,7 @@ use Rattle.epoch_log.specs.State.{LogState, newest_value, table_of}
 use Rattle.ar_statement.specs.Claims.{text_of}
 use Rattle.epoch_log.specs.declared.entries.Newest.{Newest}
 use Rattle.log_sending.specs.Checks.{Check, has_decision, leaves_left}
-use Rattle.log_core.specs.Steps.{checked, given}
+use Rattle.log_core.specs.Steps.{given}
 use Rattle.log_core.specs.Replies.{open_reply}
 use Rattle.log_sending.specs.Showing.{body_of}
 use Rattle.log_sending.specs.Sending.{Composed, Draft, Place, none_composed, own_votes, place_for, sent_votes, with_draft}
@@ -89,7 +89,7 @@ confirm_reply s None asked = record { unsigned = nothing; after = s }
 confirm_reply s (Some w) asked = open_reply s (after_confirm s.log w asked.name) (confirmed_draft s w asked ∷ [])
 
 unfoldable pub confirm_row : CoreState → Asked → Answer
-confirm_row s asked = checked (confirm_checks s asked) (confirm_reply s s.log.newest asked)
+confirm_row s asked = given (confirm_checks s asked) (confirm_reply s s.log.newest asked)
 
 -- ---- while it is composed
 

@@ -1,15 +1,15 @@
 -- The row of Decision: the log ends the epoch as decided.
-use Rattle.std.specs.Prelude.{ℕ, List, [], ◌∷◌, ◌++◌, flat_map, length, map, Option, Some, None, if◌then◌else◌}
+use Rattle.std.specs.Prelude.{ℕ, List, [], ◌∷◌, ◌++◌, flat_map, length, map, Some, if◌then◌else◌}
 use Rattle.ar_cert.specs.Changes.{Change}
 use Rattle.ar_message.specs.declared.lists.Vote.{Vote}
 use Rattle.party_keys.specs.Signers.{Claimed}
 use Rattle.vote_quorum.specs.declared.value.Value.{Value}
 use Rattle.epoch_log.specs.Calls.{after_decide}
 use Rattle.epoch_log.specs.Ending.{may_end}
-use Rattle.epoch_log.specs.State.{LogState, epoch_of}
+use Rattle.epoch_log.specs.State.{LogState}
 use Rattle.log_sending.specs.Checks.{Check, enough, in_epoch}
 use Rattle.log_sending.specs.Leading.{leading_checks}
-use Rattle.log_core.specs.Steps.{checked}
+use Rattle.log_core.specs.Steps.{ended_epoch, given}
 use Rattle.log_core.specs.Replies.{core_after}
 use Rattle.log_sending.specs.Closings.{still_wanted}
 use Rattle.log_sending.specs.Sending.{unsigned_of}
@@ -42,16 +42,12 @@ plain_votes votes = map (λ v. (v.log, v.signature)) votes
 abbrev pub decision_state : CoreState → Decision → LogState
 decision_state s d = after_decide s.log d.value d.changes (plain_votes d.votes)
 
--- the epoch that ends with a root, unless it is the last that a statement can name
-abbrev pub decided_epoch : LogState → List ℕ → Option (ℕ × Option (List ℕ))
-decided_epoch s root = if may_end s.past then Some (epoch_of s, Some root) else None
-
 -- the epoch ended as decided, unless it is the last that a statement can name
 abbrev pub decision_reply : CoreState → Decision → Reply
 decision_reply s d = record {
-  unsigned = unsigned_of (decision_state s d).past.signed [] (decided_epoch s.log d.value.root);
+  unsigned = unsigned_of (decision_state s d).past.signed [] (ended_epoch s.log (Some d.value.root));
   after = core_after s (decision_state s d) (if may_end s.log.past then still_wanted (decision_state s d) s.queue else s.queue);
 }
 
 unfoldable pub decision_row : CoreState → Decision → Answer
-decision_row s d = checked (decision_checks s d) (decision_reply s d)
+decision_row s d = given (decision_checks s d) (decision_reply s d)

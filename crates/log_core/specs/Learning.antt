@@ -9,7 +9,7 @@ use Rattle.party_keys.specs.declared.fault.LearnFault.TheVariants as learn_fault
 use Rattle.party_keys.specs.declared.learning.Learned.{Learned}
 use Rattle.epoch_log.specs.Calls.{after_learn}
 use Rattle.log_sending.specs.Checks.{Check}
-use Rattle.log_core.specs.Steps.{checked}
+use Rattle.log_core.specs.Steps.{given}
 use Rattle.log_core.specs.State.{Answer, CoreState, Reply}
 use Rattle.log_sending.specs.declared.refusal.LogRefusal.TheVariants as refusals
 
@@ -32,4 +32,4 @@ roll_note_reply s a = record {
 }
 
 unfoldable pub roll_note_row : CoreState → Announced → Answer
-roll_note_row s a = checked (roll_note_checks s a) (roll_note_reply s a)
+roll_note_row s a = given (roll_note_checks s a) (roll_note_reply s a)

@@ -9,7 +9,7 @@ use Rattle.ar_council.specs.Values.{roots_of}
 use Rattle.epoch_log.specs.Calls.{after_state, is_turn, own_status_text, own_value}
 use Rattle.epoch_log.specs.State.{epoch_of}
 use Rattle.log_sending.specs.Checks.{Check, first_refusal, leaves_left, not_stated, turn_of}
-use Rattle.log_core.specs.Steps.{checked}
+use Rattle.log_core.specs.Steps.{given}
 use Rattle.log_core.specs.Replies.{closing_reply}
 use Rattle.log_sending.specs.Sending.{Draft, draft_with}
 use Rattle.log_core.specs.State.{Answer, CoreState, Reply}
@@ -33,7 +33,7 @@ abbrev pub passing_reply : CoreState → Reply
 passing_reply s = closing_reply s s.log (status_drafts s) (after_state s.log)
 
 unfoldable pub passing_row : CoreState → Answer
-passing_row s = checked (passing_checks s) (passing_reply s)
+passing_row s = given (passing_checks s) (passing_reply s)
 
 -- the refusal of the order to pass, if there is one
 unfoldable pub passing_judged : CoreState → Check

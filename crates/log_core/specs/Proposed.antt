@@ -12,7 +12,7 @@ use Rattle.epoch_log.specs.Calls.{after_vote, own_vote_text}
 use Rattle.epoch_log.specs.State.{LogState, epoch_of}
 use Rattle.log_sending.specs.Checks.{Check, leaves_left, in_epoch, in_turn, not_stated, not_voted, turn_of}
 use Rattle.log_sending.specs.Leading.{leading_checks}
-use Rattle.log_core.specs.Steps.{checked, given}
+use Rattle.log_core.specs.Steps.{given}
 use Rattle.log_core.specs.Replies.{open_reply}
 use Rattle.log_sending.specs.Sending.{Composed, Draft, draft_with, none_composed, with_draft}
 use Rattle.log_sending.specs.Signers.{endorsements_in, signed_by, signers}
@@ -57,7 +57,7 @@ abbrev pub proposed_reply : CoreState → Proposal → Reply
 proposed_reply s p = open_reply s (after_vote s.log p.log p.value p.changes) (ballot_draft s p.value ∷ [])
 
 unfoldable pub proposed_row : CoreState → Proposal → Answer
-proposed_row s p = checked (proposed_checks s p) (proposed_reply s p)
+proposed_row s p = given (proposed_checks s p) (proposed_reply s p)
 
 -- what a step is to send, where no check refuses
 unfoldable pub proposed_judged : CoreState → Proposal → Result Composed LogRefusal

@@ -11,7 +11,7 @@ use Rattle.domain_table.specs.Tree.{root_of}
 use Rattle.epoch_log.specs.Calls.{after_propose, proposal_texts, propose_claim}
 use Rattle.epoch_log.specs.State.{epoch_of, table_of}
 use Rattle.log_sending.specs.Checks.{Check, first_refusal, in_turn, leaves_left, not_stated, not_voted}
-use Rattle.log_core.specs.Steps.{checked, given}
+use Rattle.log_core.specs.Steps.{given}
 use Rattle.log_core.specs.Replies.{closing_reply}
 use Rattle.log_sending.specs.Sending.{Draft, draft_with}
 use Rattle.log_core.specs.State.{Answer, CoreState, Reply}
@@ -50,7 +50,7 @@ proposing_reply s =
     closing_reply s s.log (proposal_draft s (proposed_value s) (proposal s) ∷ []) (after_propose s.log (proposed_value s) (proposal s))
 
 unfoldable pub proposing_row : CoreState → Answer
-proposing_row s = checked (proposing_checks s) (proposing_reply s)
+proposing_row s = given (proposing_checks s) (proposing_reply s)
 
 -- whether it is the log's turn, as far as its vote and its status are known
 unfoldable pub turn_judged : CoreState → Check

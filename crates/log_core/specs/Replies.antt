@@ -1,5 +1,5 @@
 -- What a step makes: the log behind it, and what it sends.
-use Rattle.std.specs.Prelude.{ℕ, List, ◌++◌, None}
+use Rattle.std.specs.Prelude.{List, ◌++◌, None}
 use Rattle.ar_cert.specs.Changes.{Change}
 use Rattle.epoch_log.specs.State.{LogState, epoch_of}
 use Rattle.epoch_log.specs.declared.entries.Closing.{Closing}

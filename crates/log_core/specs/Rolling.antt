@@ -10,7 +10,7 @@ use Rattle.party_keys.specs.Learning.{after_adopting}
 use Rattle.party_keys.specs.Seen.{log_party}
 use Rattle.epoch_log.specs.Calls.{after_roll}
 use Rattle.log_sending.specs.Checks.{Check, has_next}
-use Rattle.log_core.specs.Steps.{checked}
+use Rattle.log_core.specs.Steps.{given}
 use Rattle.log_sending.specs.Sending.{Draft, draft_with, unsigned_of}
 use Rattle.log_core.specs.State.{Answer, CoreState, Reply}
 
@@ -37,4 +37,4 @@ rolling_reply s key = record {
 }
 
 unfoldable pub rolling_row : CoreState → LmsPublic → Answer
-rolling_row s key = checked (rolling_checks s) (rolling_reply s key)
+rolling_row s key = given (rolling_checks s) (rolling_reply s key)

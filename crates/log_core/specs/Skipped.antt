@@ -1,11 +1,10 @@
 -- The row of SkipNote: the log ends the epoch as skipped.
-use Rattle.std.specs.Prelude.{ℕ, List, [], ◌∷◌, map, Option, Some, None, if◌then◌else◌}
+use Rattle.std.specs.Prelude.{ℕ, List, [], ◌∷◌, map, None}
 use Rattle.ar_message.specs.declared.lists.LogStatus.{LogStatus}
 use Rattle.epoch_log.specs.Calls.{SignedStatus, after_skip}
-use Rattle.epoch_log.specs.Ending.{may_end}
-use Rattle.epoch_log.specs.State.{LogState, epoch_of, reports_of}
+use Rattle.epoch_log.specs.State.{reports_of}
 use Rattle.log_sending.specs.Checks.{Check, first_refusal, in_epoch, none_can_win}
-use Rattle.log_core.specs.Steps.{checked}
+use Rattle.log_core.specs.Steps.{ended_epoch, given}
 use Rattle.log_core.specs.Replies.{core_after}
 use Rattle.log_sending.specs.Sending.{unsigned_of}
 use Rattle.log_sending.specs.Signers.{signers, status_value, statuses_in}
@@ -23,19 +22,15 @@ skip_checks s epoch statuses =
     ∷ none_can_win s.log.council (reports_of (signed_statuses statuses))
     ∷ []
 
--- the epoch that ends as skipped, unless it is the last that a statement can name
-abbrev pub skipped_epoch : LogState → Option (ℕ × Option (List ℕ))
-skipped_epoch s = if may_end s.past then Some (epoch_of s, None) else None
-
 -- The epoch ended as skipped, unless it is the last. The table does not ripen, and the queue stays.
 abbrev pub skip_reply : CoreState → List LogStatus → Reply
 skip_reply s statuses = record {
-  unsigned = unsigned_of s.log.past.signed [] (skipped_epoch s.log);
+  unsigned = unsigned_of s.log.past.signed [] (ended_epoch s.log None);
   after = core_after s (after_skip s.log (signed_statuses statuses)) s.queue;
 }
 
 unfoldable pub skip_row : CoreState → ℕ → List LogStatus → Answer
-skip_row s epoch statuses = checked (skip_checks s epoch statuses) (skip_reply s statuses)
+skip_row s epoch statuses = given (skip_checks s epoch statuses) (skip_reply s statuses)
 
 -- what the checks of the row say together
 unfoldable pub skip_judged : CoreState → ℕ → List LogStatus → Check

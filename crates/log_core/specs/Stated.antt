@@ -6,7 +6,7 @@ use Rattle.ar_council.specs.Values.{status_claim}
 use Rattle.epoch_log.specs.Calls.{after_status_seen}
 use Rattle.epoch_log.specs.State.{epoch_of}
 use Rattle.log_sending.specs.Checks.{Check, first_refusal, in_epoch, in_turn}
-use Rattle.log_core.specs.Steps.{checked}
+use Rattle.log_core.specs.Steps.{given}
 use Rattle.log_core.specs.Replies.{closing_reply}
 use Rattle.log_sending.specs.Signers.{signed_by, signers}
 use Rattle.log_core.specs.State.{Answer, CoreState, Reply}
@@ -24,7 +24,7 @@ abbrev pub status_reply : CoreState → ℕ → Option Value → List ℕ → Re
 status_reply s log value signature = closing_reply s s.log [] (after_status_seen s.log log value (Some signature))
 
 unfoldable pub status_row : CoreState → ℕ → ℕ → Option Value → List ℕ → Answer
-status_row s log epoch value signature = checked (status_checks s log epoch value signature) (status_reply s log value signature)
+status_row s log epoch value signature = given (status_checks s log epoch value signature) (status_reply s log value signature)
 
 -- the refusal of a status, if there is one
 unfoldable pub status_judged : CoreState → ℕ → ℕ → Option Value → List ℕ → Check

@@ -1,5 +1,5 @@
 -- What it is that a step of a log is its row's.
-use Rattle.std.specs.Prelude.{◌≡◌, ◌⊎◌, ℕ, List, Result, Ok, Err}
+use Rattle.std.specs.Prelude.{◌≡◌, ◌⊎◌, ℕ, List, Option, Some, None, Result, Ok, Err, if◌then◌else◌}
 use Rattle.ar_message.specs.declared.unsigned.Unsigned.{Unsigned}
 use Rattle.ar_message.specs.Filling.{nothing}
 use Rattle.ar_statement.specs.declared.party.Party.{Party}
@@ -8,18 +8,21 @@ use Rattle.key_roll.specs.declared.fault.RollFault.TheVariants as roll_fault
 use Rattle.party_keys.specs.declared.fault.LearnFault.{LearnFault}
 use Rattle.party_keys.specs.declared.fault.LearnFault.TheVariants as learn_fault
 use Rattle.party_keys.specs.declared.learning.Learned.{Learned}
+use Rattle.epoch_log.specs.Ending.{may_end}
+use Rattle.epoch_log.specs.State.{LogState, epoch_of}
 use Rattle.log_sending.specs.Checks.{Check, first_refusal}
-use Rattle.log_core.specs.State.{Answer, CoreState, Reply}
+use Rattle.log_core.specs.State.{Answer, CoreState}
 use Rattle.log_sending.specs.declared.refusal.LogRefusal.{LogRefusal}
 use Rattle.log_sending.specs.declared.refusal.LogRefusal.TheVariants as refusals
 
--- a row: the first check that refuses, or else what the step makes
-abbrev pub by_check : Check → Reply → Answer
-by_check (Ok _) reply = Ok reply
-by_check (Err refusal) reply = Err refusal
+-- the value where a check holds, or its refusal
+abbrev pub given_by : {A : Type 0} → Check → A → Result A LogRefusal
+given_by (Ok _) value = Ok value
+given_by (Err refusal) value = Err refusal
 
-abbrev pub checked : List Check → Reply → Answer
-checked checks reply = by_check (first_refusal checks) reply
+-- the value where no check refuses, or the refusal of the first that does; of a row, what the step makes
+abbrev pub given : {A : Type 0} → List Check → A → Result A LogRefusal
+given checks value = given_by (first_refusal checks) value
 
 -- The row answers with what is sent and with the log as it is behind the step. After an error the log is as it was, and it
 -- is the row's refusal, or want of memory.
@@ -27,14 +30,9 @@ abbrev pub IsStep : Result Unsigned LogRefusal → CoreState → CoreState → A
 IsStep (Ok unsigned) before after answer = answer ≡ Ok (record { unsigned = unsigned; after = after })
 IsStep (Err refusal) before after answer = (after ≡ before) × ((refusal ≡ refusals.Memory) ⊎ (answer ≡ Err refusal))
 
--- the value where a check holds, or its refusal
-abbrev pub given_by : {A : Type 0} → Check → A → Result A LogRefusal
-given_by (Ok _) value = Ok value
-given_by (Err refusal) value = Err refusal
-
--- the value where no check refuses, or the refusal of the first that does
-abbrev pub given : {A : Type 0} → List Check → A → Result A LogRefusal
-given checks value = given_by (first_refusal checks) value
+-- the epoch that ends, with the root with which it is decided, if it is, unless it is the last that a statement can name
+abbrev pub ended_epoch : LogState → Option (List ℕ) → Option (ℕ × Option (List ℕ))
+ended_epoch s root = if may_end s.past then Some (epoch_of s, root) else None
 
 -- the refusal of a key that is not learnt
 abbrev pub learn_refusal : LearnFault → Party → ℕ → LogRefusal

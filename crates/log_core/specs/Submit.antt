@@ -8,7 +8,7 @@ use Rattle.domain_table.specs.Applying.{judge}
 use Rattle.epoch_log.specs.Calls.{after_endorsed}
 use Rattle.epoch_log.specs.State.{epoch_of, table_of}
 use Rattle.log_sending.specs.Checks.{Check, has_place}
-use Rattle.log_core.specs.Steps.{checked, given}
+use Rattle.log_core.specs.Steps.{given}
 use Rattle.log_sending.specs.Signers.{endorsements_in, signers}
 use Rattle.log_core.specs.State.{Answer, CoreState, Reply}
 use Rattle.log_sending.specs.Queued.{is_queued}
@@ -42,7 +42,7 @@ abbrev pub submit_reply : CoreState → Change → Reply
 submit_reply s change = record { unsigned = nothing; after = if is_queued s.queue change then s else queueing s change }
 
 unfoldable pub submit_row : CoreState → Change → Answer
-submit_row s change = checked (submit_checks s change) (submit_reply s change)
+submit_row s change = given (submit_checks s change) (submit_reply s change)
 
 -- what a step is to do, where no check refuses: whether an equal change is queued, so that nothing is to be done
 unfoldable pub submit_judged : CoreState → Change → Result Bool LogRefusal

@@ -16,17 +16,13 @@ ghost use Rattle.log_sending.specs.declared.refusal.LogRefusal.TheVariants as re
 use crate::LogRefusal;
 use crate::log_core::LogCore;
 use ar_message::{Address, Confirming, Message, Signature, Unsigned};
-use ar_names::{Name, NameView};
+use ar_names::Name;
 use ar_statement::{Role, Statement};
-use domain_table::Table;
 use epoch_log::{EpochLog, Newest, confirm_statement, newest_digest};
 use key_roll::forgo;
-use log_sending::{
-    Drafts, OwnPlace, Ready, body_of, book_refusal, known, own_votes, sent_votes, written,
-};
+use log_sending::{Drafts, OwnPlace, Ready, body_of, book_refusal, known, own_votes, sent_votes};
 use std::alloc::{AllocError, Global};
 use std::marker::Model;
-use vote_quorum::Value;
 
 /// What a client asks: to confirm a name, by two authorities of the client's choice.
 #[derive(Drop)]
@@ -112,7 +108,7 @@ impl LogCore {
         ensures { IfOk result (λ bytes. bytes.items ≡ message_text (LogConfirmed (confirming_of self.now newest.now asked.now))) }
     {
         let part = self.confirming(alloc, newest, asked)?;
-        written(alloc, &Message::LogConfirmed { part })
+        Message::LogConfirmed { part }.text(alloc)
     }
 
     /// Where the log's own signatures are due, in a message of so many bytes.
@@ -126,10 +122,7 @@ impl LogCore {
         requires { length (flat_map vote_text (sent_votes self.now.signature_len newest.now.votes)) + (self.now.signature_len + 8) ≤ len }
         ensures { IfOk result (λ own. own.items ≡ confirmed_places self.now newest.now name.now len) }
     {
-        let value = Value {
-            base: newest.base,
-            root: newest.root,
-        };
+        let value = newest.value();
         let mut own = own_votes(
             alloc,
             self.signature_len,

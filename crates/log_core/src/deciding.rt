@@ -7,18 +7,18 @@ ghost use Rattle.ar_message.specs.Lists.{AreChanges, AreVotes};
 ghost use Rattle.epoch_log.specs.Telling.{votes_in};
 ghost use Rattle.log_sending.specs.Checks.{first_refusal};
 ghost use Rattle.log_sending.specs.Closings.{still_wanted};
-ghost use Rattle.log_core.specs.Decided.{decided_epoch, decision_checks, decision_row, decision_signers, plain_votes};
+ghost use Rattle.log_core.specs.Decided.{decision_checks, decision_row, decision_signers, plain_votes};
 ghost use Rattle.log_sending.specs.Signers.{signers};
 ghost use Rattle.log_core.specs.Steps.{IsStep};
 ghost use Rattle.log_sending.specs.declared.refusal.LogRefusal.TheVariants as refusals;
 
 use crate::LogRefusal;
-use crate::log_core::LogCore;
+use crate::log_core::{LogCore, ended_epoch};
 use ar_base::Items;
 use ar_cert::Change;
 use ar_council::value_told;
 use ar_message::{Unsigned, Vote};
-use epoch_log::{EpochLog, LAST_EPOCH};
+use epoch_log::EpochLog;
 use log_sending::{Signers, enough, in_epoch, keep_wanted, leads};
 use std::alloc::{AllocError, Global};
 use vote_quorum::Value;
@@ -32,18 +32,6 @@ fn plain_votes(alloc: Global, votes: Items<Vote>) -> Result<Vec<(u16, Vec<u8>)>,
         list.push((vote.log, vote.signature.bytes))?;
     }
     Ok(list)
-}
-
-/// The epoch that ends with a root, unless it is the last.
-fn decided_epoch(log: &EpochLog, root: [u8; 32]) -> Option<(u64, Option<[u8; 32]>)>
-    ensures { result ≡ decided_epoch log.now.state root }
-{
-    let epoch = log.epoch();
-    if epoch < LAST_EPOCH {
-        Some((epoch, Some(root)))
-    } else {
-        None
-    }
 }
 
 /// Keeps of the queue what is still wanted, where the epoch ended.
@@ -115,7 +103,7 @@ impl LogCore {
             Err(refusal) => return Err(refusal),
         }
         let votes = plain_votes(alloc, votes)?;
-        let decided = decided_epoch(&self.log, value.root);
+        let decided = ended_epoch(&self.log, Some(value.root));
         self.log.decide(alloc, changes, value.root, votes)?;
         keep_if(decided.is_some(), &self.log, &mut self.queue);
         Ok(Unsigned::ended(alloc, decided))

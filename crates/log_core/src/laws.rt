@@ -1,5 +1,5 @@
 //! Laws on the rows, over the definitions alone: each is the contract of a function with an empty body.
-ghost use Rattle.std.specs.Prelude.{◌≡◌, ◌≤◌, ◌<◌, ◌^◌, ◌++◌, ◌∷◌, List, ℕ, All, Some, Ok, Err, length, filter, flat_map, not};
+ghost use Rattle.std.specs.Prelude.{◌≡◌, ◌≤◌, ◌++◌, ◌∷◌, List, ℕ, All, Some, Ok, Err, length, filter, flat_map, not};
 ghost use Rattle.key_roll.specs.Ring.{AreKeysOf};
 ghost use Rattle.ar_cert.specs.Changes.{Change, IsChange};
 ghost use Rattle.party_keys.specs.Signers.{Claimed};
@@ -13,7 +13,7 @@ ghost use Rattle.domain_table.specs.Tree.{root_of};
 ghost use Rattle.epoch_log.specs.State.{epoch_of, table_of};
 ghost use Rattle.log_sending.specs.Blanks.{IsZero};
 ghost use Rattle.log_sending.specs.Checks.{Check};
-ghost use Rattle.log_core.specs.Steps.{checked};
+ghost use Rattle.log_core.specs.Steps.{given};
 ghost use Rattle.log_core.specs.Kept.{IsKeptCore};
 ghost use Rattle.log_core.specs.Rolling.{rolling_row};
 ghost use Rattle.log_core.specs.Row.{IsInput, row};
@@ -30,8 +30,8 @@ ghost use Rattle.log_sending.specs.declared.refusal.LogRefusal.{LogRefusal};
 /// step makes.
 pub fn the_first_refusal_is_the_answer()
     ensures refused { (holding behind : List Check) (refusal : LogRefusal) (reply : Reply) → All (λ c. c ≡ Ok tt) holding
-        → checked (holding ++ Err refusal ∷ behind) reply ≡ Err refusal }
-    ensures made { (checks : List Check) (reply : Reply) → All (λ c. c ≡ Ok tt) checks → checked checks reply ≡ Ok reply }
+        → given (holding ++ Err refusal ∷ behind) reply ≡ Err refusal }
+    ensures made { (checks : List Check) (reply : Reply) → All (λ c. c ≡ Ok tt) checks → given checks reply ≡ Ok reply }
 {}
 
 /// What a log proposes are changes of its queue, in their order, that its table takes one behind the other, from its root

@@ -6,13 +6,13 @@ ghost use Rattle.epoch_log.specs.Log.{record_of};
 ghost use Rattle.epoch_log.specs.State.{epoch_of};
 ghost use Rattle.log_core.specs.Kept.{IsKeptCore};
 ghost use Rattle.log_core.specs.Learning.{roll_note_row};
-ghost use Rattle.log_core.specs.Steps.{IsStep, learn_refusal, noted};
+ghost use Rattle.log_core.specs.Steps.{IsStep, ended_epoch, learn_refusal, noted};
 
 use crate::LogRefusal;
 use ar_cert::Change;
 use ar_message::Unsigned;
 use ar_statement::Party;
-use epoch_log::{EpochLog, Record};
+use epoch_log::{EpochLog, LAST_EPOCH, Record};
 use lms_tree::LmsPublic;
 use party_keys::{Directory, LearnFault, Learned};
 use std::alloc::Global;
@@ -41,6 +41,18 @@ impl Model for LogCore {
     ghost view = { λ c. record { log = c.log.state; keys = c.log.keys; queue = c.queue.items; signature_len = c.signature_len } };
 
     ghost invariant = { λ c. IsKeptCore (record { log = c.log.state; keys = c.log.keys; queue = c.queue.items; signature_len = c.signature_len }) };
+}
+
+/// The epoch that ends, with the root with which it is decided, if it is, unless it is the last.
+pub(crate) fn ended_epoch(log: &EpochLog, root: Option<[u8; 32]>) -> Option<(u64, Option<[u8; 32]>)>
+    ensures { result ≡ ended_epoch log.now.state root }
+{
+    let epoch = log.epoch();
+    if epoch < LAST_EPOCH {
+        Some((epoch, root))
+    } else {
+        None
+    }
 }
 
 /// Why a key is not learnt, as a refusal.

@@ -1,6 +1,6 @@
 //! The row of the order to propose: the log proposes what it walked over, and counts its own vote at once.
 
-ghost use Rattle.std.specs.Prelude.{◌≡◌, ◌∷◌, [], ◌<◌, ◌^◌, Ok, IfOk, OnOk};
+ghost use Rattle.std.specs.Prelude.{◌≡◌, ◌∷◌, ◌<◌, ◌^◌, Ok, IfOk, OnOk};
 ghost use Rattle.ar_base.specs.Gives.{GivesUnless};
 ghost use Rattle.ar_message.specs.Lists.{AreChanges};
 ghost use Rattle.ar_message.specs.declared.address.Address.TheVariants.{Logs};
@@ -20,7 +20,7 @@ use crate::log_core::LogCore;
 use ar_cert::Change;
 use ar_council::{propose_statement, vote_statement};
 use ar_message::{Address, Changes, Message, Signature, Unsigned};
-use epoch_log::copies;
+use domain_table::copy_changes;
 use key_roll::forgo;
 use log_sending::{
     Drafts, Ready, Walked, add_closing, close, in_turn, leaves_left, not_stated, not_voted, walk,
@@ -43,7 +43,7 @@ fn proposal_message(
 {
     let signature = Signature::zeros(alloc, signature_len)?;
     let changes = Changes {
-        list: copies(alloc, changes)?,
+        list: copy_changes(alloc, changes)?,
     };
     Ok(Message::Propose {
         log,

@@ -1,7 +1,6 @@
 //! The row of the order to roll: the log goes on to its next key.
 
 ghost use Rattle.std.specs.Prelude.{◌≡◌, Err, IfOk};
-ghost use Rattle.key_roll.specs.declared.fault.RollFault.TheVariants as roll_fault;
 ghost use Rattle.log_core.specs.Rolling.{roll_draft, rolling_row};
 ghost use Rattle.log_sending.specs.Sending.{none_composed, with_draft};
 ghost use Rattle.log_core.specs.Steps.{IsStep, roll_refusal};

@@ -7,16 +7,15 @@ ghost use Rattle.epoch_log.specs.State.{reports_of};
 ghost use Rattle.epoch_log.specs.Telling as telling;
 ghost use Rattle.log_sending.specs.Checks.{none_can_win};
 ghost use Rattle.log_sending.specs.Signers.{signers, statuses_in};
-ghost use Rattle.log_core.specs.Skipped.{signed_statuses, skip_judged, skip_row, skipped_epoch};
+ghost use Rattle.log_core.specs.Skipped.{signed_statuses, skip_judged, skip_row};
 ghost use Rattle.log_core.specs.Steps.{IsStep};
 ghost use Rattle.log_sending.specs.declared.refusal.LogRefusal.TheVariants as refusals;
 ghost use Rattle.vote_quorum.specs.Statuses.{AreStatuses};
 
 use crate::LogRefusal;
-use crate::log_core::LogCore;
+use crate::log_core::{LogCore, ended_epoch};
 use ar_message::{LogStatus, Statuses, Unsigned};
-use epoch_log::{EpochLog, LAST_EPOCH};
-use log_sending::{Signers, in_epoch, status_value};
+use log_sending::{Signers, in_epoch, value_of_roots};
 use party_keys::Directory;
 use std::alloc::{AllocError, Global};
 use vote_quorum::{Value, excluded};
@@ -44,7 +43,7 @@ fn reports_of(
 {
     let mut list = Vec::new(alloc);
     for status in statuses {
-        list.push((status.log, status_value(status)))?;
+        list.push((status.log, value_of_roots(status.value)))?;
     }
     Ok(list)
 }
@@ -59,7 +58,7 @@ fn signed_statuses(
     let mut list = Vec::new(alloc);
     for status in statuses {
         let signature = Vec::from_slice(alloc, status.signature.as_slice())?;
-        list.push((status.log, status_value(status), signature))?;
+        list.push((status.log, value_of_roots(status.value), signature))?;
     }
     Ok(list)
 }
@@ -72,18 +71,6 @@ fn none_can_win(directory: &Directory, statuses: &[(u16, Option<Value>)]) -> Res
     match excluded(directory.logs(), directory.quorum(), statuses) {
         Ok(()) => Ok(()),
         Err((root, count)) => Err(LogRefusal::CouldBeDecided(root, count)),
-    }
-}
-
-/// The epoch that ends as skipped, unless it is the last.
-fn skipped_epoch(log: &EpochLog) -> Option<(u64, Option<[u8; 32]>)>
-    ensures { result ≡ skipped_epoch log.now.state }
-{
-    let epoch = log.epoch();
-    if epoch < LAST_EPOCH {
-        Some((epoch, None))
-    } else {
-        None
     }
 }
 
@@ -115,7 +102,7 @@ impl LogCore {
             Err(refusal) => return Err(refusal),
         }
         let signed = signed_statuses(alloc, statuses.list.as_slice())?;
-        let skipped = skipped_epoch(&self.log);
+        let skipped = ended_epoch(&self.log, None);
         self.log.skip(alloc, signed)?;
         Ok(Unsigned::ended(alloc, skipped))
     }

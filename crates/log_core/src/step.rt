@@ -1,9 +1,6 @@
 //! A step of a log: what it is asked goes to its row.
 
-ghost use Rattle.std.specs.Prelude.{◌≡◌};
-ghost use Rattle.std.specs.Option.{option_map};
 ghost use Rattle.ar_base.specs.Gives.{GivesUnless, with_error};
-ghost use Rattle.ar_council.specs.Values.{value_of_roots};
 ghost use Rattle.ar_message.specs.Messages.{message_in};
 ghost use Rattle.log_core.specs.Inputs.{input_of};
 ghost use Rattle.log_core.specs.Row.{message_row, other_row, read_row, row};
@@ -15,6 +12,7 @@ use crate::log_core::LogCore;
 use ar_base::Items;
 use ar_message::{Message, MessageFault, Unsigned};
 use lms_tree::LmsPublic;
+use log_sending::value_of_roots;
 use std::alloc::Global;
 use vote_quorum::Value;
 
@@ -29,14 +27,6 @@ pub enum LogInput<'a> {
     Pass,
     /// To go on to this key, which is the next one of the log's own.
     Roll(&'a LmsPublic),
-}
-
-/// What a log voted for, by the base and the root that stand in a message.
-fn value_of(roots: Option<([u8; 32], [u8; 32])>) -> Option<Value>
-    ensures { result ≡ option_map value_of_roots roots }
-{
-    let (base, root) = roots?;
-    Some(Value { base, root })
 }
 
 /// The message with this text.
@@ -119,7 +109,7 @@ impl LogCore {
                 epoch,
                 value,
                 signature,
-            } => self.status_note(alloc, log, epoch, value_of(value), &signature),
+            } => self.status_note(alloc, log, epoch, value_of_roots(value), &signature),
             message => self.take_other(alloc, message),
         }
     }

@@ -1,5 +1,5 @@
 -- What a log may have to send fits into messages, also behind each step.
-use Rattle.std.proofs.Common.{◌≡◌, ◌≢◌, ℕ, suc, ◌+◌, ◌^◌, ◌<◌, ◌≤◌, ◌%◌, List, [], ◌∷◌, length, refl, sym, ap, ◌∙◌, subst, arith, Bool, true, false, cond, nat_le, nat_lt, ◌==◌, ◌&&◌, ◌||◌, Option, Some, None}
+use Rattle.std.proofs.Common.{◌≡◌, ◌≢◌, ℕ, ◌+◌, ◌^◌, ◌<◌, ◌≤◌, ◌%◌, List, [], ◌∷◌, length, refl, sym, ap, ◌∙◌, subst, arith, Bool, true, false, cond, nat_le, nat_lt, ◌==◌, ◌&&◌, ◌||◌, Option, Some, None}
 use Rattle.std.specs.Prelude.{IfSome, filter, map, unwrap_or}
 use Rattle.std.specs.List.{AllByRecursion, list_any}
 use Rattle.std.specs.Option.{option_map}
@@ -9,7 +9,6 @@ use Rattle.std.proofs.lemmas.List.Elements.{All-contains, All-push}
 use Rattle.ar_bytes.specs.Ascending.{Ascend}
 use Rattle.ar_cert.specs.Changes.{Change, IsSignature}
 use Rattle.ar_message.specs.Lists.{AreChanges, AreStatuses, AreVotes, IsStatus, IsVote}
-use Rattle.ar_message.specs.declared.lists.Vote.{Vote}
 use Rattle.ar_message.specs.Filling.{zeros}
 use Rattle.ar_statement.specs.declared.text.SeenText.{SeenText}
 use Rattle.ar_statement.specs.Ranges.{AreRoots}
@@ -21,7 +20,7 @@ use Rattle.ar_council.proofs.Lists.{find-some}
 use Rattle.ar_council.specs.Seen.{seen_of}
 use Rattle.ar_council.specs.Values.{IsValue, roots_of, status_claim, vote_claim}
 use Rattle.epoch_log.proofs.Acting.{own-value}
-use Rattle.epoch_log.specs.Calls.{SignedStatus, after_ballot, after_confirm, after_decide, after_propose, after_roll, after_skip, after_state, after_status_seen, casting, counting_own, counting_status, counting_vote, decision_seen, is_turn, own_value, placed, proposing, seeing, stating, statuses_seen, vote_of, with_status, with_vote}
+use Rattle.epoch_log.specs.Calls.{SignedStatus, after_ballot, after_confirm, after_propose, after_roll, after_skip, after_state, after_status_seen, casting, counting_own, counting_status, counting_vote, is_turn, own_value, placed, proposing, seeing, stating, statuses_seen, vote_of, with_status, with_vote}
 use Rattle.epoch_log.specs.Ending.{closed, closed_by, closed_by_statuses, decided, excludes_all, has_quorum, may_end, own_vote, skipped, votes_for}
 use Rattle.epoch_log.specs.Foreseeing.{IsForeseen}
 use Rattle.epoch_log.specs.State.{CountedStatus, CountedVote, IsKept, LogState, ballots_of, epoch_of, reports_of}

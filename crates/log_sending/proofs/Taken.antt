@@ -1,15 +1,14 @@
 -- What a walk over the queue takes.
-use Rattle.std.proofs.Common.{◌≡◌, ℕ, zero, suc, ◌+◌, ◌-◌, ◌≤◌, List, [], ◌∷◌, length, refl, sym, ap, ◌∙◌, arith, Bool, true, false, cond, eqb, nat_le, Some}
-use Rattle.std.specs.Prelude.{Result, Ok, Err, option_and_then, unwrap_or}
+use Rattle.std.proofs.Common.{◌≡◌, ℕ, zero, suc, ◌+◌, ◌-◌, ◌≤◌, List, [], ◌∷◌, length, refl, ap, ◌∙◌, arith, Bool, true, false, cond, eqb, nat_le, Some}
+use Rattle.std.specs.Prelude.{Result, Ok, Err, option_and_then}
 use Rattle.std.specs.List.{AllByRecursion}
 use Rattle.std.proofs.lemmas.Bool.{leb-true}
 use Rattle.std.proofs.lemmas.List.Sums.{sum_by-cons}
 use Rattle.cert_policy.specs.declared.manner.Manner.{Manner}
 use Rattle.ar_cert.specs.Changes.{Change, change_text}
 use Rattle.domain_table.specs.declared.refusal.ChangeRefusal.{ChangeRefusal}
-use Rattle.domain_table.specs.Applying.{after_answer, apply, apply_each, judge_ripe, ripen, taken}
+use Rattle.domain_table.specs.Applying.{after_answer, apply_each, judge_ripe, taken}
 use Rattle.domain_table.specs.Tables.{Table}
-use Rattle.domain_table.specs.Tree.{root_of}
 use Rattle.log_sending.specs.Walk.{StandIn, bytes_of, taken_first, walk}
 
 -- ---- it applies

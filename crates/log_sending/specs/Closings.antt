@@ -1,5 +1,5 @@
 -- What follows where an epoch ends: the queue that is kept, the messages that tell it, and the epoch that ended.
-use Rattle.std.specs.Prelude.{ℕ, List, [], ◌∷◌, ◌++◌, filter, length, Option, Some, None}
+use Rattle.std.specs.Prelude.{ℕ, List, [], ◌∷◌, filter, length, Option, Some, None}
 use Rattle.std.specs.Result.{is_ok}
 use Rattle.ar_cert.specs.Changes.{Change}
 use Rattle.ar_message.specs.Messages.{message_text}

@@ -1,7 +1,7 @@
 //! What follows where a step ends the epoch: what tells it to all logs, which is composed before the step, and what the log
 //! keeps of its queue behind it.
 
-ghost use Rattle.std.specs.Prelude.{◌≡◌, ◌<◌, ◌^◌, Result, filter, IfOk, OnOk};
+ghost use Rattle.std.specs.Prelude.{◌≡◌, ◌<◌, Result, filter, IfOk, OnOk};
 ghost use Rattle.std.specs.Result.{is_ok};
 ghost use Rattle.ar_message.specs.Lists.{AreChanges, AreStatuses, AreVotes};
 ghost use Rattle.ar_message.specs.Messages.{message_text};
@@ -18,14 +18,13 @@ ghost use Rattle.log_sending.specs.Sendable.{CanBeTold};
 ghost use Rattle.log_sending.specs.Sending.{sealed, sent_statuses, sent_votes, with_draft, with_drafts};
 
 use crate::own_places::{CountedStatus, own_statuses, own_votes, sent_statuses, sent_votes};
-use crate::sending::{Drafts, Ready, written};
+use crate::sending::{Drafts, Ready};
 use ar_base::Items;
 use ar_cert::Change;
 use ar_message::{Address, Changes, Message, Unsigned, Votes};
 use domain_table::{ChangeRefusal, Table};
 use epoch_log::{Closing, EpochLog, Foreseen, Newest};
 use std::alloc::{AllocError, Global};
-use vote_quorum::Value;
 
 // ---- before the step
 
@@ -57,7 +56,7 @@ fn decision_bytes(
     ensures { IfOk result (λ bytes. bytes.items ≡ message_text (decision_of len newest.now changes)) }
 {
     match sent_votes(alloc, len, newest.votes.as_slice()) {
-        Ok(votes) => written(alloc, &decision(changes, newest, votes)),
+        Ok(votes) => decision(changes, newest, votes).text(alloc),
         Err(error) => Err(error),
     }
 }
@@ -76,10 +75,7 @@ fn add_decision(
     ensures { OnOk result (drafts.new ≡ with_draft drafts.old (decision_draft len (own_vote_text log.now.state (newest_value newest.now)) newest.now changes)) }
 {
     let bytes = decision_bytes(alloc, len, changes, newest)?;
-    let value = Value {
-        base: newest.base,
-        root: newest.root,
-    };
+    let value = newest.value();
     let own = own_votes(
         alloc,
         len,
@@ -103,7 +99,7 @@ fn skip_bytes(
     ensures { IfOk result (λ bytes. bytes.items ≡ message_text (skip_of len epoch statuses.now)) }
 {
     match sent_statuses(alloc, len, statuses) {
-        Ok(statuses) => written(alloc, &Message::SkipNote { epoch, statuses }),
+        Ok(statuses) => Message::SkipNote { epoch, statuses }.text(alloc),
         Err(error) => Err(error),
     }
 }

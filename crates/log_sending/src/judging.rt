@@ -1,6 +1,6 @@
 //! What is checked of a proposal and of a decision: where their changes lead.
 
-ghost use Rattle.std.specs.Prelude.{◌≡◌, ◌+◌, ◌^◌, ◌≤◌, All, length};
+ghost use Rattle.std.specs.Prelude.{◌+◌, ◌^◌, ◌≤◌, All, length};
 ghost use Rattle.ar_base.specs.Gives.{GivesUnless};
 ghost use Rattle.ar_cert.specs.Changes.{IsChange};
 ghost use Rattle.domain_table.specs.Applying.{judge, ripen};

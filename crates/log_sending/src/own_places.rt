@@ -2,7 +2,7 @@
 //! due. Each signature is the end of its entry, and the list is the end of its message, or stands in front of a part that
 //! is not counted here.
 
-ghost use Rattle.std.specs.Prelude.{◌≡◌, ◌+◌, ◌≤◌, ◌<◌, ◌^◌, ◌++◌, Bool, is_none, length, unwrap_or, flat_map, IfOk, OnOk};
+ghost use Rattle.std.specs.Prelude.{◌≡◌, ◌+◌, ◌≤◌, ◌<◌, ◌^◌, ◌++◌, is_none, length, unwrap_or, flat_map, IfOk, OnOk};
 ghost use Rattle.std.specs.List.{AllByRecursion};
 ghost use Rattle.std.specs.Option.{option_map};
 ghost use Rattle.ar_bytes.specs.Joined.{optional_text};

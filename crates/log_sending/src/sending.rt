@@ -1,12 +1,12 @@
 //! What a step sends, while it is composed: first the messages and the places where signatures are due, for which memory is
 //! taken, and behind the step the leaves of these signatures.
 
-ghost use Rattle.std.specs.Prelude.{◌≡◌, ◌+◌, ◌≤◌, ◌++◌, ◌∷◌, [], length, map, OnOk, OnErr, IfOk, vec_len, vec_capacity};
+ghost use Rattle.std.specs.Prelude.{◌≡◌, ◌+◌, ◌≤◌, ◌++◌, ◌∷◌, [], length, map, OnOk, IfOk, vec_len, vec_capacity};
 ghost use Rattle.ar_message.specs.Messages.{message_text};
 ghost use Rattle.ar_message.specs.declared.message.Message.{Message};
 ghost use Rattle.ar_statement.specs.Claims.{claim_of, text_of};
 ghost use Rattle.key_roll.specs.Entry.{due_of};
-ghost use Rattle.log_sending.specs.Sending.{blanks_by, blanks_in, draft_with, none_composed, sealed, with_draft};
+ghost use Rattle.log_sending.specs.Sending.{blanks_in, draft_with, none_composed, sealed, with_draft};
 
 use ar_base::Items;
 use ar_message::{Address, Blank, Message, Outgoing, Sent, Unsigned};
@@ -101,15 +101,6 @@ impl<'a> Model for Ready<'a> {
     ghost invariant = { λ r. (r.blanks.items ≡ []) × (length r.drafts.places ≤ vec_capacity r.blanks) };
 }
 
-/// The bytes of a message, with zero bytes in place of the log's own signatures.
-pub fn written(alloc: Global, message: &Message) -> Result<Vec<u8>, AllocError>
-    ensures { IfOk result (λ bytes. bytes.items ≡ message_text message.now) }
-{
-    let mut bytes = Vec::new(alloc);
-    message.write(alloc, &mut bytes)?;
-    Ok(bytes)
-}
-
 impl<'a> Drafts<'a> {
     /// None yet.
     pub fn new(alloc: Global) -> Drafts<'a>
@@ -134,7 +125,7 @@ impl<'a> Drafts<'a> {
         requires { signature_len + behind ≤ 4194304 }
         ensures { OnOk result (self.new ≡ with_draft self.old (draft_with to message.now signature_len behind (text_of (claim_of statement.entry)))) }
     {
-        let bytes = written(alloc, message)?;
+        let bytes = message.text(alloc)?;
         let at = bytes.len().saturating_sub(signature_len + behind);
         let own = vec![in alloc; OwnPlace { at, statement }]?;
         self.add_written(to, bytes, own)

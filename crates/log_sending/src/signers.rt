@@ -1,10 +1,11 @@
 //! Whose signatures stand in a message, in the order in which they are verified.
 
 ghost use Rattle.std.specs.Prelude.{◌≡◌, ◌++◌, ◌∷◌, [], Err, map, flat_map, OnOk};
+ghost use Rattle.std.specs.Option.{option_map};
 ghost use Rattle.ar_council.specs.Values.{value_of_roots};
 ghost use Rattle.ar_statement.specs.Claims.{claim_of, endorse, signer_of};
 ghost use Rattle.party_keys.specs.Seen.{authority_party};
-ghost use Rattle.log_sending.specs.Signers.{by_signers, endorsements_in, known, signed_by, signers, status_value, statuses_in, votes_in};
+ghost use Rattle.log_sending.specs.Signers.{by_signers, endorsements_in, known, signed_by, signers, statuses_in, votes_in};
 ghost use Rattle.log_sending.specs.Queued.{unqueued};
 
 use crate::LogRefusal;
@@ -48,17 +49,12 @@ fn refusal(fault: SignerFault) -> LogRefusal
     }
 }
 
-/// What a status says that its log voted for.
-pub fn status_value(status: &LogStatus) -> Option<Value>
-    ensures { result ≡ status_value status.now }
+/// What a log voted for, by the base and the root that stand in a message.
+pub fn value_of_roots(roots: Option<([u8; 32], [u8; 32])>) -> Option<Value>
+    ensures { result ≡ option_map value_of_roots roots }
 {
-    match &status.value {
-        Some(roots) => {
-            let (base, root) = *roots;
-            Some(Value { base, root })
-        }
-        None => None,
-    }
+    let (base, root) = roots?;
+    Some(Value { base, root })
 }
 
 /// Whether each of these parties is known; else the first that is not.
@@ -185,7 +181,7 @@ impl<'a> Signers<'a> {
         ensures { OnOk result (self.new ≡ self.old ++ statuses_in epoch statuses.now) }
     {
         if let [status, rest @ ..] = statuses {
-            let statement = status_statement(status.log, epoch, &status_value(status));
+            let statement = status_statement(status.log, epoch, &value_of_roots(status.value));
             self.add(&statement, status.signature.as_slice())?;
             self.add_statuses(epoch, rest)?;
         }

@@ -7,8 +7,8 @@ use Rattle.key_roll.specs.Due.{DueParts}
 use Rattle.key_roll.specs.Entry.{entered}
 use Rattle.key_roll.specs.declared.fault.BookFault.TheVariants as book_fault
 use Rattle.key_roll.specs.Rolls.{is_roll}
-use Rattle.epoch_log.specs.Answers.{confirming}
-use Rattle.epoch_log.specs.Calls.{confirmation_claim}
+use Rattle.epoch_log.specs.Told.{confirmation_claim}
+use Rattle.epoch_log.specs.Calls.{confirming}
 use Rattle.epoch_log.specs.Log.{moved, parts_of, state_in}
 use Rattle.epoch_log.specs.Right.{newest_digest}
 use Rattle.epoch_log.specs.declared.entries.Confirmed.{Confirmed}

@@ -2,9 +2,9 @@ use Rattle.std.proofs.Common.{◌≡◌, ap, subst, sym, ◌∙◌, ℕ, List, N
 use Rattle.std.specs.Prelude.{All}
 use Rattle.ar_cert.specs.Changes.{Change}
 use Rattle.domain_table.specs.Tables.{Table}
-use Rattle.epoch_log.specs.Calls.{casting, proposing, vote_of, with_vote}
+use Rattle.epoch_log.specs.Calls.{casting, proposing, vote_of, with_ballot, with_vote}
 use Rattle.epoch_log.specs.Log.{LogParts, moved, parts_of, state_in}
-use Rattle.epoch_log.specs.Plans.{IsPlan, IsPlanIn, with_ballot}
+use Rattle.epoch_log.specs.Plans.{IsPlan, IsPlanIn}
 use Rattle.epoch_log.specs.Right.{SawEndorsements}
 use Rattle.epoch_log.specs.State.{LogState, ballots_of, epoch_of, reports_of}
 use Rattle.epoch_log.specs.declared.entries.Voted.{Voted}

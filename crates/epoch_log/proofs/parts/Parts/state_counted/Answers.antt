@@ -3,10 +3,9 @@ use Rattle.ar_council.specs.Room.{HasRoom}
 use Rattle.key_roll.specs.Entry.{entered}
 use Rattle.vote_quorum.specs.declared.value.Value.{Value}
 use Rattle.epoch_log.specs.Answers.{beside}
-use Rattle.epoch_log.specs.Calls.{own_status_text, own_value, stating}
+use Rattle.epoch_log.specs.Calls.{own_status_text, own_value, stating, with_report}
 use Rattle.epoch_log.specs.Ending.{closed}
 use Rattle.epoch_log.specs.Log.{LogParts, moved, parts_of, state_in}
-use Rattle.epoch_log.specs.Plans.{with_report}
 use Rattle.epoch_log.specs.State.{LogState}
 use Rattle.epoch_log.specs.declared.entries.Closing.{Closing}
 use Rattle.epoch_log.proofs.parts.Parts.state_counted.Goals as goal

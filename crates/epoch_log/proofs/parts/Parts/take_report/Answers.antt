@@ -1,6 +1,6 @@
 use Rattle.std.proofs.Common.{refl}
 use Rattle.epoch_log.specs.Log.{state_in}
-use Rattle.epoch_log.specs.Plans.{with_report}
+use Rattle.epoch_log.specs.Calls.{with_report}
 use Rattle.epoch_log.proofs.Called.{kept-with_report}
 use Rattle.epoch_log.proofs.Moved.{log-moved}
 use Rattle.epoch_log.proofs.parts.Parts.take_report.Goals as goal

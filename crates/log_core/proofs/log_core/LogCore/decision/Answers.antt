@@ -49,7 +49,7 @@ invariant_of-self-2 c =
     let news : c.decide.new.self ≡ log-decided was d =
     is-decided was d (votes_in c.in_ok-votes.votes.items) c.decide.new.self c.self.invariant c.value_told.ensures are c.requires.votes checked c.in_ok-votes.ensures c.in_ok-decide.ensures.ok in
     let queues : c.keep_if.new.queue.items ≡ queue-if (may_end was.log.past) c.decide.new.self.state was.queue =
-    queue-is was d.value.root c.decide.new.self.state c.keep_if.new.queue.items c.is_some.result c.decided_epoch-decided.result c.is_some.ensures c.decided_epoch-decided.ensures c.keep_if.ensures in
+    queue-is was d.value.root c.decide.new.self.state c.keep_if.new.queue.items c.is_some.result c.ended_epoch-decided.result c.is_some.ensures c.ended_epoch-decided.ensures c.keep_if.ensures in
     decision-keeps was d c.decide.new.self c.keep_if.new.queue.items c.self.invariant c.value_told.ensures are c.requires.votes checked news queues
 
 pub returns : goal.returns
@@ -65,7 +65,7 @@ returns c =
     let news : c.decide.new.self ≡ log-decided was d =
     is-decided was d (votes_in c.in_ok-votes.votes.items) c.decide.new.self c.self.invariant c.value_told.ensures are c.requires.votes checked c.in_ok-votes.ensures c.in_ok-decide.ensures.ok in
     let queues : c.keep_if.new.queue.items ≡ queue-if (may_end was.log.past) c.decide.new.self.state was.queue =
-    queue-is was d.value.root c.decide.new.self.state c.keep_if.new.queue.items c.is_some.result c.decided_epoch-decided.result c.is_some.ensures c.decided_epoch-decided.ensures c.keep_if.ensures in
+    queue-is was d.value.root c.decide.new.self.state c.keep_if.new.queue.items c.is_some.result c.ended_epoch-decided.result c.is_some.ensures c.ended_epoch-decided.ensures c.keep_if.ensures in
     let ends = decision-ends was d c.decide.new.self c.keep_if.new.queue.items c.ended.result checked news queues
-    (c.ended.ensures ∙ ap only_ended c.decided_epoch-decided.ensures) in
+    (c.ended.ensures ∙ ap only_ended c.ended_epoch-decided.ensures) in
     rw (← c.self.view_is) ends

@@ -11,7 +11,7 @@ use Rattle.log_sending.specs.Closings.{closing_drafts}
 use Rattle.log_core.specs.Proposing.{proposal_draft, proposing_judged}
 use Rattle.log_sending.specs.Sending.{Draft, draft_with, none_composed, with_draft, with_drafts}
 use Rattle.log_core.specs.State.{CoreState}
-use Rattle.log_core.proofs.Proposals.{MayPropose, may-propose, propose-told, ready-composed}
+use Rattle.log_core.proofs.Proposals.{may-propose, propose-told, ready-composed}
 use Rattle.log_core.proofs.log_core.LogCore.proposing_drafts.Goals as goal
 
 pub add_proposal-requires-clause-changes : goal.add_proposal-requires-clause-changes

@@ -1,4 +1,4 @@
-use Rattle.std.proofs.Common.{◌≡◌, ◌∙◌, ap, Ok, Err, None, Result, subst, sym}
+use Rattle.std.proofs.Common.{◌≡◌, ◌∙◌, ap, Err, None, Result, subst, sym}
 use Rattle.ar_message.specs.declared.unsigned.Unsigned.{Unsigned}
 use Rattle.lms_tree.specs.declared.public_key.LmsPublic.{LmsPublic}
 use Rattle.log_core.specs.Rolling.{roll_draft, rolling_row}

@@ -34,6 +34,6 @@ returns c =
     let statuses : List LogStatus = c.args.statuses.now in
     let judged : skip_judged was c.args.epoch statuses ≡ Ok tt = subst (λ (s : CoreState). skip_judged s c.args.epoch statuses ≡ Ok tt) (sym c.self.view_is) c.in-Ok.ensures in
     let same : statuses_in c.in_ok-signed.signed.items ≡ signed_statuses statuses = c.in_ok-signed.ensures ∙ ap signed_statuses (c.as_slice.ensures.value ∙ c.statuses.view_is) in
-    let step = skip-done was c.args.epoch statuses (statuses_in c.in_ok-signed.signed.items) c.skipped_epoch-skipped.result c.ended.result c.skip.new.self judged same
-    c.skipped_epoch-skipped.ensures c.ended.ensures c.in_ok-skip.ensures.ok in
+    let step = skip-done was c.args.epoch statuses (statuses_in c.in_ok-signed.signed.items) c.ended_epoch-skipped.result c.ended.result c.skip.new.self judged same
+    c.ended_epoch-skipped.ensures c.ended.ensures c.in_ok-skip.ensures.ok in
     rw (← c.self.view_is) step

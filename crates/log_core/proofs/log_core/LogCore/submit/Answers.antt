@@ -1,5 +1,4 @@
-use Rattle.std.proofs.Common.{◌≡◌, Bool, false, true, ap, ◌∙◌, Ok, Result}
-use Rattle.log_core.specs.Submit.{submit_judged}
+use Rattle.std.proofs.Common.{Bool, false, true, ap, ◌∙◌, Ok, Result}
 use Rattle.log_sending.specs.declared.refusal.LogRefusal.{LogRefusal}
 use Rattle.log_core.proofs.Submitted.{submit-made, submit-refused}
 use Rattle.log_core.proofs.log_core.LogCore.submit.Goals as goal

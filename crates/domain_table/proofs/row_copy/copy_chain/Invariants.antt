@@ -1,6 +1,0 @@
-use Rattle.std.proofs.Common.{◌≡◌, take}
-use Rattle.domain_table.proofs.row_copy.copy_chain.Given as goal
-
--- the changes so far
-abbrev pub invariant-loop-change : goal.invariant-loop-change
-invariant-loop-change l = l.copies.items ≡ take l.change-index l.chain
