@@ -6,6 +6,8 @@
 //! `arpki_ask`.
 #![tactic(auto)]
 
+ghost use Rattle.std.specs.Prelude.{◌<◌, IfOk};
+
 use ar_io::{Sink, Source, StdSink, StdSource, words};
 use ar_run::{Fault, run, status, write_line};
 use arpki_ask::Command;
@@ -32,7 +34,9 @@ fn answer<S: Source, K: Sink>(
     words: &[String],
     source: &mut S,
     sink: &mut K,
-) -> Result<u8, Fault> {
+) -> Result<u8, Fault>
+    ensures { IfOk result (λ status. status < 4) }
+{
     let Some(command) = asked(words) else {
         write_line(sink, USAGE)?;
         return Ok(2);
