@@ -1,9 +1,10 @@
--- The first of a list of tests that fails, and what it says of the conditions that they decide.
-use Rattle.std.proofs.Common.{◌≡◌, inl, inr, ℕ, zero, suc, ◌<◌, Bool, List, [], ◌∷◌, length, get_or, refl, ap, ◌∙◌, arith, true, false, cond, Result, Ok, Err, ◌↔◌}
+-- The first of a list of tests that fails, and what it says of the conditions that they decide; the first error of answers.
+use Rattle.std.proofs.Common.{◌≡◌, inl, inr, ℕ, zero, suc, ◌<◌, Bool, List, [], ◌∷◌, ◌++◌, length, get_or, refl, ap, ◌∙◌, arith, true, false, cond, Result, Ok, Err, ◌↔◌}
 use Rattle.std.specs.Prelude.{All, IsTrue}
 use Rattle.std.specs.List.{AllByRecursion}
+use Rattle.std.specs.Result.{result_and}
 use Rattle.std.proofs.lemmas.List.Elements.{All-from_recursion, recursion_from_All}
-use Rattle.ar_base.specs.FirstFailing.{first_failing, tests_of, AllHold, DecidesEach, FailsFirst}
+use Rattle.ar_base.specs.FirstFailing.{first_error, first_failing, tests_of, AllHold, DecidesEach, FailsFirst}
 
 -- the place of a test that fails, and all before it hold
 abbrev pub FailsAtPlace : {E : Type 0} → List (E × Bool) → E → Type 0
@@ -78,3 +79,28 @@ condition_fails {C} {E} name_of Holds test d (c ∷ cs) name =
       failing : test c ≡ false → FailsFirst name_of Holds (c ∷ cs) name → err (name_of c) ≡ err name
       failing e (inl first) = ap err first.0
       failing e (inr later) = let t : test c ≡ true = (d c).1 later.0 in absurd cc
+
+-- ---- answers
+
+-- each of answers is good where none is an error
+pub all-good : {E : Type 0} (answers : List (Result (Unit {0}) E)) → first_error answers ≡ Ok tt → AllByRecursion (λ a. a ≡ Ok tt) answers
+all-good [] is = tt
+all-good (Ok u ∷ answers) is = (refl, all-good answers is)
+all-good (Err error ∷ answers) is = absurd cc
+
+-- and none is an error where each is good
+pub none-bad : {E : Type 0} (answers : List (Result (Unit {0}) E)) → AllByRecursion (λ a. a ≡ Ok tt) answers → first_error answers ≡ Ok tt
+none-bad [] all = refl
+none-bad (Ok u ∷ answers) all = none-bad answers all.1
+none-bad (Err error ∷ answers) all = let bad = all.0 in absurd cc
+
+-- of answers behind others, the first error of the others comes first
+pub error-append : {E : Type 0} (some behind : List (Result (Unit {0}) E)) → first_error (some ++ behind) ≡ result_and (first_error some) (first_error behind)
+error-append [] behind = refl
+error-append (Ok u ∷ some) behind = error-append some behind
+error-append (Err error ∷ some) behind = refl
+
+-- an error behind good answers is the first
+pub error-behind : {E : Type 0} (good behind : List (Result (Unit {0}) E)) (error : E) → AllByRecursion (λ a. a ≡ Ok tt) good
+    → first_error (good ++ Err error ∷ behind) ≡ Err error
+error-behind good behind error all = error-append good (Err error ∷ behind) ∙ ap (λ a. result_and a (Err error)) (none-bad good all)

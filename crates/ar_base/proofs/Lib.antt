@@ -1,7 +1,10 @@
+pub mod Adding
 pub mod Apart
 pub mod Digests
 pub mod Failing
 pub mod Giving
+pub mod Joined
 pub mod Lists
 pub mod Places
+pub mod Prefixes
 pub mod Shown

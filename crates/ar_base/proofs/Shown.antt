@@ -1,7 +1,7 @@
 -- What an answer shows of the steps that gave it.
 use Rattle.std.proofs.Common.{◌≡◌, Bool, true, false, cond, List, [], ◌∷◌, Option, Some, None, Result, Ok, Err, refl, sym, ap, ◌∙◌}
 use Rattle.std.specs.Prelude.{IfOk, IsNone, find, is_some, option_map}
-use Rattle.std.specs.Option.{option_or}
+use Rattle.std.specs.Option.{ok_or, option_or}
 use Rattle.std.specs.Result.{result_ok}
 use Rattle.std.proofs.lemmas.Option.{same_Some}
 use Rattle.ar_base.specs.Chaining.{◌>>=◌}
@@ -16,6 +16,11 @@ ok_is x y e = cc
 pub bind_ok : {A B E : Type 0} (r : Result A E) (f : A → Result B E) (y : B) → (r >>= f) ≡ Ok y → (x : A) × (r ≡ Ok x) × (f x ≡ Ok y)
 bind_ok (Ok x) f y e = (x, refl, e)
 bind_ok (Err fault) f y e = absurd cc
+
+-- what had to be there, and was
+pub needed : {A E : Type 0} (o : Option A) (fault : E) (x : A) → ok_or o fault ≡ Ok x → o ≡ Some x
+needed None fault x e = absurd cc
+needed (Some y) fault x e = cc
 
 -- where each value of the first step leads to one that has the property, so does the chain
 pub if-chained : {A B E : Type 0} (r : Result A E) (f : A → Result B E) (P : B → Type 0) → ((x : A) → r ≡ Ok x → IfOk (f x) P) → IfOk (r >>= f) P

@@ -1,12 +1,18 @@
--- The first that fails of an ordered list: of tests, where each has a fault of its own, and of conditions, where
--- each has a name.
+-- The first that fails of an ordered list: of tests, where each has a fault of its own, of conditions, where each has a
+-- name, and of answers.
 use Rattle.std.specs.Prelude.{◌≡◌, ◌⊎◌, Bool, List, [], ◌∷◌, Result, Ok, Err, if◌then◌else◌, map}
 use Rattle.std.specs.Bool.{Decides}
+use Rattle.std.specs.Result.{result_and}
 
 -- the fault of the first test that does not hold, or no fault where all hold
 abbrev pub first_failing : {E : Type 0} → List (E × Bool) → Result (Unit {0}) E
 first_failing [] = Ok tt
 first_failing (test ∷ tests) = if test.1 then first_failing tests else Err test.0
+
+-- the first error among answers, or none where each is good
+abbrev pub first_error : {E : Type 0} → List (Result (Unit {0}) E) → Result (Unit {0}) E
+first_error [] = Ok tt
+first_error (answer ∷ answers) = result_and answer (first_error answers)
 
 -- all of these conditions hold
 abbrev pub AllHold : {C : Type 0} → (C → Type 0) → List C → Type 0

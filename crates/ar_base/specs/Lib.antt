@@ -1,3 +1,4 @@
+pub mod Adding
 pub mod Apart
 pub mod Bytes
 pub mod Chaining
@@ -8,3 +9,4 @@ pub mod Gives
 pub mod Ranges
 pub mod Shares
 pub mod Places
+pub mod Prefixes

@@ -1,15 +1,17 @@
 -- Lists of entries with ascending numbers: one entry after another, what was put is read again, and what
 -- is read is spelled so.
-use Rattle.std.proofs.Common.{◌≡◌, ℕ, zero, suc, ◌+◌, ◌-◌, ◌^◌, ◌<◌, ◌≤◌, leb, List, [], ◌∷◌, ◌++◌, length, Ok, Err, refl, sym, ap, subst, ◌∙◌, append_assoc, add-one, arith}
-use Rattle.std.specs.List.{flat_map}
+use Rattle.std.proofs.Common.{◌≡◌, ◌≢◌, ℕ, zero, suc, ◌+◌, ◌-◌, ◌^◌, ◌<◌, ◌≤◌, leb, ltb, nat_le, All, Bool, true, false, cond, ◌||◌, ◌==◌, List, [], ◌∷◌, ◌++◌, length, Ok, Err, refl, sym, ap, subst, ◌∙◌, append_assoc, add-one, arith}
+use Rattle.std.specs.List.{flat_map, list_any}
 use Rattle.std.proofs.lemmas.List.{append-nil}
-use Rattle.std.proofs.lemmas.Bool.{le-leb, leb-true}
+use Rattle.std.proofs.lemmas.List.Elements.{All-head, All-tail}
+use Rattle.std.proofs.lemmas.Bool.{and_parts, eq-eqb, le-leb, leb-false, leb-true, ltb-true}
 use Rattle.std.specs.Int.{w16}
+use Rattle.ar_base.specs.Adding.{placed}
 use Rattle.ar_base.specs.Chaining.{◌>>=◌}
 use Rattle.ar_base.proofs.Shown.{bind_ok, ok_is}
 use Rattle.ar_bytes.specs.Reading.{Cursor, Reading, number_at}
 use Rattle.ar_bytes.specs.RoundTrip.{Passes, ReadsBack, IsSpelledBy, number_text}
-use Rattle.ar_bytes.specs.Ascending.{ascending_at, number_from, numbers_at, Ascend, with_front, numbers_text}
+use Rattle.ar_bytes.specs.Ascending.{ascending_at, ascends, number_from, numbers_at, AreNumbers, Ascend, with_front, numbers_text}
 use Rattle.ar_bytes.proofs.Steps.{between, Passes-then, Passes-first, Passes-second, AreBytes-behind}
 use Rattle.ar_bytes.proofs.Passing.{number_again, number_pass, wide16}
 use Rattle.ar_bytes.proofs.Parts.{such_that_again, such_that_pass}
@@ -106,3 +108,55 @@ numbers_again = ascending_again (λ n. n) number_from (number_text w16) (λ n. n
 
 pub numbers_pass : (count least : ℕ) → IsSpelledBy (numbers_at count least) numbers_text (λ ns. AscendFrom least ns × (length ns ≡ count))
 numbers_pass = ascending_pass (λ n. n) number_from (number_text w16) (λ n. n < 2 ^ 16) number_from_pass
+
+-- ---- numbers that are tested
+
+-- fewer than two numbers ascend
+pub ascends_short : (numbers : List ℕ) → length numbers < 2 → ascends numbers ≡ true
+ascends_short [] h = refl
+ascends_short (n ∷ []) h = refl
+ascends_short (n ∷ next ∷ more) h = absurd (omega arith)
+
+tested-behind : (n : ℕ) (numbers : List ℕ) → ascends (n ∷ numbers) ≡ true → All (λ m. m < 65536) numbers → AscendFrom (n + 1) numbers
+tested-behind n [] h small = tt
+tested-behind n (next ∷ more) h small =
+    let both = and_parts (ltb n next) (ascends (next ∷ more)) h in
+    let less = ltb-true n next both.0 in
+    (omega (arith, less), All-head (λ m. m < 65536) next more small, tested-behind next more both.1 (All-tail (λ m. m < 65536) next more small))
+
+-- those that ascend and have two bytes each are in the order of a text
+pub tested-numbers : (numbers : List ℕ) → ascends numbers ≡ true → All (λ m. m < 65536) numbers → AreNumbers numbers
+tested-numbers [] h small = tt
+tested-numbers (n ∷ more) h small =
+    (omega arith, All-head (λ m. m < 65536) n more small, tested-behind n more h (All-tail (λ m. m < 65536) n more small))
+
+-- ---- one more in its place
+
+other : {A : Type 0} (number : A → ℕ) (x y : A) (rest : Bool) → ((number y == number x) || rest) ≡ false → (number y ≢ number x) × (rest ≡ false)
+other number x y rest none = by (number y == number x) refl none
+  where
+    by : (b : Bool) → (number y == number x) ≡ b → (b || rest) ≡ false → (number y ≢ number x) × (rest ≡ false)
+    by true is none = absurd cc
+    by false is none = (λ same. absurd (cc (sym is ∙ eq-eqb (number y) (number x) same)), none)
+
+-- a number that is none of theirs, and not below the least, ascends with them in its place
+pub Ascend-placed : {A : Type 0} (number : A → ℕ) (fits : A → Type 0) (x : A) (xs : List A) (least : ℕ) → Ascend number fits least xs
+    → list_any (λ y. number y == number x) xs ≡ false → least ≤ number x → fits x → Ascend number fits least (placed number x xs)
+unfolding placed
+Ascend-placed number fits x [] least are none low is = (low, is, tt)
+Ascend-placed {A} number fits x (y ∷ ys) least are none low is =
+    by (nat_le (number y) (number x)) refl (λ rest less. Ascend-placed number fits x ys (number y + 1) are.2 rest less is)
+  where
+    apart : (number y ≢ number x) × (list_any (λ (z : A). number z == number x) ys ≡ false)
+    apart = other number x y (list_any (λ (z : A). number z == number x) ys) none
+
+    by : (b : Bool) → nat_le (number y) (number x) ≡ b
+        → (list_any (λ (z : A). number z == number x) ys ≡ false → number y + 1 ≤ number x → Ascend number fits (number y + 1) (placed number x ys))
+        → Ascend number fits least (cond b (y ∷ placed number x ys) (x ∷ (y ∷ ys)))
+    by true le rest =
+        let less : number y + 1 ≤ number x = omega (arith, leb-true (number y) (number x) le, apart.0) in
+        (are.0, are.1, rest apart.1 less)
+    by false le rest =
+        let less = leb-false (number y) (number x) le in
+        let above : number x + 1 ≤ number y = omega (arith, less) in
+        (low, is, (above, are.1, are.2))

@@ -2,13 +2,14 @@
 -- each of them.
 use Rattle.std.proofs.Common.{◌≡◌, ℕ, Bool, true, false, cond, List, ◌++◌, Option, Some, None, Ok, refl, subst}
 use Rattle.std.specs.Prelude.{IfSome}
+use Rattle.std.specs.Option.{ok_or}
 use Rattle.ar_base.specs.Bytes.{AreBytes}
 use Rattle.ar_base.specs.Chaining.{◌>>=◌}
-use Rattle.ar_base.proofs.Shown.{bind_ok, ok_is}
-use Rattle.ar_bytes.specs.Reading.{Cursor, Reading}
+use Rattle.ar_base.proofs.Shown.{bind_ok, needed, ok_is}
+use Rattle.ar_bytes.specs.Reading.{Cursor, Reading, known_at, mapped_at}
 use Rattle.ar_bytes.specs.RoundTrip.{Passes, ReadsBack, IsSpelledBy}
 use Rattle.ar_bytes.specs.Tested.{flag_at, flag_text}
-use Rattle.ar_bytes.specs.Joined.{pair_at, optional_at, optional_text, mapped_at}
+use Rattle.ar_bytes.specs.Joined.{pair_at, optional_at, optional_text}
 use Rattle.ar_bytes.proofs.Steps.{between, Passes-then, Passes-first, Passes-second, AreBytes-behind}
 use Rattle.ar_bytes.proofs.TestedFields.{flag_again, flag_pass}
 
@@ -71,6 +72,26 @@ mapped_pass {A} {B} value field text fits text_of fits_of spelled stands at new 
     let passed : Passes at (text_of (value x.0.0)) x.0.1 = rw made_of.0 one.0 in
     let made : B × Cursor = (value x.0.0, x.0.1) in
     subst (λ (z : B × Cursor). Passes at (text_of z.0) z.1 × fits_of z.0) (ok_is made (y, new) x.2) (passed, made_of.1)
+
+-- ---- and where it stands for one
+
+pub known_again : {A B : Type 0} (value : A → Option B) (field : Cursor → Reading A) (x : A) (known : B) (text : List ℕ) → ReadsBack field x text → value x ≡ Some known → ReadsBack (known_at value field) known text
+known_again value field x known text reads is at new p = rw (reads at new p, is) refl
+
+-- the field that was read
+pub known_taken : {A B : Type 0} (value : A → Option B) (field : Cursor → Reading A) (at new : Cursor) (known : B) → known_at value field at ≡ Ok (known, new) → (x : A) × (field at ≡ Ok (x, new)) × (value x ≡ Some known)
+known_taken {A} {B} value field at new known e =
+    let x = bind_ok {B = B × Cursor} (field at) (λ x. ok_or (value x.0) at.place >>= λ y. Ok (y, x.1)) (known, new) e in
+    let y = bind_ok {B = B × Cursor} (ok_or (value x.0.0) at.place) (λ y. Ok (y, x.0.1)) (known, new) x.2 in
+    subst (λ (z : B × Cursor). (a : A) × (field at ≡ Ok (a, z.1)) × (value a ≡ Some z.0)) (ok_is (y.0, x.0.1) (known, new) y.2) (x.0.0, x.1, needed (value x.0.0) at.place y.0 y.1)
+
+pub known_pass : {A B : Type 0} (value : A → Option B) (field : Cursor → Reading A) (text : A → List ℕ) (fits : A → Type 0) (text_of : B → List ℕ) (fits_of : B → Type 0) → IsSpelledBy field text fits
+    → ((x : A) (known : B) → fits x → value x ≡ Some known → (text_of known ≡ text x) × fits_of known) → IsSpelledBy (known_at value field) text_of fits_of
+known_pass value field text fits text_of fits_of spelled stands at new known bytes e =
+    let x = known_taken value field at new known e in
+    let one = spelled at new x.0 bytes x.1 in
+    let made_of = stands x.0 known one.1 x.2 in
+    (rw made_of.0 one.0, made_of.1)
 
 -- ---- one of two fields, by a test
 

@@ -5,3 +5,4 @@ pub mod TestedFields
 pub mod JoinedFields
 pub mod Ascending
 pub mod Taken
+pub mod Lists

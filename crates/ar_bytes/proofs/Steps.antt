@@ -1,10 +1,12 @@
 -- Steps of a reading that did not fail, and what a cursor passed.
-use Rattle.std.proofs.Common.{◌≡◌, ℕ, ◌+◌, Bool, true, false, cond, eqb, List, [], ◌++◌, length, Ok, Err, refl, sym, ap, ◌∙◌, append_assoc, arith}
+use Rattle.std.proofs.Common.{◌≡◌, ℕ, ◌+◌, Bool, true, false, cond, eqb, List, [], ◌++◌, length, Result, Ok, Err, refl, sym, ap, ◌∙◌, append_assoc, arith}
 use Rattle.std.proofs.lemmas.Bool.{eqb-true}
 use Rattle.std.proofs.lemmas.List.{length-append, get_or-append-add, nil_from_length}
-use Rattle.ar_bytes.specs.Reading.{Cursor, all_of}
 use Rattle.ar_base.specs.Bytes.{AreBytes}
-use Rattle.ar_bytes.specs.RoundTrip.{Passes}
+use Rattle.ar_base.specs.Chaining.{◌>>=◌}
+use Rattle.ar_base.proofs.Shown.{bind_ok}
+use Rattle.ar_bytes.specs.Reading.{Cursor, Reading, all_of}
+use Rattle.ar_bytes.specs.RoundTrip.{IsSpelledBy, Passes}
 
 -- a test of what fails that did not fail
 pub guard_ok : {A : Type 0} (b : Bool) (place : ℕ) (x y : A) → cond b (Err place) (Ok x) ≡ Ok y → (b ≡ false) × (x ≡ y)
@@ -43,3 +45,19 @@ Passes-second a c x y p = record { bytes = refl; place = omega (arith, p.place, 
 -- what is left of bytes is bytes
 pub AreBytes-behind : (at new : Cursor) (text : List ℕ) → Passes at text new → AreBytes at.ahead → AreBytes new.ahead
 AreBytes-behind at new text p fits i = rw (← get_or-append-add text new.ahead i 0, ← p.bytes) (fits (length text + i))
+
+-- ---- one field behind the other
+
+-- a cursor between two texts
+abbrev pub Between : Cursor → List ℕ → List ℕ → Cursor → Type 0
+Between at x y new = (mid : Cursor) × Passes at x mid × Passes mid y new
+
+pub split : (at new : Cursor) (x y : List ℕ) → Passes at (x ++ y) new → Between at x y new
+split at new x y p = (between at x (y ++ new.ahead), Passes-first at new x y p, Passes-second at new x y p)
+
+-- a field that was read passed its text, and what was read behind it began there
+pub next : {A B : Type 0} (field : Cursor → Reading A) (text : A → List ℕ) (fits : A → Type 0) → IsSpelledBy field text fits → (rest : A × Cursor → Result B ℕ) (at : Cursor) (y : B) → AreBytes at.ahead → (field at >>= rest) ≡ Ok y → (a : A) × (mid : Cursor) × Passes at (text a) mid × fits a × AreBytes mid.ahead × (rest (a, mid) ≡ Ok y)
+next field text fits spelled rest at y bytes e =
+    let b = bind_ok (field at) rest y e in
+    let p = spelled at b.0.1 b.0.0 bytes b.1 in
+    (b.0.0, b.0.1, p.0, p.1, AreBytes-behind at b.0.1 (text b.0.0) p.0 bytes, b.2)

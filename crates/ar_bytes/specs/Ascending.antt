@@ -1,5 +1,5 @@
 -- Lists of entries whose numbers ascend strictly, behind a count that was read before them.
-use Rattle.std.specs.Prelude.{ℕ, zero, suc, ◌+◌, ◌≤◌, ◌^◌, ◌<◌, nat_le, List, [], ◌∷◌, ◌++◌, Ok}
+use Rattle.std.specs.Prelude.{ℕ, zero, suc, ◌+◌, ◌≤◌, ◌^◌, ◌<◌, nat_le, nat_lt, Bool, true, ◌&&◌, List, [], ◌∷◌, ◌++◌, Ok}
 use Rattle.std.specs.List.{flat_map}
 use Rattle.std.specs.Int.{w16}
 use Rattle.ar_base.specs.Chaining.{◌>>=◌}
@@ -26,6 +26,12 @@ numbers_at = ascending_at (λ n. n) number_from
 -- the text of numbers, two bytes for each
 abbrev pub numbers_text : List ℕ → List ℕ
 numbers_text ns = flat_map (number_text w16) ns
+
+-- whether numbers ascend strictly
+abbrev pub ascends : List ℕ → Bool
+ascends [] = true
+ascends (n ∷ []) = true
+ascends (n ∷ next ∷ more) = nat_lt n next && ascends (next ∷ more)
 
 -- the entries' numbers ascend strictly, none is below `least`, and each entry is one that fits
 abbrev pub Ascend : {A : Type 0} → (A → ℕ) → (A → Type 0) → ℕ → List A → Type 0

@@ -1,8 +1,7 @@
--- Fields that are joined to one: one behind the other, one that is there or not, one that stands for a
--- value.
+-- Fields that are joined to one: one behind the other, one that is there or not.
 use Rattle.std.specs.Prelude.{ℕ, true, false, List, ◌++◌, Option, Some, None, Ok, if◌then◌else◌}
 use Rattle.ar_base.specs.Chaining.{◌>>=◌}
-use Rattle.ar_bytes.specs.Reading.{Cursor, Reading}
+use Rattle.ar_bytes.specs.Reading.{Cursor, Reading, mapped_at}
 use Rattle.ar_bytes.specs.Tested.{flag_at, flag_text}
 
 -- a field, and a field behind it
@@ -16,15 +15,9 @@ pair_at first second at = do
 unfoldable pub optional_at : {A : Type 0} → (Cursor → Reading A) → Cursor → Reading (Option A)
 optional_at field at = do
   flag ← flag_at at
-  if flag.0 then (field flag.1 >>= λ x. Ok (Some x.0, x.1)) else Ok (None, flag.1)
+  if flag.0 then mapped_at Some field flag.1 else Ok (None, flag.1)
 
 -- its text
 unfoldable pub optional_text : {A : Type 0} → (A → List ℕ) → Option A → List ℕ
 optional_text text None = flag_text false
 optional_text text (Some x) = flag_text true ++ text x
-
--- the value that a field stands for
-abbrev pub mapped_at : {A B : Type 0} → (A → B) → (Cursor → Reading A) → Cursor → Reading B
-mapped_at value field at = do
-  x ← field at
-  Ok (value x.0, x.1)

@@ -3,3 +3,4 @@ pub mod RoundTrip
 pub mod Tested
 pub mod Ascending
 pub mod Joined
+pub mod Lists

@@ -6,7 +6,7 @@
 --
 -- A grammar joins fields by >>=, one behind the other, so that its fault is that of the first field that
 -- fails. A field fails at its first byte: where too few bytes are ahead (`bytes_at`, `number_at`), or
--- where its value is none that it may have (`such_that`). A field of a grammar reads as its table says:
+-- where its value is none that it may have (`such_that`, `known_at`). A field of a grammar reads as its table says:
 --
 --     vote_at at = do
 --       log ← number_at w16 at
@@ -18,8 +18,9 @@
 -- the whole input, and bytes left over in it fail at the first of them, as in a whole input (`whole`).
 use Rattle.std.specs.Prelude.{◌≡◌, ℕ, ◌+◌, List, length, take, drop, Option, Some, None, Result, Ok, Err, Bool, nat_lt, ◌==◌, if◌then◌else◌}
 use Rattle.std.specs.Int.{Width, w16, byte_len, from_be_bytes}
+use Rattle.std.specs.Option.{ok_or}
 use Rattle.ar_base.specs.Chaining.{◌>>=◌}
-use Rattle.ar_base.specs.Gives.{with_error, GivesOrWants}
+use Rattle.ar_base.specs.Gives.{with_error, Gives, GivesOrWants}
 
 -- where a reading stands: the bytes still ahead, and how many bytes of the input lie before them
 pub record Cursor : Type 0 where
@@ -60,6 +61,19 @@ such_that test field at = do
   x ← field at
   if test x.0 then Ok x else Err at.place
 
+-- the value that a field stands for
+abbrev pub mapped_at : {A B : Type 0} → (A → B) → (Cursor → Reading A) → Cursor → Reading B
+mapped_at value field at = do
+  x ← field at
+  Ok (value x.0, x.1)
+
+-- the same, where the field stands for a value; else it fails
+abbrev pub known_at : {A B : Type 0} → (A → Option B) → (Cursor → Reading A) → Cursor → Reading B
+known_at value field at = do
+  x ← field at
+  known ← ok_or (value x.0) at.place
+  Ok (known, x.1)
+
 -- n bytes as an input of their own, whose places are those of the whole input
 unfoldable pub part_at : ℕ → Cursor → Reading Cursor
 part_at n at = do
@@ -96,8 +110,7 @@ Reads view None old new field = (field ≡ Err old.place) × (new ≡ old)
 -- The answer of a reader that tells where it fails: the fields' value, and it stands behind them; or the
 -- place of the field that fails.
 abbrev pub Tells : {T V : Type 0} → (T → V) → Result T ℕ → Cursor → Reading V → Type 0
-Tells view (Ok x) new fields = fields ≡ Ok (view x, new)
-Tells view (Err place) new fields = fields ≡ Err place
+Tells view result new fields = Gives (λ x. (view x, new)) result fields
 
 -- The answer of a reader that takes memory and tells where it fails: the fields' value, and it stands
 -- behind them; or the place of the field that fails, as a fault of form; or want of memory, where none fails.

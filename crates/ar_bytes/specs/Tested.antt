@@ -1,8 +1,8 @@
 -- Fields of one byte that have to have some value, and their texts.
-use Rattle.std.specs.Prelude.{ℕ, ◌==◌, nat_le, Bool, if◌then◌else◌, List, Ok}
+use Rattle.std.specs.Prelude.{ℕ, ◌==◌, nat_le, Bool, List}
 use Rattle.std.specs.Int.{w8}
-use Rattle.ar_base.specs.Chaining.{◌>>=◌}
-use Rattle.ar_bytes.specs.Reading.{Cursor, Reading, number_at, such_that}
+use Rattle.ar_base.specs.Counting.{one_if}
+use Rattle.ar_bytes.specs.Reading.{Cursor, Reading, mapped_at, number_at, such_that}
 use Rattle.ar_bytes.specs.RoundTrip.{number_text}
 
 -- one byte with this value
@@ -15,10 +15,8 @@ count_at most = such_that (λ n. nat_le n most) (number_at w8)
 
 -- a flag: one byte, 0 for no and 1 for yes
 unfoldable pub flag_at : Cursor → Reading Bool
-flag_at at = do
-  n ← count_at 1 at
-  Ok (n.0 == 1, n.1)
+flag_at = mapped_at (λ n. n == 1) (count_at 1)
 
 -- the text of a flag
 abbrev pub flag_text : Bool → List ℕ
-flag_text flag = number_text w8 (if flag then 1 else 0)
+flag_text flag = number_text w8 (one_if flag)

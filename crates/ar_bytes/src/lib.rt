@@ -11,10 +11,12 @@
 
 mod fields;
 pub mod laws;
+mod order;
 mod put;
 mod take;
 mod write;
 
 pub use fields::{Fields, are_bytes, digest_told, u32_of};
+pub use order::ascends;
 pub use put::{put_bytes, put_u8, put_u16, put_u32, put_u64};
 pub use write::{write_bytes, write_u8, write_u16, write_u32, write_u64};

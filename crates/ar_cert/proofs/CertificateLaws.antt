@@ -2,14 +2,13 @@
 use Rattle.std.proofs.Common.{◌≡◌, ℕ, zero, suc, ◌^◌, ◌<◌, ◌≤◌, Bool, true, false, ◌&&◌, leb, eqb, List, [], ◌++◌, length, Option, Some, None, is_some, Ok, refl, sym, ap, subst, ◌∙◌, arith, length-append}
 use Rattle.std.proofs.lemmas.List.{append-nil}
 use Rattle.std.proofs.lemmas.Bool.{and_parts, le-leb, leb-true, and_from}
-use Rattle.std.specs.Prelude.{Result, IfSome}
+use Rattle.std.specs.Prelude.{IfSome}
 use Rattle.std.specs.Int.{w8, w16, w32, w64}
-use Rattle.ar_base.specs.Chaining.{◌>>=◌}
-use Rattle.ar_bytes.specs.Reading.{Cursor, Reading, number_at, such_that, within}
+use Rattle.ar_bytes.specs.Reading.{Cursor, number_at, such_that, within}
 use Rattle.ar_base.specs.Bytes.{AreBytes, IsDigest}
-use Rattle.ar_base.proofs.Shown.{bind_ok, ok_is}
+use Rattle.ar_base.proofs.Shown.{ok_is}
 use Rattle.ar_bytes.specs.RoundTrip.{Passes, ReadsBack, IsSpelledBy, number_text, counted_text}
-use Rattle.ar_bytes.proofs.Steps.{between, Passes-then, Passes-first, Passes-second, AreBytes-behind}
+use Rattle.ar_bytes.proofs.Steps.{Passes-then, split, next}
 use Rattle.ar_bytes.proofs.Passing.{number_again, number_pass, wide8, wide16, wide32, wide64}
 use Rattle.ar_bytes.proofs.Parts.{such_that_again, such_that_pass, within_again, within_pass}
 use Rattle.ar_names.specs.Names.{IsName}
@@ -20,29 +19,14 @@ use Rattle.ar_statement.proofs.FieldLaws.{digest_again, digest_pass, name_again,
 use Rattle.lms_tree.specs.PublicKey.{HasWidths, key_text}
 use Rattle.lms_tree.proofs.KeyLemmas.{length-key_text}
 use Rattle.cert_policy.specs.Terms.{PolicyTerms}
-use Rattle.ar_bytes.specs.Tested.{byte_at, count_at, flag_at, flag_text}
-use Rattle.ar_bytes.specs.Ascending.{numbers_at, numbers_text, AreNumbers}
-use Rattle.ar_bytes.proofs.TestedFields.{byte_again, byte_pass, count_again, count_pass, flag_again, flag_pass}
+use Rattle.ar_bytes.specs.Tested.{byte_at, flag_at, flag_text}
+use Rattle.ar_bytes.specs.Ascending.{numbers_at, AreNumbers}
+use Rattle.ar_bytes.proofs.TestedFields.{byte_again, byte_pass, flag_again, flag_pass}
 use Rattle.ar_bytes.proofs.Ascending.{same-cursor, numbers_again, numbers_pass}
+use Rattle.ar_bytes.proofs.Lists.{counted_list_again, counted_list_pass}
 use Rattle.ar_cert.specs.Certificate.{Certificate, key_at, trusted_at, trusted_text, version_at, version_text, is_wait, wait_at, wait_text, IsWait, terms_at, terms_text, certificate_at, certificate_text, counted_certificate_at, front_text, rules_text, AreTerms, IsCertificate}
 use Rattle.ar_cert.proofs.FieldLaws.{key_again, key_pass}
 use Rattle.ar_cert.proofs.Lengths.{length-front_text, length-terms_text, length-flag_text}
-
--- ---- one field behind the other
-
--- the cursor between two texts
-abbrev Between : Cursor → List ℕ → List ℕ → Cursor → Type 0
-Between at x y new = (mid : Cursor) × Passes at x mid × Passes mid y new
-
-pub split : (at new : Cursor) (x y : List ℕ) → Passes at (x ++ y) new → Between at x y new
-split at new x y p = (between at x (y ++ new.ahead), Passes-first at new x y p, Passes-second at new x y p)
-
--- a field that was read passed its text, and what was read behind it began there
-pub next : {A B : Type 0} (field : Cursor → Reading A) (text : A → List ℕ) (fits : A → Type 0) → IsSpelledBy field text fits → (rest : A × Cursor → Result B ℕ) (at : Cursor) (y : B) → AreBytes at.ahead → (field at >>= rest) ≡ Ok y → (a : A) × (mid : Cursor) × Passes at (text a) mid × fits a × AreBytes mid.ahead × (rest (a, mid) ≡ Ok y)
-next field text fits spelled rest at y bytes e =
-    let b = bind_ok (field at) rest y e in
-    let p = spelled at b.0.1 b.0.0 bytes b.1 in
-    (b.0.0, b.0.1, p.0, p.1, AreBytes-behind at b.0.1 (text b.0.0) p.0 bytes, b.2)
 
 -- ---- the trusted authorities
 
@@ -50,18 +34,11 @@ abbrev AreTrusted : List ℕ → Type 0
 AreTrusted ns = (length ns ≤ 16) × AreNumbers ns
 
 trusted_again : (ns : List ℕ) → AreTrusted ns → ReadsBack trusted_at ns (trusted_text ns)
-unfolding trusted_at
-trusted_again ns h at new p =
-    let s = split at new (number_text w8 (length ns)) (numbers_text ns) p in
-    rw (count_again 16 (length ns) h.0 (omega (arith, h.0)) at s.0 s.1) (numbers_again (length ns) 0 ns refl h.1 s.0 new s.2)
+trusted_again ns h =
+    counted_list_again 16 (λ count at. numbers_at count 0 at) (number_text w16) ns h.0 (omega (arith, h.0)) (numbers_again (length ns) 0 ns refl h.1)
 
 trusted_pass : IsSpelledBy trusted_at trusted_text AreTrusted
-unfolding trusted_at
-trusted_pass at new ns bytes e =
-    let s = next (count_at 16) (number_text w8) (λ n. n ≤ 16) (count_pass 16) (λ count. numbers_at count.0 0 count.1) at (ns, new) bytes e in
-    let q = numbers_pass s.0 0 s.1 new ns s.4 s.5 in
-    let both = Passes-then at s.1 new (number_text w8 s.0) (numbers_text ns) s.2 q.0 in
-    (subst (λ (k : ℕ). Passes at (number_text w8 k ++ numbers_text ns) new) (sym q.1.1) both, (omega (arith, q.1.1, s.3), q.1.0))
+trusted_pass = counted_list_pass 16 (λ count at. numbers_at count 0 at) (number_text w16) AreNumbers (λ count. numbers_pass count 0)
 
 -- ---- the version and the wait
 

@@ -9,16 +9,18 @@ use Rattle.ar_bytes.specs.Reading.{Cursor, Reading, counted_at, whole}
 use Rattle.ar_base.specs.Bytes.{AreBytes}
 use Rattle.ar_base.proofs.Shown.{bind_ok, ok_is}
 use Rattle.ar_bytes.specs.RoundTrip.{Passes, ReadsBack, IsSpelledBy, number_text, counted_text}
-use Rattle.ar_bytes.proofs.Steps.{Passes-then}
+use Rattle.ar_bytes.proofs.Steps.{Passes-then, split, next}
 use Rattle.ar_bytes.proofs.Passing.{counted_again, counted_pass}
 use Rattle.ar_bytes.proofs.Parts.{whole_again, whole_pass}
 use Rattle.ar_bytes.specs.Tested.{count_at}
 use Rattle.ar_bytes.specs.Ascending.{number_from, Ascend}
+use Rattle.ar_bytes.specs.Lists.{counted_list_text}
 use Rattle.ar_bytes.proofs.TestedFields.{count_again, count_pass}
 use Rattle.ar_bytes.proofs.Ascending.{ascending_again, ascending_pass, number_from_again, number_from_pass}
+use Rattle.ar_bytes.proofs.Lists.{counted_list_again, counted_list_pass}
 use Rattle.ar_cert.specs.Certificate.{IsCertificate, certificate_text, counted_certificate_at}
-use Rattle.ar_cert.specs.Changes.{Endorsement, Change, endorsement_from, endorsements_at, counted_endorsements_at, Consent, most_flag, consent_by, consent_at, change_at, endorsement_text, consent_text, change_text, IsSignature, IsEndorsement, IsChange}
-use Rattle.ar_cert.proofs.CertificateLaws.{split, next, counted_certificate_again, counted_certificate_pass}
+use Rattle.ar_cert.specs.Changes.{Endorsement, Change, endorsement_from, endorsements_at, counted_endorsements_at, Consent, most_flag, consent_by, consent_at, change_at, endorsement_text, consent_text, change_text, IsSignature, IsEndorsement, AreEndorsements, IsChange}
+use Rattle.ar_cert.proofs.CertificateLaws.{counted_certificate_again, counted_certificate_pass}
 
 -- ---- endorsements
 
@@ -37,31 +39,24 @@ endorsement_from_pass least at new v bytes e =
     let passes = Passes-then at authority.1 signature.1 (number_text w16 authority.0) (counted_text signature.0) authority.2 signature.2 in
     subst (λ (x : Endorsement × Cursor). Passes at (endorsement_text x.0) x.1 × ((least ≤ x.0.authority) × IsEndorsement x.0)) (ok_is (value, signature.1) (v, new) signature.5) (passes, (authority.3.0, (authority.3.1, signature.3)))
 
-abbrev AreEndorsements : List Endorsement → Type 0
-AreEndorsements = Ascend (λ v. v.authority) IsEndorsement 0
+abbrev AreAscending : List Endorsement → Type 0
+AreAscending = Ascend (λ v. v.authority) IsEndorsement 0
 
-endorsements_again : (count : ℕ) (vs : List Endorsement) → length vs ≡ count → AreEndorsements vs → ReadsBack (endorsements_at count 0) vs (flat_map endorsement_text vs)
+endorsements_again : (count : ℕ) (vs : List Endorsement) → length vs ≡ count → AreAscending vs → ReadsBack (endorsements_at count 0) vs (flat_map endorsement_text vs)
 endorsements_again count vs = ascending_again (λ v. v.authority) endorsement_from endorsement_text IsEndorsement endorsement_from_again count 0 vs
 
-endorsements_pass : (count : ℕ) → IsSpelledBy (endorsements_at count 0) (flat_map endorsement_text) (λ vs. AreEndorsements vs × (length vs ≡ count))
+endorsements_pass : (count : ℕ) → IsSpelledBy (endorsements_at count 0) (flat_map endorsement_text) (λ vs. AreAscending vs × (length vs ≡ count))
 endorsements_pass count = ascending_pass (λ v. v.authority) endorsement_from endorsement_text IsEndorsement endorsement_from_pass count 0
 
 abbrev counted_endorsements_text : List Endorsement → List ℕ
-counted_endorsements_text vs = number_text w8 (length vs) ++ flat_map endorsement_text vs
+counted_endorsements_text = counted_list_text endorsement_text
 
-counted_endorsements_again : (vs : List Endorsement) → length vs ≤ 8 → AreEndorsements vs → ReadsBack counted_endorsements_at vs (counted_endorsements_text vs)
-unfolding counted_endorsements_at
-counted_endorsements_again vs few h at new p =
-    let s = split at new (number_text w8 (length vs)) (flat_map endorsement_text vs) p in
-    rw (count_again 8 (length vs) few (omega (arith, few)) at s.0 s.1) (endorsements_again (length vs) vs refl h s.0 new s.2)
+counted_endorsements_again : (vs : List Endorsement) → AreEndorsements vs → ReadsBack counted_endorsements_at vs (counted_endorsements_text vs)
+counted_endorsements_again vs are =
+    counted_list_again 8 (λ count at. endorsements_at count 0 at) endorsement_text vs are.0 (omega (arith, are.0)) (endorsements_again (length vs) vs refl are.1)
 
-counted_endorsements_pass : IsSpelledBy counted_endorsements_at counted_endorsements_text (λ vs. (length vs ≤ 8) × AreEndorsements vs)
-unfolding counted_endorsements_at
-counted_endorsements_pass at new vs bytes e =
-    let count = next (count_at 8) (number_text w8) (λ n. n ≤ 8) (count_pass 8) (λ count. endorsements_at count.0 0 count.1) at (vs, new) bytes e in
-    let q = endorsements_pass count.0 count.1 new vs count.4 count.5 in
-    let both = Passes-then at count.1 new (number_text w8 count.0) (flat_map endorsement_text vs) count.2 q.0 in
-    (subst (λ (k : ℕ). Passes at (number_text w8 k ++ flat_map endorsement_text vs) new) (sym q.1.1) both, (omega (arith, count.3, q.1.1), q.1.0))
+counted_endorsements_pass : IsSpelledBy counted_endorsements_at counted_endorsements_text AreEndorsements
+counted_endorsements_pass = counted_list_pass 8 (λ count at. endorsements_at count 0 at) endorsement_text AreAscending endorsements_pass
 
 -- ---- the handover or the objection
 
@@ -132,19 +127,19 @@ change_again r h at new p =
     let cert = split at new (counted_text (certificate_text r.cert)) _ p in
     let behind = subst (λ (t : List ℕ). Passes cert.0 t new) (regroup (number_text w8 (length r.endorsements)) (flat_map endorsement_text r.endorsements) (consent_text r.handover r.objection)) cert.2 in
     let list = split cert.0 new (counted_endorsements_text r.endorsements) (consent_text r.handover r.objection) behind in
-    rw (counted_certificate_again r.cert h.cert at cert.0 cert.1, counted_endorsements_again r.endorsements h.few h.ascending cert.0 list.0 list.1, consent_again (length r.endorsements) r.handover r.objection (h.handover, h.objection, h.alone) list.0 new list.2) refl
+    rw (counted_certificate_again r.cert h.cert at cert.0 cert.1, counted_endorsements_again r.endorsements h.endorsements cert.0 list.0 list.1, consent_again (length r.endorsements) r.handover r.objection (h.handover, h.objection, h.alone) list.0 new list.2) refl
 
 pub change_pass : IsSpelledBy change_at change_text IsChange
 unfolding change_at change_text
 change_pass at new r bytes e =
     let cert = next counted_certificate_at (λ c. counted_text (certificate_text c)) IsCertificate counted_certificate_pass _ at (r, new) bytes e in
-    let list = next counted_endorsements_at counted_endorsements_text (λ vs. (length vs ≤ 8) × AreEndorsements vs) counted_endorsements_pass _ cert.1 (r, new) cert.4 cert.5 in
+    let list = next counted_endorsements_at counted_endorsements_text AreEndorsements counted_endorsements_pass _ cert.1 (r, new) cert.4 cert.5 in
     let consent = next (consent_at (length list.0)) (λ o. consent_text o.0 o.1) (AreConsent (length list.0)) (consent_pass (length list.0)) _ list.1 (r, new) list.4 list.5 in
     let value : Change = record { cert = cert.0; endorsements = list.0; handover = consent.0.0; objection = consent.0.1 } in
     let back = Passes-then cert.1 list.1 consent.1 (counted_endorsements_text list.0) (consent_text consent.0.0 consent.0.1) list.2 consent.2 in
     let behind = subst (λ (t : List ℕ). Passes cert.1 t consent.1) (append_assoc (number_text w8 (length list.0)) (flat_map endorsement_text list.0) (consent_text consent.0.0 consent.0.1)) back in
     let passes = Passes-then at cert.1 consent.1 (counted_text (certificate_text cert.0)) _ cert.2 behind in
-    let fits : IsChange value = record { cert = cert.3; few = list.3.0; ascending = list.3.1; handover = consent.3.0; objection = consent.3.1; alone = consent.3.2 } in
+    let fits : IsChange value = record { cert = cert.3; endorsements = list.3; handover = consent.3.0; objection = consent.3.1; alone = consent.3.2 } in
     subst (λ (x : Change × Cursor). Passes at (change_text x.0) x.1 × IsChange x.0) (ok_is (value, consent.1) (r, new) consent.5) (passes, fits)
 
 -- ---- whole texts

@@ -1,22 +1,23 @@
 -- Certificates: what one says, the fields of its text in their order with the place of the first that
 -- fails, and the one text of each.
-use Rattle.std.specs.Prelude.{ℕ, ◌^◌, ◌<◌, ◌≤◌, ◌==◌, nat_le, Bool, ◌&&◌, if◌then◌else◌, List, [], ◌∷◌, ◌++◌, length, Option, Some, None, Ok, is_some, IfSome}
-use Rattle.std.specs.Option.{option_map, ok_or}
+use Rattle.std.specs.Prelude.{ℕ, ◌^◌, ◌<◌, ◌≤◌, ◌==◌, Bool, if◌then◌else◌, List, [], ◌∷◌, ◌++◌, length, Option, Some, None, Ok, is_some, IfSome}
 use Rattle.std.specs.Int.{w8, w16, w32, w64}
 use Rattle.sha2.specs.Sha256.{sha256}
 use Rattle.ar_base.specs.Bytes.{IsDigest}
 use Rattle.ar_base.specs.Chaining.{◌>>=◌}
 use Rattle.ar_base.specs.Ranges.{IsFromTo, is_from_to}
-use Rattle.ar_bytes.specs.Reading.{Cursor, Reading, bytes_at, number_at, such_that, within}
+use Rattle.ar_bytes.specs.Reading.{Cursor, Reading, bytes_at, known_at, mapped_at, number_at, such_that, within}
 use Rattle.ar_bytes.specs.RoundTrip.{number_text}
-use Rattle.ar_bytes.specs.Tested.{byte_at, count_at, flag_at, flag_text}
-use Rattle.ar_bytes.specs.Ascending.{numbers_at, numbers_text, AreNumbers}
+use Rattle.ar_bytes.specs.Tested.{byte_at, flag_at, flag_text}
+use Rattle.ar_bytes.specs.Ascending.{numbers_at, AreNumbers}
+use Rattle.ar_bytes.specs.Lists.{counted_list_at, counted_list_text}
 use Rattle.ar_names.specs.Names.{IsName}
 use Rattle.ar_statement.specs.Claims.{name_text}
 use Rattle.ar_statement.specs.Fields.{digest_at, name_at}
 use Rattle.lms_tree.specs.declared.public_key.LmsPublic.{LmsPublic}
 use Rattle.lms_tree.specs.PublicKey.{HasWidths, key_text, key_of_text}
 use Rattle.cert_policy.specs.Terms.{PolicyTerms}
+use Rattle.hash_tree.specs.Strings.{value_digest}
 
 -- ---- what a certificate says
 
@@ -34,21 +35,15 @@ pub record Certificate : Type 0 where
 
 -- an LMS public key that can be read
 unfoldable pub key_at : Cursor → Reading LmsPublic
-key_at at = do
-  bytes ← bytes_at 56 at
-  ok_or (option_map (λ key. (key, bytes.1)) (key_of_text bytes.0)) at.place
+key_at = known_at key_of_text (bytes_at 56)
 
 -- at most 16 numbers of authorities that ascend strictly, behind their count
-unfoldable pub trusted_at : Cursor → Reading (List ℕ)
-trusted_at at = do
-  count ← count_at 16 at
-  numbers_at count.0 0 count.1
+abbrev pub trusted_at : Cursor → Reading (List ℕ)
+trusted_at = counted_list_at 16 (λ count at. numbers_at count 0 at)
 
 -- whether a policy has a wait: version 1 has none, version 2 has one
 unfoldable pub version_at : Cursor → Reading Bool
-version_at at = do
-  version ← such_that (is_from_to 1 2) (number_at w8) at
-  Ok (version.0 == 2, version.1)
+version_at = mapped_at (λ version. version == 2) (such_that (is_from_to 1 2) (number_at w8))
 
 -- how many epochs a recovery may wait
 abbrev pub is_wait : ℕ → Bool
@@ -56,7 +51,7 @@ is_wait n = is_from_to 1 10000 n
 
 -- the wait, where there is one
 unfoldable pub wait_at : Bool → Cursor → Reading (Option ℕ)
-wait_at waits at = if waits then (such_that is_wait (number_at w16) at >>= λ n. Ok (Some n.0, n.1)) else Ok (None, at)
+wait_at waits at = if waits then mapped_at Some (such_that is_wait (number_at w16)) at else Ok (None, at)
 
 -- the version, and the fields: in version 2 the wait is the last
 unfoldable pub terms_at : Cursor → Reading PolicyTerms
@@ -106,7 +101,7 @@ rules_text waits threshold keyed max_age until =
 
 -- the authorities, behind their count
 abbrev pub trusted_text : List ℕ → List ℕ
-trusted_text ns = number_text w8 (length ns) ++ numbers_text ns
+trusted_text = counted_list_text (number_text w16)
 
 -- the wait, where there is one
 unfoldable pub wait_text : Option ℕ → List ℕ
@@ -121,9 +116,17 @@ terms_text p = rules_text (is_some p.wait) p.threshold p.keyed p.max_age p.until
 unfoldable pub certificate_text : Certificate → List ℕ
 certificate_text c = front_text c.name c.serial c.previous c.subject ++ (terms_text c.policy ++ flag_text c.revoked)
 
--- its digest: SHA-256 of the byte 0x10 and the text
+-- the string that is hashed for its digest: the byte 0x10 and the text
+abbrev pub certificate_string : Certificate → List ℕ
+certificate_string c = 0x10 ∷ certificate_text c
+
+-- its digest under SHA-256
 unfoldable pub digest_of : Certificate → List ℕ
-digest_of c = sha256 (0x10 ∷ certificate_text c)
+digest_of c = sha256 (certificate_string c)
+
+-- its value in the integrity tree, as the newest certificate of its name
+abbrev pub certificate_value : Certificate → List ℕ
+certificate_value c = value_digest c.serial (digest_of c)
 
 -- ---- ranges
 

@@ -8,6 +8,7 @@ use Rattle.ar_bytes.specs.Reading.{Cursor, Reading, counted_at}
 use Rattle.ar_bytes.specs.RoundTrip.{number_text, counted_text}
 use Rattle.ar_bytes.specs.Tested.{count_at}
 use Rattle.ar_bytes.specs.Ascending.{ascending_at, number_from, Ascend}
+use Rattle.ar_bytes.specs.Lists.{counted_list_at}
 use Rattle.ar_cert.specs.Certificate.{Certificate, IsCertificate, certificate_text, counted_certificate_at}
 
 -- an authority's signature of the certificate's endorsement
@@ -37,10 +38,8 @@ abbrev pub endorsements_at : ℕ → ℕ → Cursor → Reading (List Endorsemen
 endorsements_at = ascending_at (λ v. v.authority) endorsement_from
 
 -- at most 8 endorsements behind their count
-unfoldable pub counted_endorsements_at : Cursor → Reading (List Endorsement)
-counted_endorsements_at at = do
-  count ← count_at 8 at
-  endorsements_at count.0 0 count.1
+abbrev pub counted_endorsements_at : Cursor → Reading (List Endorsement)
+counted_endorsements_at = counted_list_at 8 (λ count at. endorsements_at count 0 at)
 
 -- the signature of the key before, as a handover and as an objection: there is neither, or one of them
 abbrev pub Consent : Type 0
@@ -95,16 +94,18 @@ IsSignature signature = length signature < 2 ^ 16
 abbrev pub IsEndorsement : Endorsement → Type 0
 IsEndorsement v = (v.authority < 2 ^ 16) × IsSignature v.signature
 
+-- endorsements that have a text: at most 8, by authorities whose numbers ascend strictly
+abbrev pub AreEndorsements : List Endorsement → Type 0
+AreEndorsements endorsements = (length endorsements ≤ 8) × Ascend (λ v. v.authority) IsEndorsement 0 endorsements
+
 -- nothing vouches for the certificate, and the key before does not agree
 abbrev pub StandsAlone : List Endorsement → Option (List ℕ) → Type 0
 StandsAlone endorsements handover = (length endorsements ≡ 0) × IsNone handover
 
--- a change that has a text: at most 8 endorsements, by authorities whose numbers ascend strictly; with an
--- objection there is no endorsement and no handover
+-- a change that has a text: with an objection there is no endorsement and no handover
 pub record IsChange (r : Change) : Type 0 where
   pub cert : IsCertificate r.cert
-  pub few : length r.endorsements ≤ 8
-  pub ascending : Ascend (λ v. v.authority) IsEndorsement 0 r.endorsements
+  pub endorsements : AreEndorsements r.endorsements
   pub handover : IfSome r.handover IsSignature
   pub objection : IfSome r.objection IsSignature
   pub alone : IfSome r.objection (λ _. StandsAlone r.endorsements r.handover)

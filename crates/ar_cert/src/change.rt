@@ -4,6 +4,9 @@ use crate::Cert;
 use ar_base::Items;
 use std::marker::Model;
 
+/// The most endorsements of a change.
+pub const MOST_ENDORSEMENTS: usize = 8;
+
 /// The signature by which an authority vouches for a certificate.
 #[derive(Debug, Drop)]
 pub struct Endorsement {

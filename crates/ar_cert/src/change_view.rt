@@ -4,15 +4,12 @@ ghost use Rattle.ar_cert.specs.Changes.{consent_at, counted_endorsements_at, end
 ghost use Rattle.ar_bytes.specs.Ascending.{Ascend};
 ghost use Rattle.ar_cert.specs.Views.{consent_of, endorsement_of, endorsements_of};
 
-use crate::change::{Change, Endorsement};
+use crate::change::{Change, Endorsement, MOST_ENDORSEMENTS};
 use crate::view::CertView;
 use ar_base::Items;
 use ar_bytes::{Fields, are_bytes};
 use std::alloc::{AllocError, Global};
 use std::marker::Model;
-
-/// The most endorsements of a change.
-const MOST_ENDORSEMENTS: usize = 8;
 
 /// An endorsement that is read in place.
 #[derive(Clone, Copy, Debug)]
@@ -75,7 +72,7 @@ fn endorsement<'a>(fields: &mut Fields<'a>, least: u32) -> Result<EndorsementVie
 }
 
 /// At most 8 endorsements by authorities whose numbers ascend strictly, behind their count.
-#[tactic(auto, using(ar_bytes::proofs::Ascending::list_steps), unfolding(crate::specs::Changes::counted_endorsements_at))]
+#[tactic(auto, using(ar_bytes::proofs::Ascending::list_steps), unfolding(ar_bytes::specs::Lists::counted_list_at))]
 fn endorsements<'a>(fields: &mut Fields<'a>) -> Result<EndorsementsView<'a>, usize>
     ensures tells { Tells endorsements_of result fields.new (counted_endorsements_at fields.old) }
     ensures few { IfOk result (λ endorsements. endorsements.count ≤ 8) }

@@ -80,7 +80,7 @@ fn numbers<'a>(fields: &mut Fields<'a>, count: u8) -> Result<&'a [u8], usize>
 }
 
 /// At most 16 numbers of authorities that ascend strictly, behind their count.
-#[tactic(auto, unfolding(crate::specs::Certificate::trusted_at))]
+#[tactic(auto, unfolding(ar_bytes::specs::Lists::counted_list_at))]
 pub(crate) fn trusted<'a>(fields: &mut Fields<'a>) -> Result<&'a [u8], usize>
     ensures tells { Tells (λ bytes. numbers_in bytes.now) result fields.new (trusted_at fields.old) }
     ensures numbers { IfOk result (λ bytes. SpellsNumbers bytes.now) }

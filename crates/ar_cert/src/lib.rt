@@ -27,7 +27,7 @@ mod view;
 mod writing;
 
 pub use cert::{Cert, Policy};
-pub use change::{Change, Endorsement};
+pub use change::{Change, Endorsement, MOST_ENDORSEMENTS};
 pub use change_view::ChangeView;
 pub use copies::{copy_endorsements, copy_signature};
 pub use fault::CertFault;

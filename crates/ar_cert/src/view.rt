@@ -3,6 +3,7 @@ ghost use Rattle.std.specs.Prelude.{◌≡◌};
 use crate::cert::{Cert, Policy};
 use crate::copies::numbers_of;
 use crate::fields::{take_key, trusted, version, wait};
+use crate::writing::{DIGEST_TAG, TAG};
 use ar_base::Items;
 use ar_bytes::{Fields, are_bytes};
 use ar_names::NameView;
@@ -11,11 +12,6 @@ use lms_tree::LmsPublic;
 use sha2::{Digest, Sha256};
 use std::alloc::{AllocError, Global};
 use std::marker::Model;
-
-/// The byte before a text whose digest is the certificate's.
-const DIGEST_TAG: u8 = 0x10;
-/// The first byte of a text.
-const TAG: u8 = 1;
 
 /// The terms of a certificate that is read in place.
 #[derive(Clone, Copy, Debug)]

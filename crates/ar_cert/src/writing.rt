@@ -3,22 +3,23 @@ ghost use Rattle.std.specs.List.{flat_map};
 ghost use Rattle.ar_bytes.specs.RoundTrip.{counted_text, number_text};
 ghost use Rattle.std.specs.Int.{w8};
 ghost use Rattle.ar_bytes.specs.Ascending.{numbers_text};
-ghost use Rattle.ar_cert.specs.Certificate.{front_text, rules_text, terms_text, wait_text, certificate_text, digest_of};
+ghost use Rattle.ar_cert.specs.Certificate.{front_text, rules_text, terms_text, wait_text, certificate_text, certificate_value, digest_of};
 ghost use Rattle.ar_cert.specs.Changes.{endorsement_text, consent_text, change_text, IsSignature};
 
 use crate::cert::{Cert, Policy};
 use crate::change::{Change, Endorsement};
 use ar_base::Items;
 use ar_bytes::{write_bytes, write_u8, write_u16, write_u32, write_u64};
+use hash_tree::value_digest;
 use sha2::{Digest, Sha256};
 use std::alloc::{AllocError, Global};
 
 /// The most bytes of a certificate's text.
 const TEXT_LEN: usize = 402;
 /// The first byte of a text.
-const TAG: u8 = 1;
+pub(crate) const TAG: u8 = 1;
 /// The byte before a text whose digest is the certificate's.
-const DIGEST_TAG: u8 = 0x10;
+pub(crate) const DIGEST_TAG: u8 = 0x10;
 
 // ---- a certificate, in the front of an array
 
@@ -115,6 +116,13 @@ impl Cert {
         hasher.update(&[DIGEST_TAG]);
         hasher.update(&text[..len]);
         hasher.finalize()
+    }
+
+    /// The value in the integrity tree of a name whose newest certificate this is.
+    pub fn value(&self) -> [u8; 32]
+        ensures { result ≡ certificate_value self.now }
+    {
+        value_digest(self.serial, &self.digest())
     }
 
     /// Appends the text. The one error is want of memory: it leaves the bytes of `out` as they were, and
@@ -269,15 +277,24 @@ impl Cert {
 }
 
 impl Change {
-    /// How many bytes the text has, where its certificate's has so many.
+    // How many bytes the text has, where its certificate's has so many.
     #[tactic(auto, using(crate::proofs::Lengths::change_lengths))]
-    fn text_len(&self, cert: usize) -> usize
+    fn len_with(&self, cert: usize) -> usize
         requires is { cert ≡ length (certificate_text self.now.cert) }
         requires few { cert ≤ 402 }
         ensures { result ≡ length (change_text self.now) }
     {
         let endorsements = endorsements_len(self.endorsements.as_slice());
         3 + cert + endorsements + consent_len(&self.handover, &self.objection)
+    }
+
+    /// How many bytes the text has.
+    pub fn text_len(&self) -> usize
+        ensures { result ≡ length (change_text self.now) }
+    {
+        let mut cert = [0; TEXT_LEN];
+        let len = self.cert.put(&mut cert);
+        self.len_with(len)
     }
 
     /// Appends the text. The one error is want of memory: it leaves the bytes of `out` as they were, and
@@ -291,7 +308,7 @@ impl Change {
     {
         let mut cert = [0; TEXT_LEN];
         let len = self.cert.put(&mut cert);
-        out.reserve(self.text_len(len))?;
+        out.reserve(self.len_with(len))?;
         append_counted(out, &cert[..len]);
         append_consents(
             out,

@@ -7,7 +7,7 @@ use Rattle.std.proofs.lemmas.List.Elements.{All-nil, All-push, Contains-append_l
 use Rattle.std.proofs.lemmas.List.Sums.{sum_by-append}
 use Rattle.ar_base.specs.Places.{place_of}
 use Rattle.ar_base.proofs.Places.{contained, has-place}
-use Rattle.key_roll.specs.Book.{IsRollBook, RollBook, texts_of}
+use Rattle.key_roll.specs.Book.{IsRollBook, RollBook, empty_book, texts_of}
 use Rattle.key_roll.specs.Entry.{after_at, after_entry, has_room, with_roll, with_text}
 use Rattle.key_roll.specs.Rolls.{is_plain_of, plain_count}
 use Rattle.key_roll.specs.declared.signed.Signed.{Signed}
@@ -131,7 +131,7 @@ second-room book first second room = at (place_of (texts_of book) first) refl
     at None is = by (has_room book) refl is
 
 -- a book that holds nothing
-pub empty-book : (leaves : ℕ) → 0 < leaves → IsRollBook (record { leaves = leaves; newest = 0; list = [] })
+pub empty-book : (leaves : ℕ) → 0 < leaves → IsRollBook (empty_book leaves)
 empty-book leaves some = record {
   once = λ i j d before within. absurd (omega (arith, within));
   upto = All-nil (λ (s : Signed). s.generation ≤ 0);

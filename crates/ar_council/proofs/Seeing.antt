@@ -1,16 +1,16 @@
 -- What was seen grows.
-use Rattle.std.proofs.Common.{◌≡◌, ◌⊎◌, inl, inr, List, [], ◌∷◌, ◌++◌, refl, subst, Bool, true, false, cond, ◌&&◌, eqb}
+use Rattle.std.proofs.Common.{◌≡◌, ◌⊎◌, inl, inr, List, [], ◌∷◌, true, eqb}
 use Rattle.std.specs.Prelude.{◌↔◌, All, Contains, bytes_eq}
-use Rattle.std.specs.List.{list_any}
 use Rattle.std.proofs.lemmas.Bool.{and_parts, eqb-true}
 use Rattle.std.proofs.lemmas.Slice.Eq.{bytes_eq-Decides}
-use Rattle.std.proofs.lemmas.List.Elements.{All-cons, All-contains, All-contains_itself, All-weaker, All-head, All-nil, All-push, All-tail, Contains-append_left, Contains-push}
+use Rattle.std.proofs.lemmas.List.Elements.{All-cons, All-contains, All-contains_itself, All-weaker, All-head, All-nil, All-tail}
+use Rattle.ar_base.proofs.Adding.{one-all, one-has, one-keeps}
 use Rattle.ar_statement.specs.declared.party.Party.{Party}
 use Rattle.ar_statement.specs.declared.text.SeenText.{SeenText}
 use Rattle.ar_statement.specs.Claims.{is_party, role_number}
 use Rattle.ar_statement.proofs.Statements.{same_role}
-use Rattle.ar_council.specs.Seen.{seen_after, with_seen}
-use Rattle.ar_council.proofs.Lists.{Within, found}
+use Rattle.ar_council.specs.Seen.{is_same_seen, seen_after, with_seen}
+use Rattle.ar_council.proofs.Lists.{Within}
 
 pub one_party : (p r : Party) → is_party p r ≡ true → p ≡ r
 one_party p r e =
@@ -19,52 +19,30 @@ one_party p r e =
     let number : p.number ≡ r.number = eqb-true p.number r.number two.1 in
     λ i. record { role = role i; number = number i }
 
-one_seen : (s t : SeenText) → (is_party s.party t.party && bytes_eq s.text t.text) ≡ true → s ≡ t
+one_seen : (s t : SeenText) → is_same_seen s t ≡ true → s ≡ t
 one_seen s t e =
     let two = and_parts (is_party s.party t.party) (bytes_eq s.text t.text) e in
     let party : s.party ≡ t.party = one_party s.party t.party two.0 in
     let text : s.text ≡ t.text = (bytes_eq-Decides s.text t.text).0 two.1 in
     λ i. record { party = party i; text = text i }
 
-with_seen-keeps : (seen : List SeenText) (t : SeenText) → Within seen (with_seen seen t)
-with_seen-keeps seen t x there = by (list_any (λ s. is_party s.party t.party && bytes_eq s.text t.text) seen)
-  where
-    by : (b : Bool) → Contains (cond b seen (seen ++ t ∷ [])) x
-    by true = there
-    by false = Contains-append_left seen (t ∷ []) x there
-
-with_seen-has : (seen : List SeenText) (t : SeenText) → Contains (with_seen seen t) t
-with_seen-has seen t = by (list_any (λ s. is_party s.party t.party && bytes_eq s.text t.text) seen) refl
-  where
-    by : (b : Bool) → list_any (λ s. is_party s.party t.party && bytes_eq s.text t.text) seen ≡ b → Contains (cond b seen (seen ++ t ∷ [])) t
-    by true e =
-        let f = found (λ s. is_party s.party t.party && bytes_eq s.text t.text) seen e in
-        subst (Contains seen) (one_seen f.0 t f.1.1) f.1.0
-    by false e = Contains-push seen t
-
-with_seen-all : (P : SeenText → Type 0) (seen : List SeenText) (t : SeenText) → All P seen → P t → All P (with_seen seen t)
-with_seen-all P seen t all here = by (list_any (λ s. is_party s.party t.party && bytes_eq s.text t.text) seen)
-  where
-    by : (b : Bool) → All P (cond b seen (seen ++ t ∷ []))
-    by true = all
-    by false = All-push P seen t all here
-
 -- what was seen stays seen
 pub seen-keeps : (more seen : List SeenText) → Within seen (seen_after seen more)
 seen-keeps [] seen x there = there
-seen-keeps (t ∷ more) seen x there = seen-keeps more (with_seen seen t) x (with_seen-keeps seen t x there)
+seen-keeps (t ∷ more) seen x there = seen-keeps more (with_seen seen t) x (one-keeps is_same_seen seen t x there)
 
 -- and the new ones are
 pub seen-has : (more seen : List SeenText) → All (Contains (seen_after seen more)) more
 seen-has [] seen = All-nil (Contains (seen_after seen []))
 seen-has (t ∷ more) seen =
-    All-cons (Contains (seen_after seen (t ∷ more))) t more (seen-keeps more (with_seen seen t) t (with_seen-has seen t)) (seen-has more (with_seen seen t))
+    let seen' : List SeenText = with_seen seen t in
+    All-cons (Contains (seen_after seen (t ∷ more))) t more (seen-keeps more seen' t (one-has is_same_seen seen t (λ s. one_seen s t))) (seen-has more seen')
 
 -- and nothing else
 pub seen-all : (P : SeenText → Type 0) (more seen : List SeenText) → All P seen → All P more → All P (seen_after seen more)
 seen-all P [] seen all new = all
 seen-all P (t ∷ more) seen all new =
-    seen-all P more (with_seen seen t) (with_seen-all P seen t all (All-head P t more new)) (All-tail P t more new)
+    seen-all P more (with_seen seen t) (one-all P is_same_seen seen t all (All-head P t more new)) (All-tail P t more new)
 
 -- both ways
 pub seen-exactly : (seen more : List SeenText) (t : SeenText) → Contains (seen_after seen more) t ↔ (Contains seen t ⊎ Contains more t)

@@ -1,8 +1,8 @@
 -- Votes that were seen stay seen.
 use Rattle.std.proofs.Common.{ℕ, List}
 use Rattle.ar_statement.specs.declared.text.SeenText.{SeenText}
-use Rattle.ar_statement.specs.Claims.{text_of}
-use Rattle.party_keys.specs.Seen.{Saw, log_party}
+use Rattle.ar_statement.specs.Claims.{log_party, text_of}
+use Rattle.party_keys.specs.Seen.{Saw}
 use Rattle.vote_quorum.proofs.Counts.{at_least_wider}
 use Rattle.vote_quorum.specs.declared.value.Value.{Value}
 use Rattle.ar_council.specs.Council.{Council}

@@ -1,19 +1,18 @@
 -- Statements of parties, as they are kept by those who saw them.
-use Rattle.std.specs.Prelude.{All, ◌&&◌, if◌then◌else◌, List, [], ◌∷◌, ◌++◌, fold}
-use Rattle.std.specs.List.{list_any}
+use Rattle.std.specs.Prelude.{All, Bool, ◌&&◌, List, fold}
 use Rattle.std.specs.Str.{bytes_eq}
-use Rattle.ar_statement.specs.declared.party.Party.{Party}
+use Rattle.ar_base.specs.Adding.{with_one}
 use Rattle.ar_statement.specs.declared.text.SeenText.{SeenText}
-use Rattle.ar_statement.specs.Claims.{Claim, is_party, text_of}
+use Rattle.ar_statement.specs.Claims.{is_party}
 use Rattle.ar_council.specs.Council.{Council, IsMember}
 
--- a party's statement, as it is kept
-abbrev pub seen_of : Party → Claim → SeenText
-seen_of party claim = record { party = party; text = text_of claim }
+-- whether two are one text of one party
+abbrev pub is_same_seen : SeenText → SeenText → Bool
+is_same_seen s other = is_party s.party other.party && bytes_eq s.text other.text
 
 -- what was seen with one more behind it, unless it is among them
 abbrev pub with_seen : List SeenText → SeenText → List SeenText
-with_seen seen more = if list_any (λ s. is_party s.party more.party && bytes_eq s.text more.text) seen then seen else seen ++ more ∷ []
+with_seen = with_one is_same_seen
 
 -- the same with each of a list
 abbrev pub seen_after : List SeenText → List SeenText → List SeenText

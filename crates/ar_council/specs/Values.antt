@@ -3,9 +3,7 @@ use Rattle.std.specs.Prelude.{ℕ, List, Bool, true, false, Option, Some, None}
 use Rattle.std.specs.Option.{option_map}
 use Rattle.std.specs.Str.{bytes_eq}
 use Rattle.ar_base.specs.Bytes.{IsDigest}
-use Rattle.ar_statement.specs.declared.party.Party.{Party}
-use Rattle.ar_statement.specs.Claims.{Claim, Roots, confirm, confirm_absent, status, vote}
-use Rattle.party_keys.specs.Seen.{log_party}
+use Rattle.ar_statement.specs.Claims.{Claim, Roots, confirmation_by, log_party, status, vote}
 use Rattle.vote_quorum.specs.declared.value.Value.{Value}
 
 -- a base and a root, both digests
@@ -29,12 +27,7 @@ vote_claim log epoch value = vote log epoch value.base value.root
 abbrev pub status_claim : ℕ → ℕ → Option Value → Claim
 status_claim log epoch value = status log epoch (option_map roots_of value)
 
--- a party's confirmation that under a name there is a certificate, or none
-abbrev pub confirmation_by : Party → ℕ → List ℕ → Option (List ℕ) → List ℕ → Claim
-confirmation_by party epoch name None root = confirm_absent party epoch name root
-confirmation_by party epoch name (Some certificate) root = confirm party epoch name certificate root
-
--- a log's
+-- a log's confirmation of what a name has
 abbrev pub confirm_claim : ℕ → ℕ → List ℕ → Option (List ℕ) → List ℕ → Claim
 confirm_claim log epoch name certificate root = confirmation_by (log_party log) epoch name certificate root
 

@@ -1,7 +1,8 @@
 -- The votes that were seen.
 use Rattle.std.specs.Prelude.{ℕ, List}
 use Rattle.ar_statement.specs.declared.text.SeenText.{SeenText}
-use Rattle.party_keys.specs.Seen.{Saw, log_party}
+use Rattle.party_keys.specs.Seen.{Saw}
+use Rattle.ar_statement.specs.Claims.{log_party}
 use Rattle.vote_quorum.specs.Counted.{AtLeast}
 use Rattle.vote_quorum.specs.declared.value.Value.{Value}
 use Rattle.ar_council.specs.Council.{Council}

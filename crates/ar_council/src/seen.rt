@@ -1,9 +1,9 @@
 //! Statements that were seen: each is kept once, with the party that signed it.
-ghost use Rattle.std.specs.Prelude.{◌≡◌, ◌+◌, ◌≤◌, ◌<◌, ◌&&◌, length, vec_capacity, vec_len};
+ghost use Rattle.std.specs.Prelude.{◌≡◌, ◌+◌, ◌≤◌, ◌<◌, length, vec_capacity, vec_len};
 ghost use Rattle.std.specs.List.{list_any};
-ghost use Rattle.std.specs.Str.{bytes_eq};
-ghost use Rattle.ar_council.specs.Seen.{seen_after, seen_of, with_seen};
-ghost use Rattle.ar_statement.specs.Claims.{claim_of, is_party};
+ghost use Rattle.ar_council.specs.Seen.{is_same_seen, seen_after, with_seen};
+ghost use Rattle.party_keys.specs.Seen.{seen_of};
+ghost use Rattle.ar_statement.specs.Claims.{claim_of};
 
 use ar_statement::{Party, SeenText, Statement, Text};
 
@@ -19,7 +19,7 @@ pub fn seen_text(party: Party, statement: &Statement) -> SeenText
 
 /// Whether a party's text is among those that were seen.
 fn was_seen(seen: &[SeenText], more: &SeenText) -> bool
-    ensures { result ≡ list_any (λ s. is_party s.party more.now.party && bytes_eq s.text more.now.text) seen.now }
+    ensures { result ≡ list_any (λ s. is_same_seen s more.now) seen.now }
 {
     seen.iter().any(|s| s.party.is_same(&more.party) && s.text.as_bytes() == more.text.as_bytes())
 }

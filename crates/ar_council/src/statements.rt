@@ -1,12 +1,11 @@
-//! The statements of logs on a value, what a party confirms of a name, and what a value in hand keeps by its type.
+//! The statements of logs on a value, and what a value in hand keeps by its type.
 ghost use Rattle.std.specs.Prelude.{◌≡◌, IfSome};
 ghost use Rattle.std.specs.Option.{option_map};
-ghost use Rattle.ar_council.specs.Values.{IsValue, confirmation_by, is_same_digest, roots_of, status_claim, vote_claim};
+ghost use Rattle.ar_council.specs.Values.{IsValue, is_same_digest, roots_of, status_claim, vote_claim};
 ghost use Rattle.ar_statement.specs.Claims.{claim_of, propose};
 
 use ar_bytes::are_bytes;
-use ar_names::NameView;
-use ar_statement::{Party, Statement};
+use ar_statement::Statement;
 use vote_quorum::Value;
 
 /// Tells a proof that the base and the root are digests.
@@ -68,33 +67,6 @@ pub fn status_statement(log: u16, epoch: u64, value: &Option<Value>) -> Statemen
         log,
         epoch,
         value: roots_of(value),
-    }
-}
-
-/// A party's confirmation that a name has a certificate with this digest, or none.
-pub fn confirmation_statement(
-    signer: Party,
-    epoch: u64,
-    name: NameView<'_>,
-    certificate: Option<[u8; 32]>,
-    root: [u8; 32],
-) -> Statement<'_>
-    ensures { claim_of result ≡ confirmation_by signer epoch name.entry certificate root }
-{
-    match certificate {
-        Some(certificate) => Statement::Confirm {
-            signer,
-            epoch,
-            name,
-            certificate,
-            root,
-        },
-        None => Statement::ConfirmAbsent {
-            signer,
-            epoch,
-            name,
-            root,
-        },
     }
 }
 

@@ -13,22 +13,23 @@ use Rattle.ar_base.specs.Chaining.{◌>>=◌}
 use Rattle.ar_statement.specs.declared.party.Role.{Role}
 use Rattle.ar_statement.specs.declared.party.Role.TheVariants.{LogServer, Authority}
 use Rattle.authority_core.specs.State.{AuthorityState}
+use Rattle.key_roll.specs.Book.{empty_book}
 use Rattle.key_roll.specs.Ring.{AreKeysOf, RingParts, ring_signature_len}
 use Rattle.lms_tree.specs.Key.{public_of}
 use Rattle.lms_tree.specs.KeyParts.{KeyParts}
-use Rattle.lms_tree.specs.LmsKind.{height_of}
+use Rattle.lms_tree.specs.LmsKind.{leaves_of}
 use Rattle.lms_tree.specs.declared.public_key.LmsPublic.{LmsPublic}
 use Rattle.log_core.specs.State.{CoreState}
 use Rattle.party_keys.specs.Directory.{Directory, directory_of, directory_with, is_party_count, is_quorum}
 use Rattle.party_keys.specs.declared.fault.DirectoryFault.{DirectoryFault}
 use Rattle.party_keys.specs.declared.fault.DirectoryFault.TheVariants.{Logs, Authorities, Quorum}
 use Rattle.ar_nodes.specs.Finding.{named}
-use Rattle.ar_nodes.specs.Parties.{leaves_of, AuthorityNode, CheckParts, LogNode}
+use Rattle.ar_nodes.specs.Parties.{AuthorityNode, CheckParts, LogNode}
 use Rattle.ar_nodes.specs.declared.fault.WorldFault.{WorldFault}
 use Rattle.ar_nodes.specs.declared.fault.WorldFault.TheVariants.{Absent}
 use Rattle.ar_founding.specs.FirstKeys.{FirstKeys, first_of, first_ring, with_first, Setup, key_for, keys_for}
-use Rattle.ar_founding.specs.Founded.{AreOwn, EachHasRing, Founded, IsAuthorityRing, IsLogRing, authorities_of, authority_node, founded_of, founded_with, log_node, logs_of}
-use Rattle.ar_founding.specs.Founding.{fresh_core, fresh_log, fresh_state, genesis_of, new_authority}
+use Rattle.ar_founding.specs.Founded.{AreOwn, EachHasRing, Founded, IsAuthorityRing, IsLogRing, authorities_of, founded_of, founded_with, logs_of}
+use Rattle.ar_founding.specs.Founding.{authority_node, fresh_core, fresh_log, fresh_state, genesis_of, log_node, new_authority}
 
 more-first : (setup : Setup) (role : Role) (n : ℕ) → first_of (keys_for setup role (n + 1)) ≡ with_first (first_of (keys_for setup role n)) (key_for setup role n)
 more-first setup role n =
@@ -106,10 +107,10 @@ authority-joined parts before after states later rings more (one ∷ checks) lef
 -- ---- all parties
 
 -- a new book has the one key
-book-own : (key : KeyParts) → AreKeysOf (record { leaves = leaves_of key; newest = 0; list = [] }) (ring_signature_len key) (key ∷ [])
+book-own : (key : KeyParts) → AreKeysOf (empty_book (leaves_of key.lms)) (ring_signature_len key) (key ∷ [])
 book-own key = record {
   many = refl;
-  leaves = All-cons (λ (k : KeyParts). leaves_of key ≡ 2 ^ height_of k.lms) key [] refl (All-nil (λ (k : KeyParts). leaves_of key ≡ 2 ^ height_of k.lms));
+  leaves = All-cons (λ (k : KeyParts). leaves_of key.lms ≡ leaves_of k.lms) key [] refl (All-nil (λ (k : KeyParts). leaves_of key.lms ≡ leaves_of k.lms));
   bytes = All-cons (λ (k : KeyParts). ring_signature_len key ≡ ring_signature_len k) key [] refl (All-nil (λ (k : KeyParts). ring_signature_len key ≡ ring_signature_len k));
 }
 

@@ -14,7 +14,7 @@ use Rattle.ar_nodes.specs.Finding.{named}
 use Rattle.ar_nodes.specs.Parties.{AuthorityNode, CheckParts, LogNode}
 use Rattle.ar_nodes.specs.declared.fault.WorldFault.{WorldFault}
 use Rattle.ar_founding.specs.FirstKeys.{first_ring, keys_made, Setup, key_for, keys_for}
-use Rattle.ar_founding.specs.Founding.{fresh_core, fresh_state, genesis_of}
+use Rattle.ar_founding.specs.Founding.{authority_node, fresh_core, fresh_state, genesis_of, log_node}
 
 -- where all logs begin, and so many authorities
 abbrev pub fresh_cores : Setup → Directory → List CoreState
@@ -48,10 +48,6 @@ founded_of setup count = do
 
 -- ---- the parties of these
 
--- a log that stands here, with its ring
-abbrev pub log_node : CoreState → RingParts → LogNode
-log_node core ring = record { core = core; keys = ring.keys; taken = [] }
-
 -- each log with its ring
 abbrev pub logs_of : List CoreState → List RingParts → List (Option LogNode)
 logs_of [] rings = []
@@ -61,10 +57,6 @@ logs_of (core ∷ cores) (ring ∷ rings) = Some (log_node core ring) ∷ logs_o
 -- the ring is that of the log's book
 abbrev pub IsLogRing : CoreState → RingParts → Type 0
 IsLogRing core ring = log.IsRingOf core ring.keys
-
--- an authority that stands here, with its ring and its check
-abbrev pub authority_node : AuthorityState → RingParts → Option CheckParts → AuthorityNode
-authority_node state ring check = record { state = state; keys = ring.keys; check = check }
 
 -- each authority with its ring, and the checks in order while there are any
 abbrev pub authorities_of : List AuthorityState → List RingParts → List CheckParts → List (Option AuthorityNode)

@@ -4,7 +4,8 @@ ghost use Rattle.std.specs.Prelude.{◌≡◌, ◌≤◌, ◌<◌, ◌+◌, ◌+
 ghost use Rattle.std.specs.Option.{option_map};
 ghost use Rattle.log_core.specs.Keyed as log;
 ghost use Rattle.authority_core.specs.Keyed as authority;
-ghost use Rattle.ar_founding.specs.Founded.{EachHasRing, IsAuthorityRing, IsLogRing, authorities_of, authority_node, log_node, logs_of};
+ghost use Rattle.ar_founding.specs.Founded.{EachHasRing, IsAuthorityRing, IsLogRing, authorities_of, logs_of};
+ghost use Rattle.ar_founding.specs.Founding.{authority_node, log_node};
 ghost use Rattle.ar_nodes.specs.Parties.{check_told, checks_told};
 
 use ar_nodes::{HonestAuthority, HonestLog};

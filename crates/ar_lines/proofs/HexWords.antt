@@ -5,15 +5,18 @@ use Rattle.std.specs.List.{list_all}
 use Rattle.std.specs.Result.{result_ok}
 use Rattle.std.proofs.lemmas.Bool.{agree_below_at, and_parts, eqb-true}
 use Rattle.std.proofs.lemmas.List.Sums.{AllPass-from_list_all}
+use Rattle.std.proofs.lemmas.Map.Entries.{option_filter}
 use Rattle.hex.specs.Hex.{decode_of, decode_sized, is_hex_digit}
 use Rattle.hex.specs.declared.error.FromHexError.{FromHexError}
 use Rattle.hex.proofs.HexLemmas.{decode_of-digits, decode_of-ok, decode_sized-ok, decode_sized-twice}
+use Rattle.ar_base.specs.Gives.{with_error}
+use Rattle.ar_lines.specs.declared.refusal.LineFault.TheVariants.{Refused}
 use Rattle.lms_tree.specs.declared.public_key.LmsPublic.{LmsPublic}
 use Rattle.lms_tree.specs.PublicKey.{is_key_text, key_of_text}
 use Rattle.lms_tree.proofs.KeyLemmas.{is_some-key_of_text}
-use Rattle.ar_lines.specs.Readings.{WordAt, or_fault, spelled}
-use Rattle.ar_lines.specs.Forms.{bytes_of_hex, is_hex, is_lower_hex_digit, key_of_hex, passing, sized_of_hex}
-use Rattle.ar_lines.proofs.Respelled.{is_small, passing_some}
+use Rattle.ar_lines.specs.Readings.{WordAt, spelled}
+use Rattle.ar_lines.specs.Forms.{bytes_of_hex, is_hex, is_lower_hex_digit, key_of_hex, sized_of_hex}
+use Rattle.ar_lines.proofs.Respelled.{is_small, filtered_some}
 use Rattle.ar_lines.proofs.TextLaws.{all_pass}
 
 -- ---- bytes
@@ -61,7 +64,7 @@ hex_decoded word bytes h is =
     rw (low, is) refl
 
 -- so a word of this form is read
-pub hex_is_read : (word : WordAt) → is_hex word.text ≡ true → IsOk (or_fault (spelled word (bytes_of_hex word.text)))
+pub hex_is_read : (word : WordAt) → is_hex word.text ≡ true → IsOk (with_error Refused (spelled word (bytes_of_hex word.text)))
 hex_is_read word h = let bytes = hex_spells word.text h in rw bytes.1 refl
 
 pub ruleset hex_laws = (hex_spells, hex_alone, hex_decoded)
@@ -91,7 +94,7 @@ sized-fault count word e fails = by (list_all is_lower_hex_digit word) (decode_o
         let twice : length word ≡ 2 * count = (decode_of-ok word bytes is).2 ∙ ap (λ n. 2 * n) (eqb-true (length bytes) count len) in
         absurd (cc (sym fails ∙ decode_sized-twice word count twice ∙ is))
 
-    by : (low : Bool) (read : Result (List ℕ) FromHexError) → decode_of word ≡ read → passing (λ bytes. length bytes == count) (if low then result_ok read else None) ≡ None
+    by : (low : Bool) (read : Result (List ℕ) FromHexError) → decode_of word ≡ read → option_filter (λ bytes. length bytes == count) (if low then result_ok read else None) ≡ None
     by false read is = refl
     by true (Err f) is = refl
     by true (Ok bytes) is = other bytes (length bytes == count) refl is
@@ -128,12 +131,12 @@ pub key_of_hex-unsized : (word : List ℕ) → sized_of_hex 56 word ≡ None →
 unfolding sized_of_hex
 key_of_hex-unsized word none = by (bytes_of_hex word) none
   where
-    by : (read : Option (List ℕ)) → passing (λ bytes. length bytes == 56) read ≡ None → option_and_then key_of_text read ≡ None
+    by : (read : Option (List ℕ)) → option_filter (λ bytes. length bytes == 56) read ≡ None → option_and_then key_of_text read ≡ None
     by None h = refl
     by (Some bytes) h = no_key bytes (λ len. let all : true ≡ (length bytes == 56) = sym (eq-eqb (length bytes) 56 len) in cc)
 
 pub key_of_hex-sized : (word bytes : List ℕ) → sized_of_hex 56 word ≡ Some bytes → key_of_hex word ≡ key_of_text bytes
 unfolding sized_of_hex
-key_of_hex-sized word bytes some = ap (option_and_then key_of_text) (passing_some _ (bytes_of_hex word) bytes some).0
+key_of_hex-sized word bytes some = ap (option_and_then key_of_text) (filtered_some _ (bytes_of_hex word) bytes some).0
 
 pub ruleset key_laws = (key_of_hex-unsized, key_of_hex-sized)

@@ -8,4 +8,3 @@ pub mod RowsRead
 pub mod RowsWritten
 pub mod Spelled
 pub mod TextLaws
-pub mod WordLaws

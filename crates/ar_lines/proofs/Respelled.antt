@@ -9,13 +9,14 @@ use Rattle.std.specs.Str.Parse.{digits_value}
 use Rattle.std.proofs.lemmas.Bool.{agree_below_at, and_parts, eqb-true, leb-true, ltb-true, or_cases}
 use Rattle.std.proofs.lemmas.Fmt.{decimal-digits_value}
 use Rattle.std.proofs.lemmas.Option.{cond_some}
+use Rattle.std.proofs.lemmas.Map.Entries.{option_filter}
 use Rattle.hex.specs.Hex.{IsBytes, decode_of, decode_pairs, digit_or_error, encode_lower, encode_with, hex_digit_value, lower_digits, pair_value, value_at, ◌>>=◌}
 use Rattle.hex.specs.declared.error.FromHexError.{FromHexError}
 use Rattle.hex.proofs.HexLemmas.{decode_of-even, decode_of-ok}
 use Rattle.lms_tree.specs.declared.public_key.LmsPublic.{LmsPublic}
 use Rattle.lms_tree.specs.PublicKey.{key_of_text}
 use Rattle.lms_tree.proofs.KeyLemmas.{key_text-key_of_text}
-use Rattle.ar_lines.specs.Forms.{bytes_of_hex, is_lower_hex_digit, is_numeral, key_of_hex, name_of, number_in, number_of, passing, sized_of_hex}
+use Rattle.ar_lines.specs.Forms.{bytes_of_hex, is_lower_hex_digit, is_numeral, key_of_hex, name_of, number_in, number_of, sized_of_hex}
 use Rattle.ar_lines.specs.Written.{Writes, hex_of_key}
 use Rattle.ar_lines.proofs.Numerals.{numeral_digits, own}
 use Rattle.ar_base.proofs.Shown.{gave}
@@ -32,15 +33,15 @@ pub stepped : {A B : Type 0} (f : A → Option B) (o : Option A) (y : B) → opt
 stepped f (Some x) y e = (x, refl, e)
 stepped f None y e = absurd cc
 
-pub passing_some : {T : Type 0} (test : T → Bool) (o : Option T) (y : T) → passing test o ≡ Some y → (o ≡ Some y) × (test y ≡ true)
-passing_some test (Some x) y e =
+pub filtered_some : {T : Type 0} (test : T → Bool) (o : Option T) (y : T) → option_filter test o ≡ Some y → (o ≡ Some y) × (test y ≡ true)
+filtered_some test (Some x) y e =
     let p = cond_some (test x) x y e in
     (ap Some p.1, ap test (sym p.1) ∙ p.0)
-passing_some test None y e = absurd cc
+filtered_some test None y e = absurd cc
 
 -- what passes a test is written as before
-pub passing_writes : {T : Type 0} (form : List ℕ → Option T) (write : T → List ℕ) (test : T → Bool) → Writes form write → Writes (λ word. passing test (form word)) write
-passing_writes form write test writes word value h = writes word value (passing_some test (form word) value h).0
+pub filtered_writes : {T : Type 0} (form : List ℕ → Option T) (write : T → List ℕ) (test : T → Bool) → Writes form write → Writes (λ word. option_filter test (form word)) write
+filtered_writes form write test writes word value h = writes word value (filtered_some test (form word) value h).0
 
 -- ---- hex
 
@@ -106,7 +107,7 @@ hex_own word bytes h =
 
 pub sized_writes : (count : ℕ) → Writes (sized_of_hex count) encode_lower
 unfolding sized_of_hex
-sized_writes count = passing_writes bytes_of_hex encode_lower _ (λ word bytes h. (hex_own word bytes h).0)
+sized_writes count = filtered_writes bytes_of_hex encode_lower _ (λ word bytes h. (hex_own word bytes h).0)
 
 -- ---- keys
 
@@ -139,7 +140,7 @@ number_own word n h =
 
 pub number_in_writes : (least most : ℕ) → Writes (number_in least most) decimal
 unfolding number_in
-number_in_writes least most = passing_writes number_of decimal _ number_own
+number_in_writes least most = filtered_writes number_of decimal _ number_own
 
 -- ---- names
 

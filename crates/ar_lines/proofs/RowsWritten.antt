@@ -7,7 +7,7 @@ use Rattle.std.proofs.lemmas.Slice.Eq.{bytes_eq-Decides}
 use Rattle.hex.specs.Hex.{encode_lower}
 use Rattle.ar_base.proofs.Shown.{bind_ok, ok_is}
 use Rattle.ar_lines.specs.Forms.{bytes_of_hex}
-use Rattle.ar_lines.specs.Lines.{is_text, words_of}
+use Rattle.ar_lines.specs.Lines.{is_text, parts_of, words_of}
 use Rattle.ar_lines.specs.Readings.{LineCursor, WordAt, line_at, next_of, no_line_of, spelled, word_at}
 use Rattle.ar_lines.specs.Rows.{Row, both_of, field_at, no_row_of, only_of, row_at, row_of, two_fields_at, value_at}
 use Rattle.ar_lines.specs.Written.{Writes, named}
@@ -72,7 +72,7 @@ row_words name line (word ∷ fields) row h =
 
 -- the words of a line, joined by spaces, are the line
 words_joined : (line : List ℕ) (words : List (List ℕ)) → words_of line ≡ words → line ≡ join_with_byte 32 words
-unfolding words_of
+unfolding parts_of
 words_joined line words h = sym (join_with_byte-slice_split 32 line) ∙ ap (join_with_byte 32) h
 
 pub row_is : (name : List ℕ) (at new : LineCursor) (row : Row) → row_at name at ≡ Ok (row, new) → at.ahead ≡ join_with_byte 32 (name ∷ row.fields) ∷ new.ahead

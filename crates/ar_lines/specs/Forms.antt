@@ -1,25 +1,21 @@
 -- The forms of words, and what a word of each spells.
-use Rattle.std.specs.Prelude.{ℕ, ◌%◌, ◌^◌, nat_le, nat_lt, ◌==◌, Bool, not, ◌&&◌, ◌||◌, if◌then◌else◌, List, length, slice_index, Option, Some, None, option_and_then}
+use Rattle.std.specs.Prelude.{ℕ, ◌%◌, ◌^◌, nat_lt, ◌==◌, Bool, not, ◌&&◌, ◌||◌, if◌then◌else◌, List, length, slice_index, Option, Some, None, option_and_then}
 use Rattle.std.specs.Char.{is_ascii_digit}
 use Rattle.std.specs.List.{list_all}
 use Rattle.std.specs.Result.{result_ok}
 use Rattle.std.specs.Str.Parse.{digits_value}
+use Rattle.std.proofs.lemmas.Map.Entries.{option_filter}
 use Rattle.hex.specs.Hex.{decode_of}
 use Rattle.ar_base.specs.Ranges.{is_from_to}
 use Rattle.ar_names.specs.Names.{is_name}
 use Rattle.lms_tree.specs.PublicKey.{key_of_text}
 use Rattle.lms_tree.specs.declared.public_key.LmsPublic.{LmsPublic}
 
--- the value, where it passes the test
-abbrev pub passing : {T : Type 0} → (T → Bool) → Option T → Option T
-passing test None = None
-passing test (Some value) = if test value then Some value else None
-
 -- ---- hex: two lower-case digits for each byte
 
 -- `0` to `9` or `a` to `f`
 abbrev pub is_lower_hex_digit : ℕ → Bool
-is_lower_hex_digit byte = (nat_le 48 byte && nat_le byte 57) || (nat_le 97 byte && nat_le byte 102)
+is_lower_hex_digit byte = is_from_to 48 57 byte || is_from_to 97 102 byte
 
 -- whether a word is such digits, an even number of them
 abbrev pub is_hex : List ℕ → Bool
@@ -31,7 +27,7 @@ bytes_of_hex word = if list_all is_lower_hex_digit word then result_ok (decode_o
 
 -- the bytes that a word spells, where there are so many
 unfoldable pub sized_of_hex : ℕ → List ℕ → Option (List ℕ)
-sized_of_hex count word = passing (λ bytes. length bytes == count) (bytes_of_hex word)
+sized_of_hex count word = option_filter (λ bytes. length bytes == count) (bytes_of_hex word)
 
 -- the public key that a word spells by the bytes of its text
 abbrev pub key_of_hex : List ℕ → Option LmsPublic
@@ -51,7 +47,7 @@ number_of word =
 
 -- the number that a word spells, where it is not below the first of these bounds and not above the second
 unfoldable pub number_in : ℕ → ℕ → List ℕ → Option ℕ
-number_in least most word = passing (is_from_to least most) (number_of word)
+number_in least most word = option_filter (is_from_to least most) (number_of word)
 
 -- ---- names
 

@@ -5,9 +5,10 @@
 --       epoch ← word_at number_of at
 --       text ← word_at bytes_of_hex epoch.1
 --       Ok (record { epoch = epoch.0; text = text.0 }, text.1)
-use Rattle.std.specs.Prelude.{◌≡◌, ℕ, ◌+◌, List, [], ◌∷◌, Option, Some, None, Result, Ok, Err}
+use Rattle.std.specs.Prelude.{◌≡◌, ℕ, ◌+◌, List, [], ◌∷◌, Option, Result, Ok, Err}
+use Rattle.std.specs.Option.{ok_or}
 use Rattle.ar_base.specs.Chaining.{◌>>=◌}
-use Rattle.ar_base.specs.Gives.{GivesOrWants, GivesUnless}
+use Rattle.ar_base.specs.Gives.{Gives, GivesOrWants, GivesUnless, with_error}
 use Rattle.ar_lines.specs.Lines.{lines_of}
 use Rattle.ar_lines.specs.Refusals.{refused}
 use Rattle.ar_lines.specs.declared.refusal.LineFault.{LineFault}
@@ -45,8 +46,7 @@ line_at at = next_of at.next at.ahead
 
 -- what a word spells, where it is of its form; else it is refused as `field`
 abbrev pub spelled : {T : Type 0} → WordAt → Option T → Result T Refusal
-spelled word (Some value) = Ok value
-spelled word None = refused word.line (Field word.number)
+spelled word value = ok_or value (record { line = word.line; reason = Field word.number })
 
 -- the next line, which is one word of a form
 unfoldable pub word_at : {T : Type 0} → (List ℕ → Option T) → LineCursor → LineReading T
@@ -68,24 +68,19 @@ no_line_at at = no_line_of at.next at.ahead
 
 -- The call gave what the definition of a reading gives, and stands behind its lines then.
 abbrev pub Follows : {T V : Type 0} → (T → V) → Result T Refusal → LineCursor → LineReading V → Type 0
-Follows view (Ok value) new reading = reading ≡ Ok (view value, new)
-Follows view (Err refusal) new reading = reading ≡ Err refusal
+Follows view result new reading = Gives (λ value. (view value, new)) result reading
 
 -- ---- answers of those that may find no memory
 
--- a reading whose refusal is the fault of a call that takes memory
-abbrev pub or_fault : {V : Type 0} → Result V Refusal → Result V LineFault
-or_fault (Ok value) = Ok value
-or_fault (Err refusal) = Err (Refused refusal)
-
 -- The call gave what the definition of a reading gives, or memory ran out.
 abbrev pub ReadsUnless : {T V : Type 0} → (T → V) → Result T LineFault → Result V Refusal → Type 0
-ReadsUnless view result reading = GivesUnless Memory view result (or_fault reading)
+ReadsUnless view result reading = GivesUnless Memory view result (with_error Refused reading)
 
 -- The same, where memory is taken only for a value: want of memory never stands in a refusal's place.
 abbrev pub ReadsOrWants : {T V : Type 0} → (T → V) → Result T LineFault → Result V Refusal → Type 0
-ReadsOrWants view result reading = GivesOrWants Memory view result (or_fault reading)
+ReadsOrWants view result reading = GivesOrWants Memory view result (with_error Refused reading)
 
 -- What a reader gave that stands behind the lines then, or memory ran out.
 abbrev pub FollowsUnless : {T V : Type 0} → (T → V) → Result T LineFault → LineCursor → LineReading V → Type 0
-FollowsUnless view result new reading = GivesUnless Memory (λ value. (view value, new)) result (or_fault reading)
+FollowsUnless view result new reading =
+    GivesUnless Memory (λ value. (view value, new)) result (with_error Refused reading)

@@ -14,8 +14,12 @@ reason_text Words = codes "words"
 reason_text (Field k) = codes "field " ++ decimal k
 
 -- what tells which line is refused, and why
+abbrev pub refused_as : ℕ → List ℕ → List ℕ
+refused_as line reason = codes "line " ++ (decimal line ++ (codes ": " ++ reason))
+
+-- the same of a refusal
 abbrev pub refusal_text : Refusal → List ℕ
-refusal_text refusal = codes "line " ++ (decimal refusal.line ++ (codes ": " ++ reason_text refusal.reason))
+refusal_text refusal = refused_as refusal.line (reason_text refusal.reason)
 
 -- the refusal of a line
 abbrev pub refused : {T : Type 0} → ℕ → Reason → Result T Refusal

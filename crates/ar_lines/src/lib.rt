@@ -7,11 +7,11 @@
 //!
 //! In `specs/`, `Lines` says how an input is cut, `Forms` what a word spells, `Parties` the words of parties,
 //! `Refusals` how a refused line is told, `Readings` and `Rows` what is read of lines and of named lines,
-//! `Views` how a row that is read in place is seen, and `Written` how lines and words are written. `laws` says
-//! that what is written is read, and that it is read from nothing else.
+//! `Views` how words and a row that are read in place are seen, and `Written` how lines and words are
+//! written. `laws` says that what is written is read, and that it is read from nothing else.
 #![tactic(auto)]
 
-pub use lines::{Lines, first_word, is_text};
+pub use lines::{Lines, first_part, first_word, is_text};
 pub use party::{letter_of, party_of};
 pub use refusal::{LineFault, Reason, Refusal};
 pub use word::{Word, are_hex_digits, array_of_hex, is_hex, number_in, number_of};

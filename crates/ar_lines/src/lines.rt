@@ -1,10 +1,11 @@
-ghost use Rattle.std.specs.Prelude.{◌≡◌, ◌<◌, [], ◌∷◌, MatchOption, length, position};
+ghost use Rattle.std.specs.Prelude.{◌≡◌, ◌<◌, [], ◌∷◌, MatchOption, length};
 ghost use Rattle.std.specs.Option.{option_copied};
-ghost use Rattle.ar_lines.specs.Lines.{is_newline, is_space, is_text, lines_of, words_of};
-ghost use Rattle.ar_lines.specs.Views.{words_behind};
+ghost use Rattle.ar_lines.specs.Lines.{is_text, lines_of, parts_of, words_of};
+ghost use Rattle.ar_lines.specs.Views.{parts_behind, words_behind};
 
 use crate::refusal::{Reason, Refusal};
 use crate::word::Word;
+use ar_base::position_of;
 use std::marker::Model;
 
 /// A reader of the lines of an input, from the first on.
@@ -37,18 +38,16 @@ struct RowText<'a> {
     behind: Option<&'a [u8]>,
 }
 
-/// Where the first newline stands.
-fn first_newline(input: &[u8]) -> Option<usize>
-    ensures { result ≡ position is_newline input.now }
+/// The first part of a text, which is cut at these bytes, and what stands behind the byte that ends it, where
+/// there is one.
+#[tactic(auto, using(crate::proofs::LineLaws::first_part_laws))]
+pub fn first_part(text: &[u8], mark: u8) -> (&[u8], Option<&[u8]>)
+    ensures { parts_of mark text.now ≡ result.0.now ∷ parts_behind mark (option_copied result.1) }
 {
-    input.iter().position(|byte| *byte == b'\n')
-}
-
-/// Where the first space stands.
-fn first_space(line: &[u8]) -> Option<usize>
-    ensures { result ≡ position is_space line.now }
-{
-    line.iter().position(|byte| *byte == b' ')
+    match position_of(text, mark) {
+        Some(end) => (&text[..end], Some(&text[end + 1..])),
+        None => (text, None),
+    }
 }
 
 /// The first line of an input, without its newline, and what follows that newline; `None` where the
@@ -61,21 +60,17 @@ fn first_line(input: &[u8]) -> Option<(&[u8], &[u8])>
     if input.is_empty() {
         return None;
     }
-    match first_newline(input) {
+    match position_of(input, b'\n') {
         Some(end) => Some((&input[..end], &input[end + 1..])),
         None => Some((input, &[])),
     }
 }
 
 /// The first word of a line, and what stands behind the space after it, where there is a space.
-#[tactic(auto, using(crate::proofs::WordLaws::first_word_laws))]
 pub fn first_word(line: &[u8]) -> (&[u8], Option<&[u8]>)
     ensures { words_of line.now ≡ result.0.now ∷ words_behind (option_copied result.1) }
 {
-    match first_space(line) {
-        Some(end) => (&line[..end], Some(&line[end + 1..])),
-        None => (line, None),
-    }
+    first_part(line, b' ')
 }
 
 /// Whether a line is text: each byte of it is one of 0x20 to 0x7e.

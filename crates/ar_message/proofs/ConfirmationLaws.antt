@@ -9,7 +9,7 @@ use Rattle.ar_base.proofs.Shown.{ok_is}
 use Rattle.ar_bytes.specs.Reading.{Cursor, Reading, behind, counted_at, number_at, such_that}
 use Rattle.ar_bytes.specs.RoundTrip.{Passes, ReadsBack, IsSpelledBy, number_text, counted_text}
 use Rattle.ar_bytes.specs.Tested.{byte_at, flag_at, flag_text}
-use Rattle.ar_bytes.proofs.Steps.{guard_ok, Passes-then}
+use Rattle.ar_bytes.proofs.Steps.{guard_ok, Passes-then, split, next}
 use Rattle.ar_bytes.proofs.Passing.{counted_again, counted_pass, number_again, number_pass, wide8, wide16}
 use Rattle.ar_bytes.proofs.Parts.{such_that_again, such_that_pass}
 use Rattle.ar_bytes.proofs.TestedFields.{byte_again, byte_pass, flag_again, flag_pass}
@@ -18,9 +18,9 @@ use Rattle.ar_statement.specs.Claims.{name_text}
 use Rattle.ar_statement.specs.Fields.{IsEpoch, digest_at, epoch_at, name_at}
 use Rattle.ar_statement.proofs.FieldLaws.{digest_again, digest_pass, epoch_again, epoch_pass, name_again, name_pass}
 use Rattle.ar_cert.specs.Certificate.{IsCertificate, certificate_text, counted_certificate_at}
-use Rattle.ar_cert.proofs.CertificateLaws.{split, next, counted_certificate_again, counted_certificate_pass}
-use Rattle.tree_proof.specs.declared.path.Bottom.{Bottom}
-use Rattle.tree_proof.specs.declared.path.Bottom.TheVariants.{Empty, Other}
+use Rattle.ar_cert.proofs.CertificateLaws.{counted_certificate_again, counted_certificate_pass}
+use Rattle.hash_tree.specs.declared.bottom.Bottom.{Bottom}
+use Rattle.hash_tree.specs.declared.bottom.Bottom.TheVariants.{Empty, Other}
 use Rattle.ar_message.specs.Confirmation.{Subject, Body, present, absent, Signed, Confirmation, form_at, subject_at, entry_at, bottom_at, body_at, steps_at, path_at, signed_at, signers_at, confirmation_fields_at, confirmation_at, is_present, form_text, subject_text, bottom_text, body_text, path_text, signed_text, signers_text, confirmation_fields_text, confirmation_text, IsSubject, IsBottom, IsBody, AreSteps, IsSigned, IsConfirmation}
 
 -- ---- the form

@@ -6,11 +6,10 @@ use Rattle.ar_base.specs.Chaining.{◌>>=◌}
 use Rattle.ar_base.proofs.Shown.{ok_is}
 use Rattle.ar_bytes.specs.Reading.{Cursor, Reading, number_at}
 use Rattle.ar_bytes.specs.RoundTrip.{Passes, ReadsBack, IsSpelledBy, number_text}
-use Rattle.ar_bytes.proofs.Steps.{Passes-then}
+use Rattle.ar_bytes.proofs.Steps.{Passes-then, split, next}
 use Rattle.ar_bytes.proofs.Passing.{number_again, number_pass, wide16}
 use Rattle.ar_statement.specs.Fields.{digest_at}
 use Rattle.ar_statement.proofs.FieldLaws.{digest_again, digest_pass}
-use Rattle.ar_cert.proofs.CertificateLaws.{split, next}
 use Rattle.ar_message.specs.declared.lists.Vote.{Vote}
 use Rattle.ar_message.specs.declared.message.Body.{Body}
 use Rattle.ar_message.specs.declared.message.Body.TheVariants.{Present, Absent}

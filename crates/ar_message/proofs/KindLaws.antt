@@ -4,9 +4,9 @@ use Rattle.std.specs.Prelude.{IfSome}
 use Rattle.std.specs.Int.{w8, w16, w32, w64}
 use Rattle.std.proofs.lemmas.Bool.{eqb-true, eqb-false}
 use Rattle.ar_base.specs.Bytes.{IsDigest}
-use Rattle.ar_bytes.specs.Reading.{Cursor, Reading, counted_at, number_at, such_that}
+use Rattle.ar_bytes.specs.Reading.{Cursor, Reading, counted_at, mapped_at, number_at, such_that}
 use Rattle.ar_bytes.specs.RoundTrip.{ReadsBack, IsSpelledBy, number_text, counted_text}
-use Rattle.ar_bytes.specs.Joined.{pair_at, optional_at, optional_text, mapped_at}
+use Rattle.ar_bytes.specs.Joined.{pair_at, optional_at, optional_text}
 use Rattle.ar_bytes.proofs.Passing.{counted_again, counted_pass, number_again, number_pass, wide16, wide32}
 use Rattle.ar_bytes.proofs.Parts.{such_that_again, such_that_pass}
 use Rattle.ar_bytes.proofs.JoinedFields.{pair_again, pair_pass, mapped_again, mapped_pass, if_pass}

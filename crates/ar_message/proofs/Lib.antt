@@ -2,7 +2,6 @@ pub mod StepPlaces
 pub mod ConfirmationLaws
 pub mod Filled
 pub mod Places
-pub mod ListSteps
 pub mod ListLaws
 pub mod ConfirmingLaws
 pub mod KindLaws

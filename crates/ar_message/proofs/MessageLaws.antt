@@ -3,12 +3,11 @@ use Rattle.std.proofs.Common.{◌≡◌, ℕ, ◌^◌, ◌<◌, ◌≤◌, ◌�
 use Rattle.std.specs.Int.{w8}
 use Rattle.std.proofs.lemmas.Bool.{and_parts, leb-true, ltb-false, le-ltb}
 use Rattle.ar_base.specs.Bytes.{AreBytes}
-use Rattle.ar_bytes.specs.Reading.{Cursor, number_at, such_that, whole}
+use Rattle.ar_bytes.specs.Reading.{number_at, such_that, whole}
 use Rattle.ar_bytes.specs.RoundTrip.{Passes, ReadsBack, IsSpelledBy, number_text}
-use Rattle.ar_bytes.proofs.Steps.{Passes-then}
+use Rattle.ar_bytes.proofs.Steps.{Passes-then, split, next}
 use Rattle.ar_bytes.proofs.Passing.{number_again, number_pass, wide8}
 use Rattle.ar_bytes.proofs.Parts.{such_that_again, such_that_pass}
-use Rattle.ar_cert.proofs.CertificateLaws.{split, next}
 use Rattle.ar_cert.proofs.ChangeLaws.{only_text}
 use Rattle.ar_message.specs.declared.message.Message.{Message}
 use Rattle.ar_message.specs.declared.message.Message.TheVariants.{EndorseAsk, Endorsed, Submit, Propose, Ballot, StatusNote, Decision, SkipNote, ConfirmAsk, LogConfirmed, HalfConfirmed, Confirmation, RollNote}

@@ -2,18 +2,19 @@
 -- fails, and the one text of each.
 use Rattle.std.specs.Prelude.{◌≡◌, ℕ, ◌+◌, ◌*◌, ◌/◌, ◌^◌, ◌<◌, ◌≤◌, ◌==◌, nat_lt, nat_le, Bool, true, false, if◌then◌else◌, List, ◌++◌, length, take, Option, Some, None, Ok, Err}
 use Rattle.std.specs.Int.{w8, w16, w64}
+use Rattle.std.specs.Option.{option_map}
 use Rattle.ar_base.specs.Bytes.{IsDigest}
 use Rattle.ar_base.specs.Ranges.{is_from_to}
 use Rattle.ar_base.specs.Chaining.{◌>>=◌}
-use Rattle.ar_bytes.specs.Reading.{Cursor, Reading, behind, counted_at, number_at, such_that}
+use Rattle.ar_bytes.specs.Reading.{Cursor, Reading, behind, counted_at, mapped_at, number_at, such_that}
 use Rattle.ar_bytes.specs.RoundTrip.{number_text, counted_text}
 use Rattle.ar_bytes.specs.Tested.{byte_at, flag_at, flag_text}
 use Rattle.ar_names.specs.Names.{IsName}
 use Rattle.ar_statement.specs.Claims.{name_text}
 use Rattle.ar_statement.specs.Fields.{IsEpoch, digest_at, epoch_at, name_at}
-use Rattle.ar_cert.specs.Certificate.{Certificate, IsCertificate, certificate_text, counted_certificate_at}
-use Rattle.tree_proof.specs.declared.path.Bottom.{Bottom}
-use Rattle.tree_proof.specs.declared.path.Bottom.TheVariants.{Empty, Other}
+use Rattle.ar_cert.specs.Certificate.{Certificate, IsCertificate, certificate_text, counted_certificate_at, digest_of}
+use Rattle.hash_tree.specs.declared.bottom.Bottom.{Bottom}
+use Rattle.hash_tree.specs.declared.bottom.Bottom.TheVariants.{Empty, Other}
 
 -- ---- what a confirmation says
 
@@ -51,6 +52,10 @@ abbrev pub certificate_in : Body → Option Certificate
 certificate_in (present certificate) = Some certificate
 certificate_in (absent bottom) = None
 
+-- its digest
+abbrev pub digest_in : Body → Option (List ℕ)
+digest_in body = option_map digest_of (certificate_in body)
+
 -- the foot of the path of a name that has none
 abbrev pub bottom_in : Body → Option Bottom
 bottom_in (present certificate) = None
@@ -60,9 +65,7 @@ bottom_in (absent bottom) = Some bottom
 
 -- the form: 1 for presence, 2 for absence; whether the name is present
 unfoldable pub form_at : Cursor → Reading Bool
-form_at at = do
-  form ← such_that (is_from_to 1 2) (number_at w8) at
-  Ok (form.0 == 1, form.1)
+form_at = mapped_at (λ form. form == 1) (such_that (is_from_to 1 2) (number_at w8))
 
 -- what the confirmation is about
 unfoldable pub subject_at : Cursor → Reading Subject
@@ -88,9 +91,7 @@ bottom_at at = do
 
 -- what the table has for a name: a counted certificate where the name is present
 unfoldable pub body_at : Bool → Cursor → Reading Body
-body_at is_present at =
-    if is_present then (counted_certificate_at at >>= λ certificate. Ok (present certificate.0, certificate.1))
-    else (bottom_at at >>= λ bottom. Ok (absent bottom.0, bottom.1))
+body_at is_present at = if is_present then mapped_at present counted_certificate_at at else mapped_at absent bottom_at at
 
 -- so many steps of 32 bytes; the first for which too few bytes are left fails
 unfoldable pub steps_at : ℕ → Cursor → Reading (List ℕ)

@@ -5,9 +5,9 @@ use Rattle.std.specs.Int.{w8, w16, w32, w64}
 use Rattle.ar_base.specs.Bytes.{IsDigest}
 use Rattle.ar_base.specs.Ranges.{is_from_to}
 use Rattle.ar_base.specs.Chaining.{◌>>=◌}
-use Rattle.ar_bytes.specs.Reading.{Cursor, Reading, counted_at, number_at, such_that, whole}
+use Rattle.ar_bytes.specs.Reading.{Cursor, Reading, counted_at, mapped_at, number_at, such_that, whole}
 use Rattle.ar_bytes.specs.RoundTrip.{number_text, counted_text}
-use Rattle.ar_bytes.specs.Joined.{pair_at, optional_at, optional_text, mapped_at}
+use Rattle.ar_bytes.specs.Joined.{pair_at, optional_at, optional_text}
 use Rattle.ar_names.specs.Names.{IsName}
 use Rattle.ar_statement.specs.declared.party.Party.{Party}
 use Rattle.ar_statement.specs.Claims.{name_text, party, party_text, roots_text}

@@ -2,8 +2,7 @@
 use Rattle.std.specs.Prelude.{ℕ, Bool, ◌&&◌, List}
 use Rattle.std.specs.Str.{bytes_eq}
 use Rattle.ar_names.specs.Names.{name_digest_of}
-use Rattle.ar_cert.specs.Certificate.{digest_of}
-use Rattle.hash_tree.specs.Strings.{value_digest}
+use Rattle.ar_cert.specs.Certificate.{certificate_value}
 use Rattle.tree_proof.specs.Membership.{is_off, is_on}
 use Rattle.ar_message.specs.Confirmation.{Body, Subject, absent, present}
 use Rattle.ar_message.specs.Messages.{about_in, path_in, shown_in}
@@ -14,7 +13,7 @@ use Rattle.ar_message.specs.declared.message.Confirming.{Confirming}
 unfoldable pub is_shown : Subject → Body → List ℕ → Bool
 is_shown about (present certificate) steps =
     bytes_eq certificate.name about.name
-    && is_on (name_digest_of about.name) (value_digest certificate.serial (digest_of certificate)) steps about.root
+    && is_on (name_digest_of about.name) (certificate_value certificate) steps about.root
 is_shown about (absent bottom) steps = is_off (name_digest_of about.name) bottom steps about.root
 
 -- a log's confirmation shows what it says

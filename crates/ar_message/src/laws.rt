@@ -2,7 +2,7 @@
 //! the contract of a function without a body.
 
 ghost use Rattle.std.specs.Prelude.{◌≡◌, ◌≤◌, ◌++◌, ◌↔◌, All, AllPairs, List, ℕ, Ok, length, map};
-ghost use Rattle.std.specs.List.{flat_map};
+ghost use Rattle.std.specs.List.{concat};
 ghost use Rattle.ar_base.specs.Bytes.{AreBytes, IsDigest};
 ghost use Rattle.ar_bytes.specs.Reading.{whole};
 ghost use Rattle.ar_bytes.specs.RoundTrip.{ReadsBack, IsSpelledBy};
@@ -51,7 +51,7 @@ pub fn a_text_is_of_one_confirmation()
 
 /// The digests of a path lie in the bytes of its steps, one behind the other.
 pub fn a_path_lies_in_its_bytes()
-    ensures { (steps : List (List ℕ)) → All IsDigest steps → digests_in (flat_map (λ step. step) steps) ≡ steps }
+    ensures { (steps : List (List ℕ)) → All IsDigest steps → digests_in (concat steps) ≡ steps }
 {}
 
 /// Once all blanks are signed, each has its signature, where no two have a place in common.

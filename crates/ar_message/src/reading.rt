@@ -12,7 +12,7 @@ use ar_bytes::Fields;
 use std::alloc::Global;
 
 /// The most bytes of a message.
-const LONGEST: usize = 4_194_304;
+pub const LONGEST: usize = 4_194_304;
 /// The number of the last kind. The first is 1.
 const LAST_KIND: u8 = 13;
 

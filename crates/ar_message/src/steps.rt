@@ -26,7 +26,7 @@ impl Model for Steps {
 
 impl Steps {
     ghost use Rattle.std.specs.Prelude.{◌≡◌, ◌≤◌, IfOk, length};
-    ghost use Rattle.std.specs.List.{flat_map};
+    ghost use Rattle.std.specs.List.{concat};
     ghost use Rattle.ar_message.specs.Confirmation.{AreSteps};
 
     /// The bytes.
@@ -39,9 +39,10 @@ impl Steps {
 
     /// The steps of a path in the tree, which has at most 256: its digests are copied once.
     /// The only error is want of memory.
+    #[tactic(auto, using(std::proofs::lemmas::List::Concat::concat_is))]
     pub fn of_path(alloc: Global, path: &Path) -> Result<Steps, AllocError>
         requires { length path.now.steps ≤ 256 }
-        ensures { IfOk result (λ steps. steps ≡ flat_map (λ step. step) path.now.steps) }
+        ensures { IfOk result (λ steps. steps ≡ concat path.now.steps) }
     {
         Steps::of(alloc, path.steps.as_slice().as_flattened())
     }

@@ -15,7 +15,7 @@ use ar_statement::fields::value;
 use std::alloc::{AllocError, Global};
 
 /// The most changes.
-const MOST_CHANGES: u8 = 64;
+pub const MOST_CHANGES: u8 = 64;
 /// The most votes or statuses.
 const MOST_LOGS: u8 = 16;
 
@@ -50,7 +50,7 @@ fn with_change(
 }
 
 /// At most 64 changes behind their count.
-#[tactic(auto, using(crate::proofs::ListSteps::list_steps), unfolding(crate::specs::Lists::counted_list_at))]
+#[tactic(auto, using(ar_bytes::proofs::Lists::list_steps), unfolding(ar_bytes::specs::Lists::counted_list_at))]
 fn changes(alloc: Global, fields: &mut Fields) -> Result<Result<Vec<Change>, AllocError>, usize>
     ensures { Finds (λ l. l.items) result fields.new (changes_at fields.old) }
 {
@@ -110,7 +110,7 @@ fn with_vote(
 }
 
 /// At most 16 votes behind their count.
-#[tactic(auto, using(ar_bytes::proofs::Ascending::list_steps), unfolding(crate::specs::Lists::counted_list_at))]
+#[tactic(auto, using(ar_bytes::proofs::Ascending::list_steps), unfolding(ar_bytes::specs::Lists::counted_list_at))]
 fn votes(alloc: Global, fields: &mut Fields) -> Result<Result<Vec<Vote>, AllocError>, usize>
     ensures { Finds (λ l. l.items) result fields.new (votes_at fields.old) }
 {
@@ -178,7 +178,7 @@ fn with_status(
 }
 
 /// At most 16 statuses behind their count.
-#[tactic(auto, using(ar_bytes::proofs::Ascending::list_steps), unfolding(crate::specs::Lists::counted_list_at))]
+#[tactic(auto, using(ar_bytes::proofs::Ascending::list_steps), unfolding(ar_bytes::specs::Lists::counted_list_at))]
 fn statuses(alloc: Global, fields: &mut Fields) -> Result<Result<Vec<LogStatus>, AllocError>, usize>
     ensures { Finds (λ l. l.items) result fields.new (statuses_at fields.old) }
 {

@@ -20,7 +20,6 @@ use crate::{
 };
 use ar_cert::{Cert, Change};
 use ar_names::Name;
-use ar_statement::Party;
 use std::alloc::{AllocError, Global};
 use tree_proof::Bottom;
 

@@ -5,6 +5,7 @@ use Rattle.std.specs.Prelude.{◌≡◌, ◌≢◌, ℕ, ◌+◌, ◌-◌, ◌<�
 use Rattle.std.specs.List.{list_any, find, range_with_len}
 use Rattle.std.specs.Option.{option_or}
 use Rattle.sha2.specs.Sha256.{sha256}
+use Rattle.ar_base.specs.Ranges.{is_from_to}
 
 -- `.`
 abbrev pub dot : ℕ
@@ -16,7 +17,7 @@ dash = 45
 
 -- a to z, 0 to 9 or `-`
 abbrev pub is_label_byte : ℕ → Bool
-is_label_byte c = (nat_le 97 c && nat_le c 122) || (nat_le 48 c && nat_le c 57) || c == dash
+is_label_byte c = is_from_to 97 122 c || is_from_to 48 57 c || c == dash
 
 -- the place is the first of a label: the first of the text, or directly after a dot
 abbrev pub is_first_in_label : List ℕ → ℕ → Bool
@@ -67,9 +68,13 @@ pub record StandBefore (text : List ℕ) (k n : ℕ) : Type 0 where
   pub same_label : (i : ℕ) → k ≤ i + n → i < k → slice_index text i ≢ dot
   pub whole_label : n < k → slice_index text (k - (n + 1)) ≡ dot
 
--- the key of a name in the integrity tree
+-- the string whose digest is the key of a name in the integrity tree
+abbrev pub name_string : List ℕ → List ℕ
+name_string text = 0x11 ∷ text
+
+-- the key
 abbrev pub name_digest_of : List ℕ → List ℕ
-name_digest_of text = sha256 (0x11 ∷ text)
+name_digest_of text = sha256 (name_string text)
 
 -- no place before p is wrong
 abbrev pub NoneWrongBefore : List ℕ → ℕ → Type 0

@@ -1,25 +1,15 @@
 -- Bytes that are composed piece by piece.
-use Rattle.std.proofs.Common.{◌≡◌, ℕ, ◌+◌, Bool, true, false, cond, leb, ◌==◌, List, [], ◌∷◌, ◌++◌, length, Option, Some, None, Result, Ok, Err, refl, sym, ap, ◌∙◌, append_assoc, arith, length-append}
+use Rattle.std.proofs.Common.{◌≡◌, ℕ, ◌+◌, Bool, true, false, cond, leb, List, [], ◌∷◌, ◌++◌, length, Option, Some, None, Result, Ok, Err, refl, sym, ap, ◌∙◌, append_assoc, arith, length-append}
+use Rattle.std.specs.Option.{ok_or}
 use Rattle.std.proofs.lemmas.Bool.{leb-false, lt-leb}
-use Rattle.ar_base.specs.Chaining.{◌>>=◌}
-use Rattle.ar_lines.proofs.LineLaws.{pieces_are_some}
+use Rattle.ar_base.specs.Chaining.{◌>>=◌, need}
 use Rattle.ar_message.specs.Messages.{longest}
-use Rattle.script_text.specs.Forms.{parts_of}
 use Rattle.script_text.proofs.Parts.{words_counted}
-use Rattle.ar_nodes.specs.Composing.{all_of, grown, grown_by, kept_of, composed, composed_from, numbers_of, piece_of}
-use Rattle.ar_nodes.specs.Finding.{named, need}
+use Rattle.ar_nodes.specs.Composing.{all_of, grown, grown_by, composed, composed_from, piece_of}
+use Rattle.ar_nodes.specs.Finding.{named}
 use Rattle.ar_nodes.specs.Pool.{Pooled}
 use Rattle.ar_nodes.specs.declared.fault.WorldFault.{WorldFault}
 use Rattle.ar_nodes.specs.declared.fault.WorldFault.TheVariants.{Absent, Limit}
-
--- a fourth number is one too many
-pub more-than-three : (message from to more : List ℕ) → numbers_of (message ∷ from ∷ to ∷ parts_of 58 more) ≡ None
-unfolding parts_of
-more-than-three message from to more =
-    let some = pieces_are_some (λ byte. byte == 58) more in
-    rw some.2 refl
-
-pub ruleset slice_laws = (more-than-three)
 
 -- bytes behind others are as many as both parts of them, one behind the other
 grown-twice : (t : Option (List ℕ)) (a b : List ℕ) → grown t (a ++ b) ≡ grown (grown t a) b
@@ -42,7 +32,7 @@ grown-twice (Some bytes) a b = by (leb (length bytes + length a) longest) refl
         whole ∙ sym (ap (λ t. grown t b) first)
 
 all-more : (t : Option (List ℕ)) (a : List ℕ) (rest : Result (List ℕ) WorldFault) → all_of t (rest >>= (λ b. Ok (a ++ b))) ≡ all_of (grown t a) rest
-all-more t a (Ok b) = ap kept_of (grown-twice t a b)
+all-more t a (Ok b) = ap (λ l. ok_or l Limit) (grown-twice t a b)
 all-more t a (Err fault) = refl
 
 -- what is composed of bytes and of a piece with others behind it
@@ -65,7 +55,7 @@ all-refused pool number word more t fault = by (piece_of pool word)
     by (Some a) h = absurd cc
 
 -- and of no bytes yet and all pieces
-fits-first : (fits : Bool) (bytes : List ℕ) → (need fits Limit >>= (λ _. Ok bytes)) ≡ kept_of (cond fits (Some bytes) None)
+fits-first : (fits : Bool) (bytes : List ℕ) → (need fits Limit >>= (λ _. Ok bytes)) ≡ ok_or (cond fits (Some bytes) None) Limit
 fits-first true bytes = refl
 fits-first false bytes = refl
 
@@ -75,7 +65,7 @@ all-first pool pieces = by (composed_from pool 2 pieces)
     by : (made : Result (List ℕ) WorldFault) → (made >>= (λ bytes. need (leb (length bytes) longest) Limit >>= (λ _. Ok bytes))) ≡ all_of (Some []) made
     by (Ok bytes) =
         let same : length bytes ≡ 0 + length bytes = omega arith in
-        fits-first (leb (length bytes) longest) bytes ∙ ap (λ n. kept_of (cond (leb n longest) (Some bytes) None)) same
+        fits-first (leb (length bytes) longest) bytes ∙ ap (λ n. ok_or (cond (leb n longest) (Some bytes) None) Limit) same
     by (Err fault) = refl
 
 pub ruleset piece_laws = (all-taken, all-refused, all-first, words_counted)

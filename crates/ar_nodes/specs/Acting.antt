@@ -1,27 +1,30 @@
 -- What a party makes of an input: the party as it is then, and its reply. And what the reply makes of the pool, and what is
--- printed of it. The steps of a world have the same, with the party and the pool in their places.
+-- printed of it. A step of a world puts the party and the pool into their places.
 use Rattle.std.specs.Prelude.{◌≡◌, ℕ, ◌+◌, List, [], ◌∷◌, ◌++◌, length, map, slice_set, Option, None, Some, Result, Ok, Err}
+use Rattle.ar_base.specs.Gives.{with_error}
+use Rattle.ar_cert.specs.Certificate.{Certificate, digest_of}
 use Rattle.ar_message.specs.Filling.{filled}
 use Rattle.ar_message.specs.Messages.{message_in}
 use Rattle.ar_message.specs.declared.sent.Sent.{Sent}
 use Rattle.ar_statement.specs.declared.party.Party.{Party}
+use Rattle.authority_core.specs.RollRows.{roll_row}
 use Rattle.authority_core.specs.State as authority
+use Rattle.lms_tree.specs.Key.{public_of}
 use Rattle.lms_tree.specs.KeyParts.{KeyParts}
 use Rattle.log_core.specs.Row.{row}
 use Rattle.log_core.specs.State as log
 use Rattle.owner_check.specs.declared.answer.Outcome.{Outcome}
-use Rattle.owner_core.specs.Rows.{Row, step_row}
+use Rattle.owner_core.specs.Rows.{Row, object_row, step_row, submit_row}
 use Rattle.owner_core.specs.State.{Owner}
-use Rattle.party_keys.specs.Seen.{authority_party, log_party}
+use Rattle.ar_statement.specs.Claims.{authority_party, log_party, owner_party}
 use Rattle.report_text.specs.declared.happening.Code.{Code}
 use Rattle.report_text.specs.declared.happening.Happening.{Happening}
 use Rattle.report_text.specs.declared.happening.Happening.TheVariants.{Step}
 use Rattle.report_text.specs.declared.happening.What.{What}
-use Rattle.report_text.specs.declared.happening.What.TheVariants.{Take}
+use Rattle.report_text.specs.declared.happening.What.TheVariants.{Object, Roll, Submit, Take}
 use Rattle.ar_nodes.specs.Authorities.{authority_reply, node_behind}
 use Rattle.ar_nodes.specs.Codes.{authority_code, log_code, owner_code}
 use Rattle.ar_nodes.specs.Finding.{honest_in}
-use Rattle.ar_nodes.specs.Owners.{owner_party}
 use Rattle.ar_nodes.specs.Parties.{AuthorityNode, LogNode}
 use Rattle.ar_nodes.specs.Pool.{delivered_to, Pooled, entries_from, numbered, pooled_from, set_numbered}
 use Rattle.ar_nodes.specs.Sending.{ending_of}
@@ -131,13 +134,38 @@ abbrev pub owner_does : Owner → Row Sent → Owner × Reply
 owner_does me (Ok made) = (made.1, Ok made.0)
 owner_does me (Err refusal) = (me, Err (owner_code refusal))
 
+-- ---- drafts
+
+-- an owner that objects to a certificate, which is that of a draft
+abbrev pub owner_objected : List Pooled → ℕ → ℕ → Certificate → Owner → Owner × (List Pooled × List Happening)
+owner_objected pool number draft cert me = acted pool (owner_party number) (Object draft) (owner_does me (object_row me cert))
+
+-- one that submits its draft with this certificate, and stays as it is
+abbrev pub owner_submitted : List Pooled → ℕ → ℕ → Certificate → Owner → Owner × (List Pooled × List Happening)
+owner_submitted pool number draft cert me =
+    acted pool (owner_party number) (Submit draft) (me, with_error owner_code (submit_row me (digest_of cert)))
+
+-- ---- orders
+
+-- a log that does what it is asked, which is not to go on to a key
+unfoldable pub log_obeyed : List Pooled → ℕ → What → LogEvent → log.Input → LogNode → LogNode × (List Pooled × List Happening)
+log_obeyed pool number what event input node = acted pool (log_party number) what (log_does node node.keys event (row node.core input))
+
+-- a log that goes on to its next key, which it has from then on
+unfoldable pub log_rolled : List Pooled → ℕ → KeyParts → LogNode → LogNode × (List Pooled × List Happening)
+log_rolled pool number next node =
+    acted pool (log_party number) Roll (log_does node (node.keys ++ next ∷ []) events.Roll (row node.core (log.rolls (public_of next))))
+
+-- an authority
+unfoldable pub authority_rolled : List Pooled → ℕ → KeyParts → AuthorityNode → AuthorityNode × (List Pooled × List Happening)
+authority_rolled pool number next node = acted pool (authority_party number) Roll (authority_turned node next (roll_row node.state (public_of next)))
+
 -- ---- deliveries
 
 -- a log that takes a message of the pool, in which this is noted
 unfoldable pub log_delivered : List Pooled → ℕ → ℕ → LogNode → LogNode × (List Pooled × List Happening)
 log_delivered pool message number node =
-    acted (noted_in pool message (log_party number)) (log_party number) (Take message)
-    (log_does node node.keys (events.Take message) (row node.core (log.takes (bytes_of (numbered pool message)))))
+    log_obeyed (noted_in pool message (log_party number)) number (Take message) (events.Take message) (log.takes (bytes_of (numbered pool message))) node
 
 -- an authority
 unfoldable pub authority_delivered : Outcome → List Pooled → ℕ → ℕ → AuthorityNode → AuthorityNode × (List Pooled × List Happening)

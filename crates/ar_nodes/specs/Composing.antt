@@ -1,11 +1,11 @@
 -- Bytes that a script composes of pieces. They are kept piece by piece, as long as they are no more than a message may have.
-use Rattle.std.specs.Prelude.{ℕ, ◌+◌, ◌-◌, ◌==◌, nat_le, ◌&&◌, if◌then◌else◌, List, [], ◌∷◌, ◌++◌, drop, length, take, Option, Some, None, option_and_then, Result, Ok, Err}
-use Rattle.std.specs.Option.{option_map}
-use Rattle.ar_base.specs.Chaining.{◌>>=◌}
-use Rattle.ar_lines.specs.Forms.{bytes_of_hex, number_of}
+use Rattle.std.specs.Prelude.{ℕ, ◌+◌, ◌-◌, ◌==◌, nat_le, ◌&&◌, if◌then◌else◌, List, [], ◌∷◌, ◌++◌, drop, length, take, Option, Some, None, option_and_then, Result, Ok}
+use Rattle.std.specs.Option.{ok_or}
+use Rattle.ar_base.specs.Chaining.{◌>>=◌, need}
+use Rattle.ar_lines.specs.Forms.{bytes_of_hex}
 use Rattle.ar_message.specs.Messages.{longest}
-use Rattle.script_text.specs.Forms.{parts_of}
-use Rattle.ar_nodes.specs.Finding.{named, need}
+use Rattle.script_text.specs.Forms.{slice_of}
+use Rattle.ar_nodes.specs.Finding.{named}
 use Rattle.ar_nodes.specs.Pool.{Pooled, numbered}
 use Rattle.ar_nodes.specs.declared.fault.WorldFault.{WorldFault}
 use Rattle.ar_nodes.specs.declared.fault.WorldFault.TheVariants.{Limit}
@@ -20,20 +20,14 @@ cut_from bytes from to = if nat_le from to && nat_le to (length bytes) then Some
 abbrev pub cut_of : List Pooled → ℕ → ℕ → ℕ → Option (List ℕ)
 cut_of pool message from to = option_and_then (λ p. cut_from p.bytes from to) (numbered pool message)
 
--- the three numbers of a slice
-abbrev pub numbers_of : List (List ℕ) → Option (ℕ × ℕ × ℕ)
-numbers_of (message ∷ from ∷ to ∷ []) =
-    option_and_then (λ m. option_and_then (λ a. option_map (λ b. (m, a, b)) (number_of to)) (number_of from)) (number_of message)
-numbers_of words = None
-
--- the bytes of a slice
-abbrev pub slice_of : List Pooled → List ℕ → Option (List ℕ)
-slice_of pool word = option_and_then (λ n. cut_of pool n.0 n.1 n.2) (numbers_of (parts_of 58 word))
+-- the bytes of the slice that a word says
+abbrev pub slice_in : List Pooled → List ℕ → Option (List ℕ)
+slice_in pool word = option_and_then (λ n. cut_of pool n.0 n.1 n.2) (slice_of word)
 
 -- the bytes of a piece: behind `x` stands their hex, and behind `m` the number of a message with two places in it
 abbrev pub piece_of : List Pooled → List ℕ → Option (List ℕ)
 piece_of pool [] = None
-piece_of pool (mark ∷ word) = if mark == 120 then bytes_of_hex word else slice_of pool word
+piece_of pool (mark ∷ word) = if mark == 120 then bytes_of_hex word else slice_in pool word
 
 -- the bytes of pieces, the first of which is the word with this number, one behind the other
 abbrev pub composed_from : List Pooled → ℕ → List (List ℕ) → Result (List ℕ) WorldFault
@@ -63,12 +57,8 @@ grown_by bytes word found = do
   more ← named word found
   Ok (grown bytes more)
 
--- the bytes that are kept, where they are not too many
-abbrev pub kept_of : Option (List ℕ) → Result (List ℕ) WorldFault
-kept_of None = Err Limit
-kept_of (Some bytes) = Ok bytes
-
 -- what is composed in all, of the bytes so far and what the rest comes to
 abbrev pub all_of : Option (List ℕ) → Result (List ℕ) WorldFault → Result (List ℕ) WorldFault
-all_of bytes (Ok rest) = kept_of (grown bytes rest)
-all_of bytes (Err fault) = Err fault
+all_of bytes made = do
+  rest ← made
+  ok_or (grown bytes rest) Limit

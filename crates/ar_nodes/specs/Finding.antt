@@ -1,16 +1,12 @@
 -- What a word of a line names among parties, and why a line is refused where one names nothing.
-use Rattle.std.specs.Prelude.{ℕ, ◌==◌, Bool, if◌then◌else◌, List, slice_get, slice_set, Option, Some, None, option_and_then, Result, Ok, Err}
-use Rattle.std.specs.Option.{ok_or, option_map}
+use Rattle.std.specs.Prelude.{ℕ, ◌==◌, Bool, List, slice_get, slice_set, Option, Some, None, option_and_then, Result}
+use Rattle.std.specs.Option.{ok_or, option_flatten, option_map}
 use Rattle.ar_statement.specs.Claims.{is_party}
 use Rattle.ar_statement.specs.declared.party.Party.{Party}
 use Rattle.owner_core.specs.State as owners
 use Rattle.ar_nodes.specs.Parties.{AuthorityNode, CheckParts, Forger}
 use Rattle.ar_nodes.specs.declared.fault.WorldFault.{WorldFault}
 use Rattle.ar_nodes.specs.declared.fault.WorldFault.TheVariants.{Absent}
-
--- the test holds, or the line is refused
-abbrev pub need : Bool → WorldFault → Result (Unit {0}) WorldFault
-need holds fault = if holds then Ok tt else Err fault
 
 -- the word with this number names something
 abbrev pub named : {X : Type 0} → ℕ → Option X → Result X WorldFault
@@ -20,7 +16,7 @@ named word found = ok_or found (Absent word)
 
 -- of logs or authorities, the honest one with this number
 abbrev pub honest_in : {X : Type 0} → List (Option X) → ℕ → Option X
-honest_in parties number = option_and_then (λ node. node) (slice_get parties number)
+honest_in parties number = option_flatten (slice_get parties number)
 
 -- an honest authority with the check that it has
 abbrev pub with_check : AuthorityNode → Option (AuthorityNode × CheckParts)

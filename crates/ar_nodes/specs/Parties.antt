@@ -1,11 +1,10 @@
 -- The parties of a world, as plain data.
-use Rattle.std.specs.Prelude.{ℕ, List, map, Option, ◌^◌, slice_get, ◌-◌, length}
+use Rattle.std.specs.Prelude.{ℕ, List, map, Option, slice_get, ◌-◌, length}
 use Rattle.std.specs.Option.{option_map}
 use Rattle.ar_statement.specs.declared.party.Party.{Party}
 use Rattle.authority_core.specs.State.{AuthorityState}
 use Rattle.key_roll.specs.Ring.{next_key}
 use Rattle.lms_tree.specs.KeyParts.{KeyParts}
-use Rattle.lms_tree.specs.LmsKind.{height_of}
 use Rattle.log_core.specs.State.{CoreState}
 use Rattle.owner_check.specs.Answers.{Told}
 use Rattle.owner_check.specs.declared.answer.Answer.{Answer}
@@ -49,10 +48,6 @@ pub record PoolParts : Type 0 where
   pub room : ℕ
 
 -- ---- what a party has
-
--- how many leaves a key has
-abbrev pub leaves_of : KeyParts → ℕ
-leaves_of key = 2 ^ height_of key.lms
 
 -- the key behind the newest of these
 abbrev pub next_of : List KeyParts → Option KeyParts

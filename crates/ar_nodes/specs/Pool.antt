@@ -1,10 +1,9 @@
 -- The pool: all messages of a world, numbered from 1 in the order in which they came.
 use Rattle.std.specs.Prelude.{ℕ, zero, suc, ◌+◌, ◌==◌, if◌then◌else◌, List, [], ◌∷◌, length, slice_get, slice_index, slice_set, sum_by, Option, Some, None, ◌++◌}
-use Rattle.std.specs.List.{list_any}
 use Rattle.ar_message.specs.Sending.{Letter}
 use Rattle.ar_message.specs.declared.address.Address.{Address}
 use Rattle.ar_message.specs.declared.address.Address.TheVariants as address
-use Rattle.ar_statement.specs.Claims.{is_party}
+use Rattle.ar_statement.specs.Claims.{has_party}
 use Rattle.ar_statement.specs.declared.party.Party.{Party}
 use Rattle.report_text.specs.declared.happening.Happening.{Happening}
 use Rattle.report_text.specs.declared.happening.Happening.TheVariants.{Entered}
@@ -101,4 +100,4 @@ most_bytes = 260046848
 
 -- a message that was delivered to a party, now or before
 abbrev pub delivered_to : Party → Pooled → Pooled
-delivered_to who p = if list_any (is_party who) p.delivered then p else record p { delivered = p.delivered ++ who ∷ [] }
+delivered_to who p = if has_party p.delivered who then p else record p { delivered = p.delivered ++ who ∷ [] }

@@ -1,6 +1,6 @@
 //! The steps of honest authorities.
 
-ghost use Rattle.std.specs.Prelude.{◌≡◌, ◌<◌, ◌≤◌, ◌++◌, ◌∷◌, [], length, Some, IfOk};
+ghost use Rattle.std.specs.Prelude.{◌≡◌, ◌<◌, ◌≤◌, length, Some, IfOk};
 ghost use Rattle.authority_core.specs.RollRows.{roll_row};
 ghost use Rattle.authority_core.specs.State.{most_sent};
 ghost use Rattle.lms_tree.specs.Key.{public_of};

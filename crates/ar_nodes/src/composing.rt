@@ -1,24 +1,21 @@
 //! Bytes that a script composes of pieces.
 
 ghost use Rattle.std.specs.Prelude.{◌≡◌, [], OnOk, Some};
-ghost use Rattle.std.specs.Option.{option_map};
+ghost use Rattle.std.specs.Option.{ok_or, option_map};
 ghost use Rattle.std.specs.Result.{result_map_both};
 ghost use Rattle.ar_base.specs.Gives.{GivesUnless};
 ghost use Rattle.ar_lines.specs.Forms.{bytes_of_hex};
 ghost use Rattle.ar_lines.specs.Lines.{words_of};
-ghost use Rattle.script_text.specs.Forms.{parts_of};
-ghost use Rattle.ar_nodes.specs.Composing.{grown, grown_by, kept_of, composed, cut_from, cut_of, numbers_of, piece_of, slice_of};
-ghost use Rattle.ar_nodes.specs.declared.fault.WorldFault.TheVariants.{Memory};
+ghost use Rattle.ar_nodes.specs.Composing.{grown, grown_by, composed, cut_from, cut_of, piece_of, slice_in};
+ghost use Rattle.ar_nodes.specs.declared.fault.WorldFault.TheVariants.{Limit, Memory};
 
 use crate::fault::WorldFault;
 use crate::pool::Pool;
-use ar_lines::{LineFault, Word, first_word, number_of};
-use script_text::{Pieces, first_part};
+use ar_lines::{LineFault, Word, first_word};
+use ar_message::LONGEST;
+use script_text::{Pieces, slice_of};
 use std::alloc::{AllocError, Global};
 use std::marker::Model;
-
-/// How many bytes a message may have.
-const LONGEST: usize = 4_194_304;
 
 /// The bytes of the pieces so far, which are kept as long as they are no more than a message may have.
 #[derive(Drop)]
@@ -65,7 +62,7 @@ impl Text {
 
     /// The bytes, where they are not too many.
     fn finish(self) -> Result<Vec<u8>, WorldFault>
-        ensures { result_map_both (λ bytes. bytes.items) (λ e. e) result ≡ kept_of (grown self []) }
+        ensures { result_map_both (λ bytes. bytes.items) (λ e. e) result ≡ ok_or (grown self []) Limit }
     {
         if self.over {
             return Err(WorldFault::Limit);
@@ -93,28 +90,11 @@ fn cut_of(pool: &Pool, message: u64, from: u64, to: u64) -> Option<&[u8]>
     cut_from(message.bytes.as_slice(), from, to)
 }
 
-/// The three numbers of a slice.
-#[tactic(auto, using(crate::proofs::Pieces::slice_laws))]
-fn numbers_of(word: &[u8]) -> Option<(u64, u64, u64)>
-    ensures { result ≡ numbers_of (parts_of 58 word.now) }
+/// The bytes of the slice that a word says.
+fn slice_in<'a>(pool: &'a Pool, word: &[u8]) -> Option<&'a [u8]>
+    ensures { option_map (λ cut. cut.now) result ≡ slice_in pool.now.messages word.now }
 {
-    let (message, Some(places)) = first_part(word, b':') else {
-        return None;
-    };
-    let (from, Some(to)) = first_part(places, b':') else {
-        return None;
-    };
-    let (to, None) = first_part(to, b':') else {
-        return None;
-    };
-    Some((number_of(message)?, number_of(from)?, number_of(to)?))
-}
-
-/// The bytes of a slice.
-fn slice_of<'a>(pool: &'a Pool, word: &[u8]) -> Option<&'a [u8]>
-    ensures { option_map (λ cut. cut.now) result ≡ slice_of pool.now.messages word.now }
-{
-    let (message, from, to) = numbers_of(word)?;
+    let (message, from, to) = slice_of(word)?;
     cut_of(pool, message, from, to)
 }
 
@@ -134,9 +114,9 @@ fn add_hex(alloc: Global, number: usize, word: &[u8], text: &mut Text) -> Result
 
 /// Puts the bytes of a slice, which has this number in its line, behind the others.
 fn add_slice(pool: &Pool, number: usize, word: &[u8], text: &mut Text) -> Result<(), WorldFault>
-    ensures { GivesUnless Memory (λ _. text.new) result (grown_by text.old number (slice_of pool.now.messages word.now)) }
+    ensures { GivesUnless Memory (λ _. text.new) result (grown_by text.old number (slice_in pool.now.messages word.now)) }
 {
-    match slice_of(pool, word) {
+    match slice_in(pool, word) {
         Some(bytes) => {
             text.add(bytes)?;
             Ok(())

@@ -1,19 +1,16 @@
 //! Who is named by a number: of logs and authorities the honest one, and the places of owners.
 
-ghost use Rattle.std.specs.Prelude.{◌≡◌, is_some, find, position, IfSome, IsNone, None, Some};
+ghost use Rattle.std.specs.Prelude.{◌≡◌, is_some, find, position};
+ghost use Rattle.std.specs.Option.{option_map};
 ghost use Rattle.ar_nodes.specs.Finding.{honest_in, is_owner};
 
 use owner_core::Owner;
 
 /// Of logs or authorities, the honest one with this number.
 pub fn honest<X>(parties: &[Option<X>], number: u16) -> Option<&X>
-    ensures there { IfSome result (λ node. honest_in parties.now number ≡ Some node.now) }
-    ensures none { IsNone result → honest_in parties.now number ≡ None }
+    ensures { option_map (λ node. node.now) result ≡ honest_in parties.now number }
 {
-    match parties.get(number as usize) {
-        Some(Some(node)) => Some(node),
-        _ => None,
-    }
+    parties.get(number as usize)?.as_ref()
 }
 
 /// The place of the owner with this number.

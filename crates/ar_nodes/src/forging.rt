@@ -9,7 +9,7 @@ ghost use Rattle.report_text.specs.declared.happening.Happening.TheVariants.{Sig
 ghost use Rattle.report_text.specs.declared.happening.Target.TheVariants.{Nobody};
 ghost use Rattle.ar_nodes.specs.Finding.{is_forger};
 ghost use Rattle.ar_nodes.specs.Forging.{forged};
-ghost use Rattle.ar_nodes.specs.Parties.{leaves_of};
+ghost use Rattle.lms_tree.specs.LmsKind.{leaves_of};
 ghost use Rattle.ar_nodes.specs.Pool.{entries_from, raw};
 ghost use Rattle.ar_nodes.specs.declared.fault.WorldFault.TheVariants.{Memory};
 
@@ -35,7 +35,7 @@ pub fn forger_place(forgers: &[Forger], party: Party) -> Option<usize>
 
 /// Writes the generation 0, and the signature of a text by a leaf of a key.
 fn write_forged(key: &LmsKey, leaf: u32, text: &[u8], out: &mut [u8])
-    requires leaf { leaf < leaves_of key.now }
+    requires leaf { leaf < leaves_of key.now.lms }
     requires room { length out.old ≡ 4 + lms_signature_len_of key.now.lms key.now.ots }
     ensures { out.new ≡ number_text w32 0 ++ signature_of key.now leaf text.now }
 {
@@ -46,7 +46,7 @@ fn write_forged(key: &LmsKey, leaf: u32, text: &[u8], out: &mut [u8])
 
 /// The signature of a text by a dishonest party's next leaf.
 fn forged(alloc: Global, forger: &Forger, text: &[u8]) -> Result<Vec<u8>, AllocError>
-    requires { forger.now.next < leaves_of forger.now.key }
+    requires { forger.now.next < leaves_of forger.now.key.lms }
     ensures { IfOk result (λ bytes. bytes.items ≡ forged forger.now text.now) }
 {
     let mut bytes = vec![in alloc; 0u8; 4 + forger.key.signature_len()]?;
@@ -85,7 +85,7 @@ pub fn put(
 
 /// Whether a dishonest party has a leaf left.
 fn has_leaf(forger: &Forger) -> bool
-    ensures { result ≡ nat_lt forger.now.next (leaves_of forger.now.key) }
+    ensures { result ≡ nat_lt forger.now.next (leaves_of forger.now.key.lms) }
 {
     forger.next < forger.key.leaves()
 }
@@ -93,7 +93,7 @@ fn has_leaf(forger: &Forger) -> bool
 /// A dishonest party has one leaf less.
 #[tactic(auto, using(crate::proofs::Forgers::leaf_laws))]
 fn take_leaf(forger: &mut Forger)
-    requires { forger.old.next < leaves_of forger.old.key }
+    requires { forger.old.next < leaves_of forger.old.key.lms }
     ensures { forger.new ≡ record forger.old { next = forger.old.next + 1 } }
 {
     forger.next += 1;
@@ -106,7 +106,7 @@ fn sign_next(
     forger: &mut Forger,
     text: &[u8],
 ) -> Result<Vec<Happening>, AllocError>
-    requires { forger.old.next < leaves_of forger.old.key }
+    requires { forger.old.next < leaves_of forger.old.key.lms }
     ensures forger { OnOk result (forger.new ≡ record forger.old { next = forger.old.next + 1 }) }
     ensures pool { OnOk result (pool.new.messages ≡ pool.old.messages ++ raw (Some forger.old.party) Nobody (forged forger.old text.now) ∷ []) }
     ensures said { IfOk result (λ said. said.items ≡ entries_from (length pool.old.messages + 1) (raw (Some forger.old.party) Nobody (forged forger.old text.now) ∷ [])) }
@@ -139,10 +139,10 @@ pub fn sign(
     forger: &mut Forger,
     text: &[u8],
 ) -> Result<Items<Happening>, WorldFault>
-    ensures left { nat_lt forger.old.next (leaves_of forger.old.key) ≡ true → IfOk result (λ said. (forger.new ≡ record forger.old { next = forger.old.next + 1 })
+    ensures left { nat_lt forger.old.next (leaves_of forger.old.key.lms) ≡ true → IfOk result (λ said. (forger.new ≡ record forger.old { next = forger.old.next + 1 })
         × (pool.new.messages ≡ pool.old.messages ++ raw (Some forger.old.party) Nobody (forged forger.old text.now) ∷ [])
         × (said ≡ entries_from (length pool.old.messages + 1) (raw (Some forger.old.party) Nobody (forged forger.old text.now) ∷ []))) }
-    ensures none { nat_lt forger.old.next (leaves_of forger.old.key) ≡ false → IfOk result (λ said. (forger.new ≡ forger.old)
+    ensures none { nat_lt forger.old.next (leaves_of forger.old.key.lms) ≡ false → IfOk result (λ said. (forger.new ≡ forger.old)
         × (pool.new.messages ≡ pool.old.messages) × (said ≡ SignRefused forger.old.party ∷ [])) }
     ensures err { IfErr result (λ fault. (fault ≡ Memory) × (forger.new ≡ forger.old) × (pool.new.messages ≡ pool.old.messages)) }
 {

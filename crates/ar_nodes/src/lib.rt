@@ -35,4 +35,4 @@ pub use event::LogEvent;
 pub use fault::WorldFault;
 pub use lesson::Lesson;
 pub use parties::{Forger, HonestAuthority, HonestLog};
-pub use pool::{Pool, Pooled, has_party, numbered};
+pub use pool::{MOST_MESSAGES, Pool, Pooled, numbered};

@@ -1,18 +1,11 @@
 //! What logs and authorities make of an order.
 
-ghost use Rattle.std.specs.Prelude.{◌≡◌, ◌<◌, ◌++◌, ◌∷◌, [], is_some, true, Some};
-ghost use Rattle.authority_core.specs.RollRows.{roll_row};
-ghost use Rattle.lms_tree.specs.Key.{public_of};
+ghost use Rattle.std.specs.Prelude.{◌≡◌, is_some, true, Some};
 ghost use Rattle.lms_tree.specs.KeyParts.{KeyParts};
 ghost use Rattle.log_core.specs.Inputs.{input_of};
 ghost use Rattle.log_core.specs.Keyed.{IsPlain};
-ghost use Rattle.log_core.specs.Row.{row};
-ghost use Rattle.log_core.specs.State.{rolls};
-ghost use Rattle.party_keys.specs.Seen.{authority_party, log_party};
-ghost use Rattle.report_text.specs.declared.happening.What.TheVariants as whats;
-ghost use Rattle.ar_nodes.specs.Acting.{ActsBy, ChangesThere, acted, authority_turned, log_does};
+ghost use Rattle.ar_nodes.specs.Acting.{ActsBy, ChangesThere, authority_rolled, log_obeyed, log_rolled};
 ghost use Rattle.ar_nodes.specs.Parties.{next_of};
-ghost use Rattle.ar_nodes.specs.declared.event.LogEvent.TheVariants as events;
 
 use crate::event::LogEvent;
 use crate::fault::WorldFault;
@@ -28,6 +21,7 @@ use report_text::{Happening, What};
 use std::alloc::Global;
 
 /// A log does what it is asked, which is not to go on to a key.
+#[tactic(auto, unfolding(crate::specs::Acting::log_obeyed))]
 fn log_obeys(
     alloc: Global,
     pool: &mut Pool,
@@ -39,7 +33,7 @@ fn log_obeys(
 ) -> Result<Items<Happening>, WorldFault>
     requires { IsPlain (input_of input.now) }
     ensures { ActsBy result node.old node.new pool.old.messages pool.new.messages
-        (acted pool.old.messages (log_party number) what (log_does node.old node.old.keys event (row node.old.core (input_of input.now)))) }
+        (log_obeyed pool.old.messages number what event (input_of input.now) node.old) }
 {
     let said = reserve(alloc, pool, MOST_SENT)?;
     let reply = node.step(alloc, event, input)?;
@@ -48,6 +42,7 @@ fn log_obeys(
 }
 
 /// A log goes on to its next key.
+#[tactic(auto, unfolding(crate::specs::Acting::log_rolled))]
 fn log_rolls(
     alloc: Global,
     pool: &mut Pool,
@@ -55,7 +50,7 @@ fn log_rolls(
     number: u16,
 ) -> Result<Items<Happening>, WorldFault>
     ensures { (next : KeyParts) → next_of node.old.keys ≡ Some next → ActsBy result node.old node.new pool.old.messages pool.new.messages
-        (acted pool.old.messages (log_party number) whats.Roll (log_does node.old (node.old.keys ++ next ∷ []) events.Roll (row node.old.core (rolls (public_of next))))) }
+        (log_rolled pool.old.messages number next node.old) }
 {
     let said = reserve(alloc, pool, MOST_SENT)?;
     let reply = node.roll(alloc)?;
@@ -64,6 +59,7 @@ fn log_rolls(
 }
 
 /// An authority goes on to its next key.
+#[tactic(auto, unfolding(crate::specs::Acting::authority_rolled))]
 fn authority_rolls<C: OwnerCheck>(
     alloc: Global,
     pool: &mut Pool,
@@ -71,7 +67,7 @@ fn authority_rolls<C: OwnerCheck>(
     number: u16,
 ) -> Result<Items<Happening>, WorldFault>
     ensures { (next : KeyParts) → next_of node.old.keys ≡ Some next → ActsBy result node.old node.new pool.old.messages pool.new.messages
-        (acted pool.old.messages (authority_party number) whats.Roll (authority_turned node.old next (roll_row node.old.state (public_of next)))) }
+        (authority_rolled pool.old.messages number next node.old) }
 {
     let said = reserve(alloc, pool, MOST_SENT)?;
     let reply = node.roll(alloc)?;
@@ -92,7 +88,7 @@ pub fn log_obeys_there(
     requires plain { IsPlain (input_of input.now) }
     requires there { is_some slot.old ≡ true }
     ensures { ChangesThere slot.old slot.new (λ was is. ActsBy result was is pool.old.messages pool.new.messages
-        (acted pool.old.messages (log_party number) what (log_does was was.keys event (row was.core (input_of input.now))))) }
+        (log_obeyed pool.old.messages number what event (input_of input.now) was)) }
 {
     match slot {
         Some(node) => log_obeys(alloc, pool, node, number, what, event, input),
@@ -109,7 +105,7 @@ pub fn log_rolls_there(
 ) -> Result<Items<Happening>, WorldFault>
     requires { is_some slot.old ≡ true }
     ensures { ChangesThere slot.old slot.new (λ was is. (next : KeyParts) → next_of was.keys ≡ Some next → ActsBy result was is pool.old.messages pool.new.messages
-        (acted pool.old.messages (log_party number) whats.Roll (log_does was (was.keys ++ next ∷ []) events.Roll (row was.core (rolls (public_of next)))))) }
+        (log_rolled pool.old.messages number next was)) }
 {
     match slot {
         Some(node) => log_rolls(alloc, pool, node, number),
@@ -126,7 +122,7 @@ pub fn authority_rolls_there<C: OwnerCheck>(
 ) -> Result<Items<Happening>, WorldFault>
     requires { is_some slot.old ≡ true }
     ensures { ChangesThere slot.old slot.new (λ was is. (next : KeyParts) → next_of was.keys ≡ Some next → ActsBy result was is pool.old.messages pool.new.messages
-        (acted pool.old.messages (authority_party number) whats.Roll (authority_turned was next (roll_row was.state (public_of next))))) }
+        (authority_rolled pool.old.messages number next was)) }
 {
     match slot {
         Some(node) => authority_rolls(alloc, pool, node, number),

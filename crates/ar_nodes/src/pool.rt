@@ -1,19 +1,17 @@
 //! The pool of messages.
 
 ghost use Rattle.std.specs.Prelude.{◌≡◌, ◌<◌, ◌+◌, ◌^◌, ◌&&◌, ◌++◌, ◌∷◌, [], nat_lt, is_some, length, max, OnOk, OnErr, IfOk};
-ghost use Rattle.std.specs.List.{list_any};
 ghost use Rattle.std.specs.Option.{option_copied};
-ghost use Rattle.ar_statement.specs.Claims.{is_party};
 ghost use Rattle.ar_nodes.specs.Acting.{bytes_of, delivered_by, with_delivered};
 ghost use Rattle.ar_nodes.specs.Pool.{delivered_to, most_bytes, most_messages, bytes_in, numbered};
 
-use ar_statement::Party;
+use ar_statement::{Party, has_party};
 use report_text::{Kind, Target};
 use std::alloc::{AllocError, Global};
 use std::marker::Model;
 
 /// How many messages the pool has when it is full.
-const MOST_MESSAGES: usize = 65528;
+pub const MOST_MESSAGES: usize = 65528;
 
 /// How many bytes its messages have when it is full.
 const MOST_BYTES: usize = 260046848;
@@ -194,13 +192,6 @@ pub fn numbered<T>(items: &[T], number: u64) -> Option<&T>
     }
     let place = usize::try_from(number - 1).ok()?;
     items.get(place)
-}
-
-/// Whether the party is one of these.
-pub fn has_party(parties: &[Party], who: Party) -> bool
-    ensures { result ≡ list_any (is_party who) parties.now }
-{
-    parties.iter().any(|party| who.is_same(party))
 }
 
 /// To whom a message was delivered, with a party to which it is delivered now.

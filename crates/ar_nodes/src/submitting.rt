@@ -1,15 +1,10 @@
 //! What owners make of drafts, and what is told of it.
 
 ghost use Rattle.std.specs.Prelude.{◌≡◌, ◌≢◌, ◌<◌, ◌∷◌, [], vec_capacity, IfOk, IfErr, Ok, Err, Some, None};
-ghost use Rattle.ar_base.specs.Gives.{with_error};
-ghost use Rattle.ar_cert.specs.Certificate.{digest_of};
-ghost use Rattle.owner_core.specs.Rows.{object_row, submit_row};
 ghost use Rattle.owner_core.specs.declared.refusal.OwnerRefusal.TheVariants as refusals;
 ghost use Rattle.report_text.specs.declared.happening.Happening.TheVariants.{Step};
-ghost use Rattle.report_text.specs.declared.happening.What.TheVariants.{Object, Submit};
-ghost use Rattle.ar_nodes.specs.Acting.{ActsBy, acted, owner_does};
+ghost use Rattle.ar_nodes.specs.Acting.{ActsBy, owner_objected, owner_submitted};
 ghost use Rattle.ar_nodes.specs.Codes.{owner_code};
-ghost use Rattle.ar_nodes.specs.Owners.{owner_party};
 ghost use Rattle.ar_nodes.specs.declared.fault.WorldFault.TheVariants.{Memory};
 
 use crate::codes::owner_code;
@@ -73,7 +68,7 @@ pub fn objected(
     cert: &Cert,
 ) -> Result<Items<Happening>, WorldFault>
     ensures { ActsBy result owner.old owner.new pool.old.messages pool.new.messages
-        (acted pool.old.messages (owner_party number) (Object draft) (owner_does owner.old (object_row owner.old cert.now))) }
+        (owner_objected pool.old.messages number draft cert.now owner.old) }
 {
     let said = reserve(alloc, pool, 1)?;
     let reply = owners::object(alloc, owner, cert)?;
@@ -91,7 +86,7 @@ pub fn submitted(
     cert: &Cert,
 ) -> Result<Items<Happening>, WorldFault>
     ensures { ActsBy result owner.now owner.now pool.old.messages pool.new.messages
-        (acted pool.old.messages (owner_party number) (Submit draft) (owner.now, with_error owner_code (submit_row owner.now (digest_of cert.now)))) }
+        (owner_submitted pool.old.messages number draft cert.now owner.now) }
 {
     let said = reserve(alloc, pool, 1)?;
     let reply = owners::submit(alloc, owner, cert)?;

@@ -20,7 +20,7 @@ use report_text::{Happening, What};
 use std::alloc::Global;
 
 /// A log takes a message of the pool.
-#[tactic(auto, unfolding(crate::specs::Acting::log_delivered))]
+#[tactic(auto, unfolding(crate::specs::Acting::log_delivered, crate::specs::Acting::log_obeyed))]
 fn log_takes(
     alloc: Global,
     pool: &mut Pool,

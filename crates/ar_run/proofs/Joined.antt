@@ -1,27 +1,23 @@
 -- Lines that are written one behind the other, and what was written where one of them failed.
-use Rattle.std.proofs.Common.{◌≡◌, ℕ, zero, suc, ◌<◌, List, [], ◌∷◌, ◌++◌, length, map, take, drop, get_or, refl, sym, ap, ◌∙◌, append_assoc, length-append, arith}
+use Rattle.std.proofs.Common.{◌≡◌, ℕ, zero, suc, ◌<◌, List, [], ◌∷◌, ◌++◌, length, take, drop, get_or, refl, sym, ap, ◌∙◌, append_assoc, length-append, arith}
 use Rattle.std.specs.List.{flat_map}
 use Rattle.ar_io.specs.Wrote.{Appended, AppendedFront}
 use Rattle.ar_io.proofs.WroteLemmas.{Appended-trans}
 
--- what is written of some things, one behind the other
-abbrev pub joined : {X : Type 0} → (X → List ℕ) → List X → List ℕ
-joined f xs = flat_map (λ line. line) (map f xs)
-
 -- those before one, it, and those behind it
-joined-at : {X : Type 0} (f : X → List ℕ) (xs : List X) (i : ℕ) (d : X) → i < length xs → joined f xs ≡ joined f (take i xs) ++ (f (get_or xs i d) ++ joined f (drop (suc i) xs))
+joined-at : {X : Type 0} (f : X → List ℕ) (xs : List X) (i : ℕ) (d : X) → i < length xs → flat_map f xs ≡ flat_map f (take i xs) ++ (f (get_or xs i d) ++ flat_map f (drop (suc i) xs))
 joined-at f [] i d lt = absurd (omega arith)
 joined-at f (x ∷ xs) zero d lt = refl
 joined-at f (x ∷ xs) (suc i) d lt =
     ap (λ rest. f x ++ rest) (joined-at f xs i d (omega arith))
-    ∙ sym (append_assoc (f x) (joined f (take i xs)) (f (get_or xs i d) ++ joined f (drop (suc i) xs)))
+    ∙ sym (append_assoc (f x) (flat_map f (take i xs)) (f (get_or xs i d) ++ flat_map f (drop (suc i) xs)))
 
 -- where a front of one was written, a front of all was
-pub cut_off : {X T : Type 0} (wrote : T → List ℕ → Type 0) (old mid new : T) (f : X → List ℕ) (xs : List X) (i : ℕ) (d : X) → i < length xs → Appended wrote old mid (joined f (take i xs)) → AppendedFront wrote mid new (f (get_or xs i d)) → AppendedFront wrote old new (joined f xs)
+pub cut_off : {X T : Type 0} (wrote : T → List ℕ → Type 0) (old mid new : T) (f : X → List ℕ) (xs : List X) (i : ℕ) (d : X) → i < length xs → Appended wrote old mid (flat_map f (take i xs)) → AppendedFront wrote mid new (f (get_or xs i d)) → AppendedFront wrote old new (flat_map f xs)
 cut_off wrote old mid new f xs i d lt so_far cut =
-    let so = joined f (take i xs) in
-    let behind = joined f (drop (suc i) xs) in
-    let whole : joined f xs ≡ (so ++ cut.0) ++ (cut.1.0 ++ behind) =
+    let so = flat_map f (take i xs) in
+    let behind = flat_map f (drop (suc i) xs) in
+    let whole : flat_map f xs ≡ (so ++ cut.0) ++ (cut.1.0 ++ behind) =
     joined-at f xs i d lt
     ∙ ap (λ line. so ++ (line ++ behind)) cut.1.1
     ∙ ap (λ l. so ++ l) (append_assoc cut.0 cut.1.0 behind)

@@ -1,7 +1,7 @@
 -- What a command answers, where nothing fails.
 use Rattle.std.specs.Prelude.{ℕ, List, [], ◌∷◌, ◌++◌, Vec}
 use Rattle.std.specs.declared.alloc.Global.{Global}
-use Rattle.std.specs.List.{flat_map}
+use Rattle.std.specs.List.{concat}
 
 -- the lines that are written, each with the newline that ends it, and the status, which is 0 to 3
 pub record Answer : Type 0 where
@@ -22,4 +22,4 @@ one_line text status = record { lines = line_of text ∷ []; status = status }
 
 -- all that is written of an answer
 abbrev pub written_of : Answer → List ℕ
-written_of answer = flat_map (λ line. line) answer.lines
+written_of answer = concat answer.lines

@@ -1,4 +1,4 @@
-ghost use Rattle.std.specs.Prelude.{◌≡◌, ◌≢◌, ◌+◌, ◌<◌, ◌≤◌, ◌==◌, ◌++◌, length, position, ℕ, List, IfOk, OnErr};
+ghost use Rattle.std.specs.Prelude.{◌≡◌, ◌≢◌, ◌+◌, ◌<◌, ◌≤◌, ◌++◌, length, ℕ, List, IfOk, OnErr};
 ghost use Rattle.ar_base.specs.Faults.{HasRisen};
 ghost use Rattle.ar_io.specs.Wrote.{Unchanged};
 ghost use Rattle.ar_run.specs.Answers.{written_of};
@@ -7,6 +7,7 @@ ghost use Rattle.ar_run.specs.Writing.{Writes};
 
 use crate::input::read_input;
 use crate::{Answer, Fault, Respond};
+use ar_base::position_of;
 use ar_io::{Sink, Source, write_all};
 use std::alloc::Global;
 
@@ -41,20 +42,13 @@ pub fn write_line<K: Sink>(sink: &mut K, line: &[u8]) -> Result<(), Fault>
     write_all(sink, line).map_err(|_| Fault::Sink)
 }
 
-/// Where the first newline of a text stands.
-fn first_newline(text: &[u8]) -> Option<usize>
-    ensures { result ≡ position (λ byte. byte == 10) text.now }
-{
-    text.iter().position(|byte| *byte == b'\n')
-}
-
 /// The first line of a text that has one, with its newline, and what stands behind it.
 fn first_line(text: &[u8]) -> (&[u8], &[u8])
     requires { 0 < length text.now }
     ensures cut { text.now ≡ result.0.now ++ result.1.now }
     ensures shorter { length result.1.now < length text.now }
 {
-    match first_newline(text) {
+    match position_of(text, b'\n') {
         Some(newline) => text.split_at(newline + 1),
         None => (text, &[]),
     }

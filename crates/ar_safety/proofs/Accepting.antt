@@ -11,7 +11,7 @@ use Rattle.lms_tree.specs.Key.{public_of}
 use Rattle.lms_tree.specs.KeyParts.{KeyParts}
 use Rattle.lms_tree.specs.LmsKind.{height_of}
 use Rattle.ar_statement.specs.declared.party.Party.{Party}
-use Rattle.ar_statement.specs.Claims.{kind_of, text_of}
+use Rattle.ar_statement.specs.Claims.{authority_party, kind_of, log_party, text_of}
 use Rattle.ar_statement.specs.Ranges.{IsValid}
 use Rattle.key_roll.specs.declared.signed.Signed.{Signed}
 use Rattle.key_roll.specs.Book.{RollBook, IsRollBook, texts_of}
@@ -21,7 +21,6 @@ use Rattle.key_roll.specs.Ring.{ring_signature_len, signature_by}
 use Rattle.key_roll.specs.Rolls.{is_plain_of, is_roll, plain_count}
 use Rattle.key_roll.proofs.Books.{after_entry_keeps, due-plain, entry-at, is_roll-kind, counted-whole}
 use Rattle.party_keys.specs.Directory.{keys_of}
-use Rattle.party_keys.specs.Seen.{authority_party, log_party}
 use Rattle.party_keys.specs.Signatures.{rolls_from, verified}
 use Rattle.ar_cert.specs.Certificate.{Certificate, digest_of}
 use Rattle.ar_message.specs.declared.message.Confirming.{Confirming}
@@ -29,14 +28,14 @@ use Rattle.ar_message.specs.Confirmation.{Body, Confirmation, IsConfirmation, ab
 use Rattle.ar_message.specs.Filling.{signature_under}
 use Rattle.ar_message.specs.Messages.{about_in, confirmation_in, fields_text, message_text, shown_in}
 use Rattle.ar_message.proofs.ConfirmationLaws.{confirmation_again}
-use Rattle.client_rule.specs.Meaning.{Asked, HasParties, HoldsAll, Passes}
-use Rattle.client_rule.specs.Rule.{claim_on, judgement}
+use Rattle.client_rule.specs.Meaning.{HasParties, HoldsAll, Passes}
+use Rattle.client_rule.specs.Rule.{claim_on, judgement, Asked}
 use Rattle.client_rule.specs.declared.judgement.Judgement.TheVariants.{Absent, Accepted}
 use Rattle.client_rule.proofs.Meanings.{absence, accepted}
-use Rattle.tree_proof.specs.declared.path.Bottom.{Bottom}
+use Rattle.hash_tree.specs.declared.bottom.Bottom.{Bottom}
 use Rattle.ar_council.proofs.Books.{entry-has}
 use Rattle.ar_safety.specs.Accepting.{Confirmer, IsConfirmer, IsHalfConfirmed, IsInTime, KnowsSigners, bytes_to_client, own_signature, own_text, signature_for}
-use Rattle.ar_safety.proofs.Clients.{claim-is, valid-body}
+use Rattle.ar_safety.proofs.Clients.{valid-body}
 use Rattle.ar_safety.proofs.Verifying.{authority-known, carried-over, log-known, signature-fits, signature-length, signed-verified}
 
 -- ---- what is due
@@ -113,7 +112,7 @@ own-valid : (a : Confirmer) (part : Confirming) (first_signature : List ℕ) →
 own-valid a part first_signature is =
     let c : Confirmation = Sent a part first_signature [] in
     let fits : IsConfirmation c = is-confirmation a part first_signature [] is (omega arith) in
-    subst IsValid (sym (claim-is c (authority_party a.me))) (valid-body c (authority_party a.me) fits fits.second.0 refl c.body fits.body)
+    valid-body c (authority_party a.me) fits fits.second.0 refl c.body fits.body
 
 -- what is due for the authority's own statement, with the key of its generation
 record OwnDue (a : Confirmer) (part : Confirming) : Type 0 where
@@ -179,7 +178,7 @@ Got a part first_signature = Sent a part first_signature (own_signature a part)
 
 all-hold : (a : Confirmer) (part : Confirming) (first_signature : List ℕ) (asked : Asked) → IsConfirmer a → IsHalfConfirmed a part first_signature
     → KnowsSigners a part first_signature asked.keys → IsInTime part asked → HoldsAll asked (Got a part first_signature)
-all-hold a part first_signature asked honest is knows timely =
+all-hold a part first_signature asked honest is knows in_time =
     let own : IsSigned a part = own-signed a part first_signature honest is in
     let text : Party → List ℕ = λ p. text_of (claim_on (about_in part) (shown_in part.body) p) in
     let log = carried-over a.keys asked.keys (log_party part.log) (text (log_party part.log)) part.signature knows.log is.log_signed in
@@ -191,28 +190,28 @@ all-hold a part first_signature asked honest is knows timely =
       second = authority-known asked.keys a.me (text (authority_party a.me)) (own_signature a part) second;
       two = λ e. is.two (e ∙ sym is.for_me);
     } in
-    (timely.name, (parties, (log, (first, (second, (is.path, (timely.not_later, (timely.young, (timely.live, (timely.current, tt))))))))))
+    (in_time.name, (parties, (log, (first, (second, (is.path, (in_time.timely.not_later, (in_time.timely.young, (in_time.timely.live, (in_time.timely.current, tt))))))))))
 
 passes : (a : Confirmer) (part : Confirming) (first_signature : List ℕ) (asked : Asked) → IsConfirmer a → IsHalfConfirmed a part first_signature
     → KnowsSigners a part first_signature asked.keys → IsInTime part asked → Passes asked (bytes_to_client a part first_signature) (Got a part first_signature)
 unfolding message_text fields_text confirmation_text
-passes a part first_signature asked honest is knows timely =
+passes a part first_signature asked honest is knows in_time =
     let own : IsSigned a part = own-signed a part first_signature honest is in
     let c : Confirmation = Got a part first_signature in
     record {
       is_read = whole_again confirmation_at c (confirmation_text c) (confirmation_again c (is-confirmation a part first_signature (own_signature a part) is own.fits));
-      holds = all-hold a part first_signature asked honest is knows timely;
+      holds = all-hold a part first_signature asked honest is knows in_time;
     }
 
 -- ---- the judgement
 
 pub sent-accepted : (a : Confirmer) (part : Confirming) (first_signature : List ℕ) (asked : Asked) (certificate : Certificate) → IsConfirmer a → IsHalfConfirmed a part first_signature
     → KnowsSigners a part first_signature asked.keys → IsInTime part asked → shown_in part.body ≡ present certificate
-    → judgement asked.keys asked.name (bytes_to_client a part first_signature) asked.epoch asked.age ≡ Accepted certificate (digest_of certificate) part.epoch part.root
-sent-accepted a part first_signature asked certificate honest is knows timely shown =
+    → judgement asked (bytes_to_client a part first_signature) ≡ Accepted certificate (digest_of certificate) part.epoch part.root
+sent-accepted a part first_signature asked certificate honest is knows in_time shown =
     (accepted asked (bytes_to_client a part first_signature) certificate (digest_of certificate) part.epoch part.root).1 (record {
       confirmation = Got a part first_signature;
-      passes = passes a part first_signature asked honest is knows timely;
+      passes = passes a part first_signature asked honest is knows in_time;
       body = shown;
       digest_is = refl;
       epoch_is = refl;
@@ -221,11 +220,11 @@ sent-accepted a part first_signature asked certificate honest is knows timely sh
 
 pub sent-absent : (a : Confirmer) (part : Confirming) (first_signature : List ℕ) (asked : Asked) (bottom : Bottom) → IsConfirmer a → IsHalfConfirmed a part first_signature
     → KnowsSigners a part first_signature asked.keys → IsInTime part asked → shown_in part.body ≡ absent bottom
-    → judgement asked.keys asked.name (bytes_to_client a part first_signature) asked.epoch asked.age ≡ Absent part.epoch part.root
-sent-absent a part first_signature asked bottom honest is knows timely shown =
+    → judgement asked (bytes_to_client a part first_signature) ≡ Absent part.epoch part.root
+sent-absent a part first_signature asked bottom honest is knows in_time shown =
     (absence asked (bytes_to_client a part first_signature) part.epoch part.root).1 (record {
       confirmation = Got a part first_signature;
-      passes = passes a part first_signature asked honest is knows timely;
+      passes = passes a part first_signature asked honest is knows in_time;
       bottom = (bottom, shown);
       epoch_is = refl;
       root_is = refl;

@@ -1,17 +1,19 @@
 -- Honest logs agree: on the table of an epoch, on how it ended, on the base of the next; and chains only grow.
-use Rattle.std.proofs.Common.{◌≡◌, ℕ, zero, suc, ◌+◌, ◌-◌, ◌<◌, ◌≤◌, ◌^◌, ◌⊎◌, inl, inr, List, [], ◌++◌, length, get_or, refl, sym, ap, ◌∙◌, subst, arith, append-nil, append_assoc, true, ◌==◌, eqb, Option, Some, None}
+use Rattle.std.proofs.Common.{◌≡◌, ℕ, zero, suc, ◌+◌, ◌-◌, ◌<◌, ◌≤◌, ◌^◌, ◌⊎◌, inl, inr, List, [], length, get_or, refl, sym, ap, ◌∙◌, subst, arith, append-nil, true, ◌==◌, eqb, Option, Some, None}
 use Rattle.std.specs.Prelude.{All, Contains, unwrap_or}
 use Rattle.std.specs.List.{find}
 use Rattle.std.specs.Option.{option_map}
 use Rattle.std.proofs.lemmas.Bool.{cases_lt, eq-eqb}
 use Rattle.std.proofs.lemmas.List.{map-append}
 use Rattle.std.proofs.lemmas.List.Elements.{All-contains}
+use Rattle.ar_base.specs.Prefixes.{BeginsWith}
+use Rattle.ar_base.proofs.Prefixes.{begins_on}
 use Rattle.ar_cert.specs.Changes.{Change, IsChange}
 use Rattle.ar_statement.specs.declared.text.SeenText.{SeenText}
 use Rattle.vote_quorum.specs.Statuses.{Status}
 use Rattle.domain_table.specs.Applying.{apply}
 use Rattle.domain_table.specs.Sound.{IsSound}
-use Rattle.domain_table.specs.Tables.{Begins, SameTable, Table, certificates, certificates_of, chain_of, no_table}
+use Rattle.domain_table.specs.Tables.{SameTable, Table, certificates, certificates_of, chain_of, no_table}
 use Rattle.domain_table.specs.Tree.{root_of}
 use Rattle.domain_table.proofs.Applied.{applied, none_holds, none_sound}
 use Rattle.domain_table.proofs.Steps.{Follows, Holds, follows_itself}
@@ -83,9 +85,9 @@ base-next r honest j is e sound holds = by (ending (r.logs j).ended e) refl
         let right : IsRightDecision r.council seen ended e changes to = h.decides_rightly e changes to at in
         let within = ending-within ended h.ends_in_order e (Decided changes to) at in
         let less : e < 2 ^ 64 = omega (arith, within.1, h.ends_in_order.in_range) in
-        let t : Table = right.leads.applies.table in
-        subst (Follows (Endorsed seen) (base_of ended e)) (sym (base-decided ended e changes to t at right.leads.applies.applied))
-        (follows seen (base_of ended e) t e changes less right.leads.applies.applied right.leads.applies.are_changes right.leads.endorsed sound holds)
+        let t : Table = right.leads.reaches.table in
+        subst (Follows (Endorsed seen) (base_of ended e)) (sym (base-decided ended e changes to t at right.leads.reaches.applied))
+        (follows seen (base_of ended e) t e changes less right.leads.reaches.applied right.leads.are_changes right.leads.endorsed sound holds)
 
 pub base-kept : (r : Records) → AreHonest r → (j : ℕ) → IsHonestLog r j → (e : ℕ) → IsSound (base_of (r.logs j).ended e) × Holds (Endorsed (r.logs j).seen) (base_of (r.logs j).ended e)
 base-kept r honest j is zero =
@@ -95,11 +97,8 @@ base-kept r honest j is (suc e) =
     let f = base-next r honest j is e before.0 before.1 in
     (f.sound, f.holds)
 
-begins-on : {X : Type 0} (a b c : List X) → Begins a b → Begins b c → Begins a c
-begins-on a b c x y = (x.0 ++ y.0, y.1 ∙ ap (λ l. l ++ y.0) x.1 ∙ append_assoc a x.0 y.0)
-
 -- the chains of a base begin those of each later one
-pub base-extends : (r : Records) → AreHonest r → (j : ℕ) → IsHonestLog r j → (e n : ℕ) (name : List ℕ) → Begins (chain_of (base_of (r.logs j).ended e) name) (chain_of (base_of (r.logs j).ended (e + n)) name)
+pub base-extends : (r : Records) → AreHonest r → (j : ℕ) → IsHonestLog r j → (e n : ℕ) (name : List ℕ) → BeginsWith (chain_of (base_of (r.logs j).ended (e + n)) name) (chain_of (base_of (r.logs j).ended e) name)
 base-extends r honest j is e zero name =
     let same : e + 0 ≡ e = omega arith in
     ([], ap (λ m. chain_of (base_of (r.logs j).ended m) name) same ∙ sym (append-nil (chain_of (base_of (r.logs j).ended e) name)))
@@ -108,8 +107,8 @@ base-extends r honest j is e (suc n) name =
     let here = base-extends r honest j is e n name in
     let before = base-kept r honest j is (e + n) in
     let step = (base-next r honest j is (e + n) before.0 before.1).begins name in
-    subst (λ m. Begins (chain_of (base_of (r.logs j).ended e) name) (chain_of (base_of (r.logs j).ended m) name)) (sym next)
-    (begins-on (chain_of (base_of (r.logs j).ended e) name) (chain_of (base_of (r.logs j).ended (e + n)) name) (chain_of (base_of (r.logs j).ended (suc (e + n))) name) here step)
+    subst (λ m. BeginsWith (chain_of (base_of (r.logs j).ended m) name) (chain_of (base_of (r.logs j).ended e) name)) (sym next)
+    (begins_on (chain_of (base_of (r.logs j).ended e) name) (chain_of (base_of (r.logs j).ended (e + n)) name) (chain_of (base_of (r.logs j).ended (suc (e + n))) name) step here)
 
 -- ---- agreed and decided tables
 
@@ -133,7 +132,7 @@ agreed-follows r honest e t a =
     let range = agreed-range r honest e t a in
     let right : IsRightVote (r.logs a.log).seen (r.logs a.log).ended a.ballot = All-contains (IsRightVote (r.logs a.log).seen (r.logs a.log).ended) (r.logs a.log).voted a.ballot h.votes_rightly a.is_cast in
     let before = base-kept r honest a.log a.honest e in
-    follows (r.logs a.log).seen (base_of (r.logs a.log).ended e) t e a.ballot.changes (omega (arith, range.1, h.ends_in_order.in_range)) a.leads right.leads.applies.are_changes right.leads.endorsed before.0 before.1
+    follows (r.logs a.log).seen (base_of (r.logs a.log).ended e) t e a.ballot.changes (omega (arith, range.1, h.ends_in_order.in_range)) a.leads right.leads.are_changes right.leads.endorsed before.0 before.1
 
 pub agreed-listed : (r : Records) (e : ℕ) (t : Table) → Agreed r e t → Contains (listed_tables r) t
 agreed-listed r e t a = voted-listed r a.log a.honest a.ballot a.is_cast t (subst (λ n. apply (base_of (r.logs a.log).ended n) n a.ballot.changes ≡ Some t) (sym a.of_epoch) a.leads)
@@ -159,14 +158,14 @@ decided-by r honest j is e changes to at =
     let h : HonestLog r.council j (r.logs j) = honest.logs j is in
     let right : IsRightDecision r.council (r.logs j).seen ended e changes to = h.decides_rightly e changes to at in
     let within = ending-within ended h.ends_in_order e (Decided changes to) at in
-    let t : Table = right.leads.applies.table in
+    let t : Table = right.leads.reaches.table in
     let before = base-kept r honest j is e in
-    let f = follows (r.logs j).seen (base_of ended e) t e changes (omega (arith, within.1, h.ends_in_order.in_range)) right.leads.applies.applied right.leads.applies.are_changes right.leads.endorsed before.0 before.1 in
+    let f = follows (r.logs j).seen (base_of ended e) t e changes (omega (arith, within.1, h.ends_in_order.in_range)) right.leads.reaches.applied right.leads.are_changes right.leads.endorsed before.0 before.1 in
     record {
       table = t;
-      fine = record { sound = f.sound; listed = table-hashed r t (decided-listed r j is e changes to at t right.leads.applies.applied) };
-      is_root = right.leads.applies.is_root;
-      is_base = base-decided ended e changes to t at right.leads.applies.applied;
+      fine = record { sound = f.sound; listed = table-hashed r t (decided-listed r j is e changes to at t right.leads.reaches.applied) };
+      is_root = right.leads.reaches.is_root;
+      is_base = base-decided ended e changes to t at right.leads.reaches.applied;
     }
 
 -- ---- endings
@@ -265,11 +264,11 @@ agreed-decided r honest few forged clean e one a k is up =
         let roots = one-root r honest few e (root_of one) to a.backed (decided-backed r honest forged k is e changes to at) in
         subst (SameTable one) (sym d.is_base) (one-of-root r clean one d.table (agreed-fine r honest e one a) d.fine (roots ∙ sym d.is_root))
 
-certificates-begin : (one other : List Change) → Begins one other → Begins (certificates_of one) (certificates_of other)
+certificates-begin : (one other : List Change) → BeginsWith other one → BeginsWith (certificates_of other) (certificates_of one)
 certificates-begin one other b = (certificates_of b.0, ap certificates_of b.1 ∙ map-append (λ (c : Change). c.cert) one b.0)
 
 pub agreed-stays : (r : Records) → AreHonest r → Few r → NoForgery r → NoCollision r → (e f : ℕ) (one other : Table) → Agreed r e one → Agreed r f other → e < f → (name : List ℕ)
-    → Begins (certificates one name) (certificates other name)
+    → BeginsWith (certificates other name) (certificates one name)
 agreed-stays r honest few forged clean e f one other a b less name =
     let k : ℕ = b.log in
     let up = agreed-range r honest f other b in
@@ -277,8 +276,8 @@ agreed-stays r honest few forged clean e f one other a b less name =
     let n : ℕ = f - suc e in
     let at : suc e + n ≡ f = omega (arith, less) in
     let mid = base-extends r honest k b.honest (suc e) n name in
-    let mid-f : Begins (chain_of (base_of (r.logs k).ended (suc e)) name) (chain_of (base_of (r.logs k).ended f) name) =
-    subst (λ m. Begins (chain_of (base_of (r.logs k).ended (suc e)) name) (chain_of (base_of (r.logs k).ended m) name)) at mid in
+    let mid-f : BeginsWith (chain_of (base_of (r.logs k).ended f) name) (chain_of (base_of (r.logs k).ended (suc e)) name) =
+    subst (λ m. BeginsWith (chain_of (base_of (r.logs k).ended m) name) (chain_of (base_of (r.logs k).ended (suc e)) name)) at mid in
     let last = (agreed-follows r honest f other b).begins name in
-    let whole = begins-on (chain_of (base_of (r.logs k).ended (suc e)) name) (chain_of (base_of (r.logs k).ended f) name) (chain_of other name) mid-f last in
-    subst (λ c. Begins c (certificates other name)) (sym (same name).0) (certificates-begin (chain_of (base_of (r.logs k).ended (suc e)) name) (chain_of other name) whole)
+    let whole = begins_on (chain_of (base_of (r.logs k).ended (suc e)) name) (chain_of (base_of (r.logs k).ended f) name) (chain_of other name) last mid-f in
+    subst (BeginsWith (certificates other name)) (sym (same name).0) (certificates-begin (chain_of (base_of (r.logs k).ended (suc e)) name) (chain_of other name) whole)

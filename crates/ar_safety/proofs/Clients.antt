@@ -13,64 +13,48 @@ use Rattle.ar_base.specs.Bytes.{IsDigest}
 use Rattle.ar_base.proofs.Apart.{apart, in_both, in_front, in_rest, none_collide-part}
 use Rattle.ar_base.proofs.Digests.{sha256-IsDigest}
 use Rattle.ar_base.proofs.Shown.{mapped}
-use Rattle.ar_names.specs.Names.{name_digest_of}
-use Rattle.ar_cert.specs.Certificate.{Certificate, IsCertificate, digest_of}
+use Rattle.ar_names.specs.Names.{name_digest_of, name_string}
+use Rattle.ar_cert.specs.Certificate.{Certificate, IsCertificate, certificate_string, certificate_value, digest_of}
 use Rattle.ar_cert.specs.Changes.{Change}
 use Rattle.ar_cert.specs.Judging.{IsChain}
 use Rattle.ar_cert.proofs.ChangeLaws.{only_text}
 use Rattle.ar_cert.proofs.Digests.{digest-fits}
-use Rattle.ar_message.specs.Confirmation.{Body, Confirmation, IsBody, IsBottom, IsConfirmation, absent, confirmation_at, confirmation_text, present}
+use Rattle.ar_message.specs.Confirmation.{Body, Confirmation, IsBody, IsBottom, IsConfirmation, absent, confirmation_at, confirmation_text, digest_in, present}
 use Rattle.ar_message.proofs.ConfirmationLaws.{confirmation_again, confirmation_pass}
 use Rattle.ar_statement.specs.declared.party.Role.TheVariants.{LogServer, Authority}
 use Rattle.ar_statement.specs.declared.party.Party.{Party}
-use Rattle.ar_statement.specs.Claims.{is_party, text_of}
+use Rattle.ar_statement.specs.Claims.{authority_party, is_party, log_party, text_of}
 use Rattle.ar_statement.specs.Ranges.{IsValid, is_witness}
-use Rattle.party_keys.specs.Seen.{authority_party, log_party}
-use Rattle.hash_tree.specs.Strings.{entry_string, value_digest, value_string}
+use Rattle.hash_tree.specs.Strings.{entry_string, value_string}
 use Rattle.hash_tree.specs.Root.{root, strings_of}
-use Rattle.tree_proof.specs.declared.path.Bottom.{Bottom}
-use Rattle.tree_proof.specs.declared.path.Bottom.TheVariants.{Empty, Other}
+use Rattle.hash_tree.specs.declared.bottom.Bottom.{Bottom}
+use Rattle.hash_tree.specs.declared.bottom.Bottom.TheVariants.{Empty, Other}
 use Rattle.tree_proof.specs.Fold.{digests_in}
 use Rattle.tree_proof.specs.Membership.{HasDigestKey, Off, On, bottom_string, path_strings}
 use Rattle.tree_proof.proofs.Bind.{absence, presence}
 use Rattle.tree_proof.proofs.Lands.{same_parts}
 use Rattle.domain_table.specs.Tables.{Table, newest}
-use Rattle.domain_table.specs.Tree.{certificate_string, newest_strings, table_strings, tree_entries, value_of, value_of_cert}
+use Rattle.domain_table.specs.Tree.{newest_strings, table_strings, tree_entries, value_of}
 use Rattle.domain_table.proofs.Chains.{Good, one_certificate}
 use Rattle.domain_table.proofs.Newest.{newest_has, newest_there}
 use Rattle.domain_table.proofs.Trees.{chain_listed, entry_at, good_chain, holds_digests}
-use Rattle.client_rule.specs.Meaning.{HasParties, IsShown}
+use Rattle.client_rule.specs.Meaning.{HasParties, IsShown, IsTimely}
 use Rattle.client_rule.specs.Rule.{claim_on}
 use Rattle.ar_council.specs.Council.{Council, IsMember}
-use Rattle.ar_council.specs.Values.{confirmation_by}
-use Rattle.ar_safety.specs.Agreed.{Backed, Confirms, HasNewest, HasNone, IsTimely}
+use Rattle.ar_safety.specs.Agreed.{Backed, Confirms, HasNewest, HasNone}
 use Rattle.ar_safety.specs.Hashed.{body_strings, hashed, judged_strings, listed_tables}
-use Rattle.ar_safety.specs.Records.{AreSigned, IsHonest, IsJudged, Judged, Records, carried, carried_by, signed_by}
+use Rattle.ar_safety.specs.Records.{AreSigned, IsHonest, IsJudged, Judged, Records, carried, carried_by}
 use Rattle.ar_safety.specs.Theorem.{AreHonest, Few, NoCollision, NoForgery}
 use Rattle.ar_safety.proofs.Agreement.{Fine, agreed-fine}
 use Rattle.ar_safety.proofs.Confirming.{IsAgreed, backed-agreed, confirms-backed, one-of-three}
 
 -- ---- what is accepted is backed
 
--- the digest of a body's certificate
-pub digest_in : Body → Option (List ℕ)
-digest_in (present certificate) = Some (digest_of certificate)
-digest_in (absent bottom) = None
-
-pub claim-is : (c : Confirmation) (p : Party) → claim_on c.about c.body p ≡ confirmation_by p c.about.epoch c.about.name (digest_in c.body) c.about.root
-unfolding digest_in
-claim-is c p = by c.body
-  where
-    by : (b : Body) → claim_on c.about b p ≡ confirmation_by p c.about.epoch c.about.name (digest_in b) c.about.root
-    by (present certificate) = refl
-    by (absent bottom) = refl
-
 is-read : (council : Council) (j : Judged) → IsJudged council j → IsConfirmation j.confirmation
 is-read council j is = ((only_text confirmation_at confirmation_text IsConfirmation confirmation_again confirmation_pass j.bytes j.confirmation is.bytes).0 is.passes.is_read).0
 
 pub valid-body : (c : Confirmation) (p : Party) → IsConfirmation c → p.number < 2 ^ 16 → is_witness p.role ≡ true → (b : Body) → IsBody b
-    → IsValid (confirmation_by p c.about.epoch c.about.name (digest_in b) c.about.root)
-unfolding digest_in
+    → IsValid (claim_on c.about b p)
 valid-body c p is small witness (present certificate) fits = record {
   held = record { signer = small; fields = (omega (arith, is.about.epoch.1), (is.about.name, (digest-fits certificate, is.about.root))) };
   ranges = both_true witness (epoch-test c.about.epoch is.about.epoch.0 is.about.epoch.1);
@@ -84,12 +68,11 @@ valid-body c p is small witness (absent bottom) fits = record {
 confirmed : (r : Records) (c : Confirmation) (p : Party) → IsConfirmation c → p.number < 2 ^ 16 → is_witness p.role ≡ true → IsHonest r p → AreSigned r (carried c) → Contains (carried c) (carried_by c p)
     → Confirms r p c.about.epoch c.about.root
 confirmed r c p is small witness honest signed there =
-    let same = claim-is c p in
     record {
       name = c.about.name;
       certificate = digest_in c.body;
       valid = valid-body c p is small witness c.body is.body;
-      signed = subst (λ x. Contains (signed_by r p) (text_of x)) same (signed p (text_of (claim_on c.about c.body p)) honest there);
+      signed = signed p (text_of (claim_on c.about c.body p)) honest there;
     }
 
 -- the root of what a client accepted is backed
@@ -157,8 +140,8 @@ in-list {X} f (z ∷ xs) x s there is = by there.0 there.1 there.2 (in-list f xs
 judged-hashed : (r : Records) (j : Judged) (s : List ℕ) → Contains r.judged j → IsIn (judged_strings j) s → IsIn (hashed r) s
 judged-hashed r j s there is = in_rest (flat_map table_strings (listed_tables r)) (flat_map judged_strings r.judged) s (in-list judged_strings r.judged j s there is)
 
-name-hashed : (r : Records) (j : Judged) → Contains r.judged j → IsIn (hashed r) (0x11 ∷ j.confirmation.about.name)
-name-hashed r j there = judged-hashed r j (0x11 ∷ j.confirmation.about.name) there (inl refl)
+name-hashed : (r : Records) (j : Judged) → Contains r.judged j → IsIn (hashed r) (name_string j.confirmation.about.name)
+name-hashed r j there = judged-hashed r j (name_string j.confirmation.about.name) there (inl refl)
 
 body-hashed : (r : Records) (j : Judged) (b : Body) → Contains r.judged j → j.confirmation.body ≡ b → (s : List ℕ) → IsIn (body_strings (name_digest_of j.confirmation.about.name) j.confirmation.steps b) s → IsIn (hashed r) s
 body-hashed r j b there is s within =
@@ -181,7 +164,7 @@ mapped-none f (Some x) e = absurd cc
 -- a chain with the value of a certificate has the certificate as its newest
 newest-by-value : (r : Records) → NoCollision r → (t : Table) → Fine r t → (name : List ℕ) (chain : List Change) → get t.chains name ≡ Some chain → (certificate : Certificate) → IsCertificate certificate
     → IsIn (hashed r) (certificate_string certificate) → IsIn (hashed r) (value_string certificate.serial (digest_of certificate))
-    → value_of chain ≡ value_digest certificate.serial (digest_of certificate) → IsChain chain × (newest chain ≡ Some certificate)
+    → value_of chain ≡ certificate_value certificate → IsChain chain × (newest chain ≡ Some certificate)
 newest-by-value r clean t fine name chain there certificate fits hashed-text hashed-value value =
     let strings : List (List ℕ) = hashed r in
     let none : Apart strings = apart strings clean.strings in
@@ -192,7 +175,7 @@ newest-by-value r clean t fine name chain there certificate fits hashed-text has
     let top-value : IsIn strings (value_string top.0.serial (digest_of top.0)) =
     chain_listed strings t fine.listed name chain there (value_string top.0.serial (digest_of top.0))
     (inr (in_front (newest_strings (newest chain)) _ (value_string top.0.serial (digest_of top.0)) (subst (λ o. IsIn (newest_strings o) (value_string top.0.serial (digest_of top.0))) (sym top.1) (inl refl)))) in
-    let own : value_of chain ≡ value_of_cert top.0 = ap (λ o. unwrap_or (option_map value_of_cert o) []) top.1 in
+    let own : value_of chain ≡ certificate_value top.0 = ap (λ o. unwrap_or (option_map certificate_value o) []) top.1 in
     let same = none (value_string top.0.serial (digest_of top.0)) (value_string certificate.serial (digest_of certificate)) top-value hashed-value (sym own ∙ value) in
     let digests : digest_of top.0 ≡ digest_of certificate =
     (same_parts (to_be_bytes w64 top.0.serial) (digest_of top.0) (to_be_bytes w64 certificate.serial) (digest_of certificate) (ap (drop 1) same) refl).1 in
@@ -210,7 +193,7 @@ accepted-newest r honest few forged clean j certificate there is-present =
     let t : Table = a.table in
     let fine : Fine r t = agreed-fine r honest c.about.epoch t a.agreed in
     let key : List ℕ = name_digest_of c.about.name in
-    let value : List ℕ = value_digest certificate.serial (digest_of certificate) in
+    let value : List ℕ = certificate_value certificate in
     let steps : List (List ℕ) = digests_in c.steps in
     let shown = subst (λ b. IsShown c.about b c.steps) is-present is.passes.holds.1.1.1.1.1.0 in
     let on : On key value steps (root (tree_entries t)) = subst (On key value steps) (sym a.is_root) shown.1.1 in
@@ -265,7 +248,7 @@ accepted-absence r honest few forged clean j bottom there is-absent =
 
 -- ---- ages
 
-pub judged-timely : (r : Records) → AreHonest r → (j : Judged) → Contains r.judged j → IsTimely j
+pub judged-timely : (r : Records) → AreHonest r → (j : Judged) → Contains r.judged j → IsTimely j.asked j.confirmation.about.epoch j.confirmation.body
 judged-timely r honest j there =
     let holds = (All-contains (IsJudged r.council) r.judged j honest.judged there).passes.holds in
     let ages = holds.1.1.1.1.1.1 in

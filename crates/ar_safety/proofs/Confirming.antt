@@ -9,11 +9,9 @@ use Rattle.ar_base.specs.Bytes.{IsDigest}
 use Rattle.ar_statement.specs.declared.party.Role.{Role}
 use Rattle.ar_statement.specs.declared.party.Role.TheVariants.{LogServer, Authority, Owner, Client}
 use Rattle.ar_statement.specs.declared.party.Party.{Party}
-use Rattle.ar_statement.specs.Claims.{is_party, party, text_of}
+use Rattle.ar_statement.specs.Claims.{authority_party, confirmation_by, is_party, log_party, party}
 use Rattle.ar_statement.specs.Fields.{is_epoch}
 use Rattle.ar_statement.specs.Ranges.{IsValid}
-use Rattle.key_roll.specs.Book.{texts_of}
-use Rattle.party_keys.specs.Seen.{authority_party, log_party}
 use Rattle.vote_quorum.specs.declared.value.Value.{Value}
 use Rattle.domain_table.specs.Applying.{apply}
 use Rattle.domain_table.specs.Tables.{Table}
@@ -22,7 +20,7 @@ use Rattle.epoch_log.specs.Honest.{HonestLog}
 use Rattle.epoch_log.specs.Record.{base_of}
 use Rattle.ar_council.proofs.Lists.{found}
 use Rattle.ar_council.proofs.Seeing.{one_party}
-use Rattle.ar_council.specs.Values.{IsValue, confirm_claim, confirmation_by}
+use Rattle.ar_council.specs.Values.{IsValue}
 use Rattle.ar_council.specs.Votes.{SawVotes}
 use Rattle.epoch_log.specs.Right.{IsRightConfirmation, IsRightVote}
 use Rattle.epoch_log.specs.Told.{HasConfirmed}
@@ -54,8 +52,8 @@ backed-agreed r honest few e to backed =
     let now : v.epoch ≡ e = voted.1.1.1 in
     let root : v.root ≡ to = ap (λ (x : Value). x.root) voted.1.1.2 in
     let right : IsRightVote (r.logs k).seen (r.logs k).ended v = All-contains (IsRightVote (r.logs k).seen (r.logs k).ended) (r.logs k).voted v (honest.logs k w.1.0).votes_rightly there in
-    let t : Table = right.leads.applies.table in
-    let is : root_of t ≡ to = right.leads.applies.is_root ∙ root in
+    let t : Table = right.leads.reaches.table in
+    let is : root_of t ≡ to = right.leads.reaches.is_root ∙ root in
     record {
       table = t;
       agreed = record {
@@ -64,8 +62,8 @@ backed-agreed r honest few e to backed =
         ballot = v;
         is_cast = there;
         of_epoch = now;
-        leads = subst (λ n. apply (base_of (r.logs k).ended n) n v.changes ≡ Some t) now right.leads.applies.applied;
-        is_root = sym right.leads.applies.is_root;
+        leads = subst (λ n. apply (base_of (r.logs k).ended n) n v.changes ≡ Some t) now right.leads.reaches.applied;
+        is_root = sym right.leads.reaches.is_root;
         backed = subst (Backed r e) (sym is) backed;
       };
       is_root = is;
@@ -81,17 +79,11 @@ root-of-claim : (p : Party) (e : ℕ) (name : List ℕ) (certificate : Option (L
 root-of-claim p e name None to valid = valid.held.fields.1.1
 root-of-claim p e name (Some certificate) to valid = valid.held.fields.1.1.1
 
-same-claim : (log e : ℕ) (name : List ℕ) (certificate : Option (List ℕ)) (to : List ℕ) → confirmation_by (log_party log) e name certificate to ≡ confirm_claim log e name certificate to
-same-claim log e name None to = refl
-same-claim log e name (Some certificate) to = refl
-
 log-backed : (r : Records) → AreHonest r → NoForgery r → (log : ℕ) → IsHonestLog r log → (e : ℕ) (to : List ℕ) → Confirms r (log_party log) e to → Backed r e to
 log-backed r honest forged log is e to c =
     let h : HonestLog r.council log (r.logs log) = honest.logs log is in
-    let same = same-claim log e c.name c.certificate to in
     let has : HasConfirmed (r.logs log).confirmed e c.name c.certificate to =
-    (confirmations-signed r.council log (r.logs log) e c.name c.certificate to h (subst IsValid same c.valid)).0
-    (subst (λ x. Contains (texts_of (r.logs log).signed) (text_of x)) same c.signed) in
+    (confirmations-signed r.council log (r.logs log) e c.name c.certificate to h c.valid).0 c.signed in
     let entry : Confirmed = record { epoch = e; name = c.name; certificate = c.certificate; root = to } in
     let right : IsRightConfirmation (r.logs log).ended entry = All-contains (IsRightConfirmation (r.logs log).ended) (r.logs log).confirmed entry h.confirms_rightly has in
     decided-backed r honest forged log is e right.changes to right.decided

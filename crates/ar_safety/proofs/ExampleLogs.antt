@@ -3,13 +3,13 @@ use Rattle.std.proofs.Common.{◌≡◌, ◌≢◌, ℕ, zero, suc, ◌+◌, ◌
 use Rattle.std.specs.Prelude.{All, AllPairs, Contains, IfSome, map, slice_get, slice_index}
 use Rattle.std.proofs.lemmas.List.Elements.{All-cons, All-map, All-nil}
 use Rattle.ar_cert.specs.Changes.{IsChange}
-use Rattle.ar_statement.specs.Claims.{Claim, text_of}
+use Rattle.ar_statement.specs.Claims.{Claim, log_party, text_of}
 use Rattle.ar_statement.specs.Ranges.{IsTextOf}
 use Rattle.ar_statement.specs.declared.text.SeenText.{SeenText}
-use Rattle.key_roll.specs.Book.{IsRollBook}
+use Rattle.key_roll.specs.Book.{IsRollBook, empty_book}
 use Rattle.key_roll.specs.Rolls.{is_roll}
 use Rattle.key_roll.proofs.Books.{after_entry_keeps}
-use Rattle.party_keys.specs.Seen.{Saw, log_party}
+use Rattle.party_keys.specs.Seen.{Saw, seen_of}
 use Rattle.vote_quorum.specs.Numbers.{distinct_count}
 use Rattle.vote_quorum.specs.Statuses.{Status}
 use Rattle.domain_table.specs.Tables.{no_table}
@@ -18,7 +18,6 @@ use Rattle.domain_table.proofs.Trees.{root-digest}
 use Rattle.ar_council.proofs.Books.{empty-book}
 use Rattle.ar_council.proofs.Texts.{own-text}
 use Rattle.ar_council.specs.Council.{IsMember}
-use Rattle.ar_council.specs.Seen.{seen_of}
 use Rattle.ar_council.specs.Values.{IsValue, status_claim, vote_claim}
 use Rattle.ar_council.specs.Votes.{SawVotes}
 use Rattle.epoch_log.specs.Honest.{EndsInOrder, HonestLog}
@@ -45,7 +44,7 @@ pub single : {X : Type 0} (R : X → X → Type 0) (x : X) → AllPairs R (x ∷
 single R x = λ i j d before within. absurd (omega (arith, before, within))
 
 pub one-book : (claim : Claim) → is_roll (text_of claim) ≡ false → IsRollBook (book_with claim)
-one-book claim plain = after_entry_keeps (record { leaves = 32; newest = 0; list = [] }) (text_of claim) (empty-book 32 (omega arith)) (inl plain)
+one-book claim plain = after_entry_keeps (empty_book 32) (text_of claim) (empty-book 32 (omega arith)) (inl plain)
 
 pub value-fits : IsValue unchanged
 value-fits = record { base = root-digest no_table; root = root-digest no_table }
@@ -79,7 +78,8 @@ base-one how = refl
 
 leads-none : (seen : List SeenText) (how : How) → LeadsTo seen 1 (base_of (record { epoch = 1; how = how } ∷ []) 1) [] (root_of no_table)
 leads-none seen how = subst (λ t. LeadsTo seen 1 t [] (root_of no_table)) (sym (base-one how)) (record {
-  applies = record { table = no_table; applied = applied-none; is_root = refl; are_changes = All-nil IsChange };
+  reaches = record { table = no_table; applied = applied-none; is_root = refl };
+  are_changes = All-nil IsChange;
   endorsed = λ k d less. absurd (omega (arith, less));
 })
 

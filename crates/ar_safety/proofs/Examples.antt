@@ -4,15 +4,14 @@ use Rattle.std.specs.Prelude.{All, Contains, flat_map, map}
 use Rattle.std.proofs.lemmas.List.Elements.{All-append, All-cons, All-contains, All-map, All-nil}
 use Rattle.ar_base.specs.Apart.{IsIn}
 use Rattle.ar_base.proofs.Apart.{in_both}
-use Rattle.ar_statement.specs.Claims.{Claim, text_of}
+use Rattle.ar_statement.specs.Claims.{Claim, log_party, text_of}
 use Rattle.ar_statement.specs.declared.party.Party.{Party}
 use Rattle.ar_statement.specs.declared.text.SeenText.{SeenText}
-use Rattle.party_keys.specs.Seen.{log_party}
 use Rattle.vote_quorum.specs.Numbers.{distinct_count}
 use Rattle.vote_quorum.proofs.Counting.{among, distinct_count-cons}
 use Rattle.domain_table.specs.Tables.{Table, no_table}
 use Rattle.domain_table.specs.Tree.{root_of, table_strings}
-use Rattle.ar_council.specs.Seen.{seen_of}
+use Rattle.party_keys.specs.Seen.{seen_of}
 use Rattle.ar_council.specs.Values.{status_claim, vote_claim}
 use Rattle.epoch_log.specs.Calls.{fresh}
 use Rattle.epoch_log.specs.Honest.{HonestLog}

@@ -1,6 +1,6 @@
 -- A run as its nodes hold it is safe, and the theorem's records leave nothing of it out.
 use Rattle.std.proofs.Common.{◌≡◌, ℕ, zero, suc, ◌+◌, ◌<◌, inl, inr, Bool, true, false, cond, List, [], ◌∷◌, ◌++◌, length, get_or, Option, Some, None, Result, Ok, refl, sym, ap, ◌∙◌, subst, arith}
-use Rattle.std.specs.Prelude.{All, Contains}
+use Rattle.std.specs.Prelude.{All, Contains, not}
 use Rattle.std.proofs.lemmas.Bool.{cases_lt}
 use Rattle.std.proofs.lemmas.List.{length-append, get_or_append_left}
 use Rattle.std.specs.List.{cons_option, filter_map, list_any}
@@ -9,6 +9,7 @@ use Rattle.std.specs.Result.{result_ok}
 use Rattle.std.proofs.lemmas.List.Elements.{All-cons, All-contains, All-nil}
 use Rattle.std.proofs.lemmas.Option.{same_Some}
 use Rattle.ar_base.specs.Bytes.{AreBytes}
+use Rattle.ar_base.specs.Counting.{one_if}
 use Rattle.ar_bytes.specs.Reading.{whole}
 use Rattle.ar_statement.specs.declared.party.Party.{Party}
 use Rattle.ar_statement.specs.Claims.{is_party}
@@ -114,7 +115,7 @@ judged-there h t there taken =
 
 -- as many as there are honest ones
 pub honest-count : {X : Type 0} (party : ℕ → Party) (dishonest : List Party) (record_of : ℕ → X) (n : ℕ) → length (honest_records party dishonest record_of n) ≡ honest_below party dishonest n
-unfolding honest_records honest_below
+unfolding honest_records
 honest-count party dishonest record_of zero = refl
 honest-count {X} party dishonest record_of (suc n) = by (list_any (is_party (party n)) dishonest) (honest-count party dishonest record_of n)
   where
@@ -122,7 +123,7 @@ honest-count {X} party dishonest record_of (suc n) = by (list_any (is_party (par
     front = honest_records party dishonest record_of n
 
     by : (b : Bool) → length front ≡ honest_below party dishonest n
-        → length (front ++ cond b [] (record_of n ∷ [])) ≡ cond b 0 1 + honest_below party dishonest n
+        → length (front ++ cond b [] (record_of n ∷ [])) ≡ one_if (not b) + honest_below party dishonest n
     by true rest = length-append front [] ∙ omega (arith, rest)
     by false rest = length-append front (record_of n ∷ []) ∙ omega (arith, rest)
 
@@ -135,12 +136,11 @@ at-end (y ∷ xs) x d (suc k) is = at-end xs x d k (omega (arith, is))
 -- an honest party's place is below the count
 place-below : (party : ℕ → Party) (dishonest : List Party) (n m : ℕ) → m < n → list_any (is_party (party m)) dishonest ≡ false
     → honest_below party dishonest m < honest_below party dishonest n
-unfolding honest_below
 place-below party dishonest zero m less honest = absurd (omega (arith, less))
 place-below party dishonest (suc n) m less honest = by (list_any (is_party (party n)) dishonest) refl (λ before. place-below party dishonest n m before honest)
   where
     by : (b : Bool) → list_any (is_party (party n)) dishonest ≡ b → (m < n → honest_below party dishonest m < honest_below party dishonest n)
-        → honest_below party dishonest m < cond b 0 1 + honest_below party dishonest n
+        → honest_below party dishonest m < one_if (not b) + honest_below party dishonest n
     by true is rest = elim (cases_lt m n) [
       | inl before ↦ let r = rest before in omega (arith, r)
       | inr least ↦

@@ -1,14 +1,14 @@
 -- The tables that honest logs voted for or decided are among the listed ones, and their strings among the hashed.
 use Rattle.std.proofs.Common.{◌≡◌, ℕ, zero, suc, ◌<◌, inl, inr, List, [], ◌∷◌, length, get_or, ◌==◌, refl, sym, ap, ◌∙◌, subst, arith, false, cond, Option, Some, None}
 use Rattle.std.specs.Prelude.{Contains, flat_map}
-use Rattle.std.specs.List.{find}
+use Rattle.std.specs.List.{cons_option, filter_map, find}
 use Rattle.std.specs.Option.{option_map}
 use Rattle.std.proofs.lemmas.Bool.{cases_eq, eqb-true}
 use Rattle.std.proofs.lemmas.List.Elements.{Contains-append_left, Contains-append_right}
 use Rattle.ar_base.specs.Apart.{IsIn}
 use Rattle.ar_base.proofs.Apart.{in_front, in_rest}
 use Rattle.ar_cert.specs.Changes.{Change}
-use Rattle.party_keys.specs.Seen.{log_party}
+use Rattle.ar_statement.specs.Claims.{log_party}
 use Rattle.domain_table.specs.Applying.{apply}
 use Rattle.domain_table.specs.Tables.{Table}
 use Rattle.domain_table.specs.Tree.{table_strings}
@@ -19,17 +19,23 @@ use Rattle.epoch_log.specs.declared.entries.How.{How}
 use Rattle.epoch_log.specs.declared.entries.How.TheVariants.{Decided}
 use Rattle.epoch_log.specs.declared.entries.Voted.{Voted}
 use Rattle.ar_council.proofs.Lists.{find-some}
-use Rattle.ar_safety.specs.Hashed.{ended_table, hashed, judged_strings, listed_tables, log_tables, table_list, tables_below, voted_table}
+use Rattle.ar_safety.specs.Hashed.{ended_table, hashed, judged_strings, listed_tables, log_tables, tables_below, voted_table}
 use Rattle.ar_safety.specs.Records.{IsHonestLog, Records, is_dishonest}
 
 -- what one element of a list gives is among what all give
-pub in-flat : {X Y : Type 0} (f : X → List Y) (xs : List X) (x : X) (y : Y) → Contains xs x → Contains (f x) y → Contains (flat_map f xs) y
-in-flat f [] x y there here = absurd (omega (arith, there.1))
-in-flat {X} {Y} f (z ∷ xs) x y there here = by there.0 there.1 there.2 (in-flat f xs x y)
+in-given : {X Y : Type 0} (f : X → Option Y) (xs : List X) (x : X) (y : Y) → Contains xs x → f x ≡ Some y → Contains (filter_map f xs) y
+in-given f [] x y there gives = absurd (omega (arith, there.1))
+in-given {X} {Y} f (z ∷ xs) x y there gives = by there.0 there.1 there.2 (in-given f xs x y)
   where
-    by : (k : ℕ) → k < length (z ∷ xs) → get_or (z ∷ xs) k x ≡ x → (Contains xs x → Contains (f x) y → Contains (flat_map f xs) y) → Contains (flat_map f (z ∷ xs)) y
-    by zero within is rest = Contains-append_left (f z) (flat_map f xs) y (subst (λ w. Contains (f w) y) (sym is) here)
-    by (suc k) within is rest = Contains-append_right (f z) (flat_map f xs) y (rest (k, omega (arith, within), is) here)
+    behind : (o : Option Y) → Contains (filter_map f xs) y → Contains (cons_option o (filter_map f xs)) y
+    behind None rest = rest
+    behind (Some w) rest = Contains-append_right (w ∷ []) (filter_map f xs) y rest
+
+    by : (k : ℕ) → k < length (z ∷ xs) → get_or (z ∷ xs) k x ≡ x → (Contains xs x → f x ≡ Some y → Contains (filter_map f xs) y) → Contains (filter_map f (z ∷ xs)) y
+    by zero within is rest =
+        let here : f z ≡ Some y = ap f is ∙ gives
+        in subst (λ (o : Option Y). Contains (cons_option o (filter_map f xs)) y) (sym here) (0, omega arith, refl)
+    by (suc k) within is rest = behind (f z) (rest (k, omega (arith, within), is) gives)
 
 -- and so are the strings of one table
 pub in-strings : (tables : List Table) (t : Table) (x : List ℕ) → Contains tables t → IsIn (table_strings t) x → IsIn (flat_map table_strings tables) x
@@ -62,17 +68,13 @@ pub table-hashed : (r : Records) (t : Table) → Contains (listed_tables r) t �
 table-hashed r t there =
     listed (hashed r) t (λ x within. in_front (flat_map table_strings (listed_tables r)) (flat_map judged_strings r.judged) x (in-strings (listed_tables r) t x there within))
 
-one-table : (o : Option Table) (t : Table) → o ≡ Some t → Contains (table_list o) t
-one-table None t is = absurd cc
-one-table (Some u) t is = let same : u ≡ t = cc in (0, omega arith, same)
-
 -- the table of a vote of an honest log
 pub voted-listed : (r : Records) (log : ℕ) → IsHonestLog r log → (v : Voted) → Contains (r.logs log).voted v → (t : Table) → apply (base_of (r.logs log).ended v.epoch) v.epoch v.changes ≡ Some t → Contains (listed_tables r) t
 voted-listed r log is v there t leads =
     let l : LogRecord = r.logs log in
-    let votes : List Table = flat_map (λ (w : Voted). table_list (voted_table l.ended w)) l.voted in
-    let ends : List Table = flat_map (λ (x : Ended). table_list (ended_table l.ended x.epoch x.how)) l.ended in
-    table-listed r log is t (Contains-append_left votes ends t (in-flat (λ (w : Voted). table_list (voted_table l.ended w)) l.voted v t there (one-table (voted_table l.ended v) t leads)))
+    let votes : List Table = filter_map (voted_table l.ended) l.voted in
+    let ends : List Table = filter_map (λ (x : Ended). ended_table l.ended x.epoch x.how) l.ended in
+    table-listed r log is t (Contains-append_left votes ends t (in-given (voted_table l.ended) l.voted v t there leads))
 
 -- where an epoch ended, its entry is there
 pub ended-entry : (ended : List Ended) (epoch : ℕ) (how : How) → ending ended epoch ≡ Some how → (x : Ended) × (Contains ended x × (x.epoch ≡ epoch) × (x.how ≡ how))
@@ -91,10 +93,10 @@ pub decided-listed : (r : Records) (log : ℕ) → IsHonestLog r log → (epoch 
     → (t : Table) → apply (base_of (r.logs log).ended epoch) epoch changes ≡ Some t → Contains (listed_tables r) t
 decided-listed r log is epoch changes to ended t leads =
     let l : LogRecord = r.logs log in
-    let votes : List Table = flat_map (λ (w : Voted). table_list (voted_table l.ended w)) l.voted in
-    let ends : List Table = flat_map (λ (x : Ended). table_list (ended_table l.ended x.epoch x.how)) l.ended in
+    let votes : List Table = filter_map (voted_table l.ended) l.voted in
+    let ends : List Table = filter_map (λ (x : Ended). ended_table l.ended x.epoch x.how) l.ended in
     let e = ended-entry l.ended epoch (Decided changes to) ended in
     let same : ended_table l.ended e.0.epoch e.0.how ≡ Some t =
     ap (λ n. ended_table l.ended n e.0.how) e.1.1 ∙ ap (ended_table l.ended epoch) e.1.2 ∙ leads in
     table-listed r log is t (Contains-append_right votes ends t
-    (in-flat (λ (x : Ended). table_list (ended_table l.ended x.epoch x.how)) l.ended e.0 t e.1.0 (one-table (ended_table l.ended e.0.epoch e.0.how) t same)))
+    (in-given (λ (x : Ended). ended_table l.ended x.epoch x.how) l.ended e.0 t e.1.0 same))

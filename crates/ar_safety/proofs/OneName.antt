@@ -7,21 +7,22 @@ use Rattle.std.specs.Option.{option_and_then}
 use Rattle.sha2.specs.Sha256.{sha256}
 use Rattle.ar_base.specs.Apart.{IsIn}
 use Rattle.ar_base.proofs.Apart.{in_both}
+use Rattle.ar_names.specs.Names.{name_string}
 use Rattle.vote_quorum.specs.Numbers.{distinct_count}
 use Rattle.cert_policy.specs.Clauses.{Registers, in_manner}
 use Rattle.cert_policy.specs.declared.manner.Manner.TheVariants.{Full}
 use Rattle.cert_policy.proofs.Meaning.{registration_facts}
-use Rattle.ar_cert.specs.Certificate.{digest_of}
+use Rattle.ar_cert.specs.Certificate.{certificate_string, digest_of}
 use Rattle.ar_cert.specs.Changes.{Change}
 use Rattle.ar_cert.specs.Judging.{cert_terms_of, endorsers_of}
 use Rattle.hash_tree.specs.Entries.{Entries, Entry, key_cmp}
 use Rattle.hash_tree.specs.Root.{strings_below, strings_of}
-use Rattle.hash_tree.specs.Strings.{entry_string, value_digest, value_string}
+use Rattle.hash_tree.specs.Strings.{entry_string, pending_key_string, value_digest, value_string}
 use Rattle.hash_tree.proofs.ByCount.{string-one}
 use Rattle.hash_tree.proofs.Maps.{exact, total}
 use Rattle.domain_table.specs.Applying.{after_answer, apply, apply_each, judge_ripe, manner_of, taken, with_room}
 use Rattle.domain_table.specs.Tables.{Pending, Table, chain_of, newest, no_table, size}
-use Rattle.domain_table.specs.Tree.{certificate_string, chain_strings, keyed, pending_strings, pending_value, root_of, table_strings, tagged, tree_entries, value_of}
+use Rattle.domain_table.specs.Tree.{chain_strings, keyed, pending_strings, pending_value, root_of, table_strings, valued, tree_entries, value_of}
 use Rattle.ar_safety.specs.RegisteredRun.{a_name, first_certificate, one_table, registration}
 use Rattle.ar_safety.proofs.Empty.{no-entries, ripe-none, either}
 use Rattle.ar_safety.proofs.Examples.{one-more}
@@ -84,7 +85,7 @@ chain-is = ap (λ (o : Option (List Change)). unwrap_or o []) (get-entries one_t
 -- ---- its entry
 
 abbrev pub NameKey : List ℕ
-NameKey = sha256 (0x11 ∷ a_name)
+NameKey = sha256 (name_string a_name)
 
 abbrev pub NameValue : List ℕ
 NameValue = value_digest 0 (digest_of first_certificate)
@@ -92,8 +93,8 @@ NameValue = value_digest 0 (digest_of first_certificate)
 pub one-entry : entries (tree_entries one_table) ≡ (NameKey, NameValue) ∷ []
 unfolding tree_entries
 one-entry =
-    ap (λ (es : List (List ℕ × List Change)). entries (maps.from_entries {R = key_cmp} (keyed (tagged 0x11 value_of es ++ tagged 0x12 pending_value (entries one_table.waiting))))) one-chain
-    ∙ ap (λ (es : List (List ℕ × Pending)). entries (maps.from_entries {R = key_cmp} (keyed ((0x11 ∷ a_name, NameValue) ∷ tagged 0x12 pending_value es)))) no-waiting
+    ap (λ (es : List (List ℕ × List Change)). entries (maps.from_entries {R = key_cmp} (keyed (valued name_string value_of es ++ valued pending_key_string pending_value (entries one_table.waiting))))) one-chain
+    ∙ ap (λ (es : List (List ℕ × Pending)). entries (maps.from_entries {R = key_cmp} (keyed ((name_string a_name, NameValue) ∷ valued pending_key_string pending_value es)))) no-waiting
     ∙ entries-insert total empty NameKey NameValue
     ∙ ap (maps.put key_cmp NameKey NameValue) (no-entries (List ℕ))
 
@@ -104,7 +105,7 @@ root-is = ap sha256 (string-one 256 (tree_entries one_table) (NameKey, NameValue
 
 -- for the name's key, its value, its certificate, and its entry
 abbrev pub IsOne : List ℕ → Type 0
-IsOne x = (x ≡ 0x11 ∷ a_name) ⊎ ((x ≡ value_string 0 (digest_of first_certificate)) ⊎ ((x ≡ certificate_string first_certificate) ⊎ (x ≡ entry_string NameKey NameValue)))
+IsOne x = (x ≡ name_string a_name) ⊎ ((x ≡ value_string 0 (digest_of first_certificate)) ⊎ ((x ≡ certificate_string first_certificate) ⊎ (x ≡ entry_string NameKey NameValue)))
 
 entry-alone : (left : ℕ) (m : Entries) (e : Entry) → entries m ≡ e ∷ [] → (x : List ℕ) → IsIn (strings_below left m) x → x ≡ entry_string e.0 e.1
 unfolding strings_below

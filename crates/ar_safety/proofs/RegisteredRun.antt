@@ -21,19 +21,18 @@ use Rattle.ar_bytes.specs.RoundTrip.{number_text}
 use Rattle.ar_bytes.proofs.Parts.{whole_again}
 use Rattle.lms_tree.specs.Key.{public_of}
 use Rattle.lms_tree.specs.PublicKey.{key_text}
-use Rattle.ar_names.specs.Names.{IsName, first_fault_of, is_open, is_wrong_at, name_digest_of}
+use Rattle.ar_names.specs.Names.{IsName, first_fault_of, is_open, is_wrong_at, name_digest_of, name_string}
 use Rattle.ar_statement.specs.declared.party.Role.{Role}
 use Rattle.ar_statement.specs.declared.party.Role.TheVariants.{LogServer, Authority}
 use Rattle.ar_statement.specs.declared.party.Party.{Party}
 use Rattle.ar_statement.specs.declared.text.SeenText.{SeenText}
-use Rattle.ar_statement.specs.Claims.{Claim, endorse, party, text_of}
+use Rattle.ar_statement.specs.Claims.{Claim, authority_party, endorse, log_party, party, text_of}
 use Rattle.ar_statement.specs.Ranges.{IsTextOf, IsValid, is_witness}
 use Rattle.key_roll.specs.Book.{texts_of}
 use Rattle.key_roll.specs.Rolls.{is_plain_of}
 use Rattle.party_keys.specs.Directory.{keys_of}
-use Rattle.party_keys.specs.Seen.{authority_party, log_party}
 use Rattle.party_keys.specs.Signatures.{verified}
-use Rattle.ar_cert.specs.Certificate.{Certificate, IsCertificate, certificate_text, digest_of, front_text, rules_text, wait_text}
+use Rattle.ar_cert.specs.Certificate.{Certificate, IsCertificate, certificate_string, certificate_text, digest_of, front_text, rules_text, wait_text}
 use Rattle.ar_cert.specs.Changes.{Change, IsChange}
 use Rattle.hash_tree.specs.Strings.{entry_string, value_string}
 use Rattle.tree_proof.specs.Membership.{OnBytes}
@@ -45,7 +44,7 @@ use Rattle.client_rule.specs.declared.judgement.Judgement.TheVariants.{Accepted}
 use Rattle.client_rule.proofs.Meanings.{accepted}
 use Rattle.hash_tree.specs.Entries.{key_cmp}
 use Rattle.domain_table.specs.Tables.{Table, certificates, certificates_of, newest, no_table, pair_of, pairs}
-use Rattle.domain_table.specs.Tree.{certificate_string, root_of, table_strings}
+use Rattle.domain_table.specs.Tree.{root_of, table_strings}
 use Rattle.domain_table.proofs.Trees.{root-digest}
 use Rattle.epoch_log.specs.Calls as calls
 use Rattle.ar_council.proofs.Books.{entry-has, entry-keeps}
@@ -53,7 +52,7 @@ use Rattle.ar_council.proofs.Seeing.{seen-all}
 use Rattle.ar_council.proofs.Texts.{own-text}
 use Rattle.ar_council.specs.Council.{IsMember}
 use Rattle.ar_council.specs.Room.{HasRoom}
-use Rattle.ar_council.specs.Seen.{seen_of}
+use Rattle.party_keys.specs.Seen.{seen_of}
 use Rattle.ar_council.specs.Values.{IsValue, confirm_claim, vote_claim}
 use Rattle.ar_council.specs.Votes.{SawVotes}
 use Rattle.epoch_log.specs.Honest.{HonestLog}
@@ -114,8 +113,7 @@ certificate-fits = record {
 change-fits : IsChange registration
 change-fits = record {
   cert = certificate-fits;
-  few = omega arith;
-  ascending = (omega arith, (omega arith, omega arith), (omega arith, (omega arith, omega arith), (omega arith, (omega arith, omega arith), tt)));
+  endorsements = (omega arith, (omega arith, (omega arith, omega arith), (omega arith, (omega arith, omega arith), (omega arith, (omega arith, omega arith), tt))));
   handover = tt;
   objection = tt;
   alone = tt;
@@ -159,7 +157,8 @@ saw-votes = λ k d less. Contains-append_right (map Endorsing (0 ∷ (1 ∷ (2 �
 
 leads : (seen : List SeenText) → SawEndorsements seen registration → LeadsTo seen 1 (base_of Endings 1) (registration ∷ []) (root_of one_table)
 leads seen saw = subst (λ t. LeadsTo seen 1 t (registration ∷ []) (root_of one_table)) (sym (base-one (Decided (registration ∷ []) (root_of one_table)))) (record {
-  applies = record { table = one_table; applied = applied-one; is_root = refl; are_changes = only IsChange registration change-fits };
+  reaches = record { table = one_table; applied = applied-one; is_root = refl };
+  are_changes = only IsChange registration change-fits;
   endorsed = only (SawEndorsements seen) registration saw;
 })
 
@@ -387,7 +386,7 @@ entry-of-literal : slice_index (sha256 (entry_string name-digest value-digest)) 
 unfolding sha256 hash_after compress rounds schedule first_words digest_bytes name-digest value-digest
 entry-of-literal = refl
 
-head-of-name : first-of (0x11 ∷ a_name) ≡ 0x0d
+head-of-name : first-of (name_string a_name) ≡ 0x0d
 unfolding first-of name-digest
 head-of-name = ap (λ d. slice_index d 0) digest-of-name
 
@@ -430,7 +429,7 @@ headed x s n is head = record { same = is; head = ap first-of is ∙ head }
 
 -- the place of a string among the four, with its string and the first byte of its digest
 string-at : ℕ → List ℕ
-string-at zero = 0x11 ∷ a_name
+string-at zero = name_string a_name
 string-at (suc zero) = value_string 0 (digest_of first_certificate)
 string-at (suc (suc zero)) = certificate_string first_certificate
 string-at (suc (suc (suc k))) = entry_string NameKey NameValue
@@ -443,7 +442,7 @@ head-at (suc (suc (suc k))) = 0xec
 
 place-at : (x : List ℕ) → IsOne x → (k : ℕ) × ((k < 4) × IsHeaded x (string-at k) (head-at k))
 unfolding string-at head-at
-place-at x (inl a) = (0, (omega arith, headed x (0x11 ∷ a_name) 0x0d a head-of-name))
+place-at x (inl a) = (0, (omega arith, headed x (name_string a_name) 0x0d a head-of-name))
 place-at x (inr (inl a)) = (1, (omega arith, headed x (value_string 0 (digest_of first_certificate)) 0x74 a head-of-value))
 place-at x (inr (inr (inl a))) = (2, (omega arith, headed x (certificate_string first_certificate) 0x42 a head-of-certificate))
 place-at x (inr (inr (inr a))) = (3, (omega arith, headed x (entry_string NameKey NameValue) 0xec a head-of-entry))
@@ -638,7 +637,7 @@ run-honest = record {
 pub run-premises : Few registered_run × (NoForgery registered_run × NoCollision registered_run)
 run-premises = (omega arith, (unforged, collision-free))
 
-pub run-accepted : judgement directory_of_five a_name (confirmation_text confirmation) 1 0 ≡ Accepted first_certificate (digest_of first_certificate) 1 (root_of one_table)
+pub run-accepted : judgement (record { keys = directory_of_five; name = a_name; epoch = 1; age = 0 }) (confirmation_text confirmation) ≡ Accepted first_certificate (digest_of first_certificate) 1 (root_of one_table)
 run-accepted = (accepted asked_in_one (confirmation_text confirmation) first_certificate (digest_of first_certificate) 1 (root_of one_table)).1 (record {
   confirmation = confirmation;
   passes = one-passes;

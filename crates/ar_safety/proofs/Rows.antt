@@ -1,7 +1,8 @@
 -- Where the row of a second authority answers Ok, the authority has checked what the theorem of acceptance asks for.
 use Rattle.std.proofs.Common.{◌≡◌, ◌≢◌, ℕ, zero, suc, ◌+◌, ◌-◌, ◌<◌, ◌++◌, take, drop, Bool, true, false, not, List, [], ◌∷◌, length, get_or, Option, Some, None, Result, Ok, Err, refl, sym, ap, ◌∙◌, subst, arith, eqb, eq-eqb}
 use Rattle.std.specs.Prelude.{Contains, map, nat_le, ◌==◌}
-use Rattle.std.specs.Option.{ok_or, option_map}
+use Rattle.std.specs.Result.{result_and}
+use Rattle.std.specs.Option.{ok_or}
 use Rattle.std.proofs.lemmas.Bool.{eqb-true, ltb-true}
 use Rattle.std.proofs.lemmas.List.{append-nil, append_assoc, length-append, length-replicate}
 use Rattle.std.proofs.Math.ListN.{drop_of_length-le}
@@ -11,70 +12,60 @@ use Rattle.ar_bytes.specs.RoundTrip.{number_text}
 use Rattle.ar_base.specs.FirstFailing.{first_failing}
 use Rattle.ar_base.specs.Gives.{with_error}
 use Rattle.ar_base.specs.Places.{place_of}
-use Rattle.ar_base.proofs.Giving.{no-error}
+use Rattle.ar_base.proofs.Giving.{no-error, order-first, order-then}
 use Rattle.ar_base.proofs.Failing.{first-holds}
 use Rattle.ar_council.specs.Room.{HasRoom}
-use Rattle.ar_council.specs.Values.{confirmation_by}
 use Rattle.ar_statement.specs.declared.party.Party.{Party}
-use Rattle.ar_statement.specs.declared.party.Role.TheVariants.{Client}
-use Rattle.ar_statement.specs.Claims.{party, text_of}
+use Rattle.ar_statement.specs.Claims.{authority_party, client_party, log_party, text_of}
 use Rattle.ar_cert.specs.Certificate.{Certificate, digest_of}
-use Rattle.tree_proof.specs.declared.path.Bottom.{Bottom}
+use Rattle.hash_tree.specs.declared.bottom.Bottom.{Bottom}
 use Rattle.client_rule.proofs.Meanings.{shown_decides}
 use Rattle.client_rule.specs.declared.judgement.Judgement.TheVariants as judgements
 use Rattle.key_roll.specs.Book.{IsRollBook, RollBook, texts_of}
 use Rattle.key_roll.specs.Due.{DueParts}
 use Rattle.key_roll.specs.Entry.{after_entry, due_of, entered, has_room}
-use Rattle.key_roll.specs.declared.fault.BookFault.TheVariants.{Spent}
+use Rattle.ar_statement.specs.declared.fault.BookFault.TheVariants.{Spent}
 use Rattle.lms_tree.specs.KeyParts.{KeyParts}
 use Rattle.party_keys.specs.Directory.{Directory}
-use Rattle.party_keys.specs.Seen.{authority_party, log_party}
 use Rattle.party_keys.specs.Signatures.{verified}
-use Rattle.party_keys.specs.Signers.{Claimed, all_known, all_signed, and_then, signed_as, signer_fault, signers_answer}
-use Rattle.party_keys.specs.declared.fault.SignerFault.{SignerFault}
+use Rattle.party_keys.specs.Signers.{Claimed, all_known, all_signed, seen_in, signed_as, signer_fault, signers_answer}
 use Rattle.ar_message.specs.Confirmation as confirmation
-use Rattle.ar_message.specs.Confirmation.{body_text, certificate_in, confirmation_fields_text, form_text, is_present, path_text, signed_text, subject_text}
+use Rattle.ar_message.specs.Confirmation.{body_text, confirmation_fields_text, form_text, is_present, path_text, signed_text, subject_text}
 use Rattle.ar_message.specs.Filling.{bytes_at, filled, signature_due, signed, written_at, zeros}
 use Rattle.ar_message.specs.Sending.{Letter}
 use Rattle.ar_message.specs.declared.address.Address.{Address}
 use Rattle.ar_message.specs.declared.address.Address.TheVariants.{One}
 use Rattle.ar_message.specs.Messages.{IsMessage, about_in, fields_text, message_text, path_in, shown_in, signed_in}
 use Rattle.ar_message.specs.declared.lists.Vote.{Vote}
-use Rattle.ar_message.specs.declared.message.Body.{Body}
-use Rattle.ar_message.specs.declared.message.Body.TheVariants.{Absent, Present}
+use Rattle.ar_message.specs.declared.message.Body.TheVariants.{Absent}
 use Rattle.ar_message.specs.declared.message.Confirming.{Confirming}
 use Rattle.ar_message.specs.declared.message.Message.TheVariants.{Confirmation, HalfConfirmed}
 use Rattle.ar_message.specs.declared.unsigned.Unsigned.{Unsigned}
-use Rattle.client_rule.specs.Meaning.{Asked}
-use Rattle.client_rule.specs.Rule.{claim_on, judgement}
+use Rattle.client_rule.specs.Rule.{claim_on, judgement, Asked}
 use Rattle.authority_core.specs.Calls.{confirming, kept_claim}
 use Rattle.authority_core.specs.ConfirmRows.{confirmation_with, half_claims, half_confirmed_row}
 use Rattle.ar_message.specs.Shown.{shows}
-use Rattle.authority_core.specs.Confirming.{confirmed_by, confirming_checks, content_tests, kept_of, log_claimed, meant_for, parties_of, seen_in, vote_count, voted_by}
+use Rattle.authority_core.specs.Confirming.{confirmed_by, confirming_checks, confirming_with, content_tests, kept_of, log_claimed, meant_for, parties_of, vote_count, voted_by}
 use Rattle.authority_core.specs.Refusals.{of_book, of_signers}
-use Rattle.authority_core.specs.State.{Answer, AuthorityState, entering, if_due, in_order, sends}
+use Rattle.authority_core.specs.State.{Answer, AuthorityState, entering, if_due, sends}
 use Rattle.authority_core.specs.declared.refusal.AuthorityRefusal.{AuthorityRefusal}
 use Rattle.authority_core.specs.declared.refusal.AuthorityRefusal.TheVariants.{BadPath, FewVotes, NotForAuthority, SameAuthority}
 use Rattle.authority_core.proofs.Growing.{map-has}
-use Rattle.authority_core.proofs.Keeping.{order-first, order-then, passed-many, passed-shown, both-first}
-use Rattle.ar_safety.specs.Accepting.{IsHalfConfirmed, IsInTime, IsWithRing, KnowsSigners, bytes_to_client, confirmer_of, own_signature, own_text, signature_for}
+use Rattle.authority_core.proofs.Keeping.{passed-many, passed-shown}
+use Rattle.ar_safety.specs.Accepting.{IsHalfConfirmed, IsInTime, IsWithRing, KnowsSigners, bytes_to_client, confirmer_of, own_signature, signature_for}
 use Rattle.ar_safety.proofs.Accepting.{own-length, sent-absent, sent-accepted}
 use Rattle.ar_safety.proofs.Verifying.{authority-known, log-known}
 
 -- ---- signatures
 
-with-second : (one other : Result (Unit {0}) SignerFault) → and_then one other ≡ Ok tt → other ≡ Ok tt
-with-second (Ok u) other is = is
-with-second (Err fault) other is = absurd cc
-
 -- each signature of the list is verified
 each-verified : (keys : Directory) (claims : List Claimed) → all_signed keys claims ≡ Ok tt → (c : Claimed) → Contains claims c → verified keys c.party c.text c.signature ≡ Ok tt
 each-verified keys [] is c there = absurd (omega (arith, there.1))
 each-verified keys (d ∷ claims) is c there =
-    by there.0 there.1 there.2 (λ k less same. each-verified keys claims (with-second (signed_as keys d) (all_signed keys claims) is) c (k, less, same))
+    by there.0 there.1 there.2 (λ k less same. each-verified keys claims (order-then (signed_as keys d) (all_signed keys claims) tt is) c (k, less, same))
   where
     first : verified keys d.party d.text d.signature ≡ Ok tt
-    first = no-error (signer_fault d.party) (verified keys d.party d.text d.signature) tt (both-first (signed_as keys d) (all_signed keys claims) is)
+    first = no-error (signer_fault d.party) (verified keys d.party d.text d.signature) tt (order-first (signed_as keys d) (all_signed keys claims) tt is)
 
     by : (k : ℕ) → k < length (d ∷ claims) → get_or (d ∷ claims) k c ≡ c → ((m : ℕ) → m < length claims → get_or claims m c ≡ c → verified keys c.party c.text c.signature ≡ Ok tt)
         → verified keys c.party c.text c.signature ≡ Ok tt
@@ -89,7 +80,7 @@ Checks s part first_signature = confirming_checks s part.second (parties_of part
 -- what is checked behind the first check
 abbrev behind-me : AuthorityState → Confirming → List ℕ → Result (Unit {0}) AuthorityRefusal
 behind-me s part first_signature =
-    in_order (with_error of_signers (signers_answer s.keys (parties_of part part.first) (half_claims part first_signature))) (first_failing (content_tests s.keys.quorum part))
+    result_and (with_error of_signers (signers_answer s.keys (parties_of part part.first) (half_claims part first_signature))) (first_failing (content_tests s.keys.quorum part))
 
 rest-holds : {E : Type 0} (fault : E) (test : Bool) (tests : List (E × Bool)) → first_failing ((fault, test) ∷ tests) ≡ Ok tt → first_failing tests ≡ Ok tt
 rest-holds fault true tests is = is
@@ -108,7 +99,7 @@ behind s part first_signature is = order-then (first_failing (meant_for s.me par
 all-signed : (s : AuthorityState) (part : Confirming) (first_signature : List ℕ) → Checks s part first_signature ≡ Ok tt → all_signed s.keys (half_claims part first_signature) ≡ Ok tt
 all-signed s part first_signature is =
     let signers = signers_answer s.keys (parties_of part part.first) (half_claims part first_signature) in
-    with-second (all_known s.keys (parties_of part part.first)) (all_signed s.keys (half_claims part first_signature))
+    order-then (all_known s.keys (parties_of part part.first)) (all_signed s.keys (half_claims part first_signature)) tt
     (no-error of_signers signers tt (order-first (with_error of_signers signers) (first_failing (content_tests s.keys.quorum part)) tt (behind s part first_signature is)))
 
 are-two : (s : AuthorityState) (part : Confirming) (first_signature : List ℕ) → Checks s part first_signature ≡ Ok tt → part.first ≢ part.second
@@ -123,14 +114,6 @@ are-two s part first_signature is =
     by : (b : Bool) → b ≡ true → not b ≡ true → ⊥
     by true one other = absurd cc
     by false one other = absurd cc
-
--- what is kept of the message says what the client will ask
-same-claim : (part : Confirming) (p : Party) → kept_claim p (kept_of part) ≡ claim_on (about_in part) (shown_in part.body) p
-same-claim part p = by part.body
-  where
-    by : (b : Body) → confirmation_by p part.epoch part.name (option_map digest_of (certificate_in (shown_in b))) part.root ≡ claim_on (about_in part) (shown_in b) p
-    by (Present certificate path) = refl
-    by (Absent bottom path) = refl
 
 -- ---- a leaf is left
 
@@ -162,7 +145,7 @@ due-there (Err refusal) f x is = absurd cc
 abbrev Answering : AuthorityState → Confirming → List ℕ → DueParts → AuthorityState × Unsigned
 Answering s part first_signature due = (
   record s { past = confirming s.me s.past (map seen_in (half_claims part first_signature)) (kept_of part) },
-  sends s.signature_len (One (party Client part.client)) (message_text (confirmation_with part first_signature (zeros s.signature_len))) due,
+  sends s.signature_len (One (client_party part.client)) (message_text (confirmation_with part first_signature (zeros s.signature_len))) due,
 )
 
 abbrev Rest : AuthorityState → Confirming → List ℕ → Answer
@@ -170,16 +153,15 @@ Rest s part first_signature = if_due (entering s.past (kept_claim (authority_par
 
 pub row-checked : (s : AuthorityState) (ring : List KeyParts) (part : Confirming) (first_signature : List ℕ) (later : AuthorityState) (sent : Unsigned) → IsRollBook s.past.signed
     → IsMessage (HalfConfirmed part first_signature) → half_confirmed_row s part first_signature ≡ Ok (later, sent) → IsHalfConfirmed (confirmer_of s ring) part first_signature
-unfolding half_confirmed_row
+unfolding half_confirmed_row confirming_with
 row-checked s ring part first_signature later sent sound message e =
     let passed : Checks s part first_signature ≡ Ok tt = order-first (Checks s part first_signature) (Rest s part first_signature) (later, sent) e in
     let signed = each-verified s.keys (half_claims part first_signature) (all-signed s part first_signature passed) in
     let own : Party → List ℕ = λ p. text_of (claim_on (about_in part) (shown_in part.body) p) in
     let log : verified s.keys (log_party part.log) (own (log_party part.log)) part.signature ≡ Ok tt =
-    subst (λ c. verified s.keys (log_party part.log) (text_of c) part.signature ≡ Ok tt) (same-claim part (log_party part.log)) (signed (log_claimed part) (0, omega arith, refl)) in
+    signed (log_claimed part) (0, omega arith, refl) in
     let first : verified s.keys (authority_party part.first) (own (authority_party part.first)) first_signature ≡ Ok tt =
-    subst (λ c. verified s.keys (authority_party part.first) (text_of c) first_signature ≡ Ok tt) (same-claim part (authority_party part.first))
-    (signed (confirmed_by part (authority_party part.first) first_signature) (1, omega arith, refl)) in
+    signed (confirmed_by part (authority_party part.first) first_signature) (1, omega arith, refl) in
     let vote = λ (k : ℕ) (d : Vote) (less : k < length part.votes).
     let there = map-has (voted_by part) part.votes k d less in signed (voted_by part (get_or part.votes k d)) (suc (suc there.0), omega (arith, there.1), there.2) in
     let due = due-there (entering s.past (kept_claim (authority_party s.me) (kept_of part))) (Answering s part first_signature) (later, sent) (order-then (Checks s part first_signature) (Rest s part first_signature) (later, sent) e) in
@@ -197,7 +179,7 @@ row-checked s ring part first_signature later sent sound message e =
       many = passed-many s part.second (parties_of part part.first) (half_claims part first_signature) part passed;
       path = (shown_decides (about_in part) (shown_in part.body) (path_in part.body)).0 (passed-shown s part.second (parties_of part part.first) (half_claims part first_signature) part passed);
       two = are-two s part first_signature passed;
-      room = subst (λ c. HasRoom s.past.signed (text_of c ∷ [])) (same-claim part (authority_party s.me)) room;
+      room = room;
     }
 
 -- ---- what the row sends
@@ -280,7 +262,7 @@ filled-bytes part first_signature signature len same =
 
 -- the letter to the client
 abbrev to-client : Confirming → List ℕ → Letter
-to-client part bytes = record { to = One (party Client part.client); bytes = bytes }
+to-client part bytes = record { to = One (client_party part.client); bytes = bytes }
 
 filled-letter : (ring : List KeyParts) (len : ℕ) (to : Address) (bytes : List ℕ) (due : DueParts)
     → (filled ring (sends len to bytes due)).messages ≡ record { to = to; bytes = written_at (length bytes - len) (signature_due ring due) bytes } ∷ []
@@ -289,22 +271,20 @@ filled-letter ring len to bytes due = refl
 
 row-sent : (s : AuthorityState) (ring : List KeyParts) (part : Confirming) (first_signature : List ℕ) (later : AuthorityState) (sent : Unsigned) → half_confirmed_row s part first_signature ≡ Ok (later, sent)
     → length (own_signature (confirmer_of s ring) part) ≡ s.signature_len
-    → (filled ring sent).messages ≡ record { to = One (party Client part.client); bytes = bytes_to_client (confirmer_of s ring) part first_signature } ∷ []
-unfolding half_confirmed_row
+    → (filled ring sent).messages ≡ record { to = One (client_party part.client); bytes = bytes_to_client (confirmer_of s ring) part first_signature } ∷ []
+unfolding half_confirmed_row confirming_with
 row-sent s ring part first_signature later sent e long =
     let passed : Checks s part first_signature ≡ Ok tt = order-first (Checks s part first_signature) (Rest s part first_signature) (later, sent) e in
     let text : List ℕ = text_of (kept_claim (authority_party s.me) (kept_of part)) in
     let due = due-there (entering s.past (kept_claim (authority_party s.me) (kept_of part))) (Answering s part first_signature) (later, sent) (order-then (Checks s part first_signature) (Rest s part first_signature) (later, sent) e) in
     let is-due : due_of (after_entry s.past.signed text) text ≡ Some due.0 = due-some s.past.signed text due.0 (no-error of_book (entered s.past.signed text) due.0 due.1.0) in
-    let same-text : text ≡ own_text (confirmer_of s ring) part = ap text_of (same-claim part (authority_party s.me)) in
-    let signature : own_signature (confirmer_of s ring) part ≡ signature_due ring due.0 =
-    ap (λ t. signature_for ring (due_of (after_entry s.past.signed t) t)) (sym same-text) ∙ ap (signature_for ring) is-due in
+    let signature : own_signature (confirmer_of s ring) part ≡ signature_due ring due.0 = ap (signature_for ring) is-due in
     let own : List ℕ = signature_due ring due.0 in
     let own-long : length own ≡ s.signature_len = ap (λ (l : List ℕ). length l) (sym signature) ∙ long in
     let bytes : List ℕ = message_text (confirmation_with part first_signature (zeros s.signature_len)) in
-    let out : sends s.signature_len (One (party Client part.client)) bytes due.0 ≡ sent = ap (λ (p : AuthorityState × Unsigned). p.1) due.1.1 in
+    let out : sends s.signature_len (One (client_party part.client)) bytes due.0 ≡ sent = ap (λ (p : AuthorityState × Unsigned). p.1) due.1.1 in
     ap (λ u. (filled ring u).messages) (sym out)
-    ∙ filled-letter ring s.signature_len (One (party Client part.client)) bytes due.0
+    ∙ filled-letter ring s.signature_len (One (client_party part.client)) bytes due.0
     ∙ ap (λ b. to-client part b ∷ []) (filled-bytes part first_signature own s.signature_len own-long)
     ∙ ap (λ g. to-client part (message_text (confirmation_with part first_signature g)) ∷ []) (sym signature)
     ∙ ap (λ n. to-client part (message_text (Confirmation part.client part.epoch part.name part.root part.body part.log part.signature part.first first_signature n (own_signature (confirmer_of s ring) part))) ∷ [])
@@ -315,7 +295,7 @@ row-sent s ring part first_signature later sent e long =
 -- the one message that is sent, by the authority with its keys
 pub row-letter : (s : AuthorityState) (ring : List KeyParts) (part : Confirming) (first_signature : List ℕ) (later : AuthorityState) (sent : Unsigned) → IsWithRing s ring → IsMessage (HalfConfirmed part first_signature)
     → half_confirmed_row s part first_signature ≡ Ok (later, sent)
-    → (filled ring sent).messages ≡ record { to = One (party Client part.client); bytes = bytes_to_client (confirmer_of s ring) part first_signature } ∷ []
+    → (filled ring sent).messages ≡ record { to = One (client_party part.client); bytes = bytes_to_client (confirmer_of s ring) part first_signature } ∷ []
 row-letter s ring part first_signature later sent keyed message e =
     row-sent s ring part first_signature later sent e
     (own-length (confirmer_of s ring) part first_signature s.signature_len keyed.confirmer (row-checked s ring part first_signature later sent keyed.confirmer.honest.sound message e) keyed.bytes)
@@ -328,17 +308,17 @@ letter-bytes s ring part first_signature later sent keyed message e = ap (λ ls.
 pub row-accepted : (s : AuthorityState) (ring : List KeyParts) (part : Confirming) (first_signature : List ℕ) (later : AuthorityState) (sent : Unsigned) (asked : Asked) (certificate : Certificate) → IsWithRing s ring
     → IsMessage (HalfConfirmed part first_signature) → half_confirmed_row s part first_signature ≡ Ok (later, sent) → KnowsSigners (confirmer_of s ring) part first_signature asked.keys → IsInTime part asked
     → shown_in part.body ≡ confirmation.present certificate
-    → judgement asked.keys asked.name (bytes_at (filled ring sent).messages 0) asked.epoch asked.age ≡ judgements.Accepted certificate (digest_of certificate) part.epoch part.root
-row-accepted s ring part first_signature later sent asked certificate keyed message e knows timely shown =
-    subst (λ b. judgement asked.keys asked.name b asked.epoch asked.age ≡ judgements.Accepted certificate (digest_of certificate) part.epoch part.root)
+    → judgement asked (bytes_at (filled ring sent).messages 0) ≡ judgements.Accepted certificate (digest_of certificate) part.epoch part.root
+row-accepted s ring part first_signature later sent asked certificate keyed message e knows in_time shown =
+    subst (λ b. judgement asked b ≡ judgements.Accepted certificate (digest_of certificate) part.epoch part.root)
     (sym (letter-bytes s ring part first_signature later sent keyed message e))
-    (sent-accepted (confirmer_of s ring) part first_signature asked certificate keyed.confirmer (row-checked s ring part first_signature later sent keyed.confirmer.honest.sound message e) knows timely shown)
+    (sent-accepted (confirmer_of s ring) part first_signature asked certificate keyed.confirmer (row-checked s ring part first_signature later sent keyed.confirmer.honest.sound message e) knows in_time shown)
 
 pub row-absent : (s : AuthorityState) (ring : List KeyParts) (part : Confirming) (first_signature : List ℕ) (later : AuthorityState) (sent : Unsigned) (asked : Asked) (bottom : Bottom) → IsWithRing s ring
     → IsMessage (HalfConfirmed part first_signature) → half_confirmed_row s part first_signature ≡ Ok (later, sent) → KnowsSigners (confirmer_of s ring) part first_signature asked.keys → IsInTime part asked
     → shown_in part.body ≡ confirmation.absent bottom
-    → judgement asked.keys asked.name (bytes_at (filled ring sent).messages 0) asked.epoch asked.age ≡ judgements.Absent part.epoch part.root
-row-absent s ring part first_signature later sent asked bottom keyed message e knows timely shown =
-    subst (λ b. judgement asked.keys asked.name b asked.epoch asked.age ≡ judgements.Absent part.epoch part.root)
+    → judgement asked (bytes_at (filled ring sent).messages 0) ≡ judgements.Absent part.epoch part.root
+row-absent s ring part first_signature later sent asked bottom keyed message e knows in_time shown =
+    subst (λ b. judgement asked b ≡ judgements.Absent part.epoch part.root)
     (sym (letter-bytes s ring part first_signature later sent keyed message e))
-    (sent-absent (confirmer_of s ring) part first_signature asked bottom keyed.confirmer (row-checked s ring part first_signature later sent keyed.confirmer.honest.sound message e) knows timely shown)
+    (sent-absent (confirmer_of s ring) part first_signature asked bottom keyed.confirmer (row-checked s ring part first_signature later sent keyed.confirmer.honest.sound message e) knows in_time shown)

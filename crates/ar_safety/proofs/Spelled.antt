@@ -1,7 +1,7 @@
 -- What is signed and sent is spelled in bytes.
 use Rattle.std.proofs.Common.{ℕ, zero, suc, ◌+◌, ◌/◌, ◌^◌, List, [], ◌∷◌, ◌++◌, Bool, true, false, cond}
 use Rattle.std.specs.Prelude.{map, flat_map, nat_le}
-use Rattle.std.specs.List.{range_with_len}
+use Rattle.std.specs.List.{concat, range_with_len}
 use Rattle.std.specs.Int.{Width, w32, byte_len, bytes_low_first, to_be_bytes}
 use Rattle.sha2.specs.Sha256.{sha256}
 use Rattle.ar_base.proofs.Digests.{bytes_by_recursion, sha256-IsDigest, AllBytes, byte_small, bytes-high_first, joined}
@@ -34,9 +34,9 @@ each-spelled : {A : Type 0} (f : A → List ℕ) → ((x : A) → AllBytes (f x)
 each-spelled f each [] = tt
 each-spelled f each (x ∷ xs) = joined (f x) (flat_map f xs) (each x) (each-spelled f each xs)
 
-listed-spelled : (f : ℕ → List ℕ) → ((x : ℕ) → AllBytes (f x)) → (xs : List ℕ) → AllBytes (flat_map (λ node. node) (map f xs))
+listed-spelled : (f : ℕ → List ℕ) → ((x : ℕ) → AllBytes (f x)) → (xs : List ℕ) → AllBytes (concat (map f xs))
 listed-spelled f each [] = tt
-listed-spelled f each (x ∷ xs) = joined (f x) (flat_map (λ node. node) (map f xs)) (each x) (listed-spelled f each xs)
+listed-spelled f each (x ∷ xs) = joined (f x) (concat (map f xs)) (each x) (listed-spelled f each xs)
 
 -- ---- signatures
 
@@ -75,7 +75,7 @@ lms-spelled : (key : KeyParts) (leaf : ℕ) (message : List ℕ) → AllBytes (s
 unfolding signature_of signature_text
 lms-spelled key leaf message =
     let parts : SignatureParts = signed_parts key leaf message in
-    let path : List ℕ = flat_map (λ node. node) parts.path in
+    let path : List ℕ = concat parts.path in
     joined (number_text w32 leaf) (parts.one_time ++ (number_text w32 parts.lms ++ path)) (number-spelled w32 leaf)
     (joined parts.one_time (number_text w32 parts.lms ++ path) (one_time-spelled (secret_of key leaf) message)
     (joined (number_text w32 parts.lms) path (number-spelled w32 parts.lms)

@@ -20,12 +20,11 @@ use Rattle.lms_tree.specs.Validity.{HasLength, verdict_of}
 use Rattle.lms_tree.proofs.SigningLemmas.{verdict_of-signature_of}
 use Rattle.lms_tree.proofs.VerdictLemmas.{valid}
 use Rattle.ar_statement.specs.declared.party.Party.{Party}
-use Rattle.ar_statement.specs.Claims.{Claim, text_of}
+use Rattle.ar_statement.specs.Claims.{Claim, authority_party, log_party, text_of}
 use Rattle.ar_statement.specs.Ranges.{IsValid}
 use Rattle.key_roll.specs.Due.{DueParts}
 use Rattle.key_roll.specs.Ring.{ring_signature_len, signature_by}
 use Rattle.party_keys.specs.Directory.{Directory, keys_at, keys_of}
-use Rattle.party_keys.specs.Seen.{authority_party, log_party}
 use Rattle.party_keys.specs.Signatures as signatures
 use Rattle.party_keys.specs.Signatures.{answer_by, answer_of, answer_under, behind_generation, generation_of, is_in_place, is_last_leaf, roll_in, rolls_from, verified}
 use Rattle.party_keys.proofs.Claims.{one_claim}

@@ -13,9 +13,9 @@ use Rattle.ar_statement.specs.declared.party.Role.TheVariants.{LogServer}
 use Rattle.ar_statement.specs.declared.party.Party.{Party}
 use Rattle.ar_statement.specs.declared.text.SeenText.{SeenText}
 use Rattle.ar_cert.specs.Changes.{Change}
-use Rattle.ar_statement.specs.Claims.{is_party, party, role_number, text_of}
+use Rattle.ar_statement.specs.Claims.{is_party, log_party, party, role_number, text_of}
 use Rattle.ar_statement.specs.Ranges.{IsValid}
-use Rattle.party_keys.specs.Seen.{Saw, log_party}
+use Rattle.party_keys.specs.Seen.{Saw}
 use Rattle.vote_quorum.specs.Counted.{AtLeast, count_below}
 use Rattle.vote_quorum.specs.Statuses.{Status, is_for}
 use Rattle.vote_quorum.specs.declared.value.Value.{Value}
@@ -155,7 +155,7 @@ decided-backed r honest forged j is epoch changes to ended =
     let right : IsRightDecision r.council (r.logs j).seen (r.logs j).ended epoch changes to = h.decides_rightly epoch changes to ended in
     let within = ending-within (r.logs j).ended h.ends_in_order epoch (Decided changes to) ended in
     let value : Value = record { base = root_of (base_of (r.logs j).ended epoch); root = to } in
-    let are : IsValue value = record { base = root-digest (base_of (r.logs j).ended epoch); root = subst IsDigest right.leads.applies.is_root (root-digest right.leads.applies.table) } in
+    let are : IsValue value = record { base = root-digest (base_of (r.logs j).ended epoch); root = subst IsDigest right.leads.reaches.is_root (root-digest right.leads.reaches.table) } in
     let n = before epoch within.0 in
     subst (λ e. Backed r e to) (sym n.1)
     (votes-back r honest (r.logs j).seen (forged.logs j is) n.0 (omega (arith, n.1, within.1, h.ends_in_order.in_range)) value are (subst (λ e. SawVotes r.council (r.logs j).seen e value) n.1 right.votes))

@@ -10,12 +10,12 @@ use Rattle.ar_cert.specs.Certificate.{Certificate, digest_of}
 use Rattle.ar_cert.specs.Changes.{Change}
 use Rattle.ar_cert.specs.Judging.{IsAccepted, endorsers_of}
 use Rattle.ar_cert.proofs.Digests.{digest-fits}
-use Rattle.ar_statement.specs.Claims.{endorse, text_of}
+use Rattle.ar_statement.specs.Claims.{authority_party, endorse, text_of}
 use Rattle.ar_statement.specs.Ranges.{IsValid}
 use Rattle.ar_statement.specs.declared.party.Role.TheVariants.{Authority}
 use Rattle.ar_statement.specs.declared.text.SeenText.{SeenText}
 use Rattle.key_roll.specs.Book.{texts_of}
-use Rattle.party_keys.specs.Seen.{Saw, authority_party}
+use Rattle.party_keys.specs.Seen.{Saw}
 use Rattle.vote_quorum.specs.Numbers.{distinct_count}
 use Rattle.vote_quorum.proofs.Below.{distinct_count-below}
 use Rattle.vote_quorum.proofs.Counting.{among, Contains-from_among}

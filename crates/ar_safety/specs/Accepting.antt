@@ -1,26 +1,25 @@
 -- What the second of two authorities has checked of a confirmation before it confirms it too, what it then sends to the
 -- client, and which clients know the keys to judge that.
-use Rattle.std.specs.Prelude.{◌≡◌, ◌≢◌, ℕ, ◌+◌, ◌-◌, ◌^◌, ◌<◌, ◌≤◌, List, [], ◌∷◌, length, map, slice_get, All, Option, Some, None, Ok}
+use Rattle.std.specs.Prelude.{◌≡◌, ◌≢◌, ℕ, ◌+◌, ◌<◌, ◌≤◌, List, [], ◌∷◌, length, map, slice_get, All, Option, Some, None}
 use Rattle.lms_tree.specs.declared.public_key.LmsPublic.{LmsPublic}
 use Rattle.lms_tree.specs.Key.{public_of}
 use Rattle.lms_tree.specs.KeyParts.{KeyParts}
-use Rattle.lms_tree.specs.LmsKind.{height_of}
+use Rattle.lms_tree.specs.LmsKind.{leaves_of}
 use Rattle.ar_statement.specs.declared.party.Party.{Party}
-use Rattle.ar_statement.specs.Claims.{text_of, vote}
+use Rattle.ar_statement.specs.Claims.{authority_party, log_party, text_of, vote}
 use Rattle.key_roll.specs.Due.{DueParts}
 use Rattle.key_roll.specs.Entry.{after_entry, due_of}
 use Rattle.key_roll.specs.Ring.{ring_signature_len}
 use Rattle.party_keys.specs.Directory.{Directory, keys_of}
-use Rattle.party_keys.specs.Seen.{authority_party, log_party}
-use Rattle.party_keys.specs.Signatures.{generation_of, verified}
+use Rattle.party_keys.specs.Signatures.{IsVerified, generation_of}
 use Rattle.vote_quorum.specs.Numbers.{distinct_count}
 use Rattle.ar_message.specs.declared.message.Confirming.{Confirming}
 use Rattle.ar_message.specs.declared.message.Message.{Message}
 use Rattle.ar_message.specs.declared.message.Message.TheVariants.{Confirmation, HalfConfirmed}
 use Rattle.ar_message.specs.Filling.{signature_due}
 use Rattle.ar_message.specs.Messages.{IsMessage, about_in, message_text, path_in, shown_in}
-use Rattle.client_rule.specs.Meaning.{Asked, Confirms, IsCurrent, IsLive, IsShown, IsYoung}
-use Rattle.client_rule.specs.Rule.{claim_on}
+use Rattle.client_rule.specs.Meaning.{Confirms, IsShown, IsTimely}
+use Rattle.client_rule.specs.Rule.{claim_on, Asked}
 use Rattle.ar_council.specs.Council.{council_of}
 use Rattle.ar_council.specs.Room.{HasRoom}
 use Rattle.authority_core.specs.Honest.{HonestAuthority}
@@ -43,7 +42,7 @@ confirmer_of s ring = record { me = s.me; keys = s.keys; past = s.past; ring = r
 -- The directory knows these keys of a party, that of generation 0 first, and each has so many leaves.
 abbrev pub KnowsRing : Directory → Party → ℕ → List KeyParts → Type 0
 KnowsRing keys party leaves ring =
-    (g : ℕ) (key : KeyParts) → slice_get ring g ≡ Some key → (slice_get (keys_of keys party) g ≡ Some (public_of key)) × (leaves ≡ 2 ^ height_of key.lms)
+    (g : ℕ) (key : KeyParts) → slice_get ring g ≡ Some key → (slice_get (keys_of keys party) g ≡ Some (public_of key)) × (leaves ≡ leaves_of key.lms)
 
 -- It is an honest authority, with a key for each generation of its book, and its directory knows them.
 pub record IsConfirmer (a : Confirmer) : Type 0 where
@@ -65,7 +64,7 @@ own_text a part = text_of (claim_on (about_in part) (shown_in part.body) (author
 
 -- a vote by which the epoch was decided is verified
 abbrev pub IsVerifiedVote : Directory → Confirming → ℕ → List ℕ → Type 0
-IsVerifiedVote keys part log signature = verified keys (log_party log) (text_of (vote log part.epoch part.base part.root)) signature ≡ Ok tt
+IsVerifiedVote keys part log signature = IsVerified keys (log_party log) (text_of (vote log part.epoch part.base part.root)) signature
 
 -- The message is for this authority. The log, those that voted and the first authority are in its directory, and their
 -- signatures are verified. A quorum voted, the path leads to the root, the two authorities are two, and there is a leaf for
@@ -121,7 +120,4 @@ pub record KnowsSigners (a : Confirmer) (part : Confirming) (first_signature : L
 -- for the certificate; and the certificate, where there is one, is neither revoked nor expired
 pub record IsInTime (part : Confirming) (asked : Asked) : Type 0 where
   pub name : part.name ≡ asked.name
-  pub not_later : part.epoch ≤ asked.epoch
-  pub young : IsYoung (asked.epoch - part.epoch) asked.age (shown_in part.body)
-  pub live : IsLive (shown_in part.body)
-  pub current : IsCurrent asked.epoch (shown_in part.body)
+  pub timely : IsTimely asked part.epoch (shown_in part.body)

@@ -1,6 +1,6 @@
 -- The words of the theorem's clauses: which root is backed and which table agreed, which endings are alike, who confirms
--- what, what the agreed table has for a name, who vouches for it, and what is accepted in time.
-use Rattle.std.specs.Prelude.{◌≡◌, ℕ, ◌+◌, ◌-◌, ◌≤◌, ◌⊎◌, ◌==◌, Bool, true, not, ◌&&◌, List, Contains, Option, Some, None}
+-- what, what the agreed table has for a name, and who vouches for it.
+use Rattle.std.specs.Prelude.{◌≡◌, ℕ, ◌+◌, ◌⊎◌, ◌==◌, Bool, true, not, ◌&&◌, List, Contains, Option, Some, None}
 use Rattle.std.specs.List.{list_any}
 use Rattle.std.specs.Str.{bytes_eq}
 use Rattle.std.specs.FinMap.{get}
@@ -8,23 +8,20 @@ use Rattle.lms_tree.specs.PublicKey.{key_text}
 use Rattle.ar_cert.specs.Certificate.{Certificate, digest_of}
 use Rattle.ar_cert.specs.Changes.{Change}
 use Rattle.ar_cert.specs.Judging.{IsChain}
-use Rattle.client_rule.specs.Meaning.{IsCurrent, IsLive, IsYoung}
 use Rattle.ar_statement.specs.declared.party.Party.{Party}
-use Rattle.ar_statement.specs.Claims.{endorse, text_of}
+use Rattle.ar_statement.specs.Claims.{authority_party, confirmation_by, endorse, log_party, text_of}
 use Rattle.ar_statement.specs.Ranges.{IsValid}
-use Rattle.party_keys.specs.Seen.{authority_party, log_party}
 use Rattle.vote_quorum.specs.Counted.{AtLeast, count_below}
 use Rattle.domain_table.specs.Applying.{apply}
 use Rattle.domain_table.specs.Tables.{Table, newest}
 use Rattle.domain_table.specs.Tree.{root_of}
 use Rattle.epoch_log.specs.Record.{base_of}
-use Rattle.ar_council.specs.Values.{confirmation_by}
 use Rattle.epoch_log.specs.Told.{HasVoted}
 use Rattle.epoch_log.specs.declared.entries.How.{How}
 use Rattle.epoch_log.specs.declared.entries.How.TheVariants.{Decided, Skipped}
 use Rattle.epoch_log.specs.declared.entries.Voted.{Voted}
 use Rattle.authority_core.specs.declared.entries.Asked.{Asked}
-use Rattle.ar_safety.specs.Records.{IsHonest, IsHonestLog, Judged, Records, is_dishonest, signed_by}
+use Rattle.ar_safety.specs.Records.{IsHonest, IsHonestLog, Records, is_dishonest, signed_by}
 
 -- a log backs a root in an epoch: it is dishonest, or it voted for the root
 abbrev pub Backs : Records → ℕ → List ℕ → ℕ → Type 0
@@ -98,11 +95,3 @@ pub record IsVouchedFor (r : Records) (name : List ℕ) (certificate : Certifica
   pub is_digest : asked.certificate ≡ digest_of certificate
   pub is_name : (certificate.name ≡ name) × (asked.name ≡ name)
   pub is_key : asked.key ≡ key_text certificate.subject
-
--- what a client accepted is not of a later epoch than it asks for, not older than it and the certificate allow, and
--- neither revoked nor expired
-pub record IsTimely (j : Judged) : Type 0 where
-  pub not_later : j.confirmation.about.epoch ≤ j.asked.epoch
-  pub young : IsYoung (j.asked.epoch - j.confirmation.about.epoch) j.asked.age j.confirmation.body
-  pub live : IsLive j.confirmation.body
-  pub current : IsCurrent j.asked.epoch j.confirmation.body

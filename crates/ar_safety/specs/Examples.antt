@@ -4,14 +4,14 @@
 use Rattle.std.specs.Prelude.{ℕ, ◌==◌, if◌then◌else◌, List, [], ◌∷◌, map, None}
 use Rattle.ar_statement.specs.declared.party.Party.{Party}
 use Rattle.ar_statement.specs.declared.text.SeenText.{SeenText}
-use Rattle.ar_statement.specs.Claims.{Claim, text_of}
-use Rattle.key_roll.specs.Book.{RollBook}
-use Rattle.party_keys.specs.Seen.{log_party}
+use Rattle.ar_statement.specs.Claims.{Claim, log_party, text_of}
+use Rattle.key_roll.specs.Book.{RollBook, empty_book}
+use Rattle.key_roll.specs.Entry.{with_text}
 use Rattle.vote_quorum.specs.declared.value.Value.{Value}
 use Rattle.domain_table.specs.Tables.{no_table}
 use Rattle.domain_table.specs.Tree.{root_of}
 use Rattle.ar_council.specs.Council.{Council}
-use Rattle.ar_council.specs.Seen.{seen_of}
+use Rattle.party_keys.specs.Seen.{seen_of}
 use Rattle.ar_council.specs.Values.{status_claim, vote_claim}
 use Rattle.epoch_log.specs.Calls.{fresh}
 use Rattle.epoch_log.specs.Record.{LogRecord}
@@ -29,7 +29,7 @@ unchanged = record { base = root_of no_table; root = root_of no_table }
 
 -- a book with one statement, of keys with 32 leaves
 abbrev pub book_with : Claim → RollBook
-book_with claim = record { leaves = 32; newest = 0; list = record { generation = 0; text = text_of claim } ∷ [] }
+book_with claim = with_text (empty_book 32) (text_of claim)
 
 -- the votes of these logs, for no changes in the first epoch
 abbrev pub seen_votes : List ℕ → List SeenText

@@ -1,25 +1,21 @@
 -- The tables that honest logs voted for or decided, and the strings that are hashed for them and by clients.
-use Rattle.std.specs.Prelude.{◌≡◌, ℕ, zero, suc, ◌⊎◌, if◌then◌else◌, List, [], ◌∷◌, ◌++◌, flat_map, Contains, Option, Some, None}
-use Rattle.party_keys.specs.Seen.{log_party}
+use Rattle.std.specs.Prelude.{◌≡◌, ℕ, zero, suc, ◌⊎◌, if◌then◌else◌, List, [], ◌∷◌, ◌++◌, flat_map, Contains, Option, Some, None, filter_map}
+use Rattle.ar_statement.specs.Claims.{log_party}
 use Rattle.domain_table.specs.Applying.{apply}
 use Rattle.domain_table.specs.Tables.{Table, certificates, pairs}
-use Rattle.ar_names.specs.Names.{name_digest_of}
-use Rattle.ar_cert.specs.Certificate.{Certificate, digest_of}
+use Rattle.ar_names.specs.Names.{name_digest_of, name_string}
+use Rattle.ar_cert.specs.Certificate.{Certificate, certificate_string, certificate_value, digest_of}
 use Rattle.ar_message.specs.Confirmation.{Body, present, absent}
-use Rattle.hash_tree.specs.Strings.{entry_string, value_digest, value_string}
+use Rattle.hash_tree.specs.Strings.{entry_string, value_string}
 use Rattle.tree_proof.specs.Fold.{digests_in}
 use Rattle.tree_proof.specs.Membership.{bottom_string, path_strings}
-use Rattle.domain_table.specs.Tree.{certificate_string, table_strings}
+use Rattle.domain_table.specs.Tree.{table_strings}
 use Rattle.epoch_log.specs.Record.{LogRecord, base_of}
 use Rattle.epoch_log.specs.declared.entries.Ended.{Ended}
 use Rattle.epoch_log.specs.declared.entries.How.{How}
 use Rattle.epoch_log.specs.declared.entries.How.TheVariants.{Decided, Skipped}
 use Rattle.epoch_log.specs.declared.entries.Voted.{Voted}
 use Rattle.ar_safety.specs.Records.{Judged, Records, is_dishonest}
-
-abbrev pub table_list : Option Table → List Table
-table_list None = []
-table_list (Some table) = table ∷ []
 
 -- the table of a vote
 abbrev pub voted_table : List Ended → Voted → Option Table
@@ -33,8 +29,7 @@ ended_table ended epoch (Decided changes to) = apply (base_of ended epoch) epoch
 -- the tables that a log voted for, and those that it decided
 abbrev pub log_tables : LogRecord → List Table
 log_tables l =
-    flat_map (λ (v : Voted). table_list (voted_table l.ended v)) l.voted
-    ++ flat_map (λ (x : Ended). table_list (ended_table l.ended x.epoch x.how)) l.ended
+    filter_map (voted_table l.ended) l.voted ++ filter_map (λ (x : Ended). ended_table l.ended x.epoch x.how) l.ended
 
 -- those of the honest logs below a number
 unfoldable pub tables_below : Records → ℕ → List Table
@@ -50,12 +45,12 @@ abbrev pub body_strings : List ℕ → List ℕ → Body → List (List ℕ)
 body_strings key steps (present certificate) =
     value_string certificate.serial (digest_of certificate)
     ∷ (certificate_string certificate
-    ∷ path_strings key (entry_string key (value_digest certificate.serial (digest_of certificate))) (digests_in steps))
+    ∷ path_strings key (entry_string key (certificate_value certificate)) (digests_in steps))
 body_strings key steps (absent bottom) = path_strings key (bottom_string bottom) (digests_in steps)
 
 abbrev pub judged_strings : Judged → List (List ℕ)
 judged_strings j =
-    (0x11 ∷ j.confirmation.about.name)
+    name_string j.confirmation.about.name
     ∷ body_strings (name_digest_of j.confirmation.about.name) j.confirmation.steps j.confirmation.body
 
 -- all strings that are hashed for the tables, and by clients

@@ -1,21 +1,19 @@
 -- A run as its nodes hold it: the directory of the clients, the records of the honest logs and of the honest authorities, each
 -- ascending by number, and what clients accepted as bytes. `records_of` makes the theorem's records of it, and leaves nothing
 -- out.
-use Rattle.std.specs.Prelude.{◌≡◌, ℕ, zero, suc, ◌+◌, if◌then◌else◌, List, [], ◌∷◌, ◌++◌, length, slice_index_or, All, Contains, Option}
-use Rattle.std.specs.List.{list_any, filter_map}
+use Rattle.std.specs.Prelude.{◌≡◌, ℕ, zero, suc, not, if◌then◌else◌, List, [], ◌∷◌, ◌++◌, length, slice_index_or, All, Contains, Option}
+use Rattle.std.specs.List.{filter_map}
 use Rattle.std.specs.Option.{option_map}
 use Rattle.std.specs.Result.{result_ok}
 use Rattle.ar_base.specs.Bytes.{AreBytes}
 use Rattle.ar_bytes.specs.Reading.{whole}
 use Rattle.ar_statement.specs.declared.party.Party.{Party}
 use Rattle.ar_statement.specs.declared.text.SeenText.{SeenText}
-use Rattle.ar_statement.specs.Claims.{is_party}
+use Rattle.ar_statement.specs.Claims.{authority_party, has_party, log_party}
 use Rattle.ar_cert.specs.Certificate.{Certificate}
 use Rattle.ar_message.specs.Confirmation.{Confirmation, confirmation_at}
 use Rattle.party_keys.specs.Directory.{Directory, IsDirectory}
-use Rattle.party_keys.specs.Seen.{authority_party, log_party}
-use Rattle.client_rule.specs.Meaning.{Asked}
-use Rattle.client_rule.specs.Rule.{judgement}
+use Rattle.client_rule.specs.Rule.{judgement, Asked}
 use Rattle.client_rule.specs.declared.judgement.Judgement.{Judgement}
 use Rattle.client_rule.specs.declared.judgement.Judgement.TheVariants.{Absent, Accepted, Refused}
 use Rattle.ar_council.specs.Council.{council_of}
@@ -25,6 +23,7 @@ use Rattle.epoch_log.specs.Record.{LogRecord}
 use Rattle.authority_core.specs.Calls.{fresh_authority}
 use Rattle.authority_core.specs.Honest.{HonestAuthority}
 use Rattle.authority_core.specs.Record.{AuthorityRecord}
+use Rattle.vote_quorum.specs.Counted.{count_below}
 use Rattle.ar_safety.specs.Agreed.{HasNewest, HasNone}
 use Rattle.ar_safety.specs.Records.{IsHonest, IsHonestLog, Judged, Records}
 use Rattle.ar_safety.specs.Theorem.{Safe}
@@ -47,9 +46,8 @@ pub record Held : Type 0 where
   pub learned : List SeenText
 
 -- how many of the parties with a number below n are honest
-unfoldable pub honest_below : (ℕ → Party) → List Party → ℕ → ℕ
-honest_below party dishonest zero = zero
-honest_below party dishonest (suc n) = (if list_any (is_party (party n)) dishonest then 0 else 1) + honest_below party dishonest n
+abbrev pub honest_below : (ℕ → Party) → List Party → ℕ → ℕ
+honest_below party dishonest n = count_below n (λ k. not (has_party dishonest (party k)))
 
 -- the record at a party's place among the honest ones
 abbrev pub record_at : {X : Type 0} → (ℕ → Party) → List Party → List X → X → ℕ → X
@@ -79,7 +77,7 @@ records_of h = record {
 
 -- the verdict of the client's rule
 abbrev pub verdict_on : Directory → Taken → Judgement
-verdict_on directory t = judgement directory t.name t.bytes t.now t.age
+verdict_on directory t = judgement (asked_by directory t) t.bytes
 
 abbrev pub IsTaken : Judgement → Type 0
 IsTaken (Accepted certificate digest epoch root) = Unit {0}
@@ -110,4 +108,4 @@ pub record AreSafe (h : Held) : Type 0 where
 unfoldable pub honest_records : {X : Type 0} → (ℕ → Party) → List Party → (ℕ → X) → ℕ → List X
 honest_records party dishonest record_of zero = []
 honest_records party dishonest record_of (suc n) =
-    honest_records party dishonest record_of n ++ (if list_any (is_party (party n)) dishonest then [] else record_of n ∷ [])
+    honest_records party dishonest record_of n ++ (if has_party dishonest (party n) then [] else record_of n ∷ [])

@@ -1,20 +1,18 @@
 -- The records of a run: who is dishonest, what each honest log and authority remembers, and what clients accepted and
 -- learnt; and the words for who is honest and who signed what.
 use Rattle.std.specs.Prelude.{◌≡◌, ℕ, ◌+◌, ◌*◌, ◌<◌, ◌≤◌, Bool, false, List, [], ◌∷◌, Contains}
-use Rattle.std.specs.List.{list_any}
 use Rattle.ar_base.specs.Bytes.{AreBytes}
 use Rattle.ar_statement.specs.declared.party.Role.{Role}
 use Rattle.ar_statement.specs.declared.party.Role.TheVariants.{LogServer, Authority, Owner, Client}
 use Rattle.ar_statement.specs.declared.party.Party.{Party}
 use Rattle.ar_statement.specs.declared.text.SeenText.{SeenText}
-use Rattle.ar_statement.specs.Claims.{is_party}
+use Rattle.ar_statement.specs.Claims.{authority_party, log_party, most_parties, has_party}
 use Rattle.key_roll.specs.Book.{texts_of}
-use Rattle.party_keys.specs.Seen.{authority_party, log_party}
 use Rattle.ar_message.specs.Confirmation.{Confirmation}
-use Rattle.client_rule.specs.Meaning.{Asked, Passes}
-use Rattle.client_rule.specs.Rule.{claim_on}
+use Rattle.client_rule.specs.Meaning.{Passes}
+use Rattle.client_rule.specs.Rule.{claim_on, Asked}
 use Rattle.ar_council.specs.Council.{Council, IsMember, council_of}
-use Rattle.ar_council.specs.Seen.{seen_of}
+use Rattle.party_keys.specs.Seen.{seen_of}
 use Rattle.epoch_log.specs.Calls.{fresh}
 use Rattle.epoch_log.specs.Record.{LogRecord}
 use Rattle.authority_core.specs.Calls.{fresh_authority}
@@ -37,7 +35,7 @@ pub record Records : Type 0 where
   pub learned : List SeenText
 
 abbrev pub is_dishonest : Records → Party → Bool
-is_dishonest r party = list_any (is_party party) r.dishonest
+is_dishonest r party = has_party r.dishonest party
 
 -- a log or authority of the council that is not among the dishonest parties
 pub record IsHonest (r : Records) (party : Party) : Type 0 where
@@ -52,8 +50,8 @@ IsHonestLog r log = IsHonest r (log_party log)
 -- two quorums share more than two logs, and there are few logs and authorities
 pub record AreQuorums (council : Council) : Type 0 where
   pub wide : council.logs + 2 < 2 * council.quorum
-  pub few : council.logs ≤ 16
-  pub few_authorities : council.authorities ≤ 16
+  pub few : council.logs ≤ most_parties
+  pub few_authorities : council.authorities ≤ most_parties
 
 -- a client accepted the bytes, under a directory of the council
 pub record IsJudged (council : Council) (j : Judged) : Type 0 where

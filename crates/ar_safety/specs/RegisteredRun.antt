@@ -12,23 +12,22 @@ use Rattle.ar_statement.specs.declared.party.Role.{Role}
 use Rattle.ar_statement.specs.declared.party.Role.TheVariants.{LogServer, Authority}
 use Rattle.ar_statement.specs.declared.party.Party.{Party}
 use Rattle.ar_statement.specs.declared.text.SeenText.{SeenText}
-use Rattle.ar_statement.specs.Claims.{Claim, confirm, party, text_of}
+use Rattle.ar_statement.specs.Claims.{Claim, confirm, log_party, party, text_of}
 use Rattle.key_roll.specs.Due.{DueParts}
 use Rattle.key_roll.specs.Ring.{signature_by}
-use Rattle.party_keys.specs.Directory.{Directory}
+use Rattle.party_keys.specs.Directory.{Directory, directory_with}
 use Rattle.party_keys.specs.Seeds.{seed_of}
-use Rattle.party_keys.specs.Seen.{log_party}
 use Rattle.vote_quorum.specs.declared.value.Value.{Value}
 use Rattle.cert_policy.specs.declared.manner.Manner.TheVariants.{Full}
 use Rattle.cert_policy.specs.Terms.{PolicyTerms}
 use Rattle.ar_cert.specs.Certificate.{Certificate, digest_of}
 use Rattle.ar_cert.specs.Changes.{Change}
 use Rattle.ar_message.specs.Confirmation.{Confirmation, Signed, confirmation_text, present}
-use Rattle.client_rule.specs.Meaning.{Asked}
+use Rattle.client_rule.specs.Rule.{Asked}
 use Rattle.domain_table.specs.Applying.{taken}
 use Rattle.domain_table.specs.Tables.{Table, no_table}
 use Rattle.domain_table.specs.Tree.{root_of}
-use Rattle.ar_council.specs.Seen.{seen_of}
+use Rattle.party_keys.specs.Seen.{seen_of}
 use Rattle.ar_council.specs.Values.{vote_claim}
 use Rattle.epoch_log.specs.Calls.{after_confirm, endorsements_of}
 use Rattle.epoch_log.specs.Record.{LogRecord}
@@ -129,12 +128,12 @@ confirming_authority me = after_log_confirmed me (after_endorse me (fresh_author
 abbrev pub key_for : Role → ℕ → KeyParts
 key_for role number = record { seed = seed_of [] role number; lms = H5; ots = W8 }
 
--- the public keys of the parties of a role, one for each
-abbrev pub first_of : Role → List ℕ → List (List LmsPublic)
-first_of role numbers = map (λ number. public_of (key_for role number) ∷ []) numbers
+-- the public keys of the parties of a role
+abbrev pub publics_of : Role → List ℕ → List LmsPublic
+publics_of role numbers = map (λ number. public_of (key_for role number)) numbers
 
 abbrev pub directory_of_five : Directory
-directory_of_five = record { logs = first_of LogServer all_five; authorities = first_of Authority (0 ∷ (1 ∷ (2 ∷ []))); quorum = 4 }
+directory_of_five = directory_with (publics_of LogServer all_five) (publics_of Authority (0 ∷ (1 ∷ (2 ∷ [])))) 4
 
 -- what each of the three says: that the name has the certificate
 abbrev pub says : Party → Claim

@@ -1,20 +1,22 @@
 -- The theorem, as the law `records_are_safe` has it: records of honest parties (`AreHonest`) that meet the premises `Few`,
 -- `NoForgery` and `NoCollision` are `Safe`.
 use Rattle.std.specs.Prelude.{◌≡◌, ℕ, ◌+◌, ◌<◌, ◌≤◌, List, length, All, Contains, Some, IsTrue}
+use Rattle.ar_base.specs.Prefixes.{BeginsWith}
 use Rattle.ar_base.specs.Apart.{none_collide}
 use Rattle.lms_tree.specs.PublicKey.{key_text}
 use Rattle.ar_cert.specs.Certificate.{Certificate, digest_of}
 use Rattle.ar_message.specs.Confirmation.{present, absent}
 use Rattle.ar_statement.specs.declared.party.Party.{Party}
-use Rattle.tree_proof.specs.declared.path.Bottom.{Bottom}
-use Rattle.party_keys.specs.Seen.{authority_party}
-use Rattle.domain_table.specs.Tables.{Begins, SameTable, Table, certificates}
+use Rattle.hash_tree.specs.declared.bottom.Bottom.{Bottom}
+use Rattle.ar_statement.specs.Claims.{authority_party}
+use Rattle.domain_table.specs.Tables.{SameTable, Table, certificates}
 use Rattle.epoch_log.specs.Honest.{HonestLog}
 use Rattle.epoch_log.specs.Record.{base_of, ending}
 use Rattle.epoch_log.specs.declared.entries.How.{How}
 use Rattle.authority_core.specs.Honest.{HonestAuthority}
 use Rattle.authority_core.specs.declared.entries.Asked.{Asked}
-use Rattle.ar_safety.specs.Agreed.{Agreed, Backed, Confirms, HasNewest, HasNone, IsTimely, IsVouchedFor, SameEnding}
+use Rattle.client_rule.specs.Meaning.{IsTimely}
+use Rattle.ar_safety.specs.Agreed.{Agreed, Backed, Confirms, HasNewest, HasNone, IsVouchedFor, SameEnding}
 use Rattle.ar_safety.specs.Hashed.{StandsIn, hashed, listed_tables}
 use Rattle.ar_safety.specs.Records.{AreQuorums, AreSigned, IsHonest, IsHonestLog, IsJudged, Judged, Records, carried}
 
@@ -68,12 +70,12 @@ pub record AgreeOnEpochs (r : Records) : Type 0 where
 -- confirmed root, and was accepted in time.
 abbrev pub AcceptedAreNewest : Records → Type 0
 AcceptedAreNewest r = (j : Judged) (certificate : Certificate) → Contains r.judged j → j.confirmation.body ≡ present certificate
-    → HasNewest r j.asked.name j.confirmation.about.epoch j.confirmation.about.root certificate × IsTimely j
+    → HasNewest r j.asked.name j.confirmation.about.epoch j.confirmation.about.root certificate × IsTimely j.asked j.confirmation.about.epoch j.confirmation.body
 
 -- 3. Chains only grow: those of an agreed table begin those of the table that is agreed in a later epoch.
 abbrev pub ChainsOnlyGrow : Records → Type 0
 ChainsOnlyGrow r = (epoch later : ℕ) (one other : Table) → Agreed r epoch one → Agreed r later other → epoch < later
-    → (name : List ℕ) → Begins (certificates one name) (certificates other name)
+    → (name : List ℕ) → BeginsWith (certificates other name) (certificates one name)
 
 -- 4. An honest authority vouches for each certificate of an agreed table, in a chain or waiting.
 abbrev pub AreVouchedFor : Records → Type 0
@@ -84,7 +86,7 @@ AreVouchedFor r = (epoch : ℕ) (table : Table) → Agreed r epoch table → (na
 -- root, and the client accepted this in time.
 abbrev pub AbsentHaveNone : Records → Type 0
 AbsentHaveNone r = (j : Judged) (bottom : Bottom) → Contains r.judged j → j.confirmation.body ≡ absent bottom
-    → HasNone r j.asked.name j.confirmation.about.epoch j.confirmation.about.root × IsTimely j
+    → HasNone r j.asked.name j.confirmation.about.epoch j.confirmation.about.root × IsTimely j.asked j.confirmation.about.epoch j.confirmation.body
 
 -- All five.
 pub record Safe (r : Records) : Type 0 where

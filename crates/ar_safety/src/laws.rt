@@ -1,5 +1,5 @@
 //! Laws on the definitions of `specs/`: each is the contract of a function with an empty body.
-ghost use Rattle.std.specs.Prelude.{◌≡◌, ◌↔◌, ℕ, ◌<◌, ◌≤◌, ◌-◌, ◌^◌, List, [], ◌∷◌, ◌++◌, Some, Ok, Contains, length, slice_get};
+ghost use Rattle.std.specs.Prelude.{◌≡◌, ◌↔◌, ℕ, ◌<◌, ◌≤◌, ◌-◌, List, [], ◌∷◌, ◌++◌, Some, Ok, Contains, length, slice_get};
 ghost use Rattle.ar_statement.specs.declared.party.Party.{Party};
 ghost use Rattle.party_keys.specs.Directory.{Directory, IsDirectory, keys_of};
 ghost use Rattle.ar_council.specs.Council.{Council, council_of};
@@ -9,10 +9,10 @@ ghost use Rattle.epoch_log.specs.Record.{ending};
 ghost use Rattle.epoch_log.specs.declared.entries.How.TheVariants.{Decided};
 ghost use Rattle.lms_tree.specs.Key.{public_of};
 ghost use Rattle.lms_tree.specs.KeyParts.{KeyParts};
-ghost use Rattle.lms_tree.specs.LmsKind.{height_of};
+ghost use Rattle.lms_tree.specs.LmsKind.{leaves_of};
 ghost use Rattle.key_roll.specs.Ring.{IsNext};
 ghost use Rattle.party_keys.specs.Learning.{Announced, after_adopting, after_all};
-ghost use Rattle.tree_proof.specs.declared.path.Bottom.{Bottom};
+ghost use Rattle.hash_tree.specs.declared.bottom.Bottom.{Bottom};
 ghost use Rattle.ar_cert.specs.Certificate.{Certificate, digest_of};
 ghost use Rattle.ar_message.specs.declared.message.Confirming.{Confirming};
 ghost use Rattle.ar_message.specs.Confirmation.{absent, confirmation_text, present};
@@ -21,18 +21,15 @@ ghost use Rattle.ar_message.specs.declared.message.Message.TheVariants.{HalfConf
 ghost use Rattle.ar_message.specs.declared.unsigned.Unsigned.{Unsigned};
 ghost use Rattle.ar_message.specs.declared.address.Address.TheVariants.{One};
 ghost use Rattle.ar_message.specs.Filling.{bytes_at, filled};
-ghost use Rattle.ar_statement.specs.Claims.{party};
-ghost use Rattle.ar_statement.specs.declared.party.Role.TheVariants.{Client};
+ghost use Rattle.ar_statement.specs.Claims.{authority_party, client_party, log_party, party};
 ghost use Rattle.key_roll.specs.Book.{IsRollBook};
 ghost use Rattle.authority_core.specs.ConfirmRows.{half_confirmed_row};
 ghost use Rattle.authority_core.specs.State.{AuthorityState};
-ghost use Rattle.client_rule.specs.Meaning.{Asked};
-ghost use Rattle.client_rule.specs.Rule.{judgement};
+ghost use Rattle.client_rule.specs.Rule.{judgement, Asked};
 ghost use Rattle.client_rule.specs.declared.judgement.Judgement.TheVariants.{Absent, Accepted};
 ghost use Rattle.ar_safety.specs.Accepting.{IsHalfConfirmed, IsInTime, IsWithRing, KnowsRing, KnowsSigners, bytes_to_client, confirmer_of};
 ghost use Rattle.ar_safety.specs.Agreed.{Agreed, Backed, backing};
 ghost use Rattle.ar_safety.specs.Examples.{decided_run, forged_run, split_run};
-ghost use Rattle.party_keys.specs.Seen.{authority_party, log_party};
 ghost use Rattle.epoch_log.specs.State.{LogState};
 ghost use Rattle.authority_core.specs.Record.{AuthorityRecord};
 ghost use Rattle.ar_safety.specs.Held.{AreKept, AreSafe, Held, IsTaken, Taken, asked_by, honest_below, honest_records, records_of, verdict_on};
@@ -107,7 +104,7 @@ pub fn a_decided_epoch_meets_the_premises()
 pub fn an_accepting_run_meets_the_premises()
     ensures honest { AreHonest registered_run }
     ensures premises { Few registered_run × (NoForgery registered_run × NoCollision registered_run) }
-    ensures accepted { judgement directory_of_five a_name (confirmation_text confirmation) 1 0
+    ensures accepted { judgement (record { keys = directory_of_five; name = a_name; epoch = 1; age = 0 }) (confirmation_text confirmation)
         ≡ Accepted first_certificate (digest_of first_certificate) 1 (root_of one_table) }
 {}
 
@@ -137,13 +134,13 @@ pub fn an_honest_confirmation_is_accepted()
         (asked : Asked) (certificate : Certificate) → IsWithRing s ring → IsMessage (HalfConfirmed part first_signature)
         → half_confirmed_row s part first_signature ≡ Ok (later, sent)
         → KnowsSigners (confirmer_of s ring) part first_signature asked.keys → IsInTime part asked → shown_in part.body ≡ present certificate
-        → judgement asked.keys asked.name (bytes_at (filled ring sent).messages 0) asked.epoch asked.age
+        → judgement asked (bytes_at (filled ring sent).messages 0)
         ≡ Accepted certificate (digest_of certificate) part.epoch part.root }
     ensures absent { (s : AuthorityState) (ring : List KeyParts) (part : Confirming) (first_signature : List ℕ) (later : AuthorityState) (sent : Unsigned)
         (asked : Asked) (bottom : Bottom) → IsWithRing s ring → IsMessage (HalfConfirmed part first_signature)
         → half_confirmed_row s part first_signature ≡ Ok (later, sent)
         → KnowsSigners (confirmer_of s ring) part first_signature asked.keys → IsInTime part asked → shown_in part.body ≡ absent bottom
-        → judgement asked.keys asked.name (bytes_at (filled ring sent).messages 0) asked.epoch asked.age ≡ Absent part.epoch part.root }
+        → judgement asked (bytes_at (filled ring sent).messages 0) ≡ Absent part.epoch part.root }
 {}
 
 /// Where the row of an authority answers Ok to a confirmation that a first authority confirmed, the authority has checked all
@@ -154,14 +151,14 @@ pub fn a_second_authority_confirms_so()
         → half_confirmed_row s part first_signature ≡ Ok (later, sent) → IsHalfConfirmed (confirmer_of s ring) part first_signature }
     ensures sent { (s : AuthorityState) (ring : List KeyParts) (part : Confirming) (first_signature : List ℕ) (later : AuthorityState) (sent : Unsigned)
         → IsWithRing s ring → IsMessage (HalfConfirmed part first_signature) → half_confirmed_row s part first_signature ≡ Ok (later, sent)
-        → (filled ring sent).messages ≡ record { to = One (party Client part.client); bytes = bytes_to_client (confirmer_of s ring) part first_signature } ∷ [] }
+        → (filled ring sent).messages ≡ record { to = One (client_party part.client); bytes = bytes_to_client (confirmer_of s ring) part first_signature } ∷ [] }
 {}
 
 /// A directory knows the keys of a party of which it has the key of generation 0, as its first, and goes on to know them where
 /// it learns Rolls, of any party, and where it takes the party's next key at a roll.
 pub fn a_known_ring_stays_known()
     ensures first { (keys : Directory) (party : Party) (leaves : ℕ) (key : KeyParts) → slice_get (keys_of keys party) 0 ≡ Some (public_of key)
-        → leaves ≡ 2 ^ height_of key.lms → KnowsRing keys party leaves (key ∷ []) }
+        → leaves ≡ leaves_of key.lms → KnowsRing keys party leaves (key ∷ []) }
     ensures learnt { (keys : Directory) (announced : List Announced) (party : Party) (leaves : ℕ) (ring : List KeyParts)
         → KnowsRing keys party leaves ring → KnowsRing (after_all keys announced) party leaves ring }
     ensures rolled { (keys : Directory) (party : Party) (leaves : ℕ) (ring : List KeyParts) (next : KeyParts)

@@ -1,22 +1,13 @@
 -- Beginnings of one list.
-use Rattle.std.proofs.Common.{◌≡◌, ℕ, ◌+◌, ◌<◌, ◌≤◌, Bool, true, false, nat_lt, if◌then◌else◌, List, [], ◌∷◌, ◌++◌, length, append_assoc, length-append, ap, sym, refl, subst, ◌∙◌, arith}
-use Rattle.std.proofs.lemmas.List.{append-nil}
+use Rattle.std.proofs.Common.{◌≡◌, ◌<◌, ◌≤◌, List, [], ◌∷◌, ◌++◌, length, length-append, ap, sym, refl, subst, ◌∙◌, arith}
 use Rattle.std.proofs.lemmas.Bool.{lt-ltb, le-ltb}
 use mathlib.Core.Logic.{dite}
 use native.Mathlib.Decide.{dec_lt}
-use Rattle.ar_seats.specs.Prefixes.{BeginsWith, longer}
+use Rattle.ar_base.specs.Prefixes.{BeginsWith}
+use Rattle.ar_base.proofs.Prefixes.{begins_itself}
+use Rattle.ar_seats.specs.Prefixes.{longer}
 
 module _ {A : Type 0} where
-  pub begins_itself : (xs : List A) → BeginsWith xs xs
-  begins_itself xs = ([], sym (append-nil xs))
-
-  pub begins_on : (xs ys zs : List A) → BeginsWith zs ys → BeginsWith ys xs → BeginsWith zs xs
-  begins_on xs ys zs one two = (two.0 ++ one.0, one.1 ∙ ap (λ w. w ++ one.0) two.1 ∙ append_assoc xs two.0 one.0)
-
-  -- a list that is begun by the whole goes on
-  pub begins_more : (whole front more : List A) → BeginsWith whole front → BeginsWith (whole ++ more) front
-  begins_more whole front more begins = (begins.0 ++ more, ap (λ w. w ++ more) begins.1 ∙ append_assoc front begins.0 more)
-
   begins_short : (front whole : List A) → BeginsWith whole front → length front ≤ length whole
   begins_short front whole begins = omega (arith, ap length begins.1, length-append front begins.0)
 

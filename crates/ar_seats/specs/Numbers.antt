@@ -1,5 +1,6 @@
 -- Numbers that are handed out, each once.
-use Rattle.std.specs.Prelude.{◌≡◌, ℕ, ◌+◌, ◌<◌, ◌==◌, nat_lt, if◌then◌else◌, List, [], ◌∷◌}
+use Rattle.std.specs.Prelude.{◌≡◌, ℕ, ◌+◌, ◌<◌, ◌==◌, nat_lt, List, [], ◌∷◌}
+use Rattle.ar_base.specs.Adding.{placed}
 use Rattle.ar_base.specs.Counting.{one_if}
 
 -- how often a number stands in a list
@@ -25,12 +26,7 @@ abbrev pub IsRising : List ℕ → Type 0
 IsRising [] = Unit {0}
 IsRising (first ∷ numbers) = IsBelowEach first numbers × IsRising numbers
 
--- a rising list with one more number at its place
-abbrev pub inserted : ℕ → List ℕ → List ℕ
-inserted number [] = number ∷ []
-inserted number (first ∷ numbers) = if nat_lt number first then number ∷ (first ∷ numbers) else first ∷ inserted number numbers
-
 -- two rising lists in one
 abbrev pub merged : List ℕ → List ℕ → List ℕ
 merged numbers [] = numbers
-merged numbers (other ∷ others) = merged (inserted other numbers) others
+merged numbers (other ∷ others) = merged (placed (λ n. n) other numbers) others

@@ -1,9 +1,5 @@
 -- Beginnings of one list that only grows.
-use Rattle.std.specs.Prelude.{◌≡◌, nat_lt, if◌then◌else◌, List, ◌++◌, length}
-
--- a list begins with another
-abbrev pub BeginsWith : {A : Type 0} → List A → List A → Type 0
-BeginsWith {A} whole front = (rest : List A) × (whole ≡ front ++ rest)
+use Rattle.std.specs.Prelude.{nat_lt, if◌then◌else◌, List, length}
 
 -- the longer of two lists
 abbrev pub longer : {A : Type 0} → List A → List A → List A

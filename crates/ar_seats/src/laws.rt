@@ -1,7 +1,8 @@
 //! Laws on the definitions of `specs/`: each is the contract of a function with an empty body.
 ghost use Rattle.std.specs.Prelude.{◌≡◌, ◌+◌, ◌<◌, ◌≤◌, ◌↔◌, ℕ, List, length, Contains};
 ghost use Rattle.ar_seats.specs.Numbers.{HasEachBelow, IsRising, merged, times};
-ghost use Rattle.ar_seats.specs.Prefixes.{BeginsWith, longer};
+ghost use Rattle.ar_base.specs.Prefixes.{BeginsWith};
+ghost use Rattle.ar_seats.specs.Prefixes.{longer};
 
 /// A list that has each number below a limit, once each, is as long as the limit.
 pub fn each_number_below_a_limit_is_as_many()

@@ -1,6 +1,5 @@
 -- A whole statement: what was put is read again, and what is read is spelled so.
-use Rattle.std.proofs.Common.{◌≡◌, ℕ, ◌^◌, ◌<◌, true, eqb, List, ◌++◌, Option, Some, None, Ok, refl, sym, ap, subst, ◌∙◌, arith, eq-eqb, inl, inr}
-use Rattle.std.specs.Option.{option_map, ok_or}
+use Rattle.std.proofs.Common.{◌≡◌, ℕ, ◌^◌, ◌<◌, true, eqb, List, ◌++◌, Some, refl, sym, ap, subst, ◌∙◌, arith, eq-eqb, inl, inr}
 use Rattle.std.specs.Int.{w8, w16}
 use Rattle.std.proofs.lemmas.Bool.{cases_eq, eqb-true, ne_eqb, and_parts, and_from}
 use Rattle.ar_base.specs.Chaining.{◌>>=◌}
@@ -11,7 +10,7 @@ use Rattle.ar_bytes.specs.Joined.{pair_at}
 use Rattle.ar_bytes.proofs.Steps.{between, Passes-then, Passes-first, Passes-second, AreBytes-behind}
 use Rattle.ar_bytes.proofs.Passing.{number_again, number_pass, wide8, wide16}
 use Rattle.ar_bytes.proofs.Parts.{such_that_again, such_that_pass}
-use Rattle.ar_bytes.proofs.JoinedFields.{pair_again, pair_pass, mapped_again, mapped_pass}
+use Rattle.ar_bytes.proofs.JoinedFields.{pair_again, pair_pass, known_pass, mapped_again, mapped_pass}
 use Rattle.ar_statement.specs.declared.party.Role.{Role}
 use Rattle.ar_statement.specs.declared.party.Role.TheVariants.{LogServer, Authority, Owner, Client}
 use Rattle.ar_statement.specs.declared.party.Party.{Party}
@@ -49,19 +48,11 @@ role_is n role e =
       ]
     ]
 
-pub some_ok : {A B : Type 0} (f : A → B) (o : Option A) (place : ℕ) (y : B) → ok_or (option_map f o) place ≡ Ok y → (x : A) × (o ≡ Some x) × (f x ≡ y)
-some_ok f None place y e = absurd cc
-some_ok f (Some x) place y e = (x, refl, cc)
-
 pub role_pass : IsSpelledBy role_at (λ role. number_text w8 (role_number role)) (λ _. Unit {0})
 unfolding role_at
-role_pass at new role bytes e =
-    let n = bind_ok {B = Role × Cursor} (number_at w8 at) (λ n. ok_or (option_map (λ role. (role, n.1)) (role_with n.0)) at.place) (role, new) e in
-    let r = some_ok {B = Role × Cursor} (λ role. (role, n.0.1)) (role_with n.0.0) at.place (role, new) n.2 in
-    let p = number_pass w8 (2 ^ 8) wide8 at n.0.1 n.0.0 bytes n.1 in
-    let is : role_number r.0 ≡ n.0.0 = role_is n.0.0 r.0 r.1 in
-    let here : Passes at (number_text w8 (role_number r.0)) n.0.1 = rw is p.0 in
-    subst (λ (x : Role × Cursor). Passes at (number_text w8 (role_number x.0)) x.1 × Unit {0}) r.2 (here, tt)
+role_pass =
+    known_pass role_with (number_at w8) (number_text w8) (λ n. n < 2 ^ 8) (λ role. number_text w8 (role_number role)) (λ _. Unit {0}) (number_pass w8 (2 ^ 8) wide8)
+    (λ n role lt is. (ap (number_text w8) (role_is n role is), tt))
 
 party_again : (signer : Party) → signer.number < 2 ^ 16 → ReadsBack party_at signer (party_text signer)
 unfolding party_at

@@ -1,6 +1,7 @@
 -- What parties sign, and the one text of each statement.
-use Rattle.std.specs.Prelude.{ℕ, ◌==◌, Bool, ◌&&◌, List, ◌++◌, length, Option}
+use Rattle.std.specs.Prelude.{ℕ, ◌==◌, Bool, ◌&&◌, List, ◌++◌, length, Option, Some, None}
 use Rattle.std.specs.Int.{w8, w16, w32, w64}
+use Rattle.std.specs.List.{list_any}
 use Rattle.ar_bytes.specs.RoundTrip.{number_text}
 use Rattle.ar_bytes.specs.Joined.{optional_text}
 use Rattle.ar_statement.specs.declared.party.Role.{Role}
@@ -49,7 +50,16 @@ claim_of (variants.Status log epoch value) = status log epoch value
 claim_of (variants.Roll signer generation key) = roll signer generation key
 claim_of (variants.Object certificate) = object certificate
 
+-- a party's confirmation that under a name there is a certificate with this digest, or none
+abbrev pub confirmation_by : Party → ℕ → List ℕ → Option (List ℕ) → List ℕ → Claim
+confirmation_by signer epoch name None root = confirm_absent signer epoch name root
+confirmation_by signer epoch name (Some certificate) root = confirm signer epoch name certificate root
+
 -- ---- parties
+
+-- the most logs, and the most authorities, of a directory
+abbrev pub most_parties : ℕ
+most_parties = 16
 
 -- the number of a role in texts
 abbrev pub role_number : Role → ℕ
@@ -62,6 +72,19 @@ role_number Client = 4
 abbrev pub party : Role → ℕ → Party
 party role number = record { role = role; number = number }
 
+-- the log, the authority, the owner and the client with this number
+abbrev pub log_party : ℕ → Party
+log_party number = party LogServer number
+
+abbrev pub authority_party : ℕ → Party
+authority_party number = party Authority number
+
+abbrev pub owner_party : ℕ → Party
+owner_party number = party Owner number
+
+abbrev pub client_party : ℕ → Party
+client_party number = party Client number
+
 -- a party in a text: the number of its role, and its own
 abbrev pub party_text : Party → List ℕ
 party_text signer = number_text w8 (role_number signer.role) ++ number_text w16 signer.number
@@ -69,6 +92,10 @@ party_text signer = number_text w8 (role_number signer.role) ++ number_text w16 
 -- both are one party
 abbrev pub is_party : Party → Party → Bool
 is_party one other = role_number one.role == role_number other.role && one.number == other.number
+
+-- a party is one of these
+abbrev pub has_party : List Party → Party → Bool
+has_party parties who = list_any (is_party who) parties
 
 -- ---- texts: the kind, the signer, and the fields
 
@@ -87,16 +114,16 @@ kind_of (object certificate) = 11
 
 -- who signs a statement. An owner's number is 0, since its key names it.
 abbrev pub signer_of : Claim → Party
-signer_of (endorse authority certificate) = party Authority authority
-signer_of (handover certificate) = party Owner 0
-signer_of (propose log epoch base root) = party LogServer log
-signer_of (vote log epoch base root) = party LogServer log
+signer_of (endorse authority certificate) = authority_party authority
+signer_of (handover certificate) = owner_party 0
+signer_of (propose log epoch base root) = log_party log
+signer_of (vote log epoch base root) = log_party log
 signer_of (confirm signer epoch name certificate root) = signer
 signer_of (confirm_absent signer epoch name root) = signer
-signer_of (answer name certificate challenge) = party Owner 0
-signer_of (status log epoch value) = party LogServer log
+signer_of (answer name certificate challenge) = owner_party 0
+signer_of (status log epoch value) = log_party log
 signer_of (roll signer generation key) = signer
-signer_of (object certificate) = party Owner 0
+signer_of (object certificate) = owner_party 0
 
 -- a name behind its length
 abbrev pub name_text : List ℕ → List ℕ

@@ -6,13 +6,17 @@ use Rattle.ar_base.specs.Ranges.{IsFromTo, is_from_to}
 use Rattle.ar_bytes.specs.Reading.{Cursor, Reading, bytes_at, number_at, such_that}
 use Rattle.ar_names.specs.Names.{is_name}
 
--- epochs count from 1, and the last is 2 ^ 63
+-- the last epoch that a statement can name
+abbrev pub last_epoch : ℕ
+last_epoch = 2 ^ 63
+
+-- epochs count from 1
 abbrev pub IsEpoch : ℕ → Type 0
-IsEpoch epoch = IsFromTo 1 (2 ^ 63) epoch
+IsEpoch epoch = IsFromTo 1 last_epoch epoch
 
 -- the test of it
 abbrev pub is_epoch : ℕ → Bool
-is_epoch epoch = is_from_to 1 (2 ^ 63) epoch
+is_epoch epoch = is_from_to 1 last_epoch epoch
 
 -- how many bytes a name has
 abbrev pub is_name_len : ℕ → Bool

@@ -2,10 +2,9 @@
 -- has.
 use Rattle.std.specs.Prelude.{ℕ, Bool, ◌==◌, if◌then◌else◌, Option, Some, None, Err}
 use Rattle.std.specs.Int.{w8, w16, w32, w64}
-use Rattle.std.specs.Option.{option_map, ok_or}
 use Rattle.ar_base.specs.Chaining.{◌>>=◌}
-use Rattle.ar_bytes.specs.Reading.{Cursor, Reading, bytes_at, number_at, such_that}
-use Rattle.ar_bytes.specs.Joined.{pair_at, optional_at, mapped_at}
+use Rattle.ar_bytes.specs.Reading.{Cursor, Reading, bytes_at, known_at, mapped_at, number_at, such_that}
+use Rattle.ar_bytes.specs.Joined.{pair_at, optional_at}
 use Rattle.ar_statement.specs.declared.party.Role.{Role}
 use Rattle.ar_statement.specs.declared.party.Role.TheVariants.{LogServer, Authority, Owner, Client}
 use Rattle.ar_statement.specs.declared.party.Party.{Party}
@@ -23,9 +22,7 @@ role_with n =
 
 -- the number of a role
 unfoldable pub role_at : Cursor → Reading Role
-role_at at = do
-  n ← number_at w8 at
-  ok_or (option_map (λ role. (role, n.1)) (role_with n.0)) at.place
+role_at = known_at role_with (number_at w8)
 
 -- a party: its role and its number
 unfoldable pub party_at : Cursor → Reading Party

@@ -13,7 +13,7 @@ use ar_bytes::Fields;
 use ar_names::NameView;
 
 /// The last epoch. The first is 1.
-const LAST_EPOCH: u64 = 1 << 63;
+pub const LAST_EPOCH: u64 = 1 << 63;
 
 /// Whether a number is an epoch's, from 1 to 2^63.
 pub(crate) fn is_epoch(epoch: u64) -> bool

@@ -5,6 +5,7 @@
 //! have too, and `specs/Ranges.antt` which values the fields of a statement have.
 #![tactic(auto)]
 
+mod fault;
 pub mod fields;
 pub mod laws;
 mod party;
@@ -14,6 +15,7 @@ mod text;
 mod told;
 mod writing;
 
-pub use party::{Party, Role};
-pub use statement::{Statement, TEXT_LEN};
+pub use fault::BookFault;
+pub use party::{Party, Role, has_party};
+pub use statement::{Statement, TEXT_LEN, confirmation_statement};
 pub use text::{SeenText, Text};

@@ -1,3 +1,6 @@
+ghost use Rattle.std.specs.Prelude.{◌≡◌};
+ghost use Rattle.ar_statement.specs.Claims.{has_party};
+
 /// What a party does. Its number in texts is 1 to 4, in this order.
 #[derive(Clone, Copy, Debug, PartialEq, Eq)]
 pub enum Role {
@@ -74,4 +77,11 @@ impl Party {
     {
         self.role.number() == other.role.number() && self.number == other.number
     }
+}
+
+/// Whether the party is one of these.
+pub fn has_party(parties: &[Party], who: Party) -> bool
+    ensures { result ≡ has_party parties.now who }
+{
+    parties.iter().any(|party| who.is_same(party))
 }

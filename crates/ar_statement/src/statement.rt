@@ -1,4 +1,5 @@
 ghost use Rattle.std.specs.Prelude.{◌≡◌};
+ghost use Rattle.ar_statement.specs.Claims.{claim_of, confirmation_by};
 ghost use Rattle.ar_statement.specs.Ranges.{is_readable};
 
 use crate::fields::is_epoch;
@@ -135,4 +136,31 @@ fn is_readable(key: &[u8; 56]) -> bool
     let lms = u32_of(&key[..4]);
     let ots = u32_of(&key[4..8]);
     5 <= lms && lms <= 9 && 1 <= ots && ots <= 4
+}
+
+/// A party's confirmation that a name has a certificate with this digest, or none.
+pub fn confirmation_statement(
+    signer: Party,
+    epoch: u64,
+    name: NameView<'_>,
+    certificate: Option<[u8; 32]>,
+    root: [u8; 32],
+) -> Statement<'_>
+    ensures { claim_of result ≡ confirmation_by signer epoch name.entry certificate root }
+{
+    match certificate {
+        Some(certificate) => Statement::Confirm {
+            signer,
+            epoch,
+            name,
+            certificate,
+            root,
+        },
+        None => Statement::ConfirmAbsent {
+            signer,
+            epoch,
+            name,
+            root,
+        },
+    }
 }

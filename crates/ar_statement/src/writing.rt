@@ -2,7 +2,7 @@ ghost use Rattle.std.specs.Prelude.{◌≡◌, ◌+◌, ◌≤◌, ◌++◌, len
 ghost use Rattle.std.specs.Int.{w32, w64};
 ghost use Rattle.ar_bytes.specs.RoundTrip.{number_text};
 ghost use Rattle.ar_bytes.specs.Joined.{optional_text};
-ghost use Rattle.ar_statement.specs.Claims.{head, party, name_text, roots_text, text_of, claim_of};
+ghost use Rattle.ar_statement.specs.Claims.{head, log_party, owner_party, name_text, roots_text, text_of, claim_of};
 ghost use Rattle.ar_statement.specs.declared.party.Role.TheVariants.{LogServer, Owner};
 
 use crate::party::{Party, Role};
@@ -83,7 +83,7 @@ fn put_ballot(
     root: &[u8; 32],
 ) -> usize
     ensures len { result ≡ 76 }
-    ensures front { take result out.new ≡ head kind (party LogServer log) ++ (number_text w64 epoch ++ (base.now ++ root.now)) }
+    ensures front { take result out.new ≡ head kind (log_party log) ++ (number_text w64 epoch ++ (base.now ++ root.now)) }
     ensures behind { drop result out.new ≡ drop result out.old }
 {
     let place = put_epoch(out, kind, Role::LogServer.party(log), epoch);
@@ -136,7 +136,7 @@ fn put_answer(
     challenge: &[u8; 32],
 ) -> usize
     ensures within { result ≤ 330 }
-    ensures front { take result out.new ≡ head 8 (party Owner 0) ++ (name_text name.now ++ (certificate.now ++ challenge.now)) }
+    ensures front { take result out.new ≡ head 8 (owner_party 0) ++ (name_text name.now ++ (certificate.now ++ challenge.now)) }
     ensures behind { drop result out.new ≡ drop result out.old }
 {
     let place = put_head(out, 8, Role::Owner.party(0));
@@ -153,7 +153,7 @@ fn put_status(
     value: &Option<([u8; 32], [u8; 32])>,
 ) -> usize
     ensures within { result ≤ 330 }
-    ensures front { take result out.new ≡ head 9 (party LogServer log) ++ (number_text w64 epoch ++ optional_text roots_text value.now) }
+    ensures front { take result out.new ≡ head 9 (log_party log) ++ (number_text w64 epoch ++ optional_text roots_text value.now) }
     ensures behind { drop result out.new ≡ drop result out.old }
 {
     let place = put_epoch(out, 9, Role::LogServer.party(log), epoch);

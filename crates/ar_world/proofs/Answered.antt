@@ -2,39 +2,36 @@
 use Rattle.std.proofs.Common.{◌≡◌, ◌≢◌, ℕ, zero, suc, ◌+◌, ◌<◌, ◌⊎◌, inl, inr, List, [], ◌∷◌, length, get_or, Some, None, Result, Ok, Err, IfErr, refl, sym, ap, subst, ◌∙◌, arith}
 use Rattle.std.specs.Prelude.{IfOk, position, slice_set}
 use Rattle.ar_base.specs.Chaining.{◌>>=◌}
-use Rattle.ar_base.specs.Gives.{with_error}
 use Rattle.ar_base.proofs.Shown.{if-chained}
 use Rattle.ar_cert.specs.Certificate.{Certificate, digest_of}
 use Rattle.ar_cert.specs.Changes.{Change}
-use Rattle.ar_message.specs.declared.sent.Sent.{Sent}
-use Rattle.ar_statement.specs.Claims.{object}
+use Rattle.ar_statement.specs.Claims.{object, owner_party}
 use Rattle.ar_statement.specs.declared.party.Party.{Party}
 use Rattle.owner_core.specs.Drafts.{changed_draft, handed_over}
-use Rattle.owner_core.specs.Rows.{attach_row, handover_row, object_row, submit_row}
+use Rattle.owner_core.specs.Rows.{attach_row, handover_row, object_row}
 use Rattle.owner_core.specs.Signing.{after_signing, signed, signed_at}
 use Rattle.owner_core.specs.State.{Owner}
 use Rattle.owner_core.specs.declared.refusal.OwnerRefusal.{OwnerRefusal}
 use Rattle.owner_core.specs.declared.refusal.OwnerRefusal.TheVariants as refusals
 use Rattle.report_text.specs.declared.happening.Happening.{Happening}
 use Rattle.report_text.specs.declared.happening.Happening.TheVariants.{Step}
-use Rattle.report_text.specs.declared.happening.What.{What}
-use Rattle.report_text.specs.declared.happening.What.TheVariants.{Handover, Object, Submit}
-use Rattle.sign_book.specs.declared.fault.BookFault.{BookFault}
-use Rattle.ar_nodes.specs.Acting.{ActsBy, acted, owner_does}
+use Rattle.report_text.specs.declared.happening.What.TheVariants.{Handover}
+use Rattle.ar_statement.specs.declared.fault.BookFault.{BookFault}
+use Rattle.ar_nodes.specs.Acting.{ActsBy, owner_objected, owner_submitted}
 use Rattle.ar_nodes.specs.Codes.{owner_code}
-use Rattle.ar_world.specs.Finding.{Effect, owner_at, room}
+use Rattle.ar_world.specs.Finding.{Effect, owner_at, room, with_owner}
 use Rattle.ar_nodes.specs.Finding.{is_owner, named}
-use Rattle.ar_nodes.specs.Owners.{owner_party}
 use Rattle.ar_nodes.specs.Pool.{Pooled}
 use Rattle.ar_world.specs.State.{Drafted, Moved, World}
 use Rattle.ar_world.specs.Step.{StepsBy}
-use Rattle.ar_world.specs.Submitting.{attached, attached_by, handed, handover_line, object_line, owner_answers, submit_line, submitted}
+use Rattle.ar_world.specs.Sending.{owner_made}
+use Rattle.ar_world.specs.Submitting.{attached, attached_by, handed, handover_line, object_line, submit_line}
 use Rattle.ar_nodes.specs.declared.fault.WorldFault.{WorldFault}
 use Rattle.ar_nodes.specs.declared.fault.WorldFault.TheVariants as faults
 use Rattle.ar_world.proofs.Drafts.{draft_is_at, owner_is_at, owner_number, owner_put, same_item, steps_as}
 use Rattle.ar_nodes.proofs.Found.{item_kept, owner_nowhere}
 use Rattle.ar_world.proofs.Orders.{acts-steps}
-use Rattle.ar_world.proofs.OwnerReplies.{owner-answers, owner-steps}
+use Rattle.ar_world.proofs.OwnerReplies.{does-number, owner-made, owner-steps}
 
 -- ---- what rows keep
 
@@ -60,39 +57,38 @@ attached-number me (Err refusal) made e = absurd (cc)
 
 pub objected_there : (result : Result (List Happening) WorldFault) (w : World) (number place draft spot : ℕ) (me new : Owner) (found : Drafted) (after : List Pooled)
     → position (is_owner number) w.owners ≡ Some place → me ≡ get_or w.owners place me → draft ≡ spot + 1 → spot < length w.drafts → found ≡ get_or w.drafts spot found
-    → room w ≡ Ok tt → ActsBy result me new w.pool after (acted w.pool (owner_party number) (Object draft) (owner_does me (object_row me found.cert)))
+    → room w ≡ Ok tt → ActsBy result me new w.pool after (owner_objected w.pool number draft found.cert me)
     → StepsBy result w (record w { owners = slice_set w.owners place new; pool = after }) (object_line w number draft)
 objected_there result w number place draft spot me new found after here is next lt is-found free acts =
     let owner = owner_is_at w number place me here is in
     let there = draft_is_at w draft spot found next lt is-found in
-    let reached : object_line w number draft ≡ Ok (owner_answers w number (Object draft) (object_row me found.cert)) = rw (owner, there, free) refl in
-    owner-steps w number place me result new after (acted w.pool (owner_party number) (Object draft) (owner_does me (object_row me found.cert))) (object_line w number draft) here is acts
-    (reached ∙ ap (λ m. Ok m) (owner-answers w number place me (Object draft) (object_row me found.cert) here is (object-number me found.cert)))
+    let made = owner_objected w.pool number draft found.cert me in
+    let reached : object_line w number draft ≡ Ok (owner_made w made) = rw (owner, there, free) refl in
+    owner-steps w number place me result new after made (object_line w number draft) here is acts
+    (reached ∙ ap (λ m. Ok m) (owner-made w number place me made here is (does-number me (object_row me found.cert) (object-number me found.cert))))
 
 -- what an owner that stays as it is makes of a world
 abbrev sent_made : World → Owner × (List Pooled × List Happening) → Moved
 sent_made w made = (record w { pool = made.1.0 }, made.1.1)
 
-submitted-is : (w : World) (number : ℕ) (what : What) (me : Owner) (answer : Result Sent OwnerRefusal)
-    → submitted w number what answer ≡ sent_made w (acted w.pool (owner_party number) what (me, with_error owner_code answer))
-submitted-is w number what me (Ok sent) = refl
-submitted-is w number what me (Err refusal) = refl
-
 -- by two names of the draft
 pub submits : (result : Result (List Happening) WorldFault) (w : World) (place draft spot : ℕ) (me : Owner) (found again : Drafted) (after : List Pooled)
     → position (is_owner found.owner) w.owners ≡ Some place → me ≡ get_or w.owners place me → draft ≡ spot + 1 → spot < length w.drafts → found ≡ get_or w.drafts spot found
     → again ≡ get_or w.drafts spot again → room w ≡ Ok tt
-    → ActsBy result me me w.pool after (acted w.pool (owner_party found.owner) (Submit draft) (me, with_error owner_code (submit_row me (digest_of again.cert))))
+    → ActsBy result me me w.pool after (owner_submitted w.pool found.owner draft again.cert me)
     → StepsBy result w (record w { pool = after }) (submit_line w draft)
 submits result w place draft spot me found again after here is next lt is-found is-again free acts =
     let one : again ≡ found = same_item w.drafts spot again found lt is-again is-found in
     let owner = owner_is_at w found.owner place me here is in
     let there = draft_is_at w draft spot found next lt is-found in
-    let answer = submit_row me (digest_of again.cert) in
-    let reached : submit_line w draft ≡ Ok (submitted w found.owner (Submit draft) (submit_row me (digest_of found.cert))) = rw (there, owner, free) refl in
-    acts-steps w (λ o pool. record w { pool = pool }) me me result after (acted w.pool (owner_party found.owner) (Submit draft) (me, with_error owner_code answer)) (submit_line w draft) refl acts
-    (reached ∙ ap (λ (d : Drafted). Ok (submitted w found.owner (Submit draft) (submit_row me (digest_of d.cert)))) (sym one)
-    ∙ ap (λ m. Ok m) (submitted-is w found.owner (Submit draft) me answer))
+    let made = owner_submitted w.pool found.owner draft again.cert me in
+    let reached : submit_line w draft ≡ Ok (owner_made w (owner_submitted w.pool found.owner draft found.cert me)) = rw (there, owner, free) refl in
+    let same : with_owner w me ≡ w =
+    owner_put w found.owner place me here (owner_number w.owners found.owner place me here is)
+    ∙ ap (λ (owners : List Owner). record w { owners = owners }) (item_kept w.owners place me me is refl) in
+    acts-steps w (λ o pool. record w { pool = pool }) me me result after made (submit_line w draft) refl acts
+    (reached ∙ ap (λ (d : Drafted). Ok (owner_made w (owner_submitted w.pool found.owner draft d.cert me))) (sym one)
+    ∙ ap (λ (v : World). Ok (sent_made v made)) same)
 
 -- ---- handovers
 

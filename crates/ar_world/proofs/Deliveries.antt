@@ -1,23 +1,19 @@
 -- What a delivery makes of a world, by what it makes of the party and the pool.
-use Rattle.std.proofs.Common.{◌≡◌, inr, ℕ, Bool, true, false, if◌then◌else◌, List, [], ◌∷◌, ◌++◌, get_or, Option, Some, None, is_some, Result, Ok, Err, IfOk, OnOk, refl, sym, ap, ◌∙◌, subst}
+use Rattle.std.proofs.Common.{◌≡◌, inr, ℕ, Bool, true, false, List, get_or, Option, Some, None, is_some, Result, Ok, Err, IfOk, OnOk, refl, sym, ap, ◌∙◌, subst}
 use Rattle.std.specs.Prelude.{position, slice_set}
-use Rattle.std.specs.List.{list_any}
 use Rattle.std.specs.Option.{option_map}
 use Rattle.std.specs.Result.{is_ok}
-use Rattle.ar_base.specs.Chaining.{◌>>=◌}
+use Rattle.ar_base.specs.Chaining.{◌>>=◌, need}
 use Rattle.ar_base.specs.Gives.{with_error}
 use Rattle.ar_base.proofs.Shown.{if-chained}
 use Rattle.ar_message.specs.Messages.{message_in}
 use Rattle.ar_message.specs.declared.message.Message.{Message}
 use Rattle.ar_message.specs.declared.message.Message.TheVariants.{EndorseAsk, Endorsed, Submit, Propose, Ballot, StatusNote, Decision, SkipNote, ConfirmAsk, LogConfirmed, HalfConfirmed, Confirmation, RollNote}
-use Rattle.ar_statement.specs.Claims.{endorse, is_party, party, text_of}
+use Rattle.ar_statement.specs.Claims.{authority_party, endorse, log_party, owner_party, party, text_of}
 use Rattle.ar_statement.specs.declared.party.Party.{Party}
 use Rattle.ar_statement.specs.declared.party.Role.{Role}
 use Rattle.ar_statement.specs.declared.party.Role.TheVariants.{LogServer, Authority}
 use Rattle.ar_statement.specs.declared.party.Role.TheVariants as role
-use Rattle.authority_core.specs.State as authority
-use Rattle.log_core.specs.Row.{row}
-use Rattle.log_core.specs.State.{takes}
 use Rattle.owner_check.specs.declared.answer.Outcome.{Outcome}
 use Rattle.owner_check.specs.declared.answer.Outcome.TheVariants.{No}
 use Rattle.owner_core.specs.Drafts.{changed_draft, endorsed}
@@ -25,36 +21,28 @@ use Rattle.owner_core.specs.Rows.{is_own, message_row, roll_refusal, step_row, v
 use Rattle.owner_core.specs.State.{Owner}
 use Rattle.owner_core.specs.declared.refusal.OwnerRefusal.TheVariants.{Form}
 use Rattle.party_keys.specs.Learning.{learned}
-use Rattle.party_keys.specs.Seen.{authority_party, log_party}
 use Rattle.party_keys.specs.Signatures.{verified}
 use Rattle.report_text.specs.declared.happening.Happening.{Happening}
-use Rattle.report_text.specs.declared.happening.What.{What}
-use Rattle.report_text.specs.declared.happening.What.TheVariants as whats
-use Rattle.ar_nodes.specs.Acting.{ActsBy, ActsBySome, ChangesAt, acted, authority_delivered, authority_does, authority_took, bytes_of, delivered_by, log_delivered, log_does, noted_in, owner_delivered, owner_does, with_delivered}
-use Rattle.ar_world.specs.Authorities.{authority_answers, authority_takes}
-use Rattle.ar_nodes.specs.Authorities.{authority_reply, node_behind}
-use Rattle.ar_world.specs.Delivering.{Taker, a_log, an_authority, an_owner, can_deliver, deliver_line, deliverable, delivery, noted, taker_at, taker_in}
-use Rattle.ar_nodes.specs.Pool.{delivered_to}
+use Rattle.ar_nodes.specs.Acting.{ActsBy, ActsBySome, ChangesAt, authority_delivered, bytes_of, log_delivered, owner_delivered}
+use Rattle.ar_world.specs.Delivering.{Taker, a_log, an_authority, an_owner, can_deliver, deliver_line, deliverable, delivery, taker_at, taker_in}
 use Rattle.ar_world.specs.Finding.{authority_at, has_room, log_at, message_at, owner_at, room}
-use Rattle.ar_nodes.specs.Finding.{honest_in, is_owner, named, need}
-use Rattle.ar_world.specs.Logs.{log_steps}
-use Rattle.ar_nodes.specs.Owners.{owner_party}
+use Rattle.ar_nodes.specs.Finding.{honest_in, is_owner, named}
 use Rattle.ar_nodes.specs.Parties.{AuthorityNode, LogNode}
-use Rattle.ar_nodes.specs.Pool.{Pooled, numbered, set_numbered}
+use Rattle.ar_nodes.specs.Pool.{Pooled, numbered}
+use Rattle.ar_world.specs.Sending.{authority_made, log_made}
 use Rattle.ar_world.specs.State.{World, with_authority, with_log}
 use Rattle.ar_world.specs.Step.{StepsBySome}
-use Rattle.ar_nodes.specs.declared.event.LogEvent.TheVariants as events
 use Rattle.ar_nodes.specs.declared.fault.WorldFault.{WorldFault}
 use Rattle.ar_nodes.specs.declared.fault.WorldFault.TheVariants.{Absent, Limit}
 use Rattle.ar_world.proofs.Drafts.{owner_is_at}
-use Rattle.ar_world.proofs.Orders.{authority-steps, authority_made, log-answers, log-steps, log_made, room-free}
-use Rattle.ar_world.proofs.OwnerReplies.{owner-answers, owner-steps, owner_made}
+use Rattle.ar_world.proofs.Orders.{authority-steps, log-steps, room-free}
+use Rattle.ar_world.proofs.OwnerReplies.{does-number, owner-made, owner-steps, owner_placed}
 
 -- ---- whether a message can be delivered
 
 -- by what the words name
-abbrev can-by : World → Option Pooled → Option Taker → Bool → Result (Pooled × Taker) WorldFault
-can-by w message taker free = named 1 message >>= (λ p. named 2 taker >>= (λ t. need free Limit >>= (λ u. Ok (p, t))))
+abbrev can-by : World → Option Pooled → Option Taker → Bool → Result Taker WorldFault
+can-by w message taker free = named 1 message >>= (λ p. named 2 taker >>= (λ t. need free Limit >>= (λ u. Ok t)))
 
 can-is : (w : World) (message : ℕ) (who : Party) (p : Option Pooled) (t : Option Taker) (free : Bool) → message_at w message ≡ p → taker_at w who ≡ t → has_room w ≡ free
     → can_deliver w message who ≡ can-by w p t free
@@ -64,7 +52,7 @@ can-is w message who p t free a b c =
 there-by : (w : World) (message : ℕ) (who : Party) (p : Option Pooled) (t : Option Taker) → message_at w message ≡ p → taker_at w who ≡ t → is_some p ≡ true → is_some t ≡ true
     → deliverable w message who ≡ need (has_room w) Limit
 there-by w message who (Some p) (Some t) a b c d =
-    ap (λ (c : Result (Pooled × Taker) WorldFault). c >>= (λ f. Ok tt)) (can-is w message who (Some p) (Some t) (has_room w) a b refl) ∙ at (has_room w) where
+    ap (λ (c : Result Taker WorldFault). c >>= (λ f. Ok tt)) (can-is w message who (Some p) (Some t) (has_room w) a b refl) ∙ at (has_room w) where
       at : (free : Bool) → (can-by w (Some p) (Some t) free >>= (λ f. Ok tt)) ≡ need free Limit
       at true = refl
       at false = refl
@@ -91,10 +79,10 @@ no-taker : (w : World) (message : ℕ) (who : Party) → is_some (message_at w m
 no-taker w message who a b = no-taker-by w message who (message_at w message) (taker_at w who) refl refl a b
 
 pub can_no_message : (w : World) (message : ℕ) (who : Party) → is_some (message_at w message) ≡ false → deliverable w message who ≡ Err (Absent 1)
-can_no_message w message who a = ap (λ (c : Result (Pooled × Taker) WorldFault). c >>= (λ f. Ok tt)) (no-message w message who a)
+can_no_message w message who a = ap (λ (c : Result Taker WorldFault). c >>= (λ f. Ok tt)) (no-message w message who a)
 
 pub can_no_taker : (w : World) (message : ℕ) (who : Party) → is_some (message_at w message) ≡ true → is_some (taker_at w who) ≡ false → deliverable w message who ≡ Err (Absent 2)
-can_no_taker w message who a b = ap (λ (c : Result (Pooled × Taker) WorldFault). c >>= (λ f. Ok tt)) (no-taker w message who a b)
+can_no_taker w message who a b = ap (λ (c : Result Taker WorldFault). c >>= (λ f. Ok tt)) (no-taker w message who a b)
 
 pub ruleset can = (can_there, can_no_message, can_no_taker)
 
@@ -130,12 +118,12 @@ authority_there w message number (Err fault) e = tt
 -- a line that is refused, whatever a check says
 refused : (w : World) (message : ℕ) (who : Party) (fault : WorldFault) → can_deliver w message who ≡ Err fault
     → StepsBySome (Err fault) w w (λ says. deliver_line says w message who)
-refused w message who fault e = record { says = No; steps = (refl, inr (ap (λ (c : Result (Pooled × Taker) WorldFault). c >>= (λ found. Ok (delivery No (noted w message found.0 who) message found.0.bytes who.number found.1))) e)) }
+refused w message who fault e = record { says = No; steps = (refl, inr (ap (λ (c : Result Taker WorldFault). c >>= (λ taker. Ok (delivery No w message who.number taker))) e)) }
 
-abbrev whether : Result (Pooled × Taker) WorldFault → Result (Unit {0}) WorldFault
+abbrev whether : Result Taker WorldFault → Result (Unit {0}) WorldFault
 whether r = r >>= (λ f. Ok tt)
 
-fault-of : (r : Result (Pooled × Taker) WorldFault) (fault : WorldFault) → whether r ≡ Err fault → r ≡ Err fault
+fault-of : (r : Result Taker WorldFault) (fault : WorldFault) → whether r ≡ Err fault → r ≡ Err fault
 fault-of (Ok f) fault e = absurd cc
 fault-of (Err x) fault e =
     let same : x ≡ fault = cc
@@ -180,43 +168,14 @@ client_no_taker w message who is a = can_no_taker w message who a (no-client w w
 
 pub ruleset clients = (can_no_message, client_no_taker)
 
--- ---- the pool in which the delivery is noted
-
-noted-one : (p : Pooled) (who : Party) (any : Bool) → list_any (is_party who) p.delivered ≡ any → record p { delivered = (delivered_to who p).delivered } ≡ delivered_to who p
-noted-one p who true e =
-    let is : delivered_to who p ≡ p = ap (λ b. if b then p else record p { delivered = p.delivered ++ who ∷ [] }) e
-    in ap (λ (q : Pooled). record p { delivered = q.delivered }) is ∙ sym is
-noted-one p who false e =
-    let is : delivered_to who p ≡ record p { delivered = p.delivered ++ who ∷ [] } = ap (λ b. if b then p else record p { delivered = p.delivered ++ who ∷ [] }) e
-    in ap (λ (q : Pooled). record p { delivered = q.delivered }) is ∙ sym is
-
-noted-is : (pool : List Pooled) (message : ℕ) (who : Party) (p : Pooled) → numbered pool message ≡ Some p → noted_in pool message who ≡ set_numbered pool message (delivered_to who p)
-noted-is pool message who p e =
-    ap (λ (o : Option Pooled). with_delivered pool message o (delivered_by who o)) e ∙ ap (set_numbered pool message) (noted-one p who (list_any (is_party who) p.delivered) refl)
-
 -- ---- logs
 
--- what a log makes of it, in any world that has the log there
-log-delivery : (says : Outcome) (v : World) (message number : ℕ) (bytes : List ℕ) (node : LogNode) → log_at v number ≡ Some node
-    → delivery says v message bytes number (a_log node)
-    ≡ log_made v number (acted v.pool (log_party number) (whats.Take message) (log_does node node.keys (events.Take message) (row node.core (takes bytes))))
-unfolding log_steps
-log-delivery says v message number bytes node there = log-answers v number node node.keys (whats.Take message) (events.Take message) (row node.core (takes bytes)) there
-
 log-line : (says : Outcome) (w : World) (message number : ℕ) (node : LogNode) (p : Option Pooled) → message_at w message ≡ p → is_some p ≡ true → log_at w number ≡ Some node → has_room w ≡ true
-    → deliver_line says w message (log_party number)
-    ≡ Ok (log_made w number (log_delivered w.pool message number node))
-unfolding log_delivered
+    → deliver_line says w message (log_party number) ≡ Ok (log_made w number (log_delivered w.pool message number node))
 log-line says w message number node None e some there free = absurd cc
 log-line says w message number node (Some p) e some there free =
-    let who : Party = log_party number
-    in ap (λ (c : Result (Pooled × Taker) WorldFault). c >>= (λ found. Ok (delivery says (noted w message found.0 who) message found.0.bytes number found.1)))
-    (can-is w message who (Some p) (Some (a_log node)) true e (ap (option_map a_log) there) free)
-    ∙ ap (λ m. Ok m) (log-delivery says (noted w message p who) message number p.bytes node there)
-    ∙ ap (λ (pool : List Pooled). Ok (log_made w number (acted pool who (whats.Take message) (log_does node node.keys (events.Take message) (row node.core (takes p.bytes))))))
-    (sym (noted-is w.pool message who p e))
-    ∙ ap (λ (o : Option Pooled). Ok (log_made w number (acted (noted_in w.pool message who) who (whats.Take message) (log_does node node.keys (events.Take message) (row node.core (takes (bytes_of o)))))))
-    (sym e)
+    ap (λ (c : Result Taker WorldFault). c >>= (λ taker. Ok (delivery says w message number taker)))
+    (can-is w message (log_party number) (Some p) (Some (a_log node)) true e (ap (option_map a_log) there) free)
 
 log-stepped : (w : World) (message number : ℕ) (node : LogNode) (result : Result (List Happening) WorldFault) (node' : LogNode) (pool' : List Pooled)
     → is_some (message_at w message) ≡ true → log_at w number ≡ Some node → has_room w ≡ true
@@ -248,32 +207,12 @@ delivered_to_log v w message number result logs pool u same can at =
 
 -- ---- authorities
 
-authority-answers-all : (v : World) (number : ℕ) (node : AuthorityNode) (what : What) (answer : authority.Answer)
-    → authority_answers v number node what answer ≡ authority_made v number (acted v.pool (authority_party number) what (authority_does node answer))
-authority-answers-all v number node what (Ok answer) = refl
-authority-answers-all v number node what (Err refusal) = refl
-
-authority-delivery : (says : Outcome) (v : World) (message number : ℕ) (bytes : List ℕ) (node : AuthorityNode)
-    → delivery says v message bytes number (an_authority node)
-    ≡ authority_made v number (acted v.pool (authority_party number) (whats.Take message) (authority_took says node bytes))
-unfolding authority_takes
-authority-delivery says v message number bytes node =
-    let answer : authority.Answer = authority_reply says node (message_in bytes)
-    in authority-answers-all v number (node_behind node (message_in bytes) answer) (whats.Take message) answer
-
 authority-line : (says : Outcome) (w : World) (message number : ℕ) (node : AuthorityNode) (p : Option Pooled) → message_at w message ≡ p → is_some p ≡ true → authority_at w number ≡ Some node
-    → has_room w ≡ true
-    → deliver_line says w message (authority_party number)
-    ≡ Ok (authority_made w number (authority_delivered says w.pool message number node))
-unfolding authority_delivered
+    → has_room w ≡ true → deliver_line says w message (authority_party number) ≡ Ok (authority_made w number (authority_delivered says w.pool message number node))
 authority-line says w message number node None e some there free = absurd cc
 authority-line says w message number node (Some p) e some there free =
-    let who : Party = authority_party number
-    in ap (λ (c : Result (Pooled × Taker) WorldFault). c >>= (λ found. Ok (delivery says (noted w message found.0 who) message found.0.bytes number found.1)))
-    (can-is w message who (Some p) (Some (an_authority node)) true e (ap (option_map an_authority) there) free)
-    ∙ ap (λ m. Ok m) (authority-delivery says (noted w message p who) message number p.bytes node)
-    ∙ ap (λ (pool : List Pooled). Ok (authority_made w number (acted pool who (whats.Take message) (authority_took says node p.bytes)))) (sym (noted-is w.pool message who p e))
-    ∙ ap (λ (o : Option Pooled). Ok (authority_made w number (acted (noted_in w.pool message who) who (whats.Take message) (authority_took says node (bytes_of o))))) (sym e)
+    ap (λ (c : Result Taker WorldFault). c >>= (λ taker. Ok (delivery says w message number taker)))
+    (can-is w message (authority_party number) (Some p) (Some (an_authority node)) true e (ap (option_map an_authority) there) free)
 
 authority-stepped : (w : World) (message number : ℕ) (node : AuthorityNode) (result : Result (List Happening) WorldFault) (node' : AuthorityNode) (pool' : List Pooled)
     → is_some (message_at w message) ≡ true → authority_at w number ≡ Some node → has_room w ≡ true
@@ -328,19 +267,20 @@ row-number me (Confirmation client epoch name root body log log_signature first 
 step-number : (me : Owner) (bytes : List ℕ) → IfOk (step_row me bytes) (λ made. made.1.number ≡ me.number)
 step-number me bytes = if-chained (with_error Form (message_in bytes)) (message_row me) (λ made. made.1.number ≡ me.number) (λ m e. row-number me m)
 
+delivered-number : (pool : List Pooled) (message number : ℕ) (me : Owner) → (owner_delivered pool message number me).0.number ≡ me.number
+unfolding owner_delivered
+delivered-number pool message number me =
+    let bytes : List ℕ = bytes_of (numbered pool message)
+    in does-number me (step_row me bytes) (step-number me bytes)
+
 owner-line : (says : Outcome) (w : World) (message number place : ℕ) (me : Owner) (p : Option Pooled) → message_at w message ≡ p → is_some p ≡ true
     → position (is_owner number) w.owners ≡ Some place → me ≡ get_or w.owners place me → has_room w ≡ true
-    → deliver_line says w message (owner_party number)
-    ≡ Ok (owner_made w place (owner_delivered w.pool message number me))
-unfolding owner_delivered
+    → deliver_line says w message (owner_party number) ≡ Ok (owner_placed w place (owner_delivered w.pool message number me))
 owner-line says w message number place me None e some here is free = absurd cc
 owner-line says w message number place me (Some p) e some here is free =
-    let who : Party = owner_party number
-    in ap (λ (c : Result (Pooled × Taker) WorldFault). c >>= (λ found. Ok (delivery says (noted w message found.0 who) message found.0.bytes number found.1)))
-    (can-is w message who (Some p) (Some (an_owner me)) true e (ap (option_map an_owner) (owner_is_at w number place me here is)) free)
-    ∙ ap (λ m. Ok m) (owner-answers (noted w message p who) number place me (whats.Take message) (step_row me p.bytes) here is (step-number me p.bytes))
-    ∙ ap (λ (pool : List Pooled). Ok (owner_made w place (acted pool who (whats.Take message) (owner_does me (step_row me p.bytes))))) (sym (noted-is w.pool message who p e))
-    ∙ ap (λ (o : Option Pooled). Ok (owner_made w place (acted (noted_in w.pool message who) who (whats.Take message) (owner_does me (step_row me (bytes_of o)))))) (sym e)
+    ap (λ (c : Result Taker WorldFault). c >>= (λ taker. Ok (delivery says w message number taker)))
+    (can-is w message (owner_party number) (Some p) (Some (an_owner me)) true e (ap (option_map an_owner) (owner_is_at w number place me here is)) free)
+    ∙ ap (λ m. Ok m) (owner-made w number place me (owner_delivered w.pool message number me) here is (delivered-number w.pool message number me))
 
 owner-stepped : (w : World) (message number place : ℕ) (me : Owner) (result : Result (List Happening) WorldFault) (me' : Owner) (pool' : List Pooled)
     → is_some (message_at w message) ≡ true → position (is_owner number) w.owners ≡ Some place → me ≡ get_or w.owners place me → has_room w ≡ true
@@ -368,8 +308,8 @@ delivered_to_owner v w message number place me result me' pool' same some here i
     (owner-changed v message number place me result me' pool' some (ap (λ (x : World). position (is_owner number) x.owners) same ∙ here) is (ap (λ (x : World). room x) same ∙ free) acts)
 
 -- refusals, by what the words name
-abbrev owner-can : Option Pooled → Option Owner → Result (Unit {0}) WorldFault → Result (Pooled × Taker) WorldFault
-owner-can message me free = named 1 message >>= (λ p. named 2 (option_map an_owner me) >>= (λ t. free >>= (λ u. Ok (p, t))))
+abbrev owner-can : Option Pooled → Option Owner → Result (Unit {0}) WorldFault → Result Taker WorldFault
+owner-can message me free = named 1 message >>= (λ p. named 2 (option_map an_owner me) >>= (λ t. free >>= (λ u. Ok t)))
 
 no-owner-by : (p : Option Pooled) (o : Option Owner) (free : Result (Unit {0}) WorldFault) (fault : WorldFault) → is_some p ≡ true → named 2 o ≡ Err fault → owner-can p o free ≡ Err fault
 no-owner-by (Some p) None free fault a e =
@@ -380,7 +320,7 @@ no-owner-by None o free fault a e = absurd cc
 
 full-by : (p : Option Pooled) (o : Option Owner) (free : Result (Unit {0}) WorldFault) (fault : WorldFault) → is_some p ≡ true → is_ok (named 2 o) ≡ true → free ≡ Err fault
     → owner-can p o free ≡ Err fault
-full-by (Some p) (Some o) free fault a b e = ap (λ (r : Result (Unit {0}) WorldFault). r >>= (λ u. Ok (p, an_owner o))) e
+full-by (Some p) (Some o) free fault a b e = ap (λ (r : Result (Unit {0}) WorldFault). r >>= (λ u. Ok (an_owner o))) e
 full-by (Some p) None free fault a b e = absurd cc
 full-by None o free fault a b e = absurd cc
 

@@ -6,7 +6,7 @@ use Rattle.std.proofs.lemmas.Bool.{and_parts, eqb-true, ltb-true}
 use Rattle.std.proofs.lemmas.List.Elements.{All-cons, All-nil, All-push, All-weaker}
 use Rattle.std.proofs.lemmas.List.Quantifiers.{position-Some}
 use Rattle.std.proofs.lemmas.Option.{cond_some, same_Some, slice_get_past, slice_get_read}
-use Rattle.ar_base.specs.Chaining.{◌>>=◌}
+use Rattle.ar_base.specs.Chaining.{◌>>=◌, need}
 use Rattle.ar_cert.specs.Certificate.{Certificate, digest_of}
 use Rattle.ar_statement.specs.declared.party.Role.TheVariants.{Authority}
 use Rattle.owner_core.specs.Drafts.{begun_draft}
@@ -14,9 +14,9 @@ use Rattle.owner_core.specs.State.{Owner}
 use Rattle.report_text.specs.declared.happening.Happening.{Happening}
 use Rattle.report_text.specs.declared.happening.Happening.TheVariants.{Draft}
 use Rattle.script_text.specs.declared.line.PolicyWords.{PolicyWords}
-use Rattle.ar_world.specs.Drafting.{ascend, asked, draft_room, drafted, first_certificate, may_wait, next_certificate, register_line, revoke_line, terms_of, update_line}
+use Rattle.ar_world.specs.Drafting.{are_authorities, asked, draft_room, drafted, first_certificate, may_wait, next_certificate, register_line, revoke_line, terms_of, update_line}
 use Rattle.ar_world.specs.Finding.{Effect, draft_at, is_authority, is_there, known_asks, owner_at, room, with_owner}
-use Rattle.ar_nodes.specs.Finding.{is_owner, named, need}
+use Rattle.ar_nodes.specs.Finding.{is_owner, named}
 use Rattle.ar_founding.specs.FirstKeys.{FirstKeys}
 use Rattle.ar_world.specs.Kept.{IsKeptWorld}
 use Rattle.ar_nodes.specs.Parties.{LogNode}
@@ -167,7 +167,7 @@ pub steps_as : (result : Result (List Happening) WorldFault) (old new : World) (
 steps_as result old new effect same e h = subst (λ (x : Effect). StepsBy result old new x) (sym e) h
 
 pub registered_there : (w : World) (number place : ℕ) (name : List ℕ) (policy : PolicyWords) (asks : List ℕ) (me : Owner)
-    → position (is_owner number) w.owners ≡ Some place → me ≡ get_or w.owners place me → ascend 0 policy.trusted ≡ true → may_wait policy.wait ≡ true
+    → position (is_owner number) w.owners ≡ Some place → me ≡ get_or w.owners place me → are_authorities policy.trusted ≡ true → may_wait policy.wait ≡ true
     → known_asks w 8 asks ≡ Ok tt → draft_room w ≡ Ok tt
     → register_line w number name policy asks ≡ Ok (drafted w me (first_certificate me name (terms_of policy)) asks)
 registered_there w number place name policy asks me here is ascends waits known room =
@@ -176,7 +176,7 @@ registered_there w number place name policy asks me here is ascends waits known 
 
 pub updated_there : (w : World) (number place draft spot : ℕ) (policy : PolicyWords) (asks : List ℕ) (me : Owner) (old : Drafted)
     → position (is_owner number) w.owners ≡ Some place → me ≡ get_or w.owners place me → draft ≡ spot + 1 → spot < length w.drafts → old ≡ get_or w.drafts spot old
-    → ascend 0 policy.trusted ≡ true → may_wait policy.wait ≡ true → known_asks w 8 asks ≡ Ok tt → draft_room w ≡ Ok tt
+    → are_authorities policy.trusted ≡ true → may_wait policy.wait ≡ true → known_asks w 8 asks ≡ Ok tt → draft_room w ≡ Ok tt
     → update_line w number draft policy asks ≡ Ok (drafted w me (next_certificate me old.cert (terms_of policy) false) asks)
 updated_there w number place draft spot policy asks me old here is next lt is-old ascends waits known room =
     let owner = owner_is_at w number place me here is in
@@ -228,7 +228,7 @@ made result w new number place me cert same asks effect here is alike reached ma
     steps_as result w new effect (Ok (drafted w me cert asks)) (reached ∙ ap (λ c. Ok (drafted w me c asks)) (sym alike)) (makes me is there)
 
 pub registered : (result : Result (List Happening) WorldFault) (w new : World) (number place : ℕ) (name : List ℕ) (policy : PolicyWords) (asks : List ℕ) (me : Owner) (cert : Certificate)
-    → position (is_owner number) w.owners ≡ Some place → me ≡ get_or w.owners place me → ascend 0 policy.trusted ≡ true → may_wait policy.wait ≡ true
+    → position (is_owner number) w.owners ≡ Some place → me ≡ get_or w.owners place me → are_authorities policy.trusted ≡ true → may_wait policy.wait ≡ true
     → known_asks w 8 asks ≡ Ok tt → draft_room w ≡ Ok tt → cert ≡ first_certificate me name (terms_of policy)
     → Makes result w new place cert asks → StepsBy result w new (register_line w number name policy asks)
 registered result w new number place name policy asks me cert here is ascends waits known room alike makes =
@@ -237,7 +237,7 @@ registered result w new number place name policy asks me cert here is ascends wa
 
 pub updated : (result : Result (List Happening) WorldFault) (w new : World) (number place draft spot : ℕ) (policy : PolicyWords) (asks : List ℕ) (me : Owner) (old : Drafted) (cert : Certificate)
     → position (is_owner number) w.owners ≡ Some place → me ≡ get_or w.owners place me → draft ≡ spot + 1 → spot < length w.drafts → old ≡ get_or w.drafts spot old
-    → ascend 0 policy.trusted ≡ true → may_wait policy.wait ≡ true → known_asks w 8 asks ≡ Ok tt → draft_room w ≡ Ok tt
+    → are_authorities policy.trusted ≡ true → may_wait policy.wait ≡ true → known_asks w 8 asks ≡ Ok tt → draft_room w ≡ Ok tt
     → cert ≡ next_certificate me old.cert (terms_of policy) false → Makes result w new place cert asks → StepsBy result w new (update_line w number draft policy asks)
 updated result w new number place draft spot policy asks me old cert here is next lt is-old ascends waits known room alike makes =
     made result w new number place me cert (next_certificate me old.cert (terms_of policy) false) asks (update_line w number draft policy asks) here is alike

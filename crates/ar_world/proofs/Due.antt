@@ -3,7 +3,7 @@ use Rattle.std.proofs.Common.{◌≡◌, ℕ, ◌+◌, ◌-◌, ◌<◌, ◌≤�
 use Rattle.std.specs.Prelude.{filter, find, map}
 use Rattle.std.specs.List.{range_with_len}
 use Rattle.ar_statement.specs.declared.party.Party.{Party}
-use Rattle.party_keys.specs.Seen.{log_party}
+use Rattle.ar_statement.specs.Claims.{log_party}
 use Rattle.report_text.specs.declared.happening.Target.TheVariants.{Logs}
 use Rattle.ar_world.specs.Delivering.{addressed, due_from, due_or, due_to, is_due, is_sender}
 use Rattle.ar_nodes.specs.Pool.{Pooled}

@@ -18,7 +18,8 @@ use Rattle.report_text.specs.declared.happening.Target.TheVariants.{Nobody}
 use Rattle.ar_nodes.specs.Composing.{composed}
 use Rattle.ar_nodes.specs.Finding.{is_forger, named}
 use Rattle.ar_nodes.specs.Forging.{forged}
-use Rattle.ar_nodes.specs.Parties.{leaves_of, Forger}
+use Rattle.ar_nodes.specs.Parties.{Forger}
+use Rattle.lms_tree.specs.LmsKind.{leaves_of}
 use Rattle.ar_nodes.specs.Pool.{Pooled, entries_from, raw}
 use Rattle.ar_nodes.specs.declared.fault.WorldFault.{WorldFault}
 use Rattle.ar_nodes.specs.declared.fault.WorldFault.TheVariants.{Absent, Memory}
@@ -113,10 +114,10 @@ pub ruleset sign_refusals = (sign_within, sign_absent, sign_uncomposed)
 
 -- what comes of signing
 signed-world : (b : Bool) (w : World) (place : ℕ) (me new : Forger) (text : List ℕ) (after : List Pooled) (said : List Happening)
-    → nat_lt me.next (leaves_of me.key) ≡ b → position (is_forger me.party) w.forgers ≡ Some place → me ≡ get_or w.forgers place me
-    → (nat_lt me.next (leaves_of me.key) ≡ true → (new ≡ record me { next = me.next + 1 }) × (after ≡ w.pool ++ raw (Some me.party) Nobody (forged me text) ∷ [])
+    → nat_lt me.next (leaves_of me.key.lms) ≡ b → position (is_forger me.party) w.forgers ≡ Some place → me ≡ get_or w.forgers place me
+    → (nat_lt me.next (leaves_of me.key.lms) ≡ true → (new ≡ record me { next = me.next + 1 }) × (after ≡ w.pool ++ raw (Some me.party) Nobody (forged me text) ∷ [])
     × (said ≡ entries_from (length w.pool + 1) (raw (Some me.party) Nobody (forged me text) ∷ [])))
-    → (nat_lt me.next (leaves_of me.key) ≡ false → (new ≡ me) × (after ≡ w.pool) × (said ≡ SignRefused me.party ∷ []))
+    → (nat_lt me.next (leaves_of me.key.lms) ≡ false → (new ≡ me) × (after ≡ w.pool) × (said ≡ SignRefused me.party ∷ []))
     → signing w me text ≡ (record w { forgers = slice_set w.forgers place new; pool = after }, said)
 signed-world true w place me new text after said e there is left none = let t = left e in rw (e, there, t.0, t.1, t.2) refl
 signed-world false w place me new text after said e there is left none =
@@ -125,24 +126,24 @@ signed-world false w place me new text after said e there is left none =
 
 pub sign_there : (result : Result (List Happening) WorldFault) (w : World) (who : Party) (place : ℕ) (pieces : List (List ℕ)) (text : List ℕ) (me new : Forger) (after : List Pooled)
     → position (is_forger who) w.forgers ≡ Some place → me ≡ get_or w.forgers place me → composed_in w pieces ≡ Ok text
-    → (nat_lt me.next (leaves_of me.key) ≡ true → IfOk result (λ said. (new ≡ record me { next = me.next + 1 }) × (after ≡ w.pool ++ raw (Some me.party) Nobody (forged me text) ∷ [])
+    → (nat_lt me.next (leaves_of me.key.lms) ≡ true → IfOk result (λ said. (new ≡ record me { next = me.next + 1 }) × (after ≡ w.pool ++ raw (Some me.party) Nobody (forged me text) ∷ [])
     × (said ≡ entries_from (length w.pool + 1) (raw (Some me.party) Nobody (forged me text) ∷ []))))
-    → (nat_lt me.next (leaves_of me.key) ≡ false → IfOk result (λ said. (new ≡ me) × (after ≡ w.pool) × (said ≡ SignRefused me.party ∷ [])))
+    → (nat_lt me.next (leaves_of me.key.lms) ≡ false → IfOk result (λ said. (new ≡ me) × (after ≡ w.pool) × (said ≡ SignRefused me.party ∷ [])))
     → IfErr result (λ fault. (fault ≡ Memory) × (new ≡ me) × (after ≡ w.pool))
     → StepsBy result w (record w { forgers = slice_set w.forgers place new; pool = after }) (sign_line w who pieces)
 sign_there (Ok said) w who place pieces text me new after here is there left none err =
     let at = forger-is-at who w.forgers place me here (slice_get_read w.forgers (length w.forgers) place me refl (forger-within who w.forgers place here) is) in
     ap (sign-by w pieces) at ∙ ap (sign-with w me) there
-    ∙ ap Ok (signed-world (nat_lt me.next (leaves_of me.key)) w place me new text after said refl (own-place who w.forgers place me here is) is left none)
+    ∙ ap Ok (signed-world (nat_lt me.next (leaves_of me.key.lms)) w place me new text after said refl (own-place who w.forgers place me here is) is left none)
 sign_there (Err fault) w who place pieces text me new after here is there left none err =
     (rw (item_kept w.forgers place me new is err.1, err.2) refl, inl err.0)
 
 -- the same of a world and of bytes that have two names
 pub sign_seen : (result : Result (List Happening) WorldFault) (w now : World) (who : Party) (place : ℕ) (pieces : List (List ℕ)) (bytes text : List ℕ) (me new : Forger) (after : List Pooled)
     → w ≡ now → bytes ≡ text → position (is_forger who) now.forgers ≡ Some place → me ≡ get_or w.forgers place me → composed_in now pieces ≡ Ok text
-    → (nat_lt me.next (leaves_of me.key) ≡ true → IfOk result (λ said. (new ≡ record me { next = me.next + 1 }) × (after ≡ w.pool ++ raw (Some me.party) Nobody (forged me bytes) ∷ [])
+    → (nat_lt me.next (leaves_of me.key.lms) ≡ true → IfOk result (λ said. (new ≡ record me { next = me.next + 1 }) × (after ≡ w.pool ++ raw (Some me.party) Nobody (forged me bytes) ∷ [])
     × (said ≡ entries_from (length w.pool + 1) (raw (Some me.party) Nobody (forged me bytes) ∷ []))))
-    → (nat_lt me.next (leaves_of me.key) ≡ false → IfOk result (λ said. (new ≡ me) × (after ≡ w.pool) × (said ≡ SignRefused me.party ∷ [])))
+    → (nat_lt me.next (leaves_of me.key.lms) ≡ false → IfOk result (λ said. (new ≡ me) × (after ≡ w.pool) × (said ≡ SignRefused me.party ∷ [])))
     → IfErr result (λ fault. (fault ≡ Memory) × (new ≡ me) × (after ≡ w.pool))
     → StepsBy result now (record w { forgers = slice_set w.forgers place new; pool = after }) (sign_line now who pieces)
 sign_seen result w now who place pieces bytes text me new after one same here is there left none err =

@@ -1,12 +1,11 @@
 -- When lines may come.
 use Rattle.std.proofs.Common.{◌≡◌, ◌≢◌, refl, ap, ◌∙◌, true, false, nat_lt, Option, Some, None, IfOk}
 use Rattle.std.specs.Prelude.{Ok, Err}
-use Rattle.ar_base.specs.Chaining.{◌>>=◌}
+use Rattle.ar_base.specs.Chaining.{◌>>=◌, need}
 use Rattle.ar_base.proofs.Shown.{if-chained}
 use Rattle.owner_check.specs.declared.answer.Outcome.{Outcome}
 use Rattle.script_text.specs.declared.line.Line.{Line}
 use Rattle.ar_world.specs.Finding.{Effect}
-use Rattle.ar_nodes.specs.Finding.{need}
 use Rattle.ar_world.specs.Founding.{in_order, may_come, place_of}
 use Rattle.ar_world.specs.State.{World}
 use Rattle.ar_world.specs.Step.{effect, leads_to, step, stepped}

@@ -1,32 +1,25 @@
 -- What orders to logs and authorities make of a world, by what they make of the party and the pool.
-use Rattle.std.proofs.Common.{◌≡◌, inl, ℕ, zero, suc, ◌<◌, Bool, true, false, List, [], ◌∷◌, ◌++◌, length, get_or, is_some, Option, Some, None, IfSome, Result, Ok, Err, refl, sym, ap, subst, ◌∙◌}
-use Rattle.std.specs.Prelude.{slice_get, slice_set, option_and_then}
+use Rattle.std.proofs.Common.{◌≡◌, inl, ℕ, zero, suc, ◌<◌, Bool, true, false, List, [], ◌∷◌, length, get_or, is_some, Option, Some, None, IfSome, Result, Ok, Err, refl, sym, ap, subst, ◌∙◌}
+use Rattle.std.specs.Prelude.{slice_get, slice_set}
+use Rattle.std.specs.Option.{option_flatten}
 use Rattle.std.proofs.lemmas.Option.{same_Some}
-use Rattle.ar_base.specs.Chaining.{◌>>=◌}
+use Rattle.ar_base.specs.Chaining.{◌>>=◌, need}
 use Rattle.ar_statement.specs.declared.party.Role.TheVariants.{LogServer, Authority}
-use Rattle.authority_core.specs.RollRows.{roll_row}
-use Rattle.authority_core.specs.State as authority
-use Rattle.lms_tree.specs.Key.{public_of}
 use Rattle.lms_tree.specs.KeyParts.{KeyParts}
-use Rattle.log_core.specs.Row.{row}
-use Rattle.log_core.specs.State.{Answer, Input, rolls}
-use Rattle.party_keys.specs.Seen.{authority_party, log_party}
+use Rattle.log_core.specs.State.{Input}
 use Rattle.report_text.specs.declared.happening.Happening.{Happening}
 use Rattle.report_text.specs.declared.happening.What.{What}
-use Rattle.report_text.specs.declared.happening.What.TheVariants as whats
-use Rattle.ar_nodes.specs.Acting.{ActsBy, ChangesThere, acted, authority_turned, log_does}
-use Rattle.ar_world.specs.Authorities.{authority_rolled, authority_rolls}
+use Rattle.ar_nodes.specs.Acting.{ActsBy, ChangesThere, authority_rolled, log_obeyed, log_rolled}
 use Rattle.ar_world.specs.Finding.{Effect, authority_at, has_room, log_at, room}
-use Rattle.ar_nodes.specs.Finding.{honest_in, named, need}
-use Rattle.ar_world.specs.Logs.{log_answers, log_rolls, log_steps}
+use Rattle.ar_nodes.specs.Finding.{honest_in, named}
 use Rattle.ar_nodes.specs.Parties.{next_of}
 use Rattle.ar_world.specs.Ordering.{log_order, roll_of}
 use Rattle.ar_nodes.specs.Parties.{AuthorityNode, LogNode}
 use Rattle.ar_nodes.specs.Pool.{Pooled}
+use Rattle.ar_world.specs.Sending.{authority_made, log_made}
 use Rattle.ar_world.specs.State.{Moved, World, with_authority, with_log}
 use Rattle.ar_world.specs.Step.{StepsBy}
 use Rattle.ar_nodes.specs.declared.event.LogEvent.{LogEvent}
-use Rattle.ar_nodes.specs.declared.event.LogEvent.TheVariants as events
 use Rattle.ar_nodes.specs.declared.fault.WorldFault.{WorldFault}
 use Rattle.ar_nodes.specs.declared.fault.WorldFault.TheVariants.{Absent, Limit}
 use Rattle.ar_nodes.proofs.Nodes.{next-there}
@@ -42,36 +35,15 @@ same-there (y ∷ xs) (suc i) x e = ap (λ ys. y ∷ ys) (same-there xs i x e)
 -- what is there, and is not dishonest
 pub honest-there : {X : Type 0} (xs : List (Option X)) (i : ℕ) (x : X) → honest_in xs i ≡ Some x → slice_get xs i ≡ Some (Some x)
 honest-there {X = X} xs i x e = at (slice_get xs i) e where
-  at : (o : Option (Option X)) → option_and_then (λ node. node) o ≡ Some x → o ≡ Some (Some x)
+  at : (o : Option (Option X)) → option_flatten o ≡ Some x → o ≡ Some (Some x)
   at None e = absurd cc
   at (Some o) e = ap (λ p. Some p) e
-
--- ---- worlds with a party and the pool as they are now
-
-abbrev pub log_made : World → ℕ → LogNode × (List Pooled × List Happening) → Moved
-log_made w number made = (record (with_log w number made.0) { pool = made.1.0 }, made.1.1)
-
-abbrev pub authority_made : World → ℕ → AuthorityNode × (List Pooled × List Happening) → Moved
-authority_made w number made = (record (with_authority w number made.0) { pool = made.1.0 }, made.1.1)
 
 pub log-same : (w : World) (number : ℕ) (node : LogNode) → log_at w number ≡ Some node → with_log w number node ≡ w
 log-same w number node e = ap (λ logs. record w { logs = logs }) (same-there w.logs number (Some node) (honest-there w.logs number node e))
 
 pub authority-same : (w : World) (number : ℕ) (node : AuthorityNode) → authority_at w number ≡ Some node → with_authority w number node ≡ w
 authority-same w number node e = ap (λ nodes. record w { authorities = nodes }) (same-there w.authorities number (Some node) (honest-there w.authorities number node e))
-
--- a log's answer
-pub log-answers : (w : World) (number : ℕ) (node : LogNode) (keys : List KeyParts) (what : What) (event : LogEvent) (answer : Answer) → log_at w number ≡ Some node
-    → log_answers w number node keys what event answer ≡ log_made w number (acted w.pool (log_party number) what (log_does node keys event answer))
-log-answers w number node keys what event (Ok reply) e = refl
-log-answers w number node keys what event (Err refusal) e =
-    ap (λ (v : World). (v, (acted w.pool (log_party number) what (log_does node keys event (Err refusal))).1.1)) (sym (log-same w number node e))
-
--- an authority's
-pub authority-answers : (w : World) (number : ℕ) (node : AuthorityNode) (next : KeyParts) (answer : authority.Answer)
-    → authority_rolled w number node next answer ≡ authority_made w number (acted w.pool (authority_party number) whats.Roll (authority_turned node next answer))
-authority-answers w number node next (Ok answer) = refl
-authority-answers w number node next (Err refusal) = refl
 
 -- ---- tests
 
@@ -109,41 +81,39 @@ authority-steps w number node result node' pool' made effect e acts is =
 
 -- ---- `propose` and `pass`
 
+-- the order by what its word names
+abbrev order-by : World → ℕ → What → LogEvent → Input → Option LogNode → Effect
+order-by w number what event input o = named 1 o >>= (λ node. room w >>= (λ u. Ok (log_made w number (log_obeyed w.pool number what event input node))))
+
 -- the order where the log is there and the pool is not full
 ordered : (w : World) (number : ℕ) (what : What) (event : LogEvent) (input : Input) (node : LogNode) → log_at w number ≡ Some node → has_room w ≡ true
-    → log_order w number what event input ≡ Ok (log_steps w number node what event input)
+    → log_order w number what event input ≡ Ok (log_made w number (log_obeyed w.pool number what event input node))
 ordered w number what event input node there free =
-    ap (λ (o : Option LogNode). named 1 o >>= (λ n. room w >>= (λ u. Ok (log_steps w number n what event input)))) there
-    ∙ ap (λ b. need b Limit >>= (λ u. Ok (log_steps w number node what event input))) free
+    ap (order-by w number what event input) there
+    ∙ ap (λ b. need b Limit >>= (λ u. Ok (log_made w number (log_obeyed w.pool number what event input node)))) free
 
 pub order_obeyed : (w : World) (number : ℕ) (what : What) (event : LogEvent) (input : Input) (node : LogNode) (result : Result (List Happening) WorldFault) (node' : LogNode) (pool' : List Pooled)
     → log_at w number ≡ Some node → has_room w ≡ true
-    → ActsBy result node node' w.pool pool' (acted w.pool (log_party number) what (log_does node node.keys event (row node.core input)))
+    → ActsBy result node node' w.pool pool' (log_obeyed w.pool number what event input node)
     → StepsBy result w (record (with_log w number node') { pool = pool' }) (log_order w number what event input)
-unfolding log_steps
 order_obeyed w number what event input node result node' pool' there free acts =
-    log-steps w number node result node' pool' (acted w.pool (log_party number) what (log_does node node.keys event (row node.core input))) (log_order w number what event input) there acts
-    (ordered w number what event input node there free
-    ∙ ap (λ m. Ok m) (log-answers w number node node.keys what event (row node.core input) there))
+    log-steps w number node result node' pool' (log_obeyed w.pool number what event input node) (log_order w number what event input) there acts
+    (ordered w number what event input node there free)
 
 -- the same by what stands in the log's place, of a world as the program has it
 pub order_obeyed_there : (v w : World) (number : ℕ) (what : What) (event : LogEvent) (input : Input) (slot slot' other : Option LogNode) (result : Result (List Happening) WorldFault) (pool' : List Pooled)
     → v ≡ w → is_some (log_at w number) ≡ true → room w ≡ Ok tt → slot ≡ get_or v.logs number other
-    → ChangesThere slot slot' (λ was is. ActsBy result was is v.pool pool' (acted v.pool (log_party number) what (log_does was was.keys event (row was.core input))))
+    → ChangesThere slot slot' (λ was is. ActsBy result was is v.pool pool' (log_obeyed v.pool number what event input was))
     → StepsBy result w (record v { logs = slice_set v.logs number slot'; pool = pool' }) (log_order w number what event input)
 order_obeyed_there v w number what event input slot slot' other result pool' same there free here so =
     subst (λ (u : World). StepsBy result u (record v { logs = slice_set v.logs number slot'; pool = pool' }) (log_order u number what event input)) same
     (at slot slot' (honest_spot v.logs number slot other (subst (λ (u : World). is_some (log_at u number) ≡ true) (sym same) there) here) so) where
       at : (o o' : Option LogNode) → log_at v number ≡ o
-          → ChangesThere o o' (λ was is. ActsBy result was is v.pool pool' (acted v.pool (log_party number) what (log_does was was.keys event (row was.core input))))
+          → ChangesThere o o' (λ was is. ActsBy result was is v.pool pool' (log_obeyed v.pool number what event input was))
           → StepsBy result v (record v { logs = slice_set v.logs number o'; pool = pool' }) (log_order v number what event input)
       at (Some was) (Some is) e acts = order_obeyed v number what event input was result is pool' e (subst (λ (u : World). has_room u ≡ true) (sym same) (room-free w free)) acts
       at (Some was) None e acts = absurd acts
       at None o' e acts = absurd acts
-
--- the order by what its word names
-abbrev order-by : World → ℕ → What → LogEvent → Input → Option LogNode → Effect
-order-by w number what event input o = named 1 o >>= (λ node. room w >>= (λ u. Ok (log_steps w number node what event input)))
 
 pub order_absent : (w : World) (number : ℕ) (what : What) (event : LogEvent) (input : Input) (fault : WorldFault) → need (is_some (log_at w number)) (Absent 1) ≡ Err fault
     → log_order w number what event input ≡ Err fault
@@ -157,7 +127,7 @@ pub order_full : (w : World) (number : ℕ) (what : What) (event : LogEvent) (in
 order_full w number what event input fault e full = at (log_at w number) e where
   at : (o : Option LogNode) → need (is_some o) (Absent 1) ≡ Ok tt → order-by w number what event input o ≡ Err fault
   at None h = absurd cc
-  at (Some node) h = ap (λ (r : Result (Unit {0}) WorldFault). r >>= (λ u. Ok (log_steps w number node what event input))) full
+  at (Some node) h = ap (λ (r : Result (Unit {0}) WorldFault). r >>= (λ u. Ok (log_made w number (log_obeyed w.pool number what event input node)))) full
 
 -- ---- `roll`
 
@@ -180,45 +150,47 @@ roll-full w keys turned (Some node) fault h some full =
     let n : (next : KeyParts) × (next_of (keys node) ≡ Some next) = next-there (keys node) some
     in ap (roll-with w turned node) n.1 ∙ ap (λ (r : Result (Unit {0}) WorldFault). r >>= (λ u. Ok (turned node n.0))) full
 
-pub log_rolled : (w : World) (number : ℕ) (node : LogNode) (result : Result (List Happening) WorldFault) (node' : LogNode) (pool' : List Pooled)
+-- what a log makes of a world that goes on to a key
+abbrev log-turned : World → ℕ → LogNode → KeyParts → Moved
+log-turned w number node next = log_made w number (log_rolled w.pool number next node)
+
+pub log_rolled_so : (w : World) (number : ℕ) (node : LogNode) (result : Result (List Happening) WorldFault) (node' : LogNode) (pool' : List Pooled)
     → log_at w number ≡ Some node → 0 < length node.keys → has_room w ≡ true
     → ((next : KeyParts) → next_of node.keys ≡ Some next
-    → ActsBy result node node' w.pool pool' (acted w.pool (log_party number) whats.Roll (log_does node (node.keys ++ next ∷ []) events.Roll (row node.core (rolls (public_of next))))))
+    → ActsBy result node node' w.pool pool' (log_rolled w.pool number next node))
     → StepsBy result w (record (with_log w number node') { pool = pool' }) (roll_of w LogServer number)
-unfolding log_rolls
-log_rolled w number node result node' pool' there some free acts =
+log_rolled_so w number node result node' pool' there some free acts =
     let n : (next : KeyParts) × (next_of node.keys ≡ Some next) = next-there node.keys some
-    in log-steps w number node result node' pool' (acted w.pool (log_party number) whats.Roll (log_does node (node.keys ++ n.0 ∷ []) events.Roll (row node.core (rolls (public_of n.0)))))
-    (roll_of w LogServer number) there (acts n.0 n.1)
-    (ap (roll-by w (λ (l : LogNode). l.keys) (log_rolls w number)) there ∙ ap (roll-with w (log_rolls w number) node) n.1 ∙ ap (λ b. need b Limit >>= (λ u. Ok (log_rolls w number node n.0))) free
-    ∙ ap (λ m. Ok m) (log-answers w number node (node.keys ++ n.0 ∷ []) whats.Roll events.Roll (row node.core (rolls (public_of n.0))) there))
+    in log-steps w number node result node' pool' (log_rolled w.pool number n.0 node) (roll_of w LogServer number) there (acts n.0 n.1)
+    (ap (roll-by w (λ (l : LogNode). l.keys) (log-turned w number)) there ∙ ap (roll-with w (log-turned w number) node) n.1
+    ∙ ap (λ b. need b Limit >>= (λ u. Ok (log-turned w number node n.0))) free)
 
 -- the same by what stands in the log's place, of a world as the program has it
 pub log_rolled_there : (v w : World) (number : ℕ) (slot slot' other : Option LogNode) (result : Result (List Happening) WorldFault) (pool' : List Pooled)
     → v ≡ w → is_some (log_at w number) ≡ true → IfSome (log_at w number) (λ node. 0 < length node.keys) → room w ≡ Ok tt → slot ≡ get_or v.logs number other
     → ChangesThere slot slot' (λ was is. (next : KeyParts) → next_of was.keys ≡ Some next
-    → ActsBy result was is v.pool pool' (acted v.pool (log_party number) whats.Roll (log_does was (was.keys ++ next ∷ []) events.Roll (row was.core (rolls (public_of next))))))
+    → ActsBy result was is v.pool pool' (log_rolled v.pool number next was))
     → StepsBy result w (record v { logs = slice_set v.logs number slot'; pool = pool' }) (roll_of w LogServer number)
 log_rolled_there v w number slot slot' other result pool' same there keyed free here so =
     subst (λ (u : World). StepsBy result u (record v { logs = slice_set v.logs number slot'; pool = pool' }) (roll_of u LogServer number)) same
     (at slot slot' (honest_spot v.logs number slot other (subst (λ (u : World). is_some (log_at u number) ≡ true) (sym same) there) here) so) where
       at : (o o' : Option LogNode) → log_at v number ≡ o
           → ChangesThere o o' (λ was is. (next : KeyParts) → next_of was.keys ≡ Some next
-          → ActsBy result was is v.pool pool' (acted v.pool (log_party number) whats.Roll (log_does was (was.keys ++ next ∷ []) events.Roll (row was.core (rolls (public_of next))))))
+          → ActsBy result was is v.pool pool' (log_rolled v.pool number next was))
           → StepsBy result v (record v { logs = slice_set v.logs number o'; pool = pool' }) (roll_of v LogServer number)
       at (Some was) (Some is) e acts =
-          log_rolled v number was result is pool' e
+          log_rolled_so v number was result is pool' e
           (subst (λ (o : Option LogNode). IfSome o (λ node. 0 < length node.keys)) e (subst (λ (u : World). IfSome (log_at u number) (λ node. 0 < length node.keys)) (sym same) keyed))
           (subst (λ (u : World). has_room u ≡ true) (sym same) (room-free w free)) acts
       at (Some was) None e acts = absurd acts
       at None o' e acts = absurd acts
 
 pub log_roll_absent : (w : World) (number : ℕ) (fault : WorldFault) → need (is_some (log_at w number)) (Absent 1) ≡ Err fault → roll_of w LogServer number ≡ Err fault
-log_roll_absent w number fault e = roll-absent w (λ (l : LogNode). l.keys) (log_rolls w number) (log_at w number) fault e
+log_roll_absent w number fault e = roll-absent w (λ (l : LogNode). l.keys) (log-turned w number) (log_at w number) fault e
 
 pub log_roll_full : (w : World) (number : ℕ) (fault : WorldFault) → need (is_some (log_at w number)) (Absent 1) ≡ Ok tt → IfSome (log_at w number) (λ node. 0 < length node.keys)
     → room w ≡ Err fault → roll_of w LogServer number ≡ Err fault
-log_roll_full w number fault e keyed full = roll-full w (λ (l : LogNode). l.keys) (log_rolls w number) (log_at w number) fault e keyed full
+log_roll_full w number fault e keyed full = roll-full w (λ (l : LogNode). l.keys) (log-turned w number) (log_at w number) fault e keyed full
 
 pub ruleset log_orders = (order_absent, order_full)
 
@@ -226,31 +198,33 @@ pub ruleset log_turns = (log_roll_absent, log_roll_full)
 
 -- ---- `roll` of an authority
 
+-- what an authority makes of a world that goes on to a key
+abbrev authority-turned : World → ℕ → AuthorityNode → KeyParts → Moved
+authority-turned w number node next = authority_made w number (authority_rolled w.pool number next node)
+
 pub authority_rolled_so : (w : World) (number : ℕ) (node : AuthorityNode) (result : Result (List Happening) WorldFault) (node' : AuthorityNode) (pool' : List Pooled)
     → authority_at w number ≡ Some node → 0 < length node.keys → has_room w ≡ true
     → ((next : KeyParts) → next_of node.keys ≡ Some next
-    → ActsBy result node node' w.pool pool' (acted w.pool (authority_party number) whats.Roll (authority_turned node next (roll_row node.state (public_of next)))))
+    → ActsBy result node node' w.pool pool' (authority_rolled w.pool number next node))
     → StepsBy result w (record (with_authority w number node') { pool = pool' }) (roll_of w Authority number)
-unfolding authority_rolls
 authority_rolled_so w number node result node' pool' there some free acts =
     let n : (next : KeyParts) × (next_of node.keys ≡ Some next) = next-there node.keys some
-    in authority-steps w number node result node' pool' (acted w.pool (authority_party number) whats.Roll (authority_turned node n.0 (roll_row node.state (public_of n.0))))
-    (roll_of w Authority number) there (acts n.0 n.1)
-    (ap (roll-by w (λ (a : AuthorityNode). a.keys) (authority_rolls w number)) there ∙ ap (roll-with w (authority_rolls w number) node) n.1 ∙ ap (λ b. need b Limit >>= (λ u. Ok (authority_rolls w number node n.0))) free
-    ∙ ap (λ m. Ok m) (authority-answers w number node n.0 (roll_row node.state (public_of n.0))))
+    in authority-steps w number node result node' pool' (authority_rolled w.pool number n.0 node) (roll_of w Authority number) there (acts n.0 n.1)
+    (ap (roll-by w (λ (a : AuthorityNode). a.keys) (authority-turned w number)) there ∙ ap (roll-with w (authority-turned w number) node) n.1
+    ∙ ap (λ b. need b Limit >>= (λ u. Ok (authority-turned w number node n.0))) free)
 
 -- the same by what stands in the authority's place, of a world as the program has it
 pub authority_rolled_there : (v w : World) (number : ℕ) (slot slot' other : Option AuthorityNode) (result : Result (List Happening) WorldFault) (pool' : List Pooled)
     → v ≡ w → is_some (authority_at w number) ≡ true → IfSome (authority_at w number) (λ node. 0 < length node.keys) → room w ≡ Ok tt → slot ≡ get_or v.authorities number other
     → ChangesThere slot slot' (λ was is. (next : KeyParts) → next_of was.keys ≡ Some next
-    → ActsBy result was is v.pool pool' (acted v.pool (authority_party number) whats.Roll (authority_turned was next (roll_row was.state (public_of next)))))
+    → ActsBy result was is v.pool pool' (authority_rolled v.pool number next was))
     → StepsBy result w (record v { authorities = slice_set v.authorities number slot'; pool = pool' }) (roll_of w Authority number)
 authority_rolled_there v w number slot slot' other result pool' same there keyed free here so =
     subst (λ (u : World). StepsBy result u (record v { authorities = slice_set v.authorities number slot'; pool = pool' }) (roll_of u Authority number)) same
     (at slot slot' (honest_spot v.authorities number slot other (subst (λ (u : World). is_some (authority_at u number) ≡ true) (sym same) there) here) so) where
       at : (o o' : Option AuthorityNode) → authority_at v number ≡ o
           → ChangesThere o o' (λ was is. (next : KeyParts) → next_of was.keys ≡ Some next
-          → ActsBy result was is v.pool pool' (acted v.pool (authority_party number) whats.Roll (authority_turned was next (roll_row was.state (public_of next)))))
+          → ActsBy result was is v.pool pool' (authority_rolled v.pool number next was))
           → StepsBy result v (record v { authorities = slice_set v.authorities number o'; pool = pool' }) (roll_of v Authority number)
       at (Some was) (Some is) e acts =
           authority_rolled_so v number was result is pool' e
@@ -260,10 +234,10 @@ authority_rolled_there v w number slot slot' other result pool' same there keyed
       at None o' e acts = absurd acts
 
 pub authority_roll_absent : (w : World) (number : ℕ) (fault : WorldFault) → need (is_some (authority_at w number)) (Absent 1) ≡ Err fault → roll_of w Authority number ≡ Err fault
-authority_roll_absent w number fault e = roll-absent w (λ (a : AuthorityNode). a.keys) (authority_rolls w number) (authority_at w number) fault e
+authority_roll_absent w number fault e = roll-absent w (λ (a : AuthorityNode). a.keys) (authority-turned w number) (authority_at w number) fault e
 
 pub authority_roll_full : (w : World) (number : ℕ) (fault : WorldFault) → need (is_some (authority_at w number)) (Absent 1) ≡ Ok tt → IfSome (authority_at w number) (λ node. 0 < length node.keys)
     → room w ≡ Err fault → roll_of w Authority number ≡ Err fault
-authority_roll_full w number fault e keyed full = roll-full w (λ (a : AuthorityNode). a.keys) (authority_rolls w number) (authority_at w number) fault e keyed full
+authority_roll_full w number fault e keyed full = roll-full w (λ (a : AuthorityNode). a.keys) (authority-turned w number) (authority_at w number) fault e keyed full
 
 pub ruleset authority_turns = (authority_roll_absent, authority_roll_full)

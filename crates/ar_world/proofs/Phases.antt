@@ -1,23 +1,17 @@
 -- A line that is none of the setup leaves the phase as it is; that it came is noted by the step.
 use Rattle.std.proofs.Common.{◌≡◌, ℕ, List, [], ◌∷◌, ◌++◌, refl, ap, ◌∙◌, subst, true, Bool, false, nat_le, Option, Some, IfOk}
 use Rattle.std.specs.Prelude.{is_none, Result, Ok, Err, OnOk, nat_lt}
+use Rattle.ar_base.specs.Chaining.{need}
 use Rattle.ar_cert.specs.Certificate.{Certificate, digest_of}
-use Rattle.ar_message.specs.Messages.{message_in}
 use Rattle.ar_message.specs.declared.sent.Sent.{Sent}
 use Rattle.ar_statement.specs.declared.party.Party.{Party}
 use Rattle.ar_statement.specs.declared.party.Role.{Role}
 use Rattle.ar_statement.specs.declared.party.Role.TheVariants as role
-use Rattle.authority_core.specs.RollRows.{roll_row}
-use Rattle.authority_core.specs.State as authority_state
-use Rattle.lms_tree.specs.Key.{public_of}
-use Rattle.lms_tree.specs.KeyParts.{KeyParts}
-use Rattle.log_core.specs.Row.{row}
 use Rattle.log_core.specs.State as log_input
 use Rattle.owner_check.specs.Answers.{Told, forgotten, learnt}
 use Rattle.owner_check.specs.declared.answer.Outcome.{Outcome}
-use Rattle.owner_core.specs.Rows.{Row, begin_row, handover_row, object_row, step_row, submit_row}
+use Rattle.owner_core.specs.Rows.{Row, begin_row, handover_row}
 use Rattle.owner_core.specs.State.{Owner}
-use Rattle.owner_core.specs.declared.refusal.OwnerRefusal.{OwnerRefusal}
 use Rattle.report_text.specs.declared.happening.Happening.{Happening}
 use Rattle.report_text.specs.declared.happening.Happening.TheVariants.{Forgot, Taught}
 use Rattle.report_text.specs.declared.happening.What.{What}
@@ -26,25 +20,22 @@ use Rattle.script_text.specs.declared.line.Line.{Line}
 use Rattle.script_text.specs.declared.line.Line.TheVariants as line
 use Rattle.script_text.specs.declared.line.PolicyWords.{PolicyWords}
 use Rattle.ar_world.specs.Asking.{ask_line}
-use Rattle.ar_world.specs.Authorities.{authority_answers, authority_rolled, authority_rolls, authority_takes}
-use Rattle.ar_nodes.specs.Authorities.{authority_reply, node_behind}
-use Rattle.ar_world.specs.Delivering.{Taker, a_log, an_authority, an_owner, can_deliver, delivery, noted}
+use Rattle.ar_world.specs.Delivering.{Taker, a_log, an_authority, an_owner, can_deliver, delivery}
 use Rattle.ar_world.specs.Drafting.{begun, draft_if, draft_room, first_certificate, next_certificate, policy_of, register_line, revoke_line, update_line}
 use Rattle.ar_world.specs.Finding.{authority_at, checking_at, draft_at, existing, forger_at, known_asks, log_at, message_at, owner_at, room, with_owner}
-use Rattle.ar_nodes.specs.Finding.{named, need}
+use Rattle.ar_nodes.specs.Finding.{named}
 use Rattle.ar_world.specs.Forging.{composed_in, inject_line, receiver_in, sign_line, signing_if}
-use Rattle.ar_nodes.specs.Parties.{leaves_of}
+use Rattle.lms_tree.specs.LmsKind.{leaves_of}
 use Rattle.ar_world.specs.Founding.{place_of}
 use Rattle.ar_world.specs.Judging.{judge_line, judged_number}
-use Rattle.ar_world.specs.Logs.{log_answers, log_rolls, log_steps}
 use Rattle.ar_nodes.specs.Parties.{next_of}
 use Rattle.ar_world.specs.Ordering.{log_order, roll_of}
 use Rattle.ar_world.specs.Owning.{check_line}
-use Rattle.ar_nodes.specs.Parties.{AuthorityNode, Forger, LogNode}
+use Rattle.ar_nodes.specs.Parties.{Forger}
 use Rattle.ar_world.specs.Records.{HasParties}
 use Rattle.ar_world.specs.State.{Drafted, Moved, World}
 use Rattle.ar_world.specs.Step.{StepsBySome, effect, leads_to}
-use Rattle.ar_world.specs.Submitting.{handed, handover_line, object_line, owner_answers, submit_line, submitted}
+use Rattle.ar_world.specs.Submitting.{handed, handover_line, object_line, submit_line}
 use Rattle.ar_nodes.specs.declared.event.LogEvent.{LogEvent}
 use Rattle.ar_nodes.specs.declared.event.LogEvent.TheVariants as events
 use Rattle.ar_nodes.specs.declared.fault.WorldFault.{WorldFault}
@@ -58,48 +49,6 @@ abbrev Stays : World → Moved → Type 0
 Stays w made = made.0.phase ≡ w.phase
 
 -- ---- parties
-
-log-stays : (w : World) (number : ℕ) (node : LogNode) (keys : List KeyParts) (what : What) (event : LogEvent) (a : log_input.Answer)
-    → Stays w (log_answers w number node keys what event a)
-log-stays w number node keys what event (Ok reply) = refl
-log-stays w number node keys what event (Err refusal) = refl
-
-steps-stay : (w : World) (number : ℕ) (node : LogNode) (what : What) (event : LogEvent) (input : log_input.Input)
-    → Stays w (log_steps w number node what event input)
-unfolding log_steps
-steps-stay w number node what event input = log-stays w number node node.keys what event (row node.core input)
-
-rolls-stay : (w : World) (number : ℕ) (node : LogNode) (next : KeyParts) → Stays w (log_rolls w number node next)
-unfolding log_rolls
-rolls-stay w number node next =
-    log-stays w number node (node.keys ++ next ∷ []) whats.Roll events.Roll (row node.core (log_input.rolls (public_of next)))
-
-authority-stays : (w : World) (number : ℕ) (node : AuthorityNode) (what : What) (a : authority_state.Answer) → Stays w (authority_answers w number node what a)
-authority-stays w number node what (Ok answer) = refl
-authority-stays w number node what (Err refusal) = refl
-
-takes-stay : (says : Outcome) (w : World) (number : ℕ) (node : AuthorityNode) (what : What) (bytes : List ℕ)
-    → Stays w (authority_takes says w number node what bytes)
-unfolding authority_takes
-takes-stay says w number node what bytes =
-    let a = authority_reply says node (message_in bytes)
-    in authority-stays w number (node_behind node (message_in bytes) a) what a
-
-rolled-stays : (w : World) (number : ℕ) (node : AuthorityNode) (next : KeyParts) (a : authority_state.Answer) → Stays w (authority_rolled w number node next a)
-rolled-stays w number node next (Ok answer) = refl
-rolled-stays w number node next (Err refusal) = refl
-
-authority-rolls-stay : (w : World) (number : ℕ) (node : AuthorityNode) (next : KeyParts) → Stays w (authority_rolls w number node next)
-unfolding authority_rolls
-authority-rolls-stay w number node next = rolled-stays w number node next (roll_row node.state (public_of next))
-
-owner-stays : (w : World) (number : ℕ) (what : What) (r : Row Sent) → Stays w (owner_answers w number what r)
-owner-stays w number what (Ok made) = refl
-owner-stays w number what (Err refusal) = refl
-
-submitted-stays : (w : World) (number : ℕ) (what : What) (r : Result Sent OwnerRefusal) → Stays w (submitted w number what r)
-submitted-stays w number what (Ok sent) = refl
-submitted-stays w number what (Err refusal) = refl
 
 handed-stays : (w : World) (number draft : ℕ) (found : Drafted) (r : Row (List ℕ)) → Stays w (handed w number draft found r)
 handed-stays w number draft found (Ok made) =
@@ -115,10 +64,10 @@ signing-stays : (b : Bool) (w : World) (forger : Forger) (text : List ℕ) → S
 signing-stays true w forger text = refl
 signing-stays false w forger text = refl
 
-delivery-stays : (says : Outcome) (w : World) (message : ℕ) (bytes : List ℕ) (number : ℕ) (taker : Taker) → Stays w (delivery says w message bytes number taker)
-delivery-stays says w message bytes number (a_log node) = steps-stay w number node (whats.Take message) (events.Take message) (log_input.takes bytes)
-delivery-stays says w message bytes number (an_authority node) = takes-stay says w number node (whats.Take message) bytes
-delivery-stays says w message bytes number (an_owner me) = owner-stays w number (whats.Take message) (step_row me bytes)
+delivery-stays : (says : Outcome) (w : World) (message : ℕ) (number : ℕ) (taker : Taker) → Stays w (delivery says w message number taker)
+delivery-stays says w message number (a_log node) = refl
+delivery-stays says w message number (an_authority node) = refl
+delivery-stays says w message number (an_owner me) = refl
 
 -- ---- lines
 
@@ -159,13 +108,13 @@ object-stays : (w : World) (number draft : ℕ) → IfOk (object_line w number d
 object-stays w number draft =
     if-chained (named 1 (owner_at w number)) _ (Stays w) (λ owner same.
     if-chained (named 2 (draft_at w draft)) _ (Stays w) (λ found there.
-    if-chained (room w) _ (Stays w) (λ free more. owner-stays w number (whats.Object draft) (object_row owner found.cert))))
+    if-chained (room w) _ (Stays w) (λ free more. refl)))
 
 submit-stays : (w : World) (draft : ℕ) → IfOk (submit_line w draft) (Stays w)
 submit-stays w draft =
     if-chained (named 1 (draft_at w draft)) _ (Stays w) (λ found same.
     if-chained (named 1 (owner_at w found.owner)) _ (Stays w) (λ owner there.
-    if-chained (room w) _ (Stays w) (λ free more. submitted-stays w found.owner (whats.Submit draft) (submit_row owner (digest_of found.cert)))))
+    if-chained (room w) _ (Stays w) (λ free more. refl)))
 
 check-stays : (w : World) (authority owner : ℕ) (tells : List ℕ → Told → Told) (said : Happening) → IfOk (check_line w authority owner tells said) (Stays w)
 check-stays w authority owner tells said =
@@ -175,17 +124,17 @@ check-stays w authority owner tells said =
 order-stays : (w : World) (number : ℕ) (what : What) (event : LogEvent) (input : log_input.Input) → IfOk (log_order w number what event input) (Stays w)
 order-stays w number what event input =
     if-chained (named 1 (log_at w number)) _ (Stays w) (λ node same.
-    if-chained (room w) _ (Stays w) (λ free there. steps-stay w number node what event input))
+    if-chained (room w) _ (Stays w) (λ free there. refl))
 
 roll-stays : (w : World) (r : Role) (number : ℕ) → IfOk (roll_of w r number) (Stays w)
 roll-stays w role.LogServer number =
     if-chained (named 1 (log_at w number)) _ (Stays w) (λ node same.
     if-chained (named 1 (next_of node.keys)) _ (Stays w) (λ next there.
-    if-chained (room w) _ (Stays w) (λ free more. rolls-stay w number node next)))
+    if-chained (room w) _ (Stays w) (λ free more. refl)))
 roll-stays w role.Authority number =
     if-chained (named 1 (authority_at w number)) _ (Stays w) (λ node same.
     if-chained (named 1 (next_of node.keys)) _ (Stays w) (λ next there.
-    if-chained (room w) _ (Stays w) (λ free more. authority-rolls-stay w number node next)))
+    if-chained (room w) _ (Stays w) (λ free more. refl)))
 roll-stays w role.Owner number = tt
 roll-stays w role.Client number = tt
 
@@ -204,7 +153,7 @@ judge-stays w which name now age =
 sign-stays : (w : World) (who : Party) (pieces : List (List ℕ)) → IfOk (sign_line w who pieces) (Stays w)
 sign-stays w who pieces =
     if-chained (named 1 (forger_at w who)) _ (Stays w) (λ forger same.
-    if-chained (composed_in w pieces) _ (Stays w) (λ text there. signing-stays (nat_lt forger.next (leaves_of forger.key)) w forger text))
+    if-chained (composed_in w pieces) _ (Stays w) (λ text there. signing-stays (nat_lt forger.next (leaves_of forger.key.lms)) w forger text))
 
 inject-stays : (w : World) (who : Option Party) (pieces : List (List ℕ)) → IfOk (inject_line w who pieces) (Stays w)
 inject-stays w who pieces =
@@ -234,8 +183,7 @@ effect-stays says w (line.Roll party) leads = roll-stays w party.role party.numb
 effect-stays says w (line.Learn message) leads = if-chained (named 1 (message_at w message)) _ (Stays w) (λ p same. refl)
 effect-stays says w (line.Ask log name first second client) leads = ask-stays w log name first second client
 effect-stays says w (line.Deliver message party) leads =
-    if-chained (can_deliver w message party) _ (Stays w) (λ found same.
-    delivery-stays says (noted w message found.0 party) message found.0.bytes party.number found.1)
+    if-chained (can_deliver w message party) _ (Stays w) (λ taker same. delivery-stays says w message party.number taker)
 effect-stays says w line.Flush leads = refl
 effect-stays says w (line.Judge message name now age) leads = judge-stays w message name now age
 effect-stays says w (line.Sign party pieces) leads = sign-stays w party pieces

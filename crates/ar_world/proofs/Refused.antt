@@ -8,7 +8,7 @@ use Rattle.std.proofs.lemmas.List.Folds.{find_at}
 use Rattle.std.proofs.lemmas.Option.{cond_some}
 use Rattle.ar_base.specs.Chaining.{◌>>=◌}
 use Rattle.script_text.specs.declared.line.PolicyWords.{PolicyWords}
-use Rattle.ar_world.specs.Drafting.{ascend, draft_room, may_wait, policy_of, register_line, revoke_line, update_line}
+use Rattle.ar_world.specs.Drafting.{are_authorities, draft_room, may_wait, policy_of, register_line, revoke_line, update_line}
 use Rattle.ar_world.specs.Finding.{draft_at, known_asks, owner_at, room}
 use Rattle.ar_nodes.specs.Finding.{is_owner, named}
 use Rattle.ar_nodes.specs.Pool.{numbered}
@@ -52,7 +52,7 @@ pub names_counted : (word : ℕ) (w : World) (number : ℕ) → 0 < number → n
 names_counted word w zero some all = absurd (omega (arith, some))
 names_counted word w (suc place) some all = names_draft word w (suc place) place (omega arith) (omega (arith, all))
 
-pub names_policy : (word : ℕ) (words : PolicyWords) → ascend 0 words.trusted ≡ true → may_wait words.wait ≡ true → is_ok (named word (policy_of words)) ≡ true
+pub names_policy : (word : ℕ) (words : PolicyWords) → are_authorities words.trusted ≡ true → may_wait words.wait ≡ true → is_ok (named word (policy_of words)) ≡ true
 names_policy word words ascends waits = rw (ascends, waits) refl
 
 fine : {A E : Type 0} (r : Result A E) (x : A) → r ≡ Ok x → is_ok r ≡ true

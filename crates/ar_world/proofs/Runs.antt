@@ -1,6 +1,7 @@
 -- What holds of each step and each delivery holds of a whole script; and what it prints of messages is its pool.
 use Rattle.std.proofs.Common.{◌≡◌, ℕ, zero, suc, ◌+◌, List, [], ◌∷◌, ◌++◌, refl, sym, ◌∙◌, Bool, true, false, nat_lt, Option, Some, None, IfOk}
 use Rattle.std.specs.Prelude.{if◌then◌else◌, Result, Ok, Err}
+use Rattle.ar_base.specs.Chaining.{need}
 use Rattle.ar_lines.specs.Lines.{lines_of}
 use Rattle.ar_lines.specs.declared.refusal.Reason.{Reason}
 use Rattle.ar_lines.specs.declared.refusal.Reason.TheVariants as reason
@@ -16,15 +17,13 @@ use Rattle.script_text.specs.declared.line.Line.{Line}
 use Rattle.script_text.specs.declared.line.Line.TheVariants as line
 use Rattle.ar_world.specs.Delivering.{deliver_line, next_due}
 use Rattle.ar_world.specs.Finding.{Effect}
-use Rattle.ar_nodes.specs.Finding.{need}
 use Rattle.ar_world.specs.Founding.{may_come}
 use Rattle.ar_nodes.specs.Parties.{CheckParts}
 use Rattle.ar_nodes.specs.Pool.{entries_from}
 use Rattle.ar_world.specs.Printed.{Tells, TellsPool, entries_in}
-use Rattle.ar_world.specs.Run.{Progress, Run, Saying, delivering, flushed, follows, line_taken, most_deliveries, most_lines, progress_of, refusing, run, run_behind, run_from, taken_as, then_if}
+use Rattle.ar_world.specs.Run.{Course, Progress, Saying, at_line, delivering, flushed, follows, line_taken, most_deliveries, most_lines, progress_of, refusing, run, run_from, taken_as, then_if}
 use Rattle.ar_world.specs.State.{World, first_world}
 use Rattle.ar_world.specs.Step.{effect, leads_to, step, stepped}
-use Rattle.ar_world.specs.declared.cause.Cause.{Cause}
 use Rattle.ar_world.specs.declared.cause.Cause.TheVariants.{Unread}
 use Rattle.ar_nodes.specs.declared.event.LogEvent.TheVariants as events
 use Rattle.ar_nodes.specs.declared.fault.WorldFault.TheVariants.{Order}
@@ -84,14 +83,14 @@ pub record HoldsOfSteps (R : World → World → List Happening → Type 0) : Ty
   pub delivers : (says : Outcome) (w : World) (message : ℕ) (who : Party) → IfOk (deliver_line says w message who) (λ made. R w made.0 made.1)
 
 -- it holds of what some lines came to
-abbrev Goes : (World → World → List Happening → Type 0) → World → Progress → Type 0
+abbrev Goes : {C : Type 0} → (World → World → List Happening → Type 0) → World → Course C → Type 0
 Goes R w p = R w p.world p.said
 
 effect-goes : (R : World → World → List Happening → Type 0) → HoldsOfSteps R → (w : World) (made : Effect) → IfOk made (λ made. R w made.0 made.1) → Goes R w (progress_of w made)
 effect-goes R holds w (Ok m) made = made
 effect-goes R holds w (Err why) made = holds.still w
 
-if-goes : (R : World → World → List Happening → Type 0) → HoldsOfSteps R → (w : World) (cause : Option Cause) (p : Progress) (next : World → Progress)
+if-goes : {C : Type 0} (R : World → World → List Happening → Type 0) → HoldsOfSteps R → (w : World) (cause : Option C) (p : Course C) (next : World → Course C)
     → Goes R w p → ((v : World) → Goes R v (next v)) → Goes R w (then_if cause p next)
 if-goes R holds w None p next first rest = holds.both w p.world (next p.world).world p.said (next p.world).said first (rest p.world)
 if-goes R holds w (Some cause) p next first rest = first
@@ -128,18 +127,13 @@ line-goes R holds says number w text = by (nat_lt most_lines number)
     by true = holds.still w
     by false = taken-goes R holds says w (read_of text)
 
-behind-goes : (R : World → World → List Happening → Type 0) → HoldsOfSteps R → (number : ℕ) (w : World) (p : Progress) (cause : Option Cause) (rest : World → Run)
-    → Goes R w p → ((v : World) → R v (rest v).world (rest v).said) → R w (run_behind number p cause rest).world (run_behind number p cause rest).said
-behind-goes R holds number w p None rest first later = holds.both w p.world (rest p.world).world p.said (rest p.world).said first (later p.world)
-behind-goes R holds number w p (Some cause) rest first later = first
-
 from-goes : (R : World → World → List Happening → Type 0) → HoldsOfSteps R → (saying : Saying) (number : ℕ) (w : World) (texts : List (List ℕ))
-    → R w (run_from saying number w texts).world (run_from saying number w texts).said
+    → Goes R w (run_from saying number w texts)
 unfolding run_from
 from-goes R holds saying number w [] = holds.still w
 from-goes R holds saying number w (text ∷ texts) =
-    let p = line_taken (saying number) number w text
-    in behind-goes R holds number w p p.refused (λ later. run_from saying (number + 1) later texts) (line-goes R holds (saying number) number w text)
+    let p = at_line number (line_taken (saying number) number w text)
+    in if-goes R holds w p.refused p (λ later. run_from saying (number + 1) later texts) (line-goes R holds (saying number) number w text)
     (λ later. from-goes R holds saying (number + 1) later texts)
 
 -- so it holds of each run

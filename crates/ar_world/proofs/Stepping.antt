@@ -1,7 +1,7 @@
 -- A line that asks no check, as one by what a check says.
 use Rattle.std.proofs.Common.{◌≡◌, ℕ, List, [], Option, Some, None, refl, sym, ap, ◌∙◌, subst, true, false, inr}
 use Rattle.std.specs.Prelude.{Result, Ok, Err, unwrap_or}
-use Rattle.ar_base.specs.Chaining.{◌>>=◌}
+use Rattle.ar_base.specs.Chaining.{◌>>=◌, need}
 use Rattle.ar_statement.specs.declared.party.Party.{Party}
 use Rattle.owner_check.specs.declared.answer.Outcome.TheVariants.{No}
 use Rattle.report_text.specs.declared.happening.Happening.{Happening}
@@ -12,7 +12,6 @@ use Rattle.ar_world.specs.Asking.{ask_line}
 use Rattle.ar_world.specs.Delivering.{deliver_line}
 use Rattle.ar_world.specs.Drafting.{register_line, revoke_line, update_line}
 use Rattle.ar_world.specs.Forging.{inject_line, sign_line}
-use Rattle.ar_nodes.specs.Finding.{need}
 use Rattle.ar_world.specs.Founding.{authorities_line, dishonest_line, keys_line, led_to, logs_line, may_come, secret_line}
 use Rattle.ar_world.specs.Judging.{judge_line}
 use Rattle.ar_world.specs.Learning.{learn_line}

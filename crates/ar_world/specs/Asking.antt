@@ -4,10 +4,9 @@ use Rattle.ar_base.specs.Chaining.{◌>>=◌}
 use Rattle.ar_message.specs.declared.address.Address.TheVariants.{One}
 use Rattle.ar_message.specs.declared.message.Message.TheVariants.{ConfirmAsk}
 use Rattle.ar_message.specs.declared.sent.Sent.{Sent}
-use Rattle.ar_statement.specs.Claims.{party}
-use Rattle.ar_statement.specs.declared.party.Role.TheVariants.{Authority, Client, LogServer}
+use Rattle.ar_statement.specs.Claims.{client_party, log_party}
+use Rattle.ar_statement.specs.declared.party.Role.TheVariants.{Authority, LogServer}
 use Rattle.owner_core.specs.Rows.{letter, sent}
-use Rattle.party_keys.specs.Seen.{log_party}
 use Rattle.ar_world.specs.Finding.{Effect, existing, room}
 use Rattle.ar_world.specs.Sending.{posted}
 use Rattle.ar_world.specs.State.{World}
@@ -24,4 +23,4 @@ ask_line w log name first second client = do
   one ← existing w 3 Authority first
   other ← existing w 4 Authority second
   free ← room w
-  Ok (posted w (party Client client) (question log name first second client))
+  Ok (posted w (client_party client) (question log name first second client))

@@ -1,30 +1,24 @@
 -- Deliveries: the line `deliver`, and which delivery is the next of a `flush`.
 use Rattle.std.specs.Prelude.{ℕ, ◌+◌, Bool, false, not, ◌&&◌, List, [], ◌∷◌, filter, find, length, map, is_some, Option, Some, None, Result, Ok}
-use Rattle.std.specs.List.{list_any, range_with_len}
+use Rattle.std.specs.List.{range_with_len}
 use Rattle.std.specs.Option.{option_map}
 use Rattle.ar_base.specs.Chaining.{◌>>=◌}
-use Rattle.ar_statement.specs.Claims.{is_party}
+use Rattle.ar_statement.specs.Claims.{has_party, is_party, log_party}
 use Rattle.ar_statement.specs.declared.party.Party.{Party}
 use Rattle.ar_statement.specs.declared.party.Role.{Role}
 use Rattle.ar_statement.specs.declared.party.Role.TheVariants as role
-use Rattle.log_core.specs.State.{takes}
 use Rattle.owner_check.specs.declared.answer.Outcome.{Outcome}
-use Rattle.owner_core.specs.Rows.{step_row}
 use Rattle.owner_core.specs.State.{Owner}
-use Rattle.party_keys.specs.Seen.{log_party}
 use Rattle.report_text.specs.declared.happening.Target.{Target}
 use Rattle.report_text.specs.declared.happening.Target.TheVariants.{Logs, Nobody, One}
-use Rattle.report_text.specs.declared.happening.What.TheVariants.{Take}
+use Rattle.ar_nodes.specs.Acting.{authority_delivered, log_delivered, owner_delivered}
 use Rattle.ar_nodes.specs.Finding.{named}
 use Rattle.ar_nodes.specs.Parties.{AuthorityNode, LogNode}
-use Rattle.ar_nodes.specs.Pool.{Pooled, set_numbered, delivered_to}
-use Rattle.ar_nodes.specs.declared.event.LogEvent.TheVariants as events
+use Rattle.ar_nodes.specs.Pool.{Pooled}
 use Rattle.ar_nodes.specs.declared.fault.WorldFault.{WorldFault}
-use Rattle.ar_world.specs.Authorities.{authority_takes}
 use Rattle.ar_world.specs.Finding.{Effect, authority_at, log_at, message_at, owner_at, room}
-use Rattle.ar_world.specs.Logs.{log_steps}
+use Rattle.ar_world.specs.Sending.{authority_made, log_made, owner_made}
 use Rattle.ar_world.specs.State.{Moved, World}
-use Rattle.ar_world.specs.Submitting.{owner_answers}
 
 -- ---- who takes deliveries
 
@@ -46,35 +40,31 @@ taker_at w who = taker_in w who.role who.number
 
 -- ---- a delivery
 
--- the world in which it was
-abbrev pub noted : World → ℕ → Pooled → Party → World
-noted w message p who = record w { pool = set_numbered w.pool message (delivered_to who p) }
-
--- the party's step; a check that tells nothing of itself says this
-abbrev pub delivery : Outcome → World → ℕ → List ℕ → ℕ → Taker → Moved
-delivery says w message bytes number (a_log node) = log_steps w number node (Take message) (events.Take message) (takes bytes)
-delivery says w message bytes number (an_authority node) = authority_takes says w number node (Take message) bytes
-delivery says w message bytes number (an_owner me) = owner_answers w number (Take message) (step_row me bytes)
+-- the party takes the message; a check that tells nothing of itself says this
+abbrev pub delivery : Outcome → World → ℕ → ℕ → Taker → Moved
+delivery says w message number (a_log node) = log_made w number (log_delivered w.pool message number node)
+delivery says w message number (an_authority node) = authority_made w number (authority_delivered says w.pool message number node)
+delivery says w message number (an_owner me) = owner_made w (owner_delivered w.pool message number me)
 
 -- word 1 names a message, and word 2 a party that takes deliveries; and there is room for what it may send
-abbrev pub can_deliver : World → ℕ → Party → Result (Pooled × Taker) WorldFault
+abbrev pub can_deliver : World → ℕ → Party → Result Taker WorldFault
 can_deliver w message who = do
   p ← named 1 (message_at w message)
   taker ← named 2 (taker_at w who)
   free ← room w
-  Ok (p, taker)
+  Ok taker
 
 -- whether the line is taken, or why it is refused
 abbrev pub deliverable : World → ℕ → Party → Result (Unit {0}) WorldFault
 deliverable w message who = do
-  found ← can_deliver w message who
+  taker ← can_deliver w message who
   Ok tt
 
 -- the message goes to the party, whoever it is addressed to, and however often it was delivered
 abbrev pub deliver_line : Outcome → World → ℕ → Party → Effect
 deliver_line says w message who = do
-  found ← can_deliver w message who
-  Ok (delivery says (noted w message found.0 who) message found.0.bytes who.number found.1)
+  taker ← can_deliver w message who
+  Ok (delivery says w message who.number taker)
 
 -- ---- what is due
 
@@ -91,7 +81,7 @@ addressed logs from (One who) = who ∷ []
 
 -- the party takes deliveries, and the message was never delivered to it
 abbrev pub is_due : World → Pooled → Party → Bool
-is_due w p who = is_some (taker_at w who) && not (list_any (is_party who) p.delivered)
+is_due w p who = is_some (taker_at w who) && not (has_party p.delivered who)
 
 -- the first party to which a message is due
 abbrev pub due_to : World → Pooled → Option Party

@@ -1,6 +1,8 @@
 -- The lines that make drafts of certificates: `register`, `update` and `revoke`.
-use Rattle.std.specs.Prelude.{ℕ, ◌+◌, nat_le, nat_lt, Bool, true, false, ◌&&◌, if◌then◌else◌, List, [], ◌∷◌, ◌++◌, length, map, replicate, Option, Some, None, Result, Ok, Err}
-use Rattle.ar_base.specs.Chaining.{◌>>=◌}
+use Rattle.std.specs.Prelude.{ℕ, ◌+◌, nat_lt, Bool, true, false, ◌&&◌, if◌then◌else◌, List, [], ◌∷◌, ◌++◌, length, map, replicate, Option, Some, None, Result, Ok, Err}
+use Rattle.std.specs.List.{list_all}
+use Rattle.ar_bytes.specs.Ascending.{ascends}
+use Rattle.ar_base.specs.Chaining.{◌>>=◌, need}
 use Rattle.ar_cert.specs.Certificate.{Certificate, digest_of, is_wait}
 use Rattle.ar_message.specs.declared.address.Address.TheVariants.{One}
 use Rattle.ar_message.specs.declared.message.Message.TheVariants.{EndorseAsk}
@@ -9,22 +11,20 @@ use Rattle.cert_policy.specs.Terms.{PolicyTerms}
 use Rattle.lms_tree.specs.Key.{public_of}
 use Rattle.owner_core.specs.Rows.{Row, begin_row, letter}
 use Rattle.owner_core.specs.State.{Owner}
-use Rattle.party_keys.specs.Seen.{authority_party}
+use Rattle.ar_statement.specs.Claims.{authority_party, owner_party}
 use Rattle.report_text.specs.declared.happening.Happening.TheVariants.{Draft}
 use Rattle.script_text.specs.declared.line.PolicyWords.{PolicyWords}
 use Rattle.ar_world.specs.Finding.{Effect, draft_at, known_asks, most_drafts, owner_at, room, with_owner}
-use Rattle.ar_nodes.specs.Finding.{named, need}
-use Rattle.ar_nodes.specs.Owners.{owner_party}
+use Rattle.ar_nodes.specs.Finding.{named}
 use Rattle.ar_nodes.specs.Pool.{Pooled, pooled_from}
 use Rattle.ar_world.specs.Sending.{posted}
 use Rattle.ar_world.specs.State.{Moved, World, printing, silent}
 use Rattle.ar_nodes.specs.declared.fault.WorldFault.{WorldFault}
 use Rattle.ar_nodes.specs.declared.fault.WorldFault.TheVariants.{Limit}
 
--- numbers of authorities that ascend strictly, none of which is below `least`
-unfoldable pub ascend : ℕ → List ℕ → Bool
-ascend least [] = true
-ascend least (number ∷ more) = nat_le least number && nat_lt number 65536 && ascend (number + 1) more
+-- whether numbers are those of authorities: they ascend strictly, and have two bytes each
+abbrev pub are_authorities : List ℕ → Bool
+are_authorities numbers = ascends numbers && list_all (λ number. nat_lt number 65536) numbers
 
 -- a wait is one, where there is any
 abbrev pub may_wait : Option ℕ → Bool
@@ -44,7 +44,7 @@ terms_of words = record {
 
 -- the policy that words say, where its authorities ascend and its wait is one
 abbrev pub policy_of : PolicyWords → Option PolicyTerms
-policy_of words = if ascend 0 words.trusted && may_wait words.wait then Some (terms_of words) else None
+policy_of words = if are_authorities words.trusted && may_wait words.wait then Some (terms_of words) else None
 
 -- ---- certificates
 

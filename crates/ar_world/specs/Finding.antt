@@ -1,11 +1,12 @@
 -- What the words of a line name, and why a line is refused where one names nothing or where there is no room.
 use Rattle.std.specs.Prelude.{ℕ, nat_lt, Bool, true, ◌&&◌, List, length, find, position, Option, is_some, Result}
 use Rattle.std.specs.List.{list_all}
+use Rattle.ar_base.specs.Chaining.{need}
 use Rattle.ar_statement.specs.declared.party.Party.{Party}
 use Rattle.ar_statement.specs.declared.party.Role.{Role}
 use Rattle.ar_statement.specs.declared.party.Role.TheVariants.{LogServer, Authority, Owner, Client}
 use Rattle.owner_core.specs.State as owners
-use Rattle.ar_nodes.specs.Finding.{need, honest_in, checking_in, is_owner, is_forger, set_if}
+use Rattle.ar_nodes.specs.Finding.{honest_in, checking_in, is_owner, is_forger, set_if}
 use Rattle.ar_nodes.specs.Parties.{AuthorityNode, CheckParts, Forger, LogNode}
 use Rattle.ar_nodes.specs.Pool.{Pooled, bytes_in, numbered, most_messages, most_bytes}
 use Rattle.ar_nodes.specs.declared.fault.WorldFault.{WorldFault}

@@ -8,7 +8,8 @@ use Rattle.report_text.specs.declared.happening.Target.TheVariants.{Logs, Nobody
 use Rattle.ar_nodes.specs.Composing.{composed}
 use Rattle.ar_nodes.specs.Finding.{named}
 use Rattle.ar_nodes.specs.Forging.{forged}
-use Rattle.ar_nodes.specs.Parties.{leaves_of, Forger}
+use Rattle.ar_nodes.specs.Parties.{Forger}
+use Rattle.lms_tree.specs.LmsKind.{leaves_of}
 use Rattle.ar_nodes.specs.Pool.{raw}
 use Rattle.ar_nodes.specs.declared.fault.WorldFault.{WorldFault}
 use Rattle.ar_world.specs.Finding.{Effect, existing, forger_at, room, with_forger}
@@ -32,7 +33,7 @@ signing_if true w forger text =
 signing_if false w forger text = (w, SignRefused forger.party ∷ [])
 
 abbrev pub signing : World → Forger → List ℕ → Moved
-signing w forger text = signing_if (nat_lt forger.next (leaves_of forger.key)) w forger text
+signing w forger text = signing_if (nat_lt forger.next (leaves_of forger.key.lms)) w forger text
 
 -- word 1 names a dishonest party
 abbrev pub sign_line : World → Party → List (List ℕ) → Effect

@@ -1,6 +1,6 @@
 -- The lines of the setup: the secret, the types of keys, the logs, the authorities, and who is dishonest.
 use Rattle.std.specs.Prelude.{◌++◌, ℕ, ◌==◌, nat_le, nat_lt, Bool, List, [], ◌∷◌, slice_set, Option, None, option_and_then, Ok}
-use Rattle.ar_base.specs.Chaining.{◌>>=◌}
+use Rattle.ar_base.specs.Chaining.{◌>>=◌, need}
 use Rattle.ar_base.specs.Ranges.{is_from_to}
 use Rattle.ar_statement.specs.declared.party.Party.{Party}
 use Rattle.ar_statement.specs.declared.party.Role.{Role}
@@ -10,7 +10,7 @@ use Rattle.lms_tree.specs.Key.{type_to_make}
 use Rattle.lms_tree.specs.KeyParts.{KeyParts}
 use Rattle.party_keys.specs.Directory.{Directory, is_party_count, is_quorum}
 use Rattle.report_text.specs.declared.happening.Happening.TheVariants.{Dishonest}
-use Rattle.ar_nodes.specs.Finding.{named, need}
+use Rattle.ar_nodes.specs.Finding.{named}
 use Rattle.ar_nodes.specs.declared.fault.WorldFault.TheVariants.{Absent, Order}
 use Rattle.ar_founding.specs.FirstKeys.{keys_made, first_key}
 use Rattle.ar_founding.specs.Founded.{Founded, authorities_of, log_rings, logs_of}

@@ -1,14 +1,13 @@
 -- The line `learn`: the clients' directory takes a message.
 use Rattle.std.specs.Prelude.{ℕ, List, [], ◌∷◌, Option, Some, None, Result, Ok, Err}
 use Rattle.ar_base.specs.Chaining.{◌>>=◌}
-use Rattle.ar_council.specs.Seen.{seen_of, with_seen}
+use Rattle.ar_council.specs.Seen.{with_seen}
+use Rattle.party_keys.specs.Seen.{seen_of}
 use Rattle.ar_message.specs.Messages.{message_in}
-use Rattle.ar_statement.specs.Claims.{roll}
 use Rattle.ar_statement.specs.declared.text.SeenText.{SeenText}
 use Rattle.client_rule.specs.Notes.{note_of}
-use Rattle.lms_tree.specs.PublicKey.{key_text}
 use Rattle.party_keys.specs.Directory.{Directory}
-use Rattle.party_keys.specs.Learning.{Announced, after_learning, learned}
+use Rattle.party_keys.specs.Learning.{Announced, after_learning, learned, roll_claim}
 use Rattle.party_keys.specs.declared.fault.LearnFault.{LearnFault}
 use Rattle.party_keys.specs.declared.fault.LearnFault.TheVariants as fault
 use Rattle.party_keys.specs.declared.learning.Learned.{Learned}
@@ -40,7 +39,7 @@ rolls_with rolls new (Err why) = rolls
 
 abbrev pub rolls_by : Directory → List SeenText → Option Announced → List SeenText
 rolls_by keys rolls None = rolls
-rolls_by keys rolls (Some a) = rolls_with rolls (seen_of a.party (roll a.party a.generation (key_text a.key))) (learned keys a)
+rolls_by keys rolls (Some a) = rolls_with rolls (seen_of a.party (roll_claim a)) (learned keys a)
 
 -- why it is not learnt, where it is not
 abbrev pub why_not : Result Learned LearnFault → Option Unlearnt

@@ -1,5 +1,4 @@
 pub mod Asking
-pub mod Authorities
 pub mod Delivering
 pub mod Drafting
 pub mod Examples
@@ -9,7 +8,6 @@ pub mod Founding
 pub mod Judging
 pub mod Kept
 pub mod Learning
-pub mod Logs
 pub mod Ordering
 pub mod Owning
 pub mod Printed

@@ -7,11 +7,11 @@ use Rattle.ar_statement.specs.declared.party.Role.TheVariants.{LogServer, Author
 use Rattle.log_core.specs.State.{Input, passes, proposes}
 use Rattle.report_text.specs.declared.happening.What.{What}
 use Rattle.report_text.specs.declared.happening.What.TheVariants as whats
-use Rattle.ar_world.specs.Authorities.{authority_rolls}
+use Rattle.ar_nodes.specs.Acting.{authority_rolled, log_obeyed, log_rolled}
 use Rattle.ar_world.specs.Finding.{Effect, authority_at, log_at, room}
 use Rattle.ar_nodes.specs.Finding.{named}
-use Rattle.ar_world.specs.Logs.{log_rolls, log_steps}
 use Rattle.ar_nodes.specs.Parties.{next_of}
+use Rattle.ar_world.specs.Sending.{authority_made, log_made}
 use Rattle.ar_world.specs.State.{World}
 use Rattle.ar_nodes.specs.declared.event.LogEvent.{LogEvent}
 use Rattle.ar_nodes.specs.declared.event.LogEvent.TheVariants as events
@@ -24,7 +24,7 @@ abbrev pub log_order : World → ℕ → What → LogEvent → Input → Effect
 log_order w number what event input = do
   node ← named 1 (log_at w number)
   free ← room w
-  Ok (log_steps w number node what event input)
+  Ok (log_made w number (log_obeyed w.pool number what event input node))
 
 abbrev pub propose_line : World → ℕ → Effect
 propose_line w number = log_order w number whats.Propose events.Propose proposes
@@ -40,12 +40,12 @@ roll_of w LogServer number = do
   node ← named 1 (log_at w number)
   next ← named 1 (next_of node.keys)
   free ← room w
-  Ok (log_rolls w number node next)
+  Ok (log_made w number (log_rolled w.pool number next node))
 roll_of w Authority number = do
   node ← named 1 (authority_at w number)
   next ← named 1 (next_of node.keys)
   free ← room w
-  Ok (authority_rolls w number node next)
+  Ok (authority_made w number (authority_rolled w.pool number next node))
 roll_of w Owner number = Err (Absent 1)
 roll_of w Client number = Err (Absent 1)
 

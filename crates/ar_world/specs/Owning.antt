@@ -1,6 +1,6 @@
 -- The lines on owners, and on what authorities know of them: `owner`, `teach`, `forget` and `retire`.
 use Rattle.std.specs.Prelude.{ℕ, List, [], ◌∷◌, ◌++◌, None, is_none, Ok}
-use Rattle.ar_base.specs.Chaining.{◌>>=◌}
+use Rattle.ar_base.specs.Chaining.{◌>>=◌, need}
 use Rattle.ar_statement.specs.declared.party.Role.TheVariants as role
 use Rattle.lms_tree.specs.KeyParts.{KeyParts}
 use Rattle.owner_check.specs.Answers.{Told}
@@ -8,9 +8,10 @@ use Rattle.owner_core.specs.Rows.{first_owner}
 use Rattle.owner_core.specs.State.{Owner}
 use Rattle.report_text.specs.declared.happening.Happening.{Happening}
 use Rattle.report_text.specs.declared.happening.Happening.TheVariants.{Retired}
-use Rattle.ar_nodes.specs.Finding.{named, need}
-use Rattle.ar_nodes.specs.Owners.{owner_party, known_key}
-use Rattle.ar_nodes.specs.Parties.{leaves_of}
+use Rattle.ar_nodes.specs.Finding.{named}
+use Rattle.ar_nodes.specs.Owners.{known_key}
+use Rattle.ar_statement.specs.Claims.{owner_party}
+use Rattle.lms_tree.specs.LmsKind.{leaves_of}
 use Rattle.ar_nodes.specs.Teaching.{retold, told_behind, lesson_said}
 use Rattle.ar_nodes.specs.declared.fault.WorldFault.TheVariants.{Absent}
 use Rattle.ar_nodes.specs.declared.lesson.Lesson.{Lesson}
@@ -28,7 +29,7 @@ owner_key secret number = key_for (record plain_setup { secret = secret }) role.
 abbrev pub new_owner : World → ℕ → Owner
 new_owner w number =
     let key = owner_key w.setup.secret number
-    in first_owner number w.genesis key (leaves_of key)
+    in first_owner number w.genesis key (leaves_of key.lms)
 
 -- word 1 names no owner that is there
 abbrev pub owner_line : World → ℕ → Effect

@@ -1,9 +1,10 @@
 -- A whole script: the lines of an input, each taken by the world that those before it leave, until one is refused, and all that
 -- is written of it.
 use Rattle.std.specs.Prelude.{◌*◌, ℕ, zero, suc, ◌+◌, nat_lt, if◌then◌else◌, List, [], ◌∷◌, ◌++◌, codes, map, Option, Some, None, Result, Ok, Err}
+use Rattle.std.specs.Option.{option_map}
 use Rattle.std.specs.Fmt.{decimal}
 use Rattle.ar_lines.specs.Lines.{lines_of}
-use Rattle.ar_lines.specs.Refusals.{reason_text}
+use Rattle.ar_lines.specs.Refusals.{reason_text, refused_as}
 use Rattle.ar_lines.specs.declared.refusal.Reason.{Reason}
 use Rattle.ar_lines.specs.declared.refusal.Reason.TheVariants as reason
 use Rattle.ar_statement.specs.declared.party.Party.{Party}
@@ -32,13 +33,21 @@ Saying = ℕ → ℕ → Outcome
 -- ---- what lines come to
 
 -- the world behind some lines, what was printed, and why the last was refused, if it was
-pub record Progress : Type 0 where
+pub record Course (C : Type 0) : Type 0 where
   pub world : World
   pub said : List Happening
-  pub refused : Option Cause
+  pub refused : Option C
+
+-- that of one line: why it was refused
+abbrev pub Progress : Type 0
+Progress = Course Cause
+
+-- that of a script: the number of the line that was refused, and why
+abbrev pub Run : Type 0
+Run = Course (ℕ × Cause)
 
 -- nothing happened
-abbrev pub unmoved : World → Progress
+abbrev pub unmoved : {C : Type 0} → World → Course C
 unmoved w = record { world = w; said = []; refused = None }
 
 -- a line is refused, and does nothing
@@ -51,15 +60,15 @@ progress_of w (Ok made) = record { world = made.0; said = made.1; refused = None
 progress_of w (Err why) = refusing w (Untaken why)
 
 -- what was printed before
-abbrev pub behind : List Happening → Progress → Progress
+abbrev pub behind : {C : Type 0} → List Happening → Course C → Course C
 behind said p = record p { said = said ++ p.said }
 
 -- one after the other, unless the first was refused
-abbrev pub then_if : Option Cause → Progress → (World → Progress) → Progress
+abbrev pub then_if : {C : Type 0} → Option C → Course C → (World → Course C) → Course C
 then_if None p next = behind p.said (next p.world)
 then_if (Some cause) p next = p
 
-abbrev pub then_on : Progress → (World → Progress) → Progress
+abbrev pub then_on : {C : Type 0} → Course C → (World → Course C) → Course C
 then_on p next = then_if p.refused p next
 
 -- ---- `flush`
@@ -108,28 +117,15 @@ line_taken says number w text =
 
 -- ---- a script
 
--- what a script came to: the world behind it, all that was printed, and the number of the line that was refused, and why, if
--- one was
-pub record Run : Type 0 where
-  pub world : World
-  pub said : List Happening
-  pub refused : Option (ℕ × Cause)
-
--- what was printed before
-abbrev pub behind_run : List Happening → Run → Run
-behind_run said r = record r { said = said ++ r.said }
-
--- the lines behind one with this number, unless it was refused
-abbrev pub run_behind : ℕ → Progress → Option Cause → (World → Run) → Run
-run_behind number p None rest = behind_run p.said (rest p.world)
-run_behind number p (Some cause) rest = record { world = p.world; said = p.said; refused = Some (number, cause) }
+-- what the line with this number came to
+abbrev pub at_line : ℕ → Progress → Run
+at_line number p = record { world = p.world; said = p.said; refused = option_map (λ cause. (number, cause)) p.refused }
 
 -- these lines, the first of which has this number
 unfoldable pub run_from : Saying → ℕ → World → List (List ℕ) → Run
-run_from saying number w [] = record { world = w; said = []; refused = None }
+run_from saying number w [] = unmoved w
 run_from saying number w (text ∷ texts) =
-    let p = line_taken (saying number) number w text
-    in run_behind number p p.refused (λ later. run_from saying (number + 1) later texts)
+    then_on (at_line number (line_taken (saying number) number w text)) (λ later. run_from saying (number + 1) later texts)
 
 -- the run of an input, with these checks of owners
 abbrev pub run : Saying → List CheckParts → List ℕ → Run
@@ -150,7 +146,7 @@ cause_text (Untaken why) = fault_text why
 
 -- the line that tells which line is refused, and why
 abbrev pub refused_text : ℕ × Cause → List ℕ
-refused_text refusal = codes "line " ++ (decimal refusal.0 ++ (codes ": " ++ (cause_text refusal.1 ++ codes "\n")))
+refused_text refusal = refused_as refusal.0 (cause_text refusal.1 ++ codes "\n")
 
 abbrev pub refused_lines : Option (ℕ × Cause) → List (List ℕ)
 refused_lines None = []

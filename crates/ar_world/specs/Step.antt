@@ -1,5 +1,6 @@
 -- What a line of a script makes of a world, and what is printed of it; or why the line is refused.
-use Rattle.std.specs.Prelude.{◌≡◌, ◌⊎◌, List, Option, Some, None, Result, Ok, Err}
+use Rattle.std.specs.Prelude.{List, Option, Some, None, Result, Ok, Err}
+use Rattle.ar_base.specs.Gives.{StepsUnless}
 use Rattle.owner_check.specs.declared.answer.Outcome.{Outcome}
 use Rattle.report_text.specs.declared.happening.Happening.{Happening}
 use Rattle.script_text.specs.declared.line.Line.{Line}
@@ -76,8 +77,7 @@ step says w l = stepped w (leads_to l) (effect says w l)
 -- A call made of the world what the effect says, and answered what is printed. Or it answered the effect's refusal, or want of
 -- memory, and left the world as it was.
 abbrev pub StepsBy : Result (List Happening) WorldFault → World → World → Effect → Type 0
-StepsBy (Ok said) old new effect = effect ≡ Ok (new, said)
-StepsBy (Err fault) old new effect = (new ≡ old) × ((fault ≡ Memory) ⊎ (effect ≡ Err fault))
+StepsBy = StepsUnless Memory (λ new said. (new, said))
 
 -- A call did so for something that a check says which tells nothing of itself.
 pub record StepsBySome (result : Result (List Happening) WorldFault) (old new : World) (effect : Outcome → Effect) : Type 0 where

@@ -3,7 +3,7 @@
 ghost use Rattle.std.specs.Prelude.{◌≡◌, ◌+◌, ◌++◌, ◌∷◌, [], length, map, IfOk, OnOk, OnErr};
 ghost use Rattle.ar_message.specs.Messages.{message_text};
 ghost use Rattle.ar_message.specs.declared.message.Message.TheVariants.{ConfirmAsk};
-ghost use Rattle.ar_statement.specs.Claims.{party};
+ghost use Rattle.ar_statement.specs.Claims.{client_party, party};
 ghost use Rattle.ar_statement.specs.declared.party.Role.TheVariants.{Client};
 ghost use Rattle.ar_world.specs.Asking.{ask_line, question};
 ghost use Rattle.ar_nodes.specs.Pool.{entries_from, pooled_from};
@@ -66,9 +66,9 @@ fn ask(
     client: u16,
 ) -> Result<Items<Happening>, AllocError>
     ensures pool { OnOk result (pool.new.messages
-        ≡ pool.old.messages ++ map (pooled_from (party Client client)) (question log name.now authorities.0 authorities.1 client).messages) }
+        ≡ pool.old.messages ++ map (pooled_from (client_party client)) (question log name.now authorities.0 authorities.1 client).messages) }
     ensures said { IfOk result (λ said. said
-        ≡ entries_from (length pool.old.messages + 1) (map (pooled_from (party Client client)) (question log name.now authorities.0 authorities.1 client).messages)) }
+        ≡ entries_from (length pool.old.messages + 1) (map (pooled_from (client_party client)) (question log name.now authorities.0 authorities.1 client).messages)) }
     ensures err { OnErr result (pool.new.messages ≡ pool.old.messages) }
 {
     let (first, second) = authorities;

@@ -2,19 +2,18 @@
 
 ghost use Rattle.std.specs.Prelude.{◌≡◌, ◌&&◌, not, true, is_some, length, find, OnOk, Err};
 ghost use Rattle.ar_statement.specs.declared.party.Role.TheVariants as roles;
-ghost use Rattle.party_keys.specs.Seen.{authority_party, log_party};
+ghost use Rattle.ar_statement.specs.Claims.{authority_party, log_party, owner_party};
 ghost use Rattle.report_text.specs.declared.happening.Target.TheVariants as target;
 ghost use Rattle.ar_world.specs.Delivering.{addressed, deliver_line, deliverable, due_from, due_to, is_due, is_sender, next_due, taker_at};
 ghost use Rattle.ar_nodes.specs.Finding.{honest_in};
-ghost use Rattle.ar_nodes.specs.Owners.{owner_party};
 ghost use Rattle.ar_world.specs.Step.{StepsBySome};
 
 use crate::world::World;
 use ar_base::Items;
-use ar_nodes::finding::has_owner;
+use ar_nodes::finding::{has_owner, honest};
 use ar_nodes::taking::{authorities_take, logs_take, owner_takes};
-use ar_nodes::{Pooled, WorldFault, has_party};
-use ar_statement::{Party, Role};
+use ar_nodes::{Pooled, WorldFault};
+use ar_statement::{Party, Role, has_party};
 use owner_check::OwnerCheck;
 use report_text::{Happening, Target};
 use std::alloc::Global;
@@ -37,8 +36,8 @@ impl<C: OwnerCheck> World<C> {
         ensures { result ≡ is_some (taker_at self.now who) }
     {
         match who.role {
-            Role::LogServer => self.honest_log(who.number).is_some(),
-            Role::Authority => self.honest_authority(who.number).is_some(),
+            Role::LogServer => honest(&self.logs, who.number).is_some(),
+            Role::Authority => honest(&self.authorities, who.number).is_some(),
             Role::Owner => has_owner(&self.owners, who.number),
             Role::Client => false,
         }

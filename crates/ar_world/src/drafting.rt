@@ -5,10 +5,10 @@ ghost use Rattle.ar_cert.specs.Certificate.{digest_of};
 ghost use Rattle.owner_core.specs.Drafts.{begun_draft};
 ghost use Rattle.owner_core.specs.State.{Owner as OwnerState};
 ghost use Rattle.report_text.specs.declared.happening.Happening.TheVariants.{Draft};
-ghost use Rattle.ar_world.specs.Drafting.{ascend, asked, draft_room, drafted, first_certificate, may_wait, next_certificate, register_line, revoke_line, terms_of, update_line};
+ghost use Rattle.ar_world.specs.Drafting.{are_authorities, asked, draft_room, drafted, first_certificate, may_wait, next_certificate, register_line, revoke_line, terms_of, update_line};
 ghost use Rattle.ar_nodes.specs.Finding.{is_owner};
 ghost use Rattle.ar_world.specs.Finding.{known_asks};
-ghost use Rattle.ar_nodes.specs.Owners.{owner_party};
+ghost use Rattle.ar_statement.specs.Claims.{owner_party};
 ghost use Rattle.ar_nodes.specs.Pool.{entries_from, pooled_from};
 ghost use Rattle.ar_world.specs.Step.{StepsBy};
 ghost use Rattle.ar_nodes.specs.declared.fault.WorldFault.TheVariants.{Memory};
@@ -41,7 +41,7 @@ fn first_certificate(
     name: &NameView,
     words: &PolicyWords,
 ) -> Result<Cert, AllocError>
-    requires ascend { ascend 0 words.now.trusted ≡ true }
+    requires ascend { are_authorities words.now.trusted ≡ true }
     requires wait { may_wait words.now.wait ≡ true }
     ensures { IfOk result (λ cert. cert ≡ first_certificate owner.now name.now (terms_of words.now)) }
 {
@@ -82,7 +82,7 @@ fn updated_certificate(
     words: &PolicyWords,
 ) -> Result<Cert, AllocError>
     requires serial { old.now.serial < 4096 }
-    requires ascend { ascend 0 words.now.trusted ≡ true }
+    requires ascend { are_authorities words.now.trusted ≡ true }
     requires wait { may_wait words.now.wait ≡ true }
     ensures { IfOk result (λ cert. cert ≡ next_certificate owner.now old.now (terms_of words.now) false) }
 {
@@ -219,7 +219,7 @@ impl<C: OwnerCheck> World<C> {
     ) -> Result<usize, WorldFault>
         ensures place { IfOk result (λ place. position (is_owner owner) self.now.owners ≡ Some place) }
         ensures within { IfOk result (λ place. place < length self.now.owners) }
-        ensures ascend { OnOk result (ascend 0 policy.now.trusted ≡ true) }
+        ensures ascend { OnOk result (are_authorities policy.now.trusted ≡ true) }
         ensures wait { OnOk result (may_wait policy.now.wait ≡ true) }
         ensures asks { OnOk result (known_asks self.now 8 asks.now ≡ Ok tt) }
         ensures room { OnOk result (draft_room self.now ≡ Ok tt) }
@@ -264,7 +264,7 @@ impl<C: OwnerCheck> World<C> {
         ensures within { IfOk result (λ places. places.0 < length self.now.owners) }
         ensures draft { IfOk result (λ places. draft ≡ places.1 + 1) }
         ensures found { IfOk result (λ places. places.1 < length self.now.drafts) }
-        ensures ascend { OnOk result (ascend 0 policy.now.trusted ≡ true) }
+        ensures ascend { OnOk result (are_authorities policy.now.trusted ≡ true) }
         ensures wait { OnOk result (may_wait policy.now.wait ≡ true) }
         ensures asks { OnOk result (known_asks self.now 8 asks.now ≡ Ok tt) }
         ensures room { OnOk result (draft_room self.now ≡ Ok tt) }

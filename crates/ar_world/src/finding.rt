@@ -2,13 +2,13 @@
 
 ghost use Rattle.std.specs.Prelude.{◌≡◌, ◌&&◌, nat_lt};
 ghost use Rattle.std.specs.List.{list_all};
-ghost use Rattle.std.specs.Option.{option_copied, option_map};
-ghost use Rattle.ar_world.specs.Finding.{authority_at, draft_at, existing, is_there, known_asks, log_at, room};
+ghost use Rattle.std.specs.Option.{option_copied};
+ghost use Rattle.ar_world.specs.Finding.{draft_at, existing, is_there, known_asks, room};
 
 use crate::drafted::Drafted;
 use crate::world::World;
 use ar_nodes::finding::has_owner;
-use ar_nodes::{HonestAuthority, HonestLog, WorldFault, numbered};
+use ar_nodes::{WorldFault, numbered};
 use ar_statement::Role;
 use owner_check::OwnerCheck;
 use owner_core::Owner;
@@ -23,20 +23,6 @@ fn all_below(numbers: &[u64], count: usize) -> bool
 }
 
 impl<C: OwnerCheck> World<C> {
-    /// The honest log with a number.
-    pub(crate) fn honest_log(&self, number: u16) -> Option<&HonestLog>
-        ensures { option_map (λ node. node.now) result ≡ log_at self.now number }
-    {
-        self.logs.get(number as usize)?.as_ref()
-    }
-
-    /// The honest authority with a number.
-    pub(crate) fn honest_authority(&self, number: u16) -> Option<&HonestAuthority<C>>
-        ensures { option_map (λ node. node.now) result ≡ authority_at self.now number }
-    {
-        self.authorities.get(number as usize)?.as_ref()
-    }
-
     /// Whether there is such a party; each client is there.
     pub(crate) fn is_there(&self, role: Role, number: u16) -> bool
         ensures { result ≡ is_there self.now role number }

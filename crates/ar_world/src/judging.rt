@@ -10,7 +10,7 @@ ghost use Rattle.ar_world.specs.Step.{StepsBy};
 
 use crate::world::World;
 use ar_base::Items;
-use ar_names::{Name, NameView};
+use ar_names::NameView;
 use ar_nodes::sending::tell;
 use ar_nodes::{Pooled, WorldFault};
 use ar_records::Judged;

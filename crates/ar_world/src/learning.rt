@@ -1,10 +1,9 @@
 //! The line `learn`.
 
 ghost use Rattle.std.specs.Prelude.{◌≡◌, ◌<◌, ◌∷◌, [], true, is_some, vec_len, vec_capacity, IfOk, OnOk, OnErr, Some};
-ghost use Rattle.ar_council.specs.Seen.{seen_of};
+ghost use Rattle.party_keys.specs.Seen.{seen_of};
+ghost use Rattle.party_keys.specs.Learning.{roll_claim};
 ghost use Rattle.ar_message.specs.Messages.{message_in};
-ghost use Rattle.ar_statement.specs.Claims.{roll};
-ghost use Rattle.lms_tree.specs.PublicKey.{key_text};
 ghost use Rattle.report_text.specs.declared.happening.Happening.TheVariants.{Learnt};
 ghost use Rattle.ar_world.specs.Records.{HasParties};
 ghost use Rattle.ar_world.specs.Kept.{clients_in, genesis_in};
@@ -18,7 +17,7 @@ use ar_council::{see, seen_text};
 use ar_founding::Directories;
 use ar_nodes::WorldFault;
 use ar_nodes::sending::say;
-use ar_statement::{SeenText, Statement};
+use ar_statement::SeenText;
 use client_rule::RollNote;
 use owner_check::OwnerCheck;
 use party_keys::{Directory, LearnFault};
@@ -27,14 +26,9 @@ use std::alloc::{AllocError, Global};
 
 /// The Roll of which a note tells, with its party.
 fn roll_seen(note: &RollNote) -> SeenText
-    ensures { result ≡ seen_of note.now.party (roll note.now.party note.now.generation (key_text note.now.key)) }
+    ensures { result ≡ seen_of note.now.party (roll_claim note.now) }
 {
-    let roll = Statement::Roll {
-        signer: note.party,
-        generation: note.generation,
-        key: note.key.bytes(),
-    };
-    seen_text(note.party, &roll)
+    seen_text(note.party, &note.announced().roll())
 }
 
 /// Why a key is not learnt, as it is printed.

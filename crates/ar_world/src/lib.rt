@@ -9,9 +9,9 @@
 //! refused, in the order of the reasons: the setup (`Founding`), owners and what authorities know of them (`Owning`),
 //! drafts (`Drafting`) and what becomes of them (`Submitting`), orders to logs and authorities (`Ordering`), messages
 //! that clients learn (`Learning`), ask for (`Asking`) and judge (`Judging`), deliveries (`Delivering`), and what
-//! dishonest parties send (`Forging`). `Logs` and `Authorities` have what the steps of honest logs and authorities make
-//! of the world: the rows of the crates below with the party's signatures in what it sends. `Step` has the step of each line, and `Run` a whole
-//! script with all that is written of it.
+//! dishonest parties send (`Forging`). What a party makes of an order, a draft or a delivery is told by `ar_nodes` (its
+//! `Acting`), and `Sending` puts the party and the pool into their places in the world. `Step` has the step of each line,
+//! and `Run` a whole script with all that is written of it.
 //! `Records` has what the honest parties and the clients of a world hold, of which the safety theorem speaks.
 #![tactic(auto)]
 

@@ -1,10 +1,10 @@
 //! The orders to honest logs and authorities.
 
 ghost use Rattle.std.specs.Prelude.{◌≡◌, ◌<◌, length, is_some, true, IfSome, OnOk, Some};
+ghost use Rattle.ar_base.specs.Chaining.{need};
 ghost use Rattle.log_core.specs.Inputs.{input_of};
 ghost use Rattle.log_core.specs.Keyed.{IsPlain};
 ghost use Rattle.ar_world.specs.Finding.{authority_at, log_at};
-ghost use Rattle.ar_nodes.specs.Finding.{need};
 ghost use Rattle.ar_world.specs.Ordering.{log_order, pass_line, propose_line, roll_line, roll_of};
 ghost use Rattle.ar_world.specs.Step.{StepsBy};
 ghost use Rattle.ar_nodes.specs.declared.fault.WorldFault.TheVariants.{Absent};
@@ -12,6 +12,7 @@ ghost use Rattle.ar_statement.specs.declared.party.Role.TheVariants as roles;
 
 use crate::world::World;
 use ar_base::Items;
+use ar_nodes::finding::honest;
 use ar_nodes::obeying::{authority_rolls_there, log_obeys_there, log_rolls_there};
 use ar_nodes::{LogEvent, WorldFault};
 use ar_statement::{Party, Role};
@@ -27,7 +28,7 @@ impl<C: OwnerCheck> World<C> {
         ensures known { OnOk result (is_some (log_at self.now number) ≡ true) }
         ensures keyed { IfSome (log_at self.now number) (λ node. 0 < length node.keys) }
     {
-        let Some(node) = self.honest_log(number) else {
+        let Some(node) = honest(&self.logs, number) else {
             return Err(WorldFault::Absent(1));
         };
         node.told();
@@ -40,7 +41,7 @@ impl<C: OwnerCheck> World<C> {
         ensures known { OnOk result (is_some (authority_at self.now number) ≡ true) }
         ensures keyed { IfSome (authority_at self.now number) (λ node. 0 < length node.keys) }
     {
-        let Some(node) = self.honest_authority(number) else {
+        let Some(node) = honest(&self.authorities, number) else {
             return Err(WorldFault::Absent(1));
         };
         node.told();

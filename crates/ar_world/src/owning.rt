@@ -3,8 +3,8 @@
 ghost use Rattle.std.specs.Prelude.{◌≡◌, ◌++◌, ◌∷◌, [], IfOk, OnOk, OnErr, Some};
 ghost use Rattle.owner_core.specs.Rows.{first_owner};
 ghost use Rattle.ar_founding.specs.FirstKeys.{key_made};
-ghost use Rattle.ar_nodes.specs.Owners.{owner_party};
-ghost use Rattle.ar_nodes.specs.Parties.{leaves_of};
+ghost use Rattle.ar_statement.specs.Claims.{owner_party};
+ghost use Rattle.lms_tree.specs.LmsKind.{leaves_of};
 ghost use Rattle.ar_world.specs.Records.{HasParties};
 ghost use Rattle.ar_world.specs.Owning.{lesson_line, owner_key, owner_line, retire_line};
 ghost use Rattle.ar_world.specs.Step.{StepsBy};
@@ -42,7 +42,7 @@ fn new_owner(
     number: u16,
 ) -> Result<Owner, AllocError>
     ensures { IfOk result (λ owner. owner
-        ≡ first_owner number genesis.now (owner_key secret.now number) (leaves_of (owner_key secret.now number))) }
+        ≡ first_owner number genesis.now (owner_key secret.now number) (leaves_of (owner_key secret.now number).lms)) }
 {
     let key = owner_key(alloc, secret, number)?;
     Owner::new(alloc, number, genesis.copy(alloc)?, key)
@@ -57,7 +57,7 @@ fn add_owner(
     number: u16,
 ) -> Result<Items<Happening>, AllocError>
     ensures owners { OnOk result (owners.new.items
-        ≡ owners.old.items ++ first_owner number genesis.now (owner_key secret.now number) (leaves_of (owner_key secret.now number)) ∷ []) }
+        ≡ owners.old.items ++ first_owner number genesis.now (owner_key secret.now number) (leaves_of (owner_key secret.now number).lms) ∷ []) }
     ensures said { IfOk result (λ said. said ≡ key_made (owner_party number) (owner_key secret.now number) ∷ []) }
     ensures err { OnErr result (owners.new.items ≡ owners.old.items) }
 {

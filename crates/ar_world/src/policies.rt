@@ -1,25 +1,30 @@
 //! The policies that words of a script say.
 
-ghost use Rattle.std.specs.Prelude.{◌≡◌, ◌<◌, ◌≤◌, length, true, All, IfOk, IfErr, OnOk, Ok, Err};
+ghost use Rattle.std.specs.Prelude.{◌≡◌, ◌<◌, ◌≤◌, length, nat_lt, true, All, IfOk, IfErr, OnOk, Ok, Err};
+ghost use Rattle.std.specs.List.{list_all};
 ghost use Rattle.std.specs.Result.{is_ok};
-ghost use Rattle.ar_world.specs.Drafting.{ascend, may_wait, policy_of, terms_of};
+ghost use Rattle.ar_world.specs.Drafting.{are_authorities, may_wait, policy_of, terms_of};
 ghost use Rattle.ar_nodes.specs.Finding.{named};
 
 use ar_base::Items;
+use ar_bytes::ascends;
 use ar_cert::Policy;
 use ar_nodes::WorldFault;
 use script_text::{Numbers, PolicyWords};
 use std::alloc::{AllocError, Global};
 
-/// Whether the numbers ascend strictly, each has two bytes, and none is below `least`.
-#[tactic(auto, unfolding(crate::specs::Drafting::ascend))]
-fn ascend(least: u64, numbers: &[u64]) -> bool
-    ensures { result ≡ ascend least numbers.now }
+/// Whether each number has two bytes.
+fn have_two_bytes(numbers: &[u64]) -> bool
+    ensures { result ≡ list_all (λ number. nat_lt number 65536) numbers.now }
 {
-    match numbers {
-        [first, rest @ ..] => least <= *first && *first < 65536 && ascend(*first + 1, rest),
-        [] => true,
-    }
+    numbers.iter().all(|number| *number < 65536)
+}
+
+/// Whether numbers are those of authorities: they ascend strictly, and have two bytes each.
+fn are_authorities(numbers: &[u64]) -> bool
+    ensures { result ≡ are_authorities numbers.now }
+{
+    ascends(numbers) && have_two_bytes(numbers)
 }
 
 /// Whether a wait is one, where there is any.
@@ -32,15 +37,15 @@ fn may_wait(wait: Option<u16>) -> bool
     }
 }
 
-/// Refuses words that say no policy, of which the first has this number.
+/// Refuses words that say no policy, of which the first has this number. No line that is read has such words.
 #[tactic(auto, using(crate::proofs::Terms::policies, crate::proofs::Refused::names_policy))]
 pub(crate) fn need_policy(word: usize, words: &PolicyWords) -> Result<(), WorldFault>
-    ensures ascend { OnOk result (ascend 0 words.now.trusted ≡ true) }
+    ensures ascend { OnOk result (are_authorities words.now.trusted ≡ true) }
     ensures wait { OnOk result (may_wait words.now.wait ≡ true) }
     ensures known { OnOk result (is_ok (named word (policy_of words.now)) ≡ true) }
     ensures err { IfErr result (λ fault. named word (policy_of words.now) ≡ Err fault) }
 {
-    if !ascend(0, words.trusted.as_slice()) || !may_wait(words.wait) {
+    if !are_authorities(words.trusted.as_slice()) || !may_wait(words.wait) {
         return Err(WorldFault::Absent(word));
     }
     Ok(())
@@ -72,7 +77,7 @@ pub(crate) fn narrow(alloc: Global, numbers: &Numbers) -> Result<Items<u16>, All
 /// The policy that words say.
 #[tactic(auto, using(crate::proofs::Terms::terms))]
 pub(crate) fn policy(alloc: Global, words: &PolicyWords) -> Result<Policy, AllocError>
-    requires ascend { ascend 0 words.now.trusted ≡ true }
+    requires ascend { are_authorities words.now.trusted ≡ true }
     requires wait { may_wait words.now.wait ≡ true }
     ensures { IfOk result (λ policy. policy ≡ terms_of words.now) }
 {

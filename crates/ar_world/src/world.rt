@@ -9,6 +9,7 @@ ghost use Rattle.ar_world.specs.State.{first_world};
 use crate::drafted::Drafted;
 use crate::phase::Phase;
 use ar_founding::{Directories, FirstKeys, Setup};
+use ar_nodes::finding::honest;
 use ar_nodes::{Forger, HonestAuthority, HonestLog, LogEvent, Pool};
 use ar_records::Judged;
 use ar_statement::SeenText;
@@ -111,7 +112,7 @@ impl<C: OwnerCheck> World<C> {
     pub fn taken(&self, log: u16) -> Option<&[LogEvent]>
         ensures { option_map (λ taken. taken.now) result ≡ taken_at self.now log }
     {
-        let node = self.honest_log(log)?;
+        let node = honest(&self.logs, log)?;
         Some(node.taken.as_slice())
     }
 }

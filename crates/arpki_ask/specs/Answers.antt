@@ -46,7 +46,7 @@ said_status (said.Refused check) = 1
 -- what the client's rule makes of the confirmation
 abbrev pub found : Inquiry → Answer
 found inquiry =
-    let told = said_of inquiry.name (judgement inquiry.keys inquiry.name inquiry.confirmation inquiry.now inquiry.age)
+    let told = said_of inquiry.asked.name (judgement inquiry.asked inquiry.confirmation)
     in one_line (said_text told) (said_status told)
 
 -- ---- answers

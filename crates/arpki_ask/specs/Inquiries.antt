@@ -1,6 +1,7 @@
 -- What `check` is asked: an inquiry, and the lines that it is read from.
 use Rattle.std.specs.Prelude.{ℕ, zero, suc, if◌then◌else◌, List, [], ◌∷◌, codes, Option, option_and_then, Result, Ok}
 use Rattle.lms_tree.specs.declared.public_key.LmsPublic.{LmsPublic}
+use Rattle.client_rule.specs.Rule.{Asked}
 use Rattle.party_keys.specs.Directory.{Directory, directory_with}
 use Rattle.script_text.specs.Forms.{party_count_of, quorum_of}
 use Rattle.ar_lines.specs.Forms.{bytes_of_hex, key_of_hex, name_of, number_of}
@@ -10,13 +11,9 @@ use Rattle.arpki_ask.specs.Notes.{learnt_from}
 use Rattle.ar_lines.specs.Rows.{is_next, two_fields_at, no_row_at, value_at}
 use Rattle.ar_lines.specs.declared.refusal.Refusal.{Refusal}
 
--- the directory that a client trusts, the name that it asks for, its epoch, the age that it allows, and
--- the bytes of the confirmation that it was given
+-- what a client asks, and the bytes of the confirmation that it was given
 pub record Inquiry : Type 0 where
-  pub keys : Directory
-  pub name : List ℕ
-  pub now : ℕ
-  pub age : ℕ
+  pub asked : Asked
   pub confirmation : List ℕ
 
 -- ---- the directory
@@ -99,8 +96,8 @@ unfoldable pub inquiry_at : LineCursor → Result Inquiry Refusal
 inquiry_at at = do
   keys ← directory_at at
   name ← name_at keys.1
-  now ← number_at (codes "now") name.1
-  age ← number_at (codes "age") now.1
+  epoch ← number_at (codes "now") name.1
+  age ← number_at (codes "age") epoch.1
   confirmation ← confirmation_at age.1
   end ← no_row_at confirmation.1
-  Ok (record { keys = keys.0; name = name.0; now = now.0; age = age.0; confirmation = confirmation.0 })
+  Ok (record { asked = record { keys = keys.0; name = name.0; epoch = epoch.0; age = age.0 }; confirmation = confirmation.0 })

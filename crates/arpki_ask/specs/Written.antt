@@ -9,6 +9,8 @@ use Rattle.ar_lines.specs.Written.{IsKey, hex_of_key, text_of_lines}
 use Rattle.arpki_ask.specs.Inquiries.{Inquiry, most_rolls}
 use Rattle.arpki_ask.specs.Notes.{learnt_from}
 use Rattle.arpki_ask.specs.Questions.{Question}
+use Rattle.script_text.specs.Written.{text_of_line}
+use Rattle.script_text.specs.declared.line.Line.TheVariants.{Authorities, Logs}
 
 -- ---- the question of `sig`
 
@@ -49,7 +51,7 @@ first_directory asking = directory_with asking.logs asking.authorities asking.qu
 
 -- the directory learns from each of the RollNotes, and is that of the inquiry then
 abbrev pub IsLearnt : Asking → Type 0
-IsLearnt asking = learnt_from_all (first_directory asking) asking.rolls ≡ Some asking.inquiry.keys
+IsLearnt asking = learnt_from_all (first_directory asking) asking.rolls ≡ Some asking.inquiry.asked.keys
 
 -- the inquiry of a program that holds a directory, at most 64 RollNotes from which it learns, a name, two
 -- numbers of 64 bits and a string of bytes
@@ -60,28 +62,22 @@ pub record IsAsking (asking : Asking) : Type 0 where
   pub few_rolls : length asking.rolls ≤ most_rolls
   pub rolls : All IsBytes asking.rolls
   pub learnt : IsLearnt asking
-  pub name : IsName asking.inquiry.name
-  pub now : asking.inquiry.now < 2 ^ 64
-  pub age : asking.inquiry.age < 2 ^ 64
+  pub name : IsName asking.inquiry.asked.name
+  pub now : asking.inquiry.asked.epoch < 2 ^ 64
+  pub age : asking.inquiry.asked.age < 2 ^ 64
   pub confirmation : IsBytes asking.inquiry.confirmation
-
--- `logs <N> <q>`: how many logs there are, and how many of them make a quorum
-abbrev pub logs_line : ℕ → ℕ → List ℕ
-logs_line count quorum = codes "logs " ++ (decimal count ++ (codes " " ++ decimal quorum))
-
--- `authorities <M>`: how many authorities there are
-abbrev pub authorities_line : ℕ → List ℕ
-authorities_line count = codes "authorities " ++ decimal count
 
 -- `key <112 hex>`: the key of a party
 abbrev pub key_line : LmsPublic → List ℕ
 key_line key = codes "key " ++ hex_of_key key
 
--- the lines of a directory: the logs and a line for each key, and then the authorities so
+-- the lines of a directory: as in a script, how many logs there are, and how many of them make a quorum, with a
+-- line for each key; and then the authorities so
 abbrev pub directory_lines : Asking → List (List ℕ)
 directory_lines asking =
-    logs_line (length asking.logs) asking.quorum
-    ∷ (map key_line asking.logs ++ (authorities_line (length asking.authorities) ∷ map key_line asking.authorities))
+    text_of_line (Logs (length asking.logs) asking.quorum)
+    ∷ (map key_line asking.logs
+    ++ (text_of_line (Authorities (length asking.authorities)) ∷ map key_line asking.authorities))
 
 -- `roll <hex of a RollNote>`
 abbrev pub roll_line : List ℕ → List ℕ
@@ -90,9 +86,9 @@ roll_line bytes = codes "roll " ++ encode_lower bytes
 -- the lines behind them: the name, the epoch, the age and the confirmation
 abbrev pub asked_lines : Inquiry → List (List ℕ)
 asked_lines inquiry =
-    (codes "name " ++ inquiry.name)
-    ∷ (codes "now " ++ decimal inquiry.now)
-    ∷ (codes "age " ++ decimal inquiry.age)
+    (codes "name " ++ inquiry.asked.name)
+    ∷ (codes "now " ++ decimal inquiry.asked.epoch)
+    ∷ (codes "age " ++ decimal inquiry.asked.age)
     ∷ (codes "confirmation " ++ encode_lower inquiry.confirmation)
     ∷ []
 

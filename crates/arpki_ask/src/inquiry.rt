@@ -35,7 +35,7 @@ impl Model for Inquiry {
 
     ghost Value = { Spec };
 
-    ghost view = { λ i. record { keys = i.directory; name = i.name; now = i.now; age = i.age; confirmation = i.confirmation.items } };
+    ghost view = { λ i. record { asked = record { keys = i.directory; name = i.name; epoch = i.now; age = i.age }; confirmation = i.confirmation.items } };
 }
 
 /// How many logs or authorities a word says that there are.

@@ -1,11 +1,11 @@
 //! The calls that are measured. Each stands in a function that is never inlined, so that its name is
 //! seen by whoever counts.
-ghost use Rattle.std.specs.Prelude.{◌≡◌, ◌^◌, ◌<◌, length};
+ghost use Rattle.std.specs.Prelude.{◌≡◌, ◌<◌, length};
 ghost use Rattle.ar_base.specs.Gives.{GivesUnless};
 ghost use Rattle.hash_tree.specs.Entries.{entries_of, HasAscendingKeys};
 ghost use Rattle.hash_tree.specs.Root as tree;
 ghost use Rattle.lms_tree.specs.Key as signing;
-ghost use Rattle.lms_tree.specs.LmsKind.{height_of};
+ghost use Rattle.lms_tree.specs.LmsKind.{leaves_of};
 ghost use Rattle.lms_tree.specs.Signature.{lms_signature_len_of};
 ghost use Rattle.lms_tree.specs.declared.key.KeyFault.TheVariants.{Memory};
 
@@ -110,7 +110,7 @@ fn make_key(alloc: Global, seed: &[u8; 32], lms: u32, ots: u32) -> Result<LmsKey
 
 #[inline(never)]
 fn sign(key: &LmsKey, leaf: u32, message: &[u8], out: &mut [u8])
-    requires leaf { leaf < 2 ^ height_of key.now.lms }
+    requires leaf { leaf < leaves_of key.now.lms }
     requires room { length out.old ≡ lms_signature_len_of key.now.lms key.now.ots }
     ensures { out.new ≡ signing.signature_of key.now leaf message.now }
 {

@@ -1,5 +1,6 @@
 -- That the check failed is said by no row but that of a request to endorse.
 use Rattle.std.proofs.Common.{◌≡◌, ℕ, ◌==◌, not, nat_le, inl, inr, List, [], ◌∷◌, Bool, true, false, Result, Ok, Err}
+use Rattle.std.specs.Result.{result_and}
 use Rattle.ar_base.specs.FirstFailing.{first_failing}
 use Rattle.ar_base.specs.Gives.{with_error}
 use Rattle.ar_message.specs.declared.fault.MessageFault.{MessageFault}
@@ -10,8 +11,8 @@ use Rattle.ar_message.specs.declared.message.Message.TheVariants.{EndorseAsk, En
 use Rattle.ar_message.specs.declared.unsigned.Unsigned.{Unsigned}
 use Rattle.ar_statement.specs.declared.party.Party.{Party}
 use Rattle.key_roll.specs.Due.{DueParts}
-use Rattle.key_roll.specs.declared.fault.BookFault.{BookFault}
-use Rattle.key_roll.specs.declared.fault.BookFault.TheVariants as book
+use Rattle.ar_statement.specs.declared.fault.BookFault.{BookFault}
+use Rattle.ar_statement.specs.declared.fault.BookFault.TheVariants as book
 use Rattle.owner_check.specs.declared.answer.Outcome.{Outcome}
 use Rattle.party_keys.specs.Learning.{Announced, learned}
 use Rattle.party_keys.specs.Signers.{Claimed, signers_answer}
@@ -22,11 +23,11 @@ use Rattle.party_keys.specs.declared.fault.SignerFault.TheVariants as signer
 use Rattle.party_keys.specs.declared.learning.Learned.{Learned}
 use Rattle.authority_core.specs.ConfirmRows.{half_claims, half_confirmed_row, log_claims, log_confirmed_row}
 use Rattle.ar_message.specs.Shown.{shows}
-use Rattle.authority_core.specs.Confirming.{confirming_checks, content_tests, meant_for, parties_of, vote_count}
+use Rattle.authority_core.specs.Confirming.{confirming_checks, confirming_with, content_tests, meant_for, parties_of, vote_count}
 use Rattle.authority_core.specs.Refusals.{of_book, of_message, of_signers}
 use Rattle.authority_core.specs.RollRows.{roll_note_by, roll_note_row}
 use Rattle.authority_core.specs.Row.{message_row}
-use Rattle.authority_core.specs.State.{Answer, AuthorityState, StepsBy, if_due, in_order}
+use Rattle.authority_core.specs.State.{Answer, AuthorityState, StepsBy, if_due}
 use Rattle.authority_core.specs.declared.refusal.AuthorityRefusal.{AuthorityRefusal}
 use Rattle.authority_core.specs.declared.refusal.AuthorityRefusal.TheVariants.{BadPath, CheckFault, FewVotes, NotForAuthority, SameAuthority}
 
@@ -34,7 +35,7 @@ use Rattle.authority_core.specs.declared.refusal.AuthorityRefusal.TheVariants.{B
 abbrev pub IsNoFault : {A : Type 0} → Result A AuthorityRefusal → Type 0
 IsNoFault answer = answer ≡ Err CheckFault → ⊥
 
-ordered : {A : Type 0} (checks : Result (Unit {0}) AuthorityRefusal) (later : Result A AuthorityRefusal) → IsNoFault checks → IsNoFault later → IsNoFault (in_order checks later)
+ordered : {A : Type 0} (checks : Result (Unit {0}) AuthorityRefusal) (later : Result A AuthorityRefusal) → IsNoFault checks → IsNoFault later → IsNoFault (result_and checks later)
 ordered (Ok u) later so later_so e = later_so e
 ordered (Err refusal) later so later_so e = so cc
 
@@ -69,13 +70,13 @@ checks s chosen parties claims part =
     (ordered (with_error of_signers (signers_answer s.keys parties claims)) (first_failing (content_tests s.keys.quorum part)) (by-signers (signers_answer s.keys parties claims)) (content s.keys.quorum part))
 
 log-row : (s : AuthorityState) (part : Confirming) → IsNoFault (log_confirmed_row s part)
-unfolding log_confirmed_row
+unfolding log_confirmed_row confirming_with
 log-row s part =
     ordered (confirming_checks s part.first (parties_of part part.second) (log_claims part) part) _ (checks s part.first (parties_of part part.second) (log_claims part) part)
     (entered _ _)
 
 half-row : (s : AuthorityState) (part : Confirming) (first_signature : List ℕ) → IsNoFault (half_confirmed_row s part first_signature)
-unfolding half_confirmed_row
+unfolding half_confirmed_row confirming_with
 half-row s part first_signature =
     ordered (confirming_checks s part.second (parties_of part part.first) (half_claims part first_signature) part) _ (checks s part.second (parties_of part part.first) (half_claims part first_signature) part)
     (entered _ _)

@@ -1,6 +1,7 @@
 -- How many messages a step sends, before it is signed and then.
 use Rattle.std.proofs.Common.{◌≡◌, ℕ, ◌≤◌, List, length, Bool, true, false, Result, Ok, Err, ap, subst, arith}
 use Rattle.std.specs.Prelude.{map}
+use Rattle.std.specs.Result.{result_and}
 use Rattle.ar_cert.specs.Certificate.{Certificate}
 use Rattle.ar_message.specs.Filling.{nothing, zeros}
 use Rattle.ar_message.specs.Messages.{message_text}
@@ -10,8 +11,7 @@ use Rattle.ar_message.specs.declared.message.Confirming.{Confirming}
 use Rattle.ar_message.specs.declared.message.Message.{Message}
 use Rattle.ar_message.specs.declared.message.Message.TheVariants.{EndorseAsk, Endorsed, Submit, Propose, Ballot, StatusNote, Decision, SkipNote, ConfirmAsk, LogConfirmed, HalfConfirmed, Confirmation, RollNote}
 use Rattle.ar_message.specs.declared.unsigned.Unsigned.{Unsigned}
-use Rattle.ar_statement.specs.Claims.{party}
-use Rattle.ar_statement.specs.declared.party.Role.TheVariants.{Client, Owner}
+use Rattle.ar_statement.specs.Claims.{authority_party, client_party, owner_party, party}
 use Rattle.ar_statement.specs.declared.text.SeenText.{SeenText}
 use Rattle.key_roll.specs.Due.{DueParts}
 use Rattle.key_roll.specs.Entry.{roll_text, rolled}
@@ -19,17 +19,17 @@ use Rattle.key_roll.specs.declared.fault.RollFault.{RollFault}
 use Rattle.lms_tree.specs.declared.public_key.LmsPublic.{LmsPublic}
 use Rattle.owner_check.specs.declared.answer.Outcome.{Outcome}
 use Rattle.party_keys.specs.Learning.{Announced, learned}
-use Rattle.party_keys.specs.Seen.{authority_party}
 use Rattle.party_keys.specs.declared.fault.LearnFault.{LearnFault}
 use Rattle.party_keys.specs.declared.learning.Learned.{Learned}
 use Rattle.authority_core.specs.Calls.{after_endorse, confirming, kept_claim}
 use Rattle.authority_core.specs.ConfirmRows.{confirmation_with, half_claims, half_confirmed_row, log_claims, log_confirmed_row}
-use Rattle.authority_core.specs.Confirming.{confirming_checks, confirming_too, kept_of, parties_of, seen_in}
+use Rattle.authority_core.specs.Confirming.{confirming_checks, confirming_too, confirming_with, kept_of, parties_of}
+use Rattle.party_keys.specs.Signers.{seen_in}
 use Rattle.authority_core.specs.EndorseRow.{asked_of, endorse_due, endorse_row, endorsed_message, endorsing}
 use Rattle.authority_core.specs.Refusals.{of_learning, of_roll}
 use Rattle.authority_core.specs.RollRows.{learning, roll_by, roll_message, roll_note_by, roll_note_row, roll_row, rolling}
 use Rattle.authority_core.specs.Row.{message_row, row}
-use Rattle.authority_core.specs.State.{Answer, AuthorityState, entering, if_due, in_order, most_sent, sends}
+use Rattle.authority_core.specs.State.{Answer, AuthorityState, entering, if_due, most_sent, sends}
 use Rattle.authority_core.specs.declared.entries.Asked.{Asked}
 use Rattle.authority_core.specs.declared.entries.Kept.{Kept}
 use Rattle.authority_core.specs.declared.refusal.AuthorityRefusal.{AuthorityRefusal}
@@ -55,7 +55,7 @@ due-few (Ok due) next len to bytes = answered next (sends len to bytes due) (ome
 due-few (Err refusal) next len to bytes = refused refusal
 
 -- where checks stand before it
-ordered-few : (checks : Result (Unit {0}) AuthorityRefusal) (answer : Answer) → SendsFew answer → SendsFew (in_order checks answer)
+ordered-few : (checks : Result (Unit {0}) AuthorityRefusal) (answer : Answer) → SendsFew answer → SendsFew (result_and checks answer)
 ordered-few (Ok u) answer few = few
 ordered-few (Err refusal) answer few = refused refusal
 
@@ -64,7 +64,7 @@ ordered-few (Err refusal) answer few = refused refusal
 endorsing-few : (s : AuthorityState) (owner : ℕ) (a : Asked) (said : Outcome) → SendsFew (endorsing s owner a said)
 unfolding endorsing
 endorsing-few s owner a said =
-    due-few (endorse_due s.me s.past a said) (record s { past = after_endorse s.me s.past a }) s.signature_len (One (party Owner owner))
+    due-few (endorse_due s.me s.past a said) (record s { past = after_endorse s.me s.past a }) s.signature_len (One (owner_party owner))
     (message_text (endorsed_message s owner a.certificate))
 
 endorse-few : (s : AuthorityState) (retired : Bool) (owner : ℕ) (cert : Certificate) (said : Outcome) → SendsFew (endorse_row s retired owner cert said)
@@ -72,6 +72,7 @@ endorse-few s true owner cert said later sent is = absurd cc
 endorse-few s false owner cert said later sent is = endorsing-few s owner (asked_of cert) said later sent is
 
 confirming-few : (s : AuthorityState) (seen : List SeenText) (k : Kept) (to : Address) (message : List ℕ → Message) → SendsFew (confirming_too s seen k to message)
+unfolding confirming_with
 confirming-few s seen k to message =
     due-few (entering s.past (kept_claim (authority_party s.me) k)) (record s { past = confirming s.me s.past seen k }) s.signature_len to
     (message_text (message (zeros s.signature_len)))
@@ -86,7 +87,7 @@ half-few : (s : AuthorityState) (part : Confirming) (first_signature : List ℕ)
 unfolding half_confirmed_row
 half-few s part first_signature =
     ordered-few (confirming_checks s part.second (parties_of part part.first) (half_claims part first_signature) part) _
-    (confirming-few s (map seen_in (half_claims part first_signature)) (kept_of part) (One (party Client part.client)) (confirmation_with part first_signature))
+    (confirming-few s (map seen_in (half_claims part first_signature)) (kept_of part) (One (client_party part.client)) (confirmation_with part first_signature))
 
 note-few : (s : AuthorityState) (a : Announced) → SendsFew (roll_note_row s a)
 unfolding roll_note_row

@@ -1,35 +1,36 @@
 -- A record stays an honest authority's when more is seen, asked, kept or signed.
-use Rattle.std.proofs.Common.{◌≡◌, ℕ, ◌<◌, ◌^◌, inl, List, [], ◌∷◌, ◌++◌, refl, sym, subst, arith, Bool, true, false, cond, ◌&&◌, ◌==◌, Option, Some, None}
+use Rattle.std.proofs.Common.{◌≡◌, ℕ, ◌<◌, ◌^◌, inl, List, [], ◌∷◌, ◌++◌, refl, sym, subst, arith, true, false, ◌&&◌, ◌==◌, Option, Some, None}
 use Rattle.std.specs.Prelude.{All, Contains, IfSome, map, nat_le}
-use Rattle.std.specs.List.{list_any}
 use Rattle.std.specs.Str.{bytes_eq}
 use Rattle.std.proofs.lemmas.Bool.{and_parts, eqb-true, leb-true}
-use Rattle.std.proofs.lemmas.List.Elements.{All-cons, All-contains, All-contains_itself, All-map, All-nil, All-weaker, Contains-append_right, Contains-push}
+use Rattle.std.proofs.lemmas.List.Elements.{All-cons, All-contains, All-contains_itself, All-map, All-nil, All-weaker, Contains-append_right}
 use Rattle.std.proofs.lemmas.Slice.Eq.{bytes_eq-Decides}
 use Rattle.ar_base.specs.Bytes.{IsDigest}
+use Rattle.ar_base.specs.Adding.{with_one}
+use Rattle.ar_base.proofs.Adding.{one-keeps, one-some}
 use Rattle.ar_names.specs.Names.{IsName}
-use Rattle.ar_statement.specs.declared.party.Party.{Party}
 use Rattle.ar_statement.specs.declared.text.SeenText.{SeenText}
-use Rattle.ar_statement.specs.Claims.{Claim, answer, confirm, confirm_absent, endorse, handover, object, propose, roll, status, text_of, vote}
+use Rattle.ar_statement.specs.Claims.{Claim, answer, authority_party, confirm, confirm_absent, confirmation_by, endorse, handover, log_party, object, propose, roll, status, text_of, vote}
 use Rattle.ar_statement.specs.Fields.{is_epoch}
 use Rattle.ar_statement.specs.Ranges.{IsTextOf, IsValid}
 use Rattle.key_roll.specs.Book.{texts_of}
 use Rattle.key_roll.specs.Entry.{MayRoll, after_entry}
 use Rattle.key_roll.specs.Rolls.{is_roll}
 use Rattle.key_roll.proofs.Books.{after_entry_keeps, is_roll-kind, named-roll, roll_keeps}
-use Rattle.party_keys.specs.Seen.{Saw, authority_party, log_party}
+use Rattle.party_keys.specs.Seen.{Saw, seen_of}
+use Rattle.party_keys.specs.Learning.{Announced, roll_claim}
 use Rattle.ar_council.proofs.Books.{empty-book, entry-all, entry-has, roll-all}
-use Rattle.ar_council.proofs.Lists.{All-unmap, Within, found, pushed-within, same-within}
+use Rattle.ar_council.proofs.Lists.{All-unmap, Within, same-within}
 use Rattle.ar_council.proofs.Seeing.{seen-all, seen-has, seen-keeps}
 use Rattle.ar_council.proofs.Texts.{own-text}
 use Rattle.ar_council.specs.Council.{Council, IsMember}
 use Rattle.ar_council.specs.Room.{HasRoom}
-use Rattle.ar_council.specs.Seen.{seen_after, seen_of}
-use Rattle.ar_council.specs.Values.{confirmation_by, is_same_digest, vote_claim}
+use Rattle.ar_council.specs.Seen.{seen_after}
+use Rattle.ar_council.specs.Values.{is_same_digest, vote_claim}
 use Rattle.ar_council.proofs.Votes.{votes-more}
 use Rattle.ar_council.proofs.Values.{one_digest}
 use Rattle.ar_council.specs.Votes.{SawVotes}
-use Rattle.authority_core.specs.Calls.{MayConfirm, after_endorse, after_half_confirmed, after_learn, after_log_confirmed, after_roll, confirming, fresh_authority, is_same_asked, is_same_kept, is_same_path, kept_claim, kept_value, seen_of_half, seen_of_log, seen_of_votes, with_asked, with_kept}
+use Rattle.authority_core.specs.Calls.{MayConfirm, after_endorse, after_half_confirmed, after_learn, after_log_confirmed, after_roll, confirming, fresh_authority, is_same_asked, is_same_kept, is_same_path, kept_claim, kept_value, seen_of_half, seen_of_log, seen_confirmed, seen_of_votes}
 use Rattle.authority_core.specs.Honest.{HasAsked, HasKept, HonestAuthority, ToldBy}
 use Rattle.authority_core.specs.Record.{AuthorityRecord}
 use Rattle.authority_core.specs.declared.entries.Asked.{Asked}
@@ -79,57 +80,42 @@ honest-signing council me r more asked' kept' claim h members a k valid plain to
 
 -- ---- lists with one more
 
-asked-within : (asked : List Asked) (a : Asked) → Within asked (with_asked asked a)
-asked-within asked a = by (list_any (λ b. is_same_asked b a) asked)
+pub asked-has : (asked : List Asked) (a : Asked) → HasAsked (with_one is_same_asked asked a) a.certificate
+asked-has asked a = one-some (λ b. b.certificate ≡ a.certificate) is_same_asked asked a refl same
   where
-    by : (b : Bool) → Within asked (cond b asked (asked ++ a ∷ []))
-    by true = same-within asked
-    by false = pushed-within asked a
+    same : (b : Asked) → is_same_asked b a ≡ true → b.certificate ≡ a.certificate
+    same b is =
+        let two = and_parts (bytes_eq b.name a.name) (bytes_eq b.key a.key && bytes_eq b.certificate a.certificate) is in
+        let rest = and_parts (bytes_eq b.key a.key) (bytes_eq b.certificate a.certificate) two.1 in
+        (bytes_eq-Decides b.certificate a.certificate).0 rest.1
 
-pub asked-has : (asked : List Asked) (a : Asked) → HasAsked (with_asked asked a) a.certificate
-asked-has asked a = by (list_any (λ b. is_same_asked b a) asked) refl
-  where
-    by : (b : Bool) → list_any (λ b. is_same_asked b a) asked ≡ b → HasAsked (cond b asked (asked ++ a ∷ [])) a.certificate
-    by true is =
-        let f = found (λ (b : Asked). is_same_asked b a) asked is in
-        let two = and_parts (bytes_eq f.0.name a.name) (bytes_eq f.0.key a.key && bytes_eq f.0.certificate a.certificate) f.1.1 in
-        let rest = and_parts (bytes_eq f.0.key a.key) (bytes_eq f.0.certificate a.certificate) two.1 in
-        (f.0, (f.1.0, (bytes_eq-Decides f.0.certificate a.certificate).0 rest.1))
-    by false is = (a, (Contains-push asked a, refl))
-
-kept-within : (kept : List Kept) (k : Kept) → Within kept (with_kept kept k)
-kept-within kept k = by (list_any (λ l. is_same_kept l k) kept)
-  where
-    by : (b : Bool) → Within kept (cond b kept (kept ++ k ∷ []))
-    by true = same-within kept
-    by false = pushed-within kept k
+-- an entry says of its name what another does, and votes for that were seen
+abbrev SaysFor : Council → List SeenText → Kept → Kept → Type 0
+SaysFor council seen k l =
+    (l.epoch ≡ k.epoch) × (l.name ≡ k.name) × (l.certificate ≡ k.certificate) × (l.root ≡ k.root)
+    × IsDigest l.base × SawVotes council seen k.epoch (record { base = l.base; root = k.root })
 
 kept-has : (council : Council) (seen : List SeenText) (kept : List Kept) (k : Kept) → IsDigest k.base → SawVotes council seen k.epoch (kept_value k)
-    → HasKept council seen (with_kept kept k) k.epoch k.name k.certificate k.root
-kept-has council seen kept k base saw = by (list_any (λ l. is_same_kept l k) kept) refl
+    → HasKept council seen (with_one is_same_kept kept k) k.epoch k.name k.certificate k.root
+kept-has council seen kept k base saw =
+    let l = one-some (SaysFor council seen k) is_same_kept kept k (refl, refl, refl, refl, base, saw) same in
+    (l.0, (l.1.0, l.1.1.0, l.1.1.1, l.1.1.2, l.1.1.3, l.1.1.4, l.1.1.5))
   where
-    by : (b : Bool) → list_any (λ l. is_same_kept l k) kept ≡ b → HasKept council seen (cond b kept (kept ++ k ∷ [])) k.epoch k.name k.certificate k.root
-    by true is =
-        let f = found (λ (l : Kept). is_same_kept l k) kept is in
-        let l : Kept = f.0 in
-        let epoch = and_parts (l.epoch == k.epoch) (bytes_eq l.name k.name && (is_same_digest l.certificate k.certificate && (bytes_eq l.base k.base && (bytes_eq l.root k.root && is_same_path l k)))) f.1.1 in
+    same : (l : Kept) → is_same_kept l k ≡ true → SaysFor council seen k l
+    same l is =
+        let epoch = and_parts (l.epoch == k.epoch) (bytes_eq l.name k.name && (is_same_digest l.certificate k.certificate && (bytes_eq l.base k.base && (bytes_eq l.root k.root && is_same_path l k)))) is in
         let name = and_parts (bytes_eq l.name k.name) (is_same_digest l.certificate k.certificate && (bytes_eq l.base k.base && (bytes_eq l.root k.root && is_same_path l k))) epoch.1 in
         let certificate = and_parts (is_same_digest l.certificate k.certificate) (bytes_eq l.base k.base && (bytes_eq l.root k.root && is_same_path l k)) name.1 in
         let roots = and_parts (bytes_eq l.base k.base) (bytes_eq l.root k.root && is_same_path l k) certificate.1 in
         let root = and_parts (bytes_eq l.root k.root) (is_same_path l k) roots.1 in
-        let same : l.base ≡ k.base = (bytes_eq-Decides l.base k.base).0 roots.0 in (
-          l,
-          (
-            f.1.0,
-            eqb-true l.epoch k.epoch epoch.0,
-            (bytes_eq-Decides l.name k.name).0 name.0,
-            one_digest l.certificate k.certificate certificate.0,
-            (bytes_eq-Decides l.root k.root).0 root.0,
-            subst IsDigest (sym same) base,
-            subst (λ b. SawVotes council seen k.epoch (record { base = b; root = k.root })) (sym same) saw,
-          ),
+        let base_is : l.base ≡ k.base = (bytes_eq-Decides l.base k.base).0 roots.0 in (
+          eqb-true l.epoch k.epoch epoch.0,
+          (bytes_eq-Decides l.name k.name).0 name.0,
+          one_digest l.certificate k.certificate certificate.0,
+          (bytes_eq-Decides l.root k.root).0 root.0,
+          subst IsDigest (sym base_is) base,
+          subst (λ b. SawVotes council seen k.epoch (record { base = b; root = k.root })) (sym base_is) saw,
         )
-    by false is = (k, (Contains-push kept k, refl, refl, refl, refl, base, saw))
 
 -- ---- what an authority does
 
@@ -140,7 +126,7 @@ honest-fresh council me leaves some =
 pub honest-endorse : (council : Council) (me : ℕ) (r : AuthorityRecord) (a : Asked) → HonestAuthority council me r → me < 2 ^ 16 → IsDigest a.certificate → HonestAuthority council me (after_endorse me r a)
 unfolding ToldBy
 honest-endorse council me r a h small digest =
-    honest-signing council me r [] (with_asked r.asked a) r.kept (endorse me a.certificate) h (All-nil (λ (s : SeenText). IsMember council s.party)) (asked-within r.asked a) (same-within r.kept)
+    honest-signing council me r [] (with_one is_same_asked r.asked a) r.kept (endorse me a.certificate) h (All-nil (λ (s : SeenText). IsMember council s.party)) (one-keeps is_same_asked r.asked a) (same-within r.kept)
     (record { held = record { signer = small; fields = digest }; ranges = refl }) (is_roll-kind (endorse me a.certificate)) (refl, asked-has r.asked a)
 
 claim-valid : (me : ℕ) (epoch : ℕ) (name : List ℕ) (certificate : Option (List ℕ)) (root : List ℕ) → me < 2 ^ 16 → is_epoch epoch ≡ true → IsName name → IfSome certificate IsDigest → IsDigest root
@@ -177,9 +163,9 @@ honest-confirming council me r log voters k more h small may members votes =
       each = All-weaker (λ voter. Saw more (log_party voter) (vote_claim voter k.epoch (kept_value k))) (λ voter. Saw later (log_party voter) (vote_claim voter k.epoch (kept_value k)))
           (λ voter there. All-contains (Contains later) more (seen_of (log_party voter) (vote_claim voter k.epoch (kept_value k))) (seen-has more r.seen) there) voters votes;
     } in
-    honest-signing council me r more r.asked (with_kept r.kept k) (kept_claim (authority_party me) k) h members (same-within r.asked) (kept-within r.kept k)
+    honest-signing council me r more r.asked (with_one is_same_kept r.kept k) (kept_claim (authority_party me) k) h members (same-within r.asked) (one-keeps is_same_kept r.kept k)
     (claim-valid me k.epoch k.name k.certificate k.root small may.epoch may.name may.certificate may.value.root) (claim-plain me k.epoch k.name k.certificate k.root)
-    (claim-told council me later r.asked (with_kept r.kept k) k.epoch k.name k.certificate k.root (kept-has council later r.kept k may.value.base saw))
+    (claim-told council me later r.asked (with_one is_same_kept r.kept k) k.epoch k.name k.certificate k.root (kept-has council later r.kept k may.value.base saw))
 
 pub map-has : {X Y : Type 0} (f : X → Y) (xs : List X) → All (λ x. Contains (map f xs) (f x)) xs
 map-has f xs = All-unmap (Contains (map f xs)) f xs (All-contains_itself (map f xs))
@@ -190,14 +176,14 @@ vote-members council log voters k may =
 
 log-members : (council : Council) (log : ℕ) (voters : List ℕ) (k : Kept) → MayConfirm council log voters k → All (λ s. IsMember council s.party) (seen_of_log log voters k)
 log-members council log voters k may =
-    All-cons (λ (s : SeenText). IsMember council s.party) (seen_of (log_party log) (kept_claim (log_party log) k)) (seen_of_votes voters k) may.known
+    All-cons (λ (s : SeenText). IsMember council s.party) (seen_confirmed (log_party log) k) (seen_of_votes voters k) may.known
     (vote-members council log voters k may)
 
 half-members : (council : Council) (log : ℕ) (voters : List ℕ) (first : ℕ) (k : Kept) → MayConfirm council log voters k → first < council.authorities
     → All (λ s. IsMember council s.party) (seen_of_half log voters first k)
 half-members council log voters first k may known =
-    let own : SeenText = seen_of (authority_party first) (kept_claim (authority_party first) k) in
-    All-cons (λ (s : SeenText). IsMember council s.party) (seen_of (log_party log) (kept_claim (log_party log) k)) (own ∷ seen_of_votes voters k) may.known
+    let own : SeenText = seen_confirmed (authority_party first) k in
+    All-cons (λ (s : SeenText). IsMember council s.party) (seen_confirmed (log_party log) k) (own ∷ seen_of_votes voters k) may.known
     (All-cons (λ (s : SeenText). IsMember council s.party) own (seen_of_votes voters k) known (vote-members council log voters k may))
 
 -- the votes are seen where they stand behind something else
@@ -211,23 +197,23 @@ pub honest-first : (council : Council) (me : ℕ) (r : AuthorityRecord) (log : �
     → HonestAuthority council me (after_log_confirmed me r log voters k)
 honest-first council me r log voters k h small may =
     honest-confirming council me r log voters k (seen_of_log log voters k) h small may (log-members council log voters k may)
-    (votes-behind (seen_of (log_party log) (kept_claim (log_party log) k) ∷ []) voters k)
+    (votes-behind (seen_confirmed (log_party log) k ∷ []) voters k)
 
 pub honest-second : (council : Council) (me : ℕ) (r : AuthorityRecord) (log : ℕ) (voters : List ℕ) (first : ℕ) (k : Kept) → HonestAuthority council me r → me < 2 ^ 16 → MayConfirm council log voters k
     → first < council.authorities → HonestAuthority council me (after_half_confirmed me r log voters first k)
 honest-second council me r log voters first k h small may known =
     honest-confirming council me r log voters k (seen_of_half log voters first k) h small may (half-members council log voters first k may known)
-    (votes-behind (seen_of (log_party log) (kept_claim (log_party log) k) ∷ (seen_of (authority_party first) (kept_claim (authority_party first) k) ∷ [])) voters k)
+    (votes-behind (seen_confirmed (log_party log) k ∷ (seen_confirmed (authority_party first) k ∷ [])) voters k)
 
-pub honest-learn : (council : Council) (me : ℕ) (r : AuthorityRecord) (party : Party) (generation : ℕ) (key : List ℕ) → HonestAuthority council me r → IsMember council party
-    → HonestAuthority council me (after_learn r party generation key)
-honest-learn council me r party generation key h member =
-    let more : List SeenText = seen_of party (roll party generation key) ∷ [] in
+pub honest-learn : (council : Council) (me : ℕ) (r : AuthorityRecord) (a : Announced) → HonestAuthority council me r → IsMember council a.party
+    → HonestAuthority council me (after_learn r a)
+honest-learn council me r a h member =
+    let more : List SeenText = seen_of a.party (roll_claim a) ∷ [] in
     record {
       sound = h.sound;
       told = texts-more council me r (seen_after r.seen more) r.asked r.kept (seen-keeps more r.seen) (same-within r.asked) (same-within r.kept) h;
       sees_members = seen-all (λ (s : SeenText). IsMember council s.party) more r.seen h.sees_members
-          (All-cons (λ (s : SeenText). IsMember council s.party) (seen_of party (roll party generation key)) [] member (All-nil (λ (s : SeenText). IsMember council s.party)));
+          (All-cons (λ (s : SeenText). IsMember council s.party) (seen_of a.party (roll_claim a)) [] member (All-nil (λ (s : SeenText). IsMember council s.party)));
     }
 
 pub honest-roll : (council : Council) (me : ℕ) (r : AuthorityRecord) (key : List ℕ) → HonestAuthority council me r → me < 2 ^ 16 → MayRoll r.signed key → HonestAuthority council me (after_roll me r key)

@@ -1,6 +1,7 @@
 -- What a row leaves is an honest authority's.
 use Rattle.std.proofs.Common.{◌≡◌, ℕ, ◌≤◌, ◌<◌, ◌^◌, ◌-◌, ◌==◌, ◌&&◌, not, List, [], ◌∷◌, ◌++◌, map, nat_le, Bool, true, false, cond, Result, Ok, Err, refl, sym, ap, subst, ◌∙◌, arith}
 use Rattle.std.specs.Prelude.{All}
+use Rattle.std.specs.Result.{result_and}
 use Rattle.std.proofs.lemmas.Bool.{le-leb, leb-true}
 use Rattle.std.proofs.lemmas.Bool.Decides.{nat_tests}
 use Rattle.std.proofs.lemmas.List.Elements.{All-head, All-map, All-tail}
@@ -8,7 +9,7 @@ use Rattle.ar_base.specs.Bytes.{IsDigest}
 use Rattle.ar_base.specs.FirstFailing.{first_failing}
 use Rattle.ar_base.specs.Gives.{with_error}
 use Rattle.ar_base.proofs.Failing.{first-holds}
-use Rattle.ar_base.proofs.Giving.{no-error}
+use Rattle.ar_base.proofs.Giving.{no-error, order-first, order-then}
 use Rattle.ar_cert.proofs.Digests.{digest-fits-if-there}
 use Rattle.ar_council.specs.Council.{Council, IsMember, council_of}
 use Rattle.ar_council.proofs.Lists.{All-unmap, all-left, all-right}
@@ -31,16 +32,15 @@ use Rattle.lms_tree.specs.declared.public_key.LmsPublic.{LmsPublic}
 use Rattle.party_keys.specs.Directory.{Directory}
 use Rattle.party_keys.specs.Learning.{Announced, learned}
 use Rattle.party_keys.specs.declared.learning.Learned.{Learned}
-use Rattle.party_keys.specs.Seen.{authority_party, log_party}
-use Rattle.party_keys.specs.Signers.{Claimed, all_known, all_signed, and_then, signers_answer}
-use Rattle.party_keys.specs.declared.fault.SignerFault.{SignerFault}
+use Rattle.ar_statement.specs.Claims.{authority_party, log_party}
+use Rattle.party_keys.specs.Signers.{Claimed, all_known, all_signed, seen_in, signers_answer}
 use Rattle.authority_core.specs.Calls.{MayConfirm, after_endorse, after_learn, after_roll, confirming, seen_of_half, seen_of_log, seen_of_votes}
 use Rattle.authority_core.specs.ConfirmRows.{half_claims, log_claims}
 use Rattle.ar_message.specs.Shown.{shows}
-use Rattle.authority_core.specs.Confirming.{confirmed_by, confirming_checks, content_tests, kept_of, log_claimed, meant_for, parties_of, seen_in, vote_count, voted_by, voters_of}
+use Rattle.authority_core.specs.Confirming.{confirmed_by, confirming_checks, content_tests, kept_of, log_claimed, meant_for, parties_of, vote_count, voted_by, voters_of}
 use Rattle.authority_core.specs.Honest.{HonestAuthority}
 use Rattle.authority_core.specs.Refusals.{of_signers}
-use Rattle.authority_core.specs.State.{Answer, AuthorityState, IsAuthority, if_due, in_order}
+use Rattle.authority_core.specs.State.{Answer, AuthorityState, IsAuthority, if_due}
 use Rattle.authority_core.specs.declared.refusal.AuthorityRefusal.{AuthorityRefusal}
 use Rattle.authority_core.specs.declared.refusal.AuthorityRefusal.TheVariants.{BadPath, FewVotes, SameAuthority}
 use Rattle.authority_core.specs.RollRows.{learning, rolling}
@@ -59,19 +59,6 @@ pub due-state : (e : Result DueParts AuthorityRefusal) (next : AuthorityState) (
 due-state (Ok due) next send later sent is = same-state (next, send due) (later, sent) is
 due-state (Err refusal) next send later sent is = absurd cc
 
-pub order-first : {A : Type 0} (c : Result (Unit {0}) AuthorityRefusal) (later : Result A AuthorityRefusal) (x : A) → in_order c later ≡ Ok x → c ≡ Ok tt
-order-first (Ok u) later x is = refl
-order-first (Err refusal) later x is = absurd cc
-
-pub order-then : {A : Type 0} (c : Result (Unit {0}) AuthorityRefusal) (later : Result A AuthorityRefusal) (x : A) → in_order c later ≡ Ok x → later ≡ Ok x
-order-then (Ok u) later x is = is
-order-then (Err refusal) later x is = absurd cc
-
--- the first of two checks that both pass
-pub both-first : (one other : Result (Unit {0}) SignerFault) → and_then one other ≡ Ok tt → one ≡ Ok tt
-both-first (Ok u) other is = refl
-both-first (Err fault) other is = absurd cc
-
 second-holds : (refusal other : AuthorityRefusal) (before test : Bool) (tests : List (AuthorityRefusal × Bool)) → first_failing ((refusal, before) ∷ ((other, test) ∷ tests)) ≡ Ok tt → test ≡ true
 second-holds refusal other true test tests is = first-holds other test tests is
 second-holds refusal other false test tests is = absurd cc
@@ -82,7 +69,7 @@ abbrev pub Passed : AuthorityState → ℕ → List Party → List Claimed → C
 Passed s chosen parties claims part = confirming_checks s chosen parties claims part ≡ Ok tt
 
 behind-first : (s : AuthorityState) (chosen : ℕ) (parties : List Party) (claims : List Claimed) (part : Confirming) → Passed s chosen parties claims part
-    → in_order (with_error of_signers (signers_answer s.keys parties claims)) (first_failing (content_tests s.keys.quorum part)) ≡ Ok tt
+    → result_and (with_error of_signers (signers_answer s.keys parties claims)) (first_failing (content_tests s.keys.quorum part)) ≡ Ok tt
 unfolding confirming_checks
 behind-first s chosen parties claims part is = order-then (first_failing (meant_for s.me chosen)) _ tt is
 
@@ -90,7 +77,7 @@ passed-members : (s : AuthorityState) (chosen : ℕ) (parties : List Party) (cla
     → All (IsMember (council_of s.keys)) parties
 passed-members s chosen parties claims part is =
     all-members s.keys parties
-    (both-first (all_known s.keys parties) (all_signed s.keys claims)
+    (order-first (all_known s.keys parties) (all_signed s.keys claims) tt
     (no-error of_signers (signers_answer s.keys parties claims) tt
     (order-first (with_error of_signers (signers_answer s.keys parties claims)) (first_failing (content_tests s.keys.quorum part)) tt (behind-first s chosen parties claims part is))))
 
@@ -193,8 +180,8 @@ pub note-keeps : (s : AuthorityState) (a : Announced) (l : Learned) → IsAuthor
 note-keeps s a l is e = record {
   number = is.number;
   bytes = is.bytes;
-  honest = subst (λ (council : Council). HonestAuthority council s.me (after_learn s.past a.party a.generation (key_text a.key))) (sym (council-learning s.keys a))
-      (honest-learn (council_of s.keys) s.me s.past a.party a.generation (key_text a.key) is.honest (member s.keys a.party (note-known s.keys a l e)));
+  honest = subst (λ (council : Council). HonestAuthority council s.me (after_learn s.past a)) (sym (council-learning s.keys a))
+      (honest-learn (council_of s.keys) s.me s.past a is.honest (member s.keys a.party (note-known s.keys a l e)));
 }
 
 not-last : (n : ℕ) → (n == 999) ≡ false → n ≤ 999 → n < 999

@@ -2,13 +2,11 @@
 use Rattle.std.proofs.Common.{ℕ, List, Option, Some, None}
 use Rattle.std.specs.Prelude.{Contains}
 use Rattle.std.proofs.lemmas.List.Elements.{All-contains}
-use Rattle.ar_statement.specs.Claims.{Claim, endorse, text_of}
+use Rattle.ar_statement.specs.Claims.{Claim, authority_party, confirmation_by, endorse, text_of}
 use Rattle.ar_statement.specs.Ranges.{IsTextOf, IsValid}
 use Rattle.ar_statement.proofs.OneText.{text_is}
 use Rattle.key_roll.specs.Book.{texts_of}
-use Rattle.party_keys.specs.Seen.{authority_party}
 use Rattle.ar_council.specs.Council.{Council}
-use Rattle.ar_council.specs.Values.{confirmation_by}
 use Rattle.authority_core.specs.Honest.{HasAsked, HasKept, HonestAuthority, ToldBy}
 use Rattle.authority_core.specs.Record.{AuthorityRecord}
 

@@ -1,6 +1,7 @@
 -- Each row leaves an honest authority.
 use Rattle.std.proofs.Common.{◌≡◌, ℕ, ◌≤◌, List, Bool, true, false, Result, Ok, Err, refl, sym, subst}
 use Rattle.ar_base.specs.Bytes.{IsDigest}
+use Rattle.ar_base.proofs.Giving.{order-first, order-then}
 use Rattle.ar_cert.specs.Certificate.{Certificate, digest_of}
 use Rattle.ar_cert.proofs.Digests.{digest-fits}
 use Rattle.ar_message.specs.Messages.{IsConfirming, IsMessage}
@@ -17,14 +18,14 @@ use Rattle.lms_tree.specs.declared.public_key.LmsPublic.{LmsPublic}
 use Rattle.owner_check.specs.declared.answer.Outcome.{Outcome}
 use Rattle.owner_check.specs.declared.answer.Outcome.TheVariants.{Failed, No, Yes}
 use Rattle.party_keys.specs.Learning.{Announced, learned}
-use Rattle.party_keys.specs.Seen.{authority_party}
+use Rattle.ar_statement.specs.Claims.{authority_party}
 use Rattle.party_keys.specs.declared.fault.LearnFault.{LearnFault}
 use Rattle.party_keys.specs.declared.learning.Learned.{Learned}
 use Rattle.authority_core.specs.Calls.{after_endorse}
 use Rattle.authority_core.specs.ConfirmRows.{half_claims, half_confirmed_row, log_claims, log_confirmed_row}
 use Rattle.ar_message.specs.Shown.{shows}
 use Rattle.ar_message.specs.Filling.{nothing}
-use Rattle.authority_core.specs.Confirming.{confirming_checks, parties_of, vote_count}
+use Rattle.authority_core.specs.Confirming.{confirming_checks, confirming_with, parties_of, vote_count}
 use Rattle.authority_core.specs.EndorseRow.{asked_of, endorse_due, endorse_row, endorsing}
 use Rattle.authority_core.specs.Honest.{HasAsked}
 use Rattle.authority_core.specs.RollRows.{learning, roll_by, roll_note_by, roll_note_row, roll_row, rolling}
@@ -33,7 +34,7 @@ use Rattle.authority_core.specs.State.{Answer, AuthorityState, IsAuthority, Step
 use Rattle.authority_core.specs.declared.refusal.AuthorityRefusal.{AuthorityRefusal}
 use Rattle.authority_core.specs.declared.entries.Asked.{Asked}
 use Rattle.authority_core.proofs.Growing.{asked-has}
-use Rattle.authority_core.proofs.Keeping.{due-state, endorse-keeps, half-keeps, log-keeps, note-keeps, order-first, order-then, passed-many, passed-shown, roll-keeps, same-state}
+use Rattle.authority_core.proofs.Keeping.{due-state, endorse-keeps, half-keeps, log-keeps, note-keeps, passed-many, passed-shown, roll-keeps, same-state}
 use Rattle.authority_core.proofs.Standing.{rolled_out}
 
 -- what is true of where an authority stands behind an answer
@@ -49,13 +50,13 @@ endorse-row-keeps s true owner cert said is later sent e = absurd cc
 endorse-row-keeps s false owner cert said is later sent e = endorsing-keeps s owner (asked_of cert) said is (digest-fits cert) later sent e
 
 pub log-row-keeps : (s : AuthorityState) (part : Confirming) → IsAuthority s → IsConfirming part → Leaves (log_confirmed_row s part)
-unfolding log_confirmed_row
+unfolding log_confirmed_row confirming_with
 log-row-keeps s part is range later sent e =
     let checks = confirming_checks s part.first (parties_of part part.second) (log_claims part) part in
     subst IsAuthority (sym (due-state _ _ _ later sent (order-then checks _ (later, sent) e))) (log-keeps s part is range (order-first checks _ (later, sent) e))
 
 pub half-row-keeps : (s : AuthorityState) (part : Confirming) (first_signature : List ℕ) → IsAuthority s → IsConfirming part → Leaves (half_confirmed_row s part first_signature)
-unfolding half_confirmed_row
+unfolding half_confirmed_row confirming_with
 half-row-keeps s part first_signature is range later sent e =
     let checks = confirming_checks s part.second (parties_of part part.first) (half_claims part first_signature) part in
     subst IsAuthority (sym (due-state _ _ _ later sent (order-then checks _ (later, sent) e)))

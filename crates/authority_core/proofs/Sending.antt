@@ -1,9 +1,9 @@
 -- What the authority sends where its confirmation was entered, and that it stands as before where it was refused.
 use Rattle.std.specs.Prelude.{map}
+use Rattle.std.specs.Result.{result_and}
 use Rattle.std.proofs.Common.{◌≡◌, inl, inr, ℕ, List, Result, Ok, Err, refl, sym, ap, ◌∙◌, subst}
 use Rattle.ar_statement.specs.declared.text.SeenText.{SeenText}
-use Rattle.ar_statement.specs.Claims.{party}
-use Rattle.ar_statement.specs.declared.party.Role.TheVariants.{Client}
+use Rattle.ar_statement.specs.Claims.{authority_party, client_party}
 use Rattle.ar_message.specs.Messages.{message_text}
 use Rattle.ar_message.specs.declared.address.Address.TheVariants.{One}
 use Rattle.ar_message.specs.declared.message.Confirming.{Confirming}
@@ -11,12 +11,12 @@ use Rattle.ar_message.specs.declared.message.Message.TheVariants.{HalfConfirmed}
 use Rattle.ar_message.specs.declared.unsigned.Unsigned.{Unsigned}
 use Rattle.ar_message.specs.Filling.{zeros}
 use Rattle.key_roll.specs.Due.{DueParts}
-use Rattle.party_keys.specs.Seen.{authority_party}
 use Rattle.authority_core.specs.Calls.{confirming, kept_claim}
 use Rattle.authority_core.specs.ConfirmRows.{confirmation_with, half_claims, half_confirmed_row, log_claims, log_confirmed_row}
-use Rattle.authority_core.specs.Confirming.{confirming_checks, confirming_with, kept_of, parties_of, seen_in}
+use Rattle.authority_core.specs.Confirming.{confirming_checks, confirming_with, kept_of, parties_of}
+use Rattle.party_keys.specs.Signers.{seen_in}
 use Rattle.authority_core.specs.Record.{AuthorityRecord}
-use Rattle.authority_core.specs.State.{Answer, AuthorityState, EntersBy, Prepared, StepsBy, entering, if_due, in_order, prepared, sent_with}
+use Rattle.authority_core.specs.State.{Answer, AuthorityState, EntersBy, Prepared, StepsBy, entering, if_due, prepared, sent_with}
 use Rattle.authority_core.specs.declared.entries.Kept.{Kept}
 use Rattle.authority_core.specs.declared.refusal.AuthorityRefusal.{AuthorityRefusal}
 
@@ -45,7 +45,7 @@ refused_steps s seen k p refusal later e = (
 -- ---- behind the checks
 
 -- where the checks pass, the row is what follows them, and what is seen is what they tell
-passed : (checks : Result (Unit {0}) AuthorityRefusal) (claims seen : List SeenText) (answer : Answer) → in_order checks (Ok claims) ≡ Ok seen → (answer ≡ in_order checks answer) × (seen ≡ claims)
+passed : (checks : Result (Unit {0}) AuthorityRefusal) (claims seen : List SeenText) (answer : Answer) → result_and checks (Ok claims) ≡ Ok seen → (answer ≡ result_and checks answer) × (seen ≡ claims)
 passed (Ok u) claims seen answer e = (refl, cc)
 passed (Err refusal) claims seen answer e = absurd cc
 
@@ -54,7 +54,7 @@ same_parts s seen seen' k k' p p' a b d =
     ap (λ (l : List SeenText). confirming_with s l k p) a ∙ (ap (λ (x : Kept). confirming_with s seen' x p) b ∙ ap (λ (x : Prepared). confirming_with s seen' k' x) d)
 
 pub log_row_is : (s : AuthorityState) (part : Confirming) (seen : List SeenText) (k : Kept) (p : Prepared) → k ≡ kept_of part
-    → in_order (confirming_checks s part.first (parties_of part part.second) (log_claims part) part) (Ok (map seen_in (log_claims part))) ≡ Ok seen
+    → result_and (confirming_checks s part.first (parties_of part part.second) (log_claims part) part) (Ok (map seen_in (log_claims part))) ≡ Ok seen
     → p ≡ prepared s.signature_len (One (authority_party part.second)) (message_text (HalfConfirmed part (zeros s.signature_len)))
     → confirming_with s seen k p ≡ log_confirmed_row s part
 unfolding log_confirmed_row confirming_with
@@ -64,11 +64,11 @@ log_row_is s part seen k p kept-is checked p-is =
     same_parts s seen (map seen_in (log_claims part)) k (kept_of part) p ready both.1 kept-is p-is ∙ both.0
 
 pub half_row_is : (s : AuthorityState) (part : Confirming) (first_signature : List ℕ) (seen : List SeenText) (k : Kept) (p : Prepared) → k ≡ kept_of part
-    → in_order (confirming_checks s part.second (parties_of part part.first) (half_claims part first_signature) part) (Ok (map seen_in (half_claims part first_signature))) ≡ Ok seen
-    → p ≡ prepared s.signature_len (One (party Client part.client)) (message_text (confirmation_with part first_signature (zeros s.signature_len)))
+    → result_and (confirming_checks s part.second (parties_of part part.first) (half_claims part first_signature) part) (Ok (map seen_in (half_claims part first_signature))) ≡ Ok seen
+    → p ≡ prepared s.signature_len (One (client_party part.client)) (message_text (confirmation_with part first_signature (zeros s.signature_len)))
     → confirming_with s seen k p ≡ half_confirmed_row s part first_signature
 unfolding half_confirmed_row confirming_with
 half_row_is s part first_signature seen k p kept-is checked p-is =
-    let ready : Prepared = prepared s.signature_len (One (party Client part.client)) (message_text (confirmation_with part first_signature (zeros s.signature_len))) in
+    let ready : Prepared = prepared s.signature_len (One (client_party part.client)) (message_text (confirmation_with part first_signature (zeros s.signature_len))) in
     let both = passed (confirming_checks s part.second (parties_of part part.first) (half_claims part first_signature) part) (map seen_in (half_claims part first_signature)) seen (confirming_with s (map seen_in (half_claims part first_signature)) (kept_of part) ready) checked in
     same_parts s seen (map seen_in (half_claims part first_signature)) k (kept_of part) p ready both.1 kept-is p-is ∙ both.0

@@ -1,6 +1,7 @@
 -- The keys of an authority sign what its rows leave blank, and a row leaves the keys its own.
 use Rattle.std.proofs.Common.{◌≡◌, ℕ, ◌+◌, ◌-◌, ◌≤◌, ◌==◌, List, [], ◌∷◌, ◌++◌, map, length, Bool, true, false, cond, Option, Some, None, Result, Ok, Err, refl, sym, subst, arith}
 use Rattle.std.specs.Prelude.{All, option_and_then, slice_get}
+use Rattle.std.specs.Result.{result_and}
 use Rattle.std.specs.Int.{w8, w16, w32}
 use Rattle.std.specs.Option.{ok_or, option_map}
 use Rattle.std.proofs.lemmas.List.{length-append, length-replicate}
@@ -19,8 +20,7 @@ use Rattle.ar_message.specs.declared.message.Confirming.{Confirming}
 use Rattle.ar_message.specs.declared.message.Message.{Message}
 use Rattle.ar_message.specs.declared.message.Message.TheVariants.{EndorseAsk, Endorsed, Submit, Propose, Ballot, StatusNote, Decision, SkipNote, ConfirmAsk, LogConfirmed, HalfConfirmed, Confirmation, RollNote}
 use Rattle.ar_message.specs.declared.unsigned.Unsigned.{Unsigned}
-use Rattle.ar_statement.specs.Claims.{Claim, endorse, party, party_text, text_of}
-use Rattle.ar_statement.specs.declared.party.Role.TheVariants.{Client, Owner}
+use Rattle.ar_statement.specs.Claims.{Claim, authority_party, client_party, endorse, owner_party, party, party_text, text_of}
 use Rattle.ar_statement.specs.declared.text.SeenText.{SeenText}
 use Rattle.key_roll.specs.Book.{IsRollBook, RollBook, texts_of}
 use Rattle.key_roll.specs.Due.{DueParts}
@@ -28,7 +28,7 @@ use Rattle.key_roll.specs.Entry.{after_at, after_entry, due_at, entered, has_roo
 use Rattle.key_roll.specs.Ring.{AreKeysOf, IsNext, Owes}
 use Rattle.key_roll.proofs.Rings.{next_keys, owed_by, same_keys}
 use Rattle.key_roll.proofs.Books.{IsSameBook, due_for, entry-same}
-use Rattle.key_roll.specs.declared.fault.BookFault.TheVariants.{Spent}
+use Rattle.ar_statement.specs.declared.fault.BookFault.TheVariants.{Spent}
 use Rattle.key_roll.specs.declared.fault.RollFault.TheVariants.{Last}
 use Rattle.key_roll.specs.declared.signed.Signed.{Signed}
 use Rattle.lms_tree.specs.Key.{public_of}
@@ -38,18 +38,18 @@ use Rattle.lms_tree.specs.declared.public_key.LmsPublic.{LmsPublic}
 use Rattle.owner_check.specs.declared.answer.Outcome.{Outcome}
 use Rattle.owner_check.specs.declared.answer.Outcome.TheVariants.{Failed, No, Yes}
 use Rattle.party_keys.specs.Learning.{Announced, learned}
-use Rattle.party_keys.specs.Seen.{authority_party}
 use Rattle.party_keys.specs.declared.fault.LearnFault.{LearnFault}
 use Rattle.party_keys.specs.declared.learning.Learned.{Learned}
 use Rattle.authority_core.specs.Calls.{after_endorse, confirming, kept_claim}
 use Rattle.authority_core.specs.ConfirmRows.{confirmation_with, half_claims, half_confirmed_row, log_claims, log_confirmed_row}
-use Rattle.authority_core.specs.Confirming.{confirming_checks, confirming_too, kept_of, parties_of, seen_in}
+use Rattle.authority_core.specs.Confirming.{confirming_checks, confirming_too, confirming_with, kept_of, parties_of}
+use Rattle.party_keys.specs.Signers.{seen_in}
 use Rattle.authority_core.specs.EndorseRow.{asked_of, endorse_due, endorse_row, endorsed_message, endorsing}
 use Rattle.authority_core.specs.Keyed.{IsRingOf}
 use Rattle.authority_core.specs.Refusals.{of_book}
 use Rattle.authority_core.specs.RollRows.{learning, roll_by, roll_message, roll_note_by, roll_note_row, roll_row, rolling}
 use Rattle.authority_core.specs.Row.{message_row, row}
-use Rattle.authority_core.specs.State.{Answer, AuthorityState, entering, if_due, in_order, sends}
+use Rattle.authority_core.specs.State.{Answer, AuthorityState, entering, if_due, sends}
 use Rattle.authority_core.specs.declared.entries.Asked.{Asked}
 use Rattle.authority_core.specs.declared.entries.Kept.{Kept}
 use Rattle.authority_core.specs.declared.refusal.AuthorityRefusal.{AuthorityRefusal}
@@ -178,7 +178,7 @@ due-signs s keys (Ok due) next to bytes owes less same later sent is =
 due-signs s keys (Err refusal) next to bytes owes less same later sent is = absurd cc
 
 -- where checks stand before it
-ordered-signs : (s : AuthorityState) (keys : List KeyParts) (checks : Result (Unit {0}) AuthorityRefusal) (answer : Answer) → Signs s keys answer → Signs s keys (in_order checks answer)
+ordered-signs : (s : AuthorityState) (keys : List KeyParts) (checks : Result (Unit {0}) AuthorityRefusal) (answer : Answer) → Signs s keys answer → Signs s keys (result_and checks answer)
 ordered-signs s keys (Ok u) answer signs = signs
 ordered-signs s keys (Err refusal) answer signs = λ later sent is. absurd cc
 
@@ -188,7 +188,7 @@ entering-same s seen k = record { book = entry-same s.past.signed (text_of (kept
 endorse-signs : (s : AuthorityState) (keys : List KeyParts) (owner : ℕ) (a : Asked) (said : Outcome) → IsRingOf s keys → IsRollBook s.past.signed → Signs s keys (endorsing s owner a said)
 unfolding endorsing
 endorse-signs s keys owner a said is sound =
-    due-signs s keys (endorse_due s.me s.past a said) (record s { past = after_endorse s.me s.past a }) (One (party Owner owner)) (message_text (endorsed_message s owner a.certificate))
+    due-signs s keys (endorse_due s.me s.past a said) (record s { past = after_endorse s.me s.past a }) (One (owner_party owner)) (message_text (endorsed_message s owner a.certificate))
     (by said) (endorsed-fits s owner a.certificate) (record { book = entry-same s.past.signed (text_of (endorse s.me a.certificate)); len = refl })
   where
     by : (o : Outcome) → Owed s keys (endorse_due s.me s.past a o)
@@ -204,6 +204,7 @@ asked-signs s keys false owner cert said is sound = endorse-signs s keys owner (
 -- a confirmation is signed and sent
 confirming-signs : (s : AuthorityState) (keys : List KeyParts) (seen : List SeenText) (k : Kept) (to : Address) (message : List ℕ → Message) → IsRingOf s keys → IsRollBook s.past.signed
     → s.signature_len ≤ length (message_text (message (zeros s.signature_len))) → Signs s keys (confirming_too s seen k to message)
+unfolding confirming_with
 confirming-signs s keys seen k to message is sound less =
     due-signs s keys (entering s.past (kept_claim (authority_party s.me) k)) (record s { past = confirming s.me s.past seen k }) to (message_text (message (zeros s.signature_len)))
     (λ due e. entering-owes s keys (kept_claim (authority_party s.me) k) due is sound e) less (entering-same s seen k)
@@ -218,7 +219,7 @@ half-signs : (s : AuthorityState) (keys : List KeyParts) (part : Confirming) (fi
 unfolding half_confirmed_row
 half-signs s keys part first_signature is sound =
     ordered-signs s keys (confirming_checks s part.second (parties_of part part.first) (half_claims part first_signature) part) _
-    (confirming-signs s keys (map seen_in (half_claims part first_signature)) (kept_of part) (One (party Client part.client)) (confirmation_with part first_signature) is sound
+    (confirming-signs s keys (map seen_in (half_claims part first_signature)) (kept_of part) (One (client_party part.client)) (confirmation_with part first_signature) is sound
     (confirmation-fits part first_signature s.signature_len))
 
 -- nothing is sent

@@ -1,6 +1,7 @@
 -- Whatever an authority is asked, it stays the authority with its number, and its directory's council the same.
 use Rattle.std.proofs.Common.{◌≡◌, ℕ, List, Bool, true, false, Result, Ok, Err, refl, sym, subst}
 use Rattle.std.specs.Prelude.{map}
+use Rattle.std.specs.Result.{result_and}
 use Rattle.ar_cert.specs.Certificate.{Certificate}
 use Rattle.ar_council.proofs.Members.{council-adopting, council-learning}
 use Rattle.ar_council.specs.Council.{council_of}
@@ -12,8 +13,7 @@ use Rattle.ar_message.specs.declared.message.Confirming.{Confirming}
 use Rattle.ar_message.specs.declared.message.Message.{Message}
 use Rattle.ar_message.specs.declared.message.Message.TheVariants.{EndorseAsk, Endorsed, Submit, Propose, Ballot, StatusNote, Decision, SkipNote, ConfirmAsk, LogConfirmed, HalfConfirmed, Confirmation, RollNote}
 use Rattle.ar_message.specs.declared.unsigned.Unsigned.{Unsigned}
-use Rattle.ar_statement.specs.Claims.{party}
-use Rattle.ar_statement.specs.declared.party.Role.TheVariants.{Client}
+use Rattle.ar_statement.specs.Claims.{authority_party, client_party, party}
 use Rattle.ar_statement.specs.declared.text.SeenText.{SeenText}
 use Rattle.key_roll.specs.Due.{DueParts}
 use Rattle.key_roll.specs.Entry.{roll_text, rolled}
@@ -21,15 +21,15 @@ use Rattle.key_roll.specs.declared.fault.RollFault.{RollFault}
 use Rattle.lms_tree.specs.declared.public_key.LmsPublic.{LmsPublic}
 use Rattle.owner_check.specs.declared.answer.Outcome.{Outcome}
 use Rattle.party_keys.specs.Learning.{Announced, learned}
-use Rattle.party_keys.specs.Seen.{authority_party}
 use Rattle.party_keys.specs.declared.fault.LearnFault.{LearnFault}
 use Rattle.party_keys.specs.declared.learning.Learned.{Learned}
 use Rattle.authority_core.specs.ConfirmRows.{confirmation_with, half_claims, half_confirmed_row, log_claims, log_confirmed_row}
-use Rattle.authority_core.specs.Confirming.{confirming_checks, confirming_too, kept_of, parties_of, seen_in}
+use Rattle.authority_core.specs.Confirming.{confirming_checks, confirming_too, confirming_with, kept_of, parties_of}
+use Rattle.party_keys.specs.Signers.{seen_in}
 use Rattle.authority_core.specs.EndorseRow.{asked_of, endorse_due, endorse_row, endorsing}
 use Rattle.authority_core.specs.RollRows.{learning, roll_by, roll_message, roll_note_by, roll_note_row, roll_row, rolling}
 use Rattle.authority_core.specs.Row.{message_row, row}
-use Rattle.authority_core.specs.State.{Answer, AuthorityState, in_order, sends}
+use Rattle.authority_core.specs.State.{Answer, AuthorityState, sends}
 use Rattle.authority_core.specs.declared.entries.Asked.{Asked}
 use Rattle.authority_core.specs.declared.entries.Kept.{Kept}
 use Rattle.authority_core.specs.declared.refusal.AuthorityRefusal.{AuthorityRefusal}
@@ -44,7 +44,7 @@ abbrev StaysBy : AuthorityState → Answer → Type 0
 StaysBy s answer = (later : AuthorityState) (sent : Unsigned) → answer ≡ Ok (later, sent) → IsSame s later
 
 -- where checks stand before it
-ordered-stays : (s : AuthorityState) (checks : Result (Unit {0}) AuthorityRefusal) (answer : Answer) → StaysBy s answer → StaysBy s (in_order checks answer)
+ordered-stays : (s : AuthorityState) (checks : Result (Unit {0}) AuthorityRefusal) (answer : Answer) → StaysBy s answer → StaysBy s (result_and checks answer)
 ordered-stays s (Ok u) answer stays = stays
 ordered-stays s (Err refusal) answer stays = λ later sent is. absurd cc
 
@@ -59,6 +59,7 @@ endorse-stays s true owner cert said later sent is = absurd cc
 endorse-stays s false owner cert said later sent is = endorsing-stays s owner (asked_of cert) said later sent is
 
 confirming-stays : (s : AuthorityState) (seen : List SeenText) (k : Kept) (to : Address) (message : List ℕ → Message) → StaysBy s (confirming_too s seen k to message)
+unfolding confirming_with
 confirming-stays s seen k to message later sent is = subst (IsSame s) (sym (due-state _ _ _ later sent is)) (refl, refl)
 
 log-stays : (s : AuthorityState) (part : Confirming) → StaysBy s (log_confirmed_row s part)
@@ -71,7 +72,7 @@ half-stays : (s : AuthorityState) (part : Confirming) (first_signature : List �
 unfolding half_confirmed_row
 half-stays s part first_signature =
     ordered-stays s (confirming_checks s part.second (parties_of part part.first) (half_claims part first_signature) part) _
-    (confirming-stays s (map seen_in (half_claims part first_signature)) (kept_of part) (One (party Client part.client)) (confirmation_with part first_signature))
+    (confirming-stays s (map seen_in (half_claims part first_signature)) (kept_of part) (One (client_party part.client)) (confirmation_with part first_signature))
 
 note-stays : (s : AuthorityState) (a : Announced) → StaysBy s (roll_note_row s a)
 unfolding roll_note_row

@@ -1,45 +1,43 @@
 -- What each thing that an authority does makes of its record, and when it may do so.
-use Rattle.std.specs.Prelude.{ℕ, ◌<◌, ◌≤◌, ◌==◌, Bool, true, false, ◌&&◌, if◌then◌else◌, List, [], ◌∷◌, ◌++◌, map, All, Option, Some, None, IfSome, IsTrue}
-use Rattle.std.specs.List.{list_any}
+use Rattle.std.specs.Prelude.{ℕ, ◌<◌, ◌≤◌, ◌==◌, Bool, true, false, ◌&&◌, List, [], ◌∷◌, map, All, Option, Some, None, IfSome, IsTrue}
 use Rattle.std.specs.Str.{bytes_eq}
+use Rattle.ar_base.specs.Adding.{with_one}
 use Rattle.ar_base.specs.Bytes.{IsDigest}
 use Rattle.ar_names.specs.Names.{IsName}
 use Rattle.ar_statement.specs.declared.party.Party.{Party}
 use Rattle.ar_statement.specs.declared.text.SeenText.{SeenText}
-use Rattle.ar_statement.specs.Claims.{Claim, endorse, roll, text_of}
+use Rattle.ar_statement.specs.Claims.{Claim, authority_party, confirmation_by, endorse, log_party, roll, text_of}
 use Rattle.ar_statement.specs.Fields.{is_epoch}
+use Rattle.key_roll.specs.Book.{empty_book}
 use Rattle.key_roll.specs.Entry.{after_entry, with_roll}
-use Rattle.party_keys.specs.Seen.{authority_party, log_party}
-use Rattle.tree_proof.specs.declared.path.Bottom.{Bottom}
-use Rattle.tree_proof.specs.declared.path.Bottom.TheVariants.{Empty, Other}
+use Rattle.hash_tree.specs.declared.bottom.Bottom.{Bottom}
+use Rattle.hash_tree.specs.declared.bottom.Bottom.TheVariants.{Empty, Other}
 use Rattle.vote_quorum.specs.Numbers.{distinct_count}
 use Rattle.vote_quorum.specs.declared.value.Value.{Value}
 use Rattle.ar_council.specs.Council.{Council}
-use Rattle.ar_council.specs.Seen.{seen_after, seen_of}
-use Rattle.ar_council.specs.Values.{IsValue, confirmation_by, is_same_digest, vote_claim}
+use Rattle.ar_council.specs.Seen.{seen_after}
+use Rattle.party_keys.specs.Learning.{Announced, roll_claim}
+use Rattle.party_keys.specs.Seen.{seen_of}
+use Rattle.ar_council.specs.Values.{IsValue, is_same_digest, vote_claim}
 use Rattle.authority_core.specs.Record.{AuthorityRecord}
 use Rattle.authority_core.specs.declared.entries.Asked.{Asked}
 use Rattle.authority_core.specs.declared.entries.Kept.{Kept}
 
 -- an authority that has done nothing yet, whose keys have this many leaves
 abbrev pub fresh_authority : ℕ → AuthorityRecord
-fresh_authority leaves = record { seen = []; signed = record { leaves = leaves; newest = 0; list = [] }; asked = []; kept = [] }
+fresh_authority leaves = record { seen = []; signed = empty_book leaves; asked = []; kept = [] }
 
 -- ---- an endorsement
 
 abbrev pub is_same_asked : Asked → Asked → Bool
 is_same_asked a b = bytes_eq a.name b.name && (bytes_eq a.key b.key && bytes_eq a.certificate b.certificate)
 
--- what the check said yes to, with one more, unless it is among them
-abbrev pub with_asked : List Asked → Asked → List Asked
-with_asked asked a = if list_any (λ b. is_same_asked b a) asked then asked else asked ++ a ∷ []
-
 -- the check said yes, and the authority endorses the certificate
 abbrev pub after_endorse : ℕ → AuthorityRecord → Asked → AuthorityRecord
 after_endorse me r a = record {
   seen = r.seen;
   signed = after_entry r.signed (text_of (endorse me a.certificate));
-  asked = with_asked r.asked a;
+  asked = with_one is_same_asked r.asked a;
   kept = r.kept;
 }
 
@@ -81,22 +79,22 @@ is_same_kept k l =
     && (bytes_eq k.name l.name
     && (is_same_digest k.certificate l.certificate && (bytes_eq k.base l.base && (bytes_eq k.root l.root && is_same_path k l))))
 
--- what is kept, with one more, unless it is among them
-abbrev pub with_kept : List Kept → Kept → List Kept
-with_kept kept k = if list_any (λ l. is_same_kept l k) kept then kept else kept ++ k ∷ []
-
 -- the votes for it, as they are seen
 abbrev pub seen_of_votes : List ℕ → Kept → List SeenText
 seen_of_votes voters k = map (λ voter. seen_of (log_party voter) (vote_claim voter k.epoch (kept_value k))) voters
 
+-- the party's confirmation of it, as it is seen
+abbrev pub seen_confirmed : Party → Kept → SeenText
+seen_confirmed party k = seen_of party (kept_claim party k)
+
 -- of a log's confirmation that statement and the votes are seen
 abbrev pub seen_of_log : ℕ → List ℕ → Kept → List SeenText
-seen_of_log log voters k = seen_of (log_party log) (kept_claim (log_party log) k) ∷ seen_of_votes voters k
+seen_of_log log voters k = seen_confirmed (log_party log) k ∷ seen_of_votes voters k
 
 -- and of one that a first authority confirmed, that authority's statement too
 abbrev pub seen_of_half : ℕ → List ℕ → ℕ → Kept → List SeenText
 seen_of_half log voters first k =
-    seen_of (log_party log) (kept_claim (log_party log) k) ∷ (seen_of (authority_party first) (kept_claim (authority_party first) k) ∷ seen_of_votes voters k)
+    seen_confirmed (log_party log) k ∷ (seen_confirmed (authority_party first) k ∷ seen_of_votes voters k)
 
 -- The authority may confirm what a log says: the log and those that voted are of the council, they are a quorum, and the
 -- values are in their ranges. (That the path leads to the root it checks too; no clause of its record speaks of that.)
@@ -115,7 +113,7 @@ confirming me r more k = record {
   seen = seen_after r.seen more;
   signed = after_entry r.signed (text_of (kept_claim (authority_party me) k));
   asked = r.asked;
-  kept = with_kept r.kept k;
+  kept = with_one is_same_kept r.kept k;
 }
 
 -- the first of two authorities confirms what a log says
@@ -129,8 +127,8 @@ after_half_confirmed me r log voters first k = confirming me r (seen_of_half log
 -- ---- Rolls
 
 -- a party's Roll is seen
-abbrev pub after_learn : AuthorityRecord → Party → ℕ → List ℕ → AuthorityRecord
-after_learn r party generation key = record r { seen = seen_after r.seen (seen_of party (roll party generation key) ∷ []) }
+abbrev pub after_learn : AuthorityRecord → Announced → AuthorityRecord
+after_learn r a = record r { seen = seen_after r.seen (seen_of a.party (roll_claim a) ∷ []) }
 
 -- its own Roll is signed, and the book is at the next generation
 abbrev pub after_roll : ℕ → AuthorityRecord → List ℕ → AuthorityRecord

@@ -1,15 +1,14 @@
 -- The rows of a confirmation by a log, and of one that a first authority confirmed too.
 use Rattle.std.specs.Prelude.{ℕ, List, ◌∷◌, map}
-use Rattle.ar_statement.specs.Claims.{party}
-use Rattle.ar_statement.specs.declared.party.Role.TheVariants.{Client}
+use Rattle.std.specs.Result.{result_and}
+use Rattle.ar_statement.specs.Claims.{authority_party, client_party}
 use Rattle.ar_message.specs.declared.address.Address.TheVariants.{One}
 use Rattle.ar_message.specs.declared.message.Confirming.{Confirming}
 use Rattle.ar_message.specs.declared.message.Message.{Message}
 use Rattle.ar_message.specs.declared.message.Message.TheVariants.{Confirmation, HalfConfirmed}
-use Rattle.party_keys.specs.Seen.{authority_party}
-use Rattle.party_keys.specs.Signers.{Claimed}
-use Rattle.authority_core.specs.Confirming.{confirmed_by, confirming_checks, confirming_too, kept_of, log_claimed, parties_of, seen_in, votes_claimed}
-use Rattle.authority_core.specs.State.{Answer, AuthorityState, in_order}
+use Rattle.party_keys.specs.Signers.{Claimed, seen_in}
+use Rattle.authority_core.specs.Confirming.{confirmed_by, confirming_checks, confirming_too, kept_of, log_claimed, parties_of, votes_claimed}
+use Rattle.authority_core.specs.State.{Answer, AuthorityState}
 
 -- ---- the first of two authorities
 
@@ -18,7 +17,7 @@ log_claims part = log_claimed part ∷ votes_claimed part
 
 unfoldable pub log_confirmed_row : AuthorityState → Confirming → Answer
 log_confirmed_row s part =
-    in_order (confirming_checks s part.first (parties_of part part.second) (log_claims part) part)
+    result_and (confirming_checks s part.first (parties_of part part.second) (log_claims part) part)
     (confirming_too s (map seen_in (log_claims part)) (kept_of part) (One (authority_party part.second)) (λ signature. HalfConfirmed part signature))
 
 -- ---- the second
@@ -34,5 +33,5 @@ confirmation_with part first_signature signature =
 
 unfoldable pub half_confirmed_row : AuthorityState → Confirming → List ℕ → Answer
 half_confirmed_row s part first_signature =
-    in_order (confirming_checks s part.second (parties_of part part.first) (half_claims part first_signature) part)
-    (confirming_too s (map seen_in (half_claims part first_signature)) (kept_of part) (One (party Client part.client)) (confirmation_with part first_signature))
+    result_and (confirming_checks s part.second (parties_of part part.first) (half_claims part first_signature) part)
+    (confirming_too s (map seen_in (half_claims part first_signature)) (kept_of part) (One (client_party part.client)) (confirmation_with part first_signature))

@@ -1,30 +1,28 @@
 -- What an authority checks of a confirmation that a log made, and what it does where it confirms it too. Two rows share it:
 -- that of the first of two authorities, and that of the second.
-use Rattle.std.specs.Prelude.{ℕ, ◌==◌, nat_le, Bool, not, List, [], ◌∷◌, ◌++◌, map, Option, Result}
-use Rattle.std.specs.Option.{option_map}
+use Rattle.std.specs.Prelude.{ℕ, ◌==◌, nat_le, Bool, not, List, [], ◌∷◌, ◌++◌, map, Result}
+use Rattle.std.specs.Result.{result_and}
 use Rattle.tree_proof.specs.Fold.{digests_in}
 use Rattle.ar_base.specs.FirstFailing.{first_failing}
 use Rattle.ar_base.specs.Gives.{with_error}
 use Rattle.ar_statement.specs.declared.party.Party.{Party}
 use Rattle.ar_statement.specs.declared.text.SeenText.{SeenText}
-use Rattle.ar_statement.specs.Claims.{text_of}
-use Rattle.ar_cert.specs.Certificate.{digest_of}
+use Rattle.ar_statement.specs.Claims.{authority_party, log_party}
 use Rattle.ar_council.specs.Values.{vote_claim}
 use Rattle.ar_message.specs.Shown.{shows}
-use Rattle.ar_message.specs.Confirmation.{bottom_in, certificate_in}
+use Rattle.ar_message.specs.Confirmation.{bottom_in, digest_in}
 use Rattle.ar_message.specs.Messages.{message_text, path_in, shown_in}
 use Rattle.ar_message.specs.declared.address.Address.{Address}
 use Rattle.ar_message.specs.declared.lists.Vote.{Vote}
 use Rattle.ar_message.specs.declared.message.Confirming.{Confirming}
 use Rattle.ar_message.specs.declared.message.Message.{Message}
 use Rattle.ar_message.specs.Filling.{zeros}
-use Rattle.party_keys.specs.Seen.{authority_party, log_party}
-use Rattle.party_keys.specs.Signers.{Claimed, signers_answer}
+use Rattle.party_keys.specs.Signers.{Claimed, signed_by, signers_answer}
 use Rattle.vote_quorum.specs.Numbers.{distinct_count}
 use Rattle.vote_quorum.specs.declared.value.Value.{Value}
 use Rattle.authority_core.specs.Calls.{confirming, kept_claim}
 use Rattle.authority_core.specs.Refusals.{of_signers}
-use Rattle.authority_core.specs.State.{Answer, AuthorityState, Prepared, entering, if_due, in_order, sends, sent_with}
+use Rattle.authority_core.specs.State.{Answer, AuthorityState, Prepared, entering, if_due, prepared, sent_with}
 use Rattle.authority_core.specs.declared.entries.Kept.{Kept}
 use Rattle.authority_core.specs.declared.refusal.AuthorityRefusal.{AuthorityRefusal}
 use Rattle.authority_core.specs.declared.refusal.AuthorityRefusal.TheVariants.{BadPath, FewVotes, NotForAuthority, SameAuthority}
@@ -39,35 +37,27 @@ value_of part = record { base = part.base; root = part.root }
 abbrev pub voters_of : Confirming → List ℕ
 voters_of part = map (λ v. v.log) part.votes
 
--- the digest of the certificate, where the name has one
-abbrev pub certificate_of : Confirming → Option (List ℕ)
-certificate_of part = option_map digest_of (certificate_in (shown_in part.body))
-
 -- what is kept of it
 abbrev pub kept_of : Confirming → Kept
 kept_of part = record {
   epoch = part.epoch;
   name = part.name;
-  certificate = certificate_of part;
+  certificate = digest_in (shown_in part.body);
   base = part.base;
   root = part.root;
   bottom = bottom_in (shown_in part.body);
   steps = digests_in (path_in part.body);
 }
 
--- the text by which a party confirms it
-abbrev pub confirmed_text : Confirming → Party → List ℕ
-confirmed_text part party = text_of (kept_claim party (kept_of part))
-
 -- ---- who signed
 
 -- a party is said to have confirmed it
 abbrev pub confirmed_by : Confirming → Party → List ℕ → Claimed
-confirmed_by part party signature = record { party = party; text = confirmed_text part party; signature = signature }
+confirmed_by part party signature = signed_by party (kept_claim party (kept_of part)) signature
 
 -- a log is said to have voted for it
 abbrev pub voted_by : Confirming → Vote → Claimed
-voted_by part v = record { party = log_party v.log; text = text_of (vote_claim v.log part.epoch (value_of part)); signature = v.signature }
+voted_by part v = signed_by (log_party v.log) (vote_claim v.log part.epoch (value_of part)) v.signature
 
 abbrev pub log_claimed : Confirming → Claimed
 log_claimed part = confirmed_by part (log_party part.log) part.signature
@@ -78,10 +68,6 @@ votes_claimed part = map (voted_by part) part.votes
 -- the log, the logs that voted, and an authority
 abbrev pub parties_of : Confirming → ℕ → List Party
 parties_of part authority = log_party part.log ∷ (map (λ v. log_party v.log) part.votes ++ authority_party authority ∷ [])
-
--- what was seen where all these signatures are accepted
-abbrev pub seen_in : Claimed → SeenText
-seen_in c = record { party = c.party; text = c.text }
 
 -- ---- checks
 
@@ -105,19 +91,18 @@ content_tests quorum part =
 -- accepted; and the content.
 unfoldable pub confirming_checks : AuthorityState → ℕ → List Party → List Claimed → Confirming → Result (Unit {0}) AuthorityRefusal
 confirming_checks s chosen parties claims part =
-    in_order (first_failing (meant_for s.me chosen))
-    (in_order (with_error of_signers (signers_answer s.keys parties claims)) (first_failing (content_tests s.keys.quorum part)))
+    result_and (first_failing (meant_for s.me chosen))
+    (result_and (with_error of_signers (signers_answer s.keys parties claims)) (first_failing (content_tests s.keys.quorum part)))
 
 -- ---- what the authority does
 
--- it confirms it too, by what it saw, and sends this message, whose last field is its signature
-abbrev pub confirming_too : AuthorityState → List SeenText → Kept → Address → (List ℕ → Message) → Answer
-confirming_too s seen k to message =
-    if_due (entering s.past (kept_claim (authority_party s.me) k))
-    (λ due. (record s { past = confirming s.me s.past seen k }, sends s.signature_len to (message_text (message (zeros s.signature_len))) due))
-
--- the same where the message is prepared
+-- it confirms it too, by what it saw, and sends what was prepared
 unfoldable pub confirming_with : AuthorityState → List SeenText → Kept → Prepared → Answer
 confirming_with s seen k p =
     if_due (entering s.past (kept_claim (authority_party s.me) k))
     (λ due. (record s { past = confirming s.me s.past seen k }, sent_with p due))
+
+-- the same with this message, whose last field is its signature
+abbrev pub confirming_too : AuthorityState → List SeenText → Kept → Address → (List ℕ → Message) → Answer
+confirming_too s seen k to message =
+    confirming_with s seen k (prepared s.signature_len to (message_text (message (zeros s.signature_len))))

@@ -1,7 +1,6 @@
 -- The row of a request to endorse a certificate.
 use Rattle.std.specs.Prelude.{◌≡◌, ℕ, Bool, if◌then◌else◌, List, Option, IfSome, Result, Ok, Err}
-use Rattle.ar_statement.specs.Claims.{endorse, party}
-use Rattle.ar_statement.specs.declared.party.Role.TheVariants.{Owner}
+use Rattle.ar_statement.specs.Claims.{endorse, owner_party}
 use Rattle.ar_cert.specs.Certificate.{Certificate, digest_of}
 use Rattle.ar_message.specs.Messages.{message_text}
 use Rattle.ar_message.specs.declared.address.Address.TheVariants.{One}
@@ -40,7 +39,7 @@ endorsed_message s owner certificate = Endorsed owner s.me certificate (zeros s.
 unfoldable pub endorsing : AuthorityState → ℕ → Asked → Outcome → state.Answer
 endorsing s owner a said =
     if_due (endorse_due s.me s.past a said)
-    (λ due. (record s { past = after_endorse s.me s.past a }, sends s.signature_len (One (party Owner owner)) (message_text (endorsed_message s owner a.certificate)) due))
+    (λ due. (record s { past = after_endorse s.me s.past a }, sends s.signature_len (One (owner_party owner)) (message_text (endorsed_message s owner a.certificate)) due))
 
 -- the row: an authority that has retired endorses nothing
 abbrev pub endorse_row : AuthorityState → Bool → ℕ → Certificate → Outcome → state.Answer

@@ -2,10 +2,9 @@
 use Rattle.std.specs.Prelude.{◌≡◌, ℕ, List, All, Contains, Option, Some, None}
 use Rattle.ar_base.specs.Bytes.{IsDigest}
 use Rattle.ar_statement.specs.declared.text.SeenText.{SeenText}
-use Rattle.ar_statement.specs.Claims.{Claim, endorse, handover, propose, vote, confirm, confirm_absent, answer, status, roll, object}
+use Rattle.ar_statement.specs.Claims.{Claim, authority_party, endorse, handover, propose, vote, confirm, confirm_absent, answer, status, roll, object}
 use Rattle.ar_statement.specs.Ranges.{IsTextOf}
 use Rattle.key_roll.specs.Book.{IsRollBook, texts_of}
-use Rattle.party_keys.specs.Seen.{authority_party}
 use Rattle.ar_council.specs.Seen.{SeesMembers}
 use Rattle.ar_council.specs.Council.{Council}
 use Rattle.ar_council.specs.Votes.{SawVotes}

@@ -1,5 +1,6 @@
 -- An authority with its keys, and its answers with its signatures in them.
 use Rattle.std.specs.Prelude.{◌≡◌, ◌⊎◌, List, Option, Result, Ok, Err}
+use Rattle.std.specs.Result.{result_map_both}
 use Rattle.ar_message.specs.Filling.{filled}
 use Rattle.ar_message.specs.declared.sent.Sent.{Sent}
 use Rattle.key_roll.specs.Ring.{AreKeysOf, RingParts}
@@ -20,8 +21,7 @@ IsRingOf s keys = AreKeysOf s.past.signed s.signature_len keys
 
 -- the answer with the authority's signatures in what it sends
 abbrev pub signed_answer : List KeyParts → Answer → Result (AuthorityState × Sent) AuthorityRefusal
-signed_answer keys (Ok answer) = Ok (answer.0, filled keys answer.1)
-signed_answer keys (Err refusal) = Err refusal
+signed_answer keys answer = result_map_both (λ a. (a.0, filled keys a.1)) (λ refusal. refusal) answer
 
 -- A call answered as the row does, signed with these keys, and the authority stands where the row says; or it refused so, or
 -- wanted memory, and the authority stands as before.

@@ -3,8 +3,8 @@ use Rattle.std.specs.Prelude.{ℕ}
 use Rattle.ar_statement.specs.declared.party.Party.{Party}
 use Rattle.ar_message.specs.declared.fault.MessageFault.{MessageFault}
 use Rattle.ar_message.specs.declared.fault.MessageFault.TheVariants as message
-use Rattle.key_roll.specs.declared.fault.BookFault.{BookFault}
-use Rattle.key_roll.specs.declared.fault.BookFault.TheVariants as book
+use Rattle.ar_statement.specs.declared.fault.BookFault.{BookFault}
+use Rattle.ar_statement.specs.declared.fault.BookFault.TheVariants as book
 use Rattle.key_roll.specs.declared.fault.RollFault.{RollFault}
 use Rattle.key_roll.specs.declared.fault.RollFault.TheVariants as roll
 use Rattle.owner_check.specs.declared.fault.AskFault.{AskFault}

@@ -13,7 +13,7 @@ use Rattle.lms_tree.specs.PublicKey.{key_text}
 use Rattle.lms_tree.specs.declared.public_key.LmsPublic.{LmsPublic}
 use Rattle.party_keys.specs.Directory.{Directory}
 use Rattle.party_keys.specs.Learning.{Announced, after_adopting, after_learning, learned}
-use Rattle.party_keys.specs.Seen.{authority_party}
+use Rattle.ar_statement.specs.Claims.{authority_party}
 use Rattle.party_keys.specs.declared.fault.LearnFault.{LearnFault}
 use Rattle.party_keys.specs.declared.learning.Learned.{Learned}
 use Rattle.authority_core.specs.Calls.{after_learn, after_roll}
@@ -27,7 +27,7 @@ use Rattle.authority_core.specs.declared.refusal.AuthorityRefusal.TheVariants.{M
 
 -- the authority knows the next key, and saw the Roll
 abbrev pub learning : AuthorityState → Announced → AuthorityState
-learning s a = record s { keys = after_learning s.keys a; past = after_learn s.past a.party a.generation (key_text a.key) }
+learning s a = record s { keys = after_learning s.keys a; past = after_learn s.past a }
 
 abbrev pub roll_note_by : AuthorityState → Announced → Result Learned LearnFault → Answer
 roll_note_by s a (Ok _) = Ok (learning s a, nothing)
@@ -62,7 +62,7 @@ roll_row s next = roll_by s next (announced s.past.signed (authority_party s.me)
 -- a party's Roll is learnt and seen; or it is refused, or memory was wanting, and all is as before
 abbrev pub LearnsBy : Result (Unit {0}) AuthorityRefusal → AuthorityRecord → AuthorityRecord → Directory → Directory → Announced → Type 0
 LearnsBy (Ok _) old new keys keys' a =
-    IsOk (learned keys a) × (new ≡ after_learn old a.party a.generation (key_text a.key)) × (keys' ≡ after_learning keys a)
+    IsOk (learned keys a) × (new ≡ after_learn old a) × (keys' ≡ after_learning keys a)
 LearnsBy (Err refusal) old new keys keys' a =
     (new ≡ old) × (keys' ≡ keys) × ((refusal ≡ Memory) ⊎ (with_error (of_learning a.party a.generation) (learned keys a) ≡ Err refusal))
 

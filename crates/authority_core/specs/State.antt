@@ -1,6 +1,7 @@
 -- Where an authority stands, as plain data, and what an answer to a message makes of that.
 use Rattle.std.specs.Prelude.{◌≡◌, ℕ, ◌^◌, ◌<◌, ◌⊎◌, ◌-◌, List, [], ◌∷◌, length, None, Result, Ok, Err}
-use Rattle.ar_base.specs.Gives.{with_error}
+use Rattle.std.specs.Result.{result_map_both}
+use Rattle.ar_base.specs.Gives.{StepsUnless, with_error}
 use Rattle.ar_council.specs.Council.{council_of}
 use Rattle.ar_message.specs.Sending.{Letter}
 use Rattle.ar_message.specs.declared.address.Address.{Address}
@@ -37,13 +38,7 @@ Answer = Result (AuthorityState × Unsigned) AuthorityRefusal
 -- A call answered as the row does, and the authority stands where the row says; or it refused so, or wanted memory, and the
 -- authority stands as before.
 abbrev pub StepsBy : Result Unsigned AuthorityRefusal → AuthorityState → AuthorityState → Answer → Type 0
-StepsBy (Ok sent) old new answer = answer ≡ Ok (new, sent)
-StepsBy (Err refusal) old new answer = (new ≡ old) × ((refusal ≡ Memory) ⊎ (answer ≡ Err refusal))
-
--- checks in order: the first that fails is the answer
-abbrev pub in_order : {A : Type 0} → Result (Unit {0}) AuthorityRefusal → Result A AuthorityRefusal → Result A AuthorityRefusal
-in_order (Ok _) later = later
-in_order (Err refusal) later = Err refusal
+StepsBy = StepsUnless Memory (λ new sent. (new, sent))
 
 -- ---- what is sent
 
@@ -78,8 +73,7 @@ entering r claim = with_error of_book (entered r.signed (text_of claim))
 
 -- the answer by what is due
 abbrev pub if_due : {A : Type 0} → Result DueParts AuthorityRefusal → (DueParts → A) → Result A AuthorityRefusal
-if_due (Ok due) answer = Ok (answer due)
-if_due (Err refusal) answer = Err refusal
+if_due entered answer = result_map_both answer (λ refusal. refusal) entered
 
 -- This is due, as it should be, and the record is the one that it should be; or it was refused so, or memory was wanting, and
 -- the record is as before.

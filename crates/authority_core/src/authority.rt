@@ -1,4 +1,4 @@
-ghost use Rattle.std.specs.Prelude.{◌≡◌, ◌≤◌, ◌<◌, ◌++◌, ◌∷◌, ◌^◌, [], length, IfOk, IfSome, Err, None, Some, is_none, is_some, true, OnOk, OnErr, MatchResult};
+ghost use Rattle.std.specs.Prelude.{◌≡◌, ◌≤◌, ◌<◌, ◌++◌, ◌∷◌, [], length, IfOk, IfSome, Err, None, Some, is_none, is_some, true, OnOk, OnErr, MatchResult};
 ghost use Rattle.std.specs.Option.{option_map};
 ghost use Rattle.ar_base.specs.Faults.{HasRisen};
 ghost use Rattle.ar_council.specs.Council.{council_of};
@@ -6,7 +6,7 @@ ghost use Rattle.ar_message.specs.Messages.{message_in};
 ghost use Rattle.key_roll.specs.Ring.{IsNext, ring_signature_len};
 ghost use Rattle.lms_tree.specs.Key.{public_of};
 ghost use Rattle.lms_tree.specs.KeyParts.{KeyParts};
-ghost use Rattle.lms_tree.specs.LmsKind.{height_of};
+ghost use Rattle.lms_tree.specs.LmsKind.{leaves_of};
 ghost use Rattle.owner_check.specs.Answers.{forgotten, learnt};
 ghost use Rattle.authority_core.specs.Calls.{fresh_authority};
 ghost use Rattle.authority_core.specs.EndorseRow.{SaysAsTold, outcome_by};
@@ -59,7 +59,7 @@ impl<C: OwnerCheck> Authority<C> {
     ) -> Result<Authority<C>, (C, AllocError)>
         ensures { MatchResult result
             (λ made. made ≡ record {
-              state = record { me = number; keys = directory; signature_len = ring_signature_len key; past = fresh_authority (2 ^ height_of key.lms) };
+              state = record { me = number; keys = directory; signature_len = ring_signature_len key; past = fresh_authority (leaves_of key.lms) };
               check = Some check;
               ring = record { keys = key ∷ []; room = 0 };
             })

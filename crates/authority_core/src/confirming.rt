@@ -4,15 +4,15 @@ ghost use Rattle.std.specs.Prelude.{◌≡◌, ◌++◌, map, IfOk, OnOk};
 ghost use Rattle.ar_base.specs.FirstFailing.{first_failing};
 ghost use Rattle.tree_proof.specs.Fold.{digests_in};
 ghost use Rattle.ar_message.specs.Messages.{path_in, shown_in};
-ghost use Rattle.ar_message.specs.Confirmation.{bottom_in};
+ghost use Rattle.ar_message.specs.Confirmation.{bottom_in, digest_in};
 ghost use Rattle.ar_message.specs.Shown.{shows};
-ghost use Rattle.authority_core.specs.Confirming.{certificate_of, content_tests, kept_of, log_claimed, parties_of, seen_in, voted_by, voters_of};
+ghost use Rattle.authority_core.specs.Confirming.{content_tests, kept_of, log_claimed, parties_of, voted_by, voters_of};
+ghost use Rattle.party_keys.specs.Signers.{seen_in};
 ghost use Rattle.authority_core.specs.ConfirmRows.{half_claims, log_claims};
 ghost use Rattle.authority_core.specs.Calls.{kept_claim};
 ghost use Rattle.authority_core.specs.declared.refusal.AuthorityRefusal.TheVariants.{Memory};
 ghost use Rattle.ar_base.specs.Gives.{GivesUnless};
-ghost use Rattle.ar_statement.specs.Claims.{text_of};
-ghost use Rattle.party_keys.specs.Seen.{log_party};
+ghost use Rattle.ar_statement.specs.Claims.{log_party, text_of};
 
 use crate::entries::Kept;
 use crate::record::kept_statement;
@@ -20,7 +20,6 @@ use crate::refusal::AuthorityRefusal;
 use ar_base::Items;
 use ar_message::{Body, Confirming, Vote};
 use ar_statement::{Party, Role, SeenText, Statement, Text};
-use hash_tree::value_digest;
 use party_keys::Claimed;
 use std::alloc::{AllocError, Global};
 use tree_proof::{Bottom, check_absent, check_present};
@@ -28,10 +27,10 @@ use vote_quorum::distinct_count;
 
 // ---- what the confirmation says
 
-fn certificate_of(part: &Confirming) -> Option<[u8; 32]>
-    ensures { result ≡ certificate_of part.now }
+fn digest_in(body: &Body) -> Option<[u8; 32]>
+    ensures { result ≡ digest_in (shown_in body.now) }
 {
-    match &part.body {
+    match body {
         Body::Present { cert, .. } => Some(cert.digest()),
         Body::Absent { .. } => None,
     }
@@ -72,7 +71,7 @@ pub(crate) fn kept_of(alloc: Global, part: &Confirming) -> Result<Kept, AllocErr
     Ok(Kept {
         epoch: part.epoch,
         name,
-        certificate: certificate_of(part),
+        certificate: digest_in(&part.body),
         base: part.base,
         root: part.root,
         bottom: bottom_in(&part.body),
@@ -203,9 +202,8 @@ fn shows(part: &Confirming) -> bool
     let key = part.name.digest();
     match &part.body {
         Body::Present { cert, path } => {
-            let value = value_digest(cert.serial, &cert.digest());
             cert.name.text() == part.name.text()
-                && check_present(&key, &value, path.as_slice(), &part.root)
+                && check_present(&key, &cert.value(), path.as_slice(), &part.root)
         }
         Body::Absent { bottom, path } => check_absent(&key, bottom, path.as_slice(), &part.root),
     }

@@ -1,21 +1,21 @@
 //! The rows of an authority, without its check and its keys.
 
 ghost use Rattle.std.specs.Prelude.{◌≡◌, ◌<◌, IfOk, map, Err, Ok};
+ghost use Rattle.std.specs.Result.{result_and};
 ghost use Rattle.ar_base.specs.Faults.{HasRisen};
 ghost use Rattle.ar_base.specs.Gives.{GivesUnless};
 ghost use Rattle.ar_message.specs.Messages.{message_text};
 ghost use Rattle.ar_message.specs.declared.address.Address.TheVariants as address;
 ghost use Rattle.ar_message.specs.declared.message.Message.TheVariants as message;
 ghost use Rattle.ar_message.specs.Filling.{zeros};
-ghost use Rattle.ar_statement.specs.Claims.{party};
-ghost use Rattle.ar_statement.specs.declared.party.Role.TheVariants as role;
-ghost use Rattle.party_keys.specs.Seen.{authority_party};
+ghost use Rattle.ar_statement.specs.Claims.{authority_party, client_party, owner_party, party};
 ghost use Rattle.authority_core.specs.Calls.{confirming, kept_claim};
-ghost use Rattle.authority_core.specs.Confirming.{confirming_with, confirming_checks, kept_of, parties_of, seen_in};
+ghost use Rattle.authority_core.specs.Confirming.{confirming_with, confirming_checks, kept_of, parties_of};
+ghost use Rattle.party_keys.specs.Signers.{seen_in};
 ghost use Rattle.authority_core.specs.ConfirmRows.{confirmation_with, half_claims, half_confirmed_row, log_claims, log_confirmed_row};
 ghost use Rattle.authority_core.specs.EndorseRow.{SaysAsTold, answers_after, asked_of, endorsed_message, endorsing, outcome_by};
 ghost use Rattle.authority_core.specs.RollRows.{roll_message, roll_note_row, roll_row};
-ghost use Rattle.authority_core.specs.State.{StepsBy, entering, if_due, in_order, prepared, sent_with};
+ghost use Rattle.authority_core.specs.State.{StepsBy, entering, if_due, prepared, sent_with};
 ghost use Rattle.authority_core.specs.declared.refusal.AuthorityRefusal.TheVariants as refusal;
 
 use crate::confirming::{check_content, half_claims, kept_of, log_claims, parties_of, seen_in};
@@ -28,7 +28,7 @@ use ar_message::{Address, Confirming, Message, Signature, Unsigned};
 use ar_statement::{Party, Role, SeenText};
 use lms_tree::LmsPublic;
 use owner_check::OwnerCheck;
-use party_keys::{Claimed, Directory};
+use party_keys::{Announced, Claimed, Directory};
 use std::alloc::{AllocError, Global};
 use std::marker::Model;
 
@@ -72,7 +72,7 @@ impl Desk {
         owner: u16,
         certificate: &[u8; 32],
     ) -> Result<Prepared, AllocError>
-        ensures { IfOk result (λ p. p ≡ prepared self.now.signature_len (address.One (party role.Owner owner)) (message_text (endorsed_message self.now owner certificate.now))) }
+        ensures { IfOk result (λ p. p ≡ prepared self.now.signature_len (address.One (owner_party owner)) (message_text (endorsed_message self.now owner certificate.now))) }
     {
         let message = Message::Endorsed {
             owner,
@@ -141,7 +141,7 @@ impl Desk {
     ) -> Result<Vec<SeenText>, AuthorityRefusal>
         requires { kept.now ≡ kept_of part.now }
         ensures { GivesUnless refusal.Memory (λ seen. seen.items) result
-            (in_order (confirming_checks self.now part.now.first (parties_of part.now part.now.second) (log_claims part.now) part.now) (Ok (map seen_in (log_claims part.now)))) }
+            (result_and (confirming_checks self.now part.now.first (parties_of part.now part.now.second) (log_claims part.now) part.now) (Ok (map seen_in (log_claims part.now)))) }
     {
         let parties = parties_of(alloc, part, part.second)?;
         let claims = log_claims(alloc, part, kept)?;
@@ -160,7 +160,7 @@ impl Desk {
     ) -> Result<Vec<SeenText>, AuthorityRefusal>
         requires { kept.now ≡ kept_of part.now }
         ensures { GivesUnless refusal.Memory (λ seen. seen.items) result
-            (in_order (confirming_checks self.now part.now.second (parties_of part.now part.now.first) (half_claims part.now first_signature.now) part.now)
+            (result_and (confirming_checks self.now part.now.second (parties_of part.now part.now.first) (half_claims part.now first_signature.now) part.now)
             (Ok (map seen_in (half_claims part.now first_signature.now)))) }
     {
         let parties = parties_of(alloc, part, part.first)?;
@@ -189,7 +189,7 @@ impl Desk {
         part: Confirming,
         first_signature: Signature,
     ) -> Result<Prepared, AllocError>
-        ensures { IfOk result (λ p. p ≡ prepared self.now.signature_len (address.One (party role.Client part.client)) (message_text (confirmation_with part first_signature (zeros self.now.signature_len)))) }
+        ensures { IfOk result (λ p. p ≡ prepared self.now.signature_len (address.One (client_party part.client)) (message_text (confirmation_with part first_signature (zeros self.now.signature_len)))) }
     {
         let to = Address::One(Role::Client.party(part.client));
         let message = Message::Confirmation {
@@ -266,15 +266,11 @@ impl Desk {
     pub(crate) fn roll_note(
         &mut self,
         alloc: Global,
-        party: Party,
-        generation: u32,
-        key: LmsPublic,
-        signature: &[u8],
+        announced: &Announced,
     ) -> Result<Unsigned, AuthorityRefusal>
-        ensures { StepsBy result self.old self.new (roll_note_row self.old (record { party = party; generation = generation; key = key; signature = signature.now })) }
+        ensures { StepsBy result self.old self.new (roll_note_row self.old announced.now) }
     {
-        self.past
-            .learn(alloc, &mut self.keys, party, generation, key, signature)?;
+        self.past.learn(alloc, &mut self.keys, announced)?;
         Ok(Unsigned::nothing(alloc))
     }
 

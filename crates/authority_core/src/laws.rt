@@ -2,7 +2,7 @@
 ghost use Rattle.std.specs.Prelude.{◌≡◌, ℕ, ◌<◌, ◌≤◌, ◌^◌, Bool, true, false, [], ◌∷◌, List, Option, Contains, Result, Ok, Err, length};
 ghost use Rattle.ar_base.specs.Bytes.{IsDigest};
 ghost use Rattle.ar_statement.specs.declared.party.Party.{Party};
-ghost use Rattle.ar_statement.specs.Claims.{endorse, text_of};
+ghost use Rattle.ar_statement.specs.Claims.{authority_party, confirmation_by, endorse, text_of};
 ghost use Rattle.ar_statement.specs.Ranges.{IsKeyText, IsValid};
 ghost use Rattle.ar_cert.specs.Certificate.{Certificate, digest_of};
 ghost use Rattle.ar_message.specs.Messages.{IsMessage};
@@ -15,10 +15,8 @@ ghost use Rattle.owner_check.specs.declared.answer.Outcome.{Outcome};
 ghost use Rattle.owner_check.specs.declared.answer.Outcome.TheVariants.{Yes};
 ghost use Rattle.key_roll.specs.Book.{texts_of};
 ghost use Rattle.key_roll.specs.Entry.{MayRoll};
-ghost use Rattle.party_keys.specs.Seen.{authority_party};
 ghost use Rattle.ar_council.specs.Council.{Council, IsMember, council_of};
 ghost use Rattle.ar_council.specs.Room.{HasRoom};
-ghost use Rattle.ar_council.specs.Values.{confirmation_by};
 ghost use Rattle.authority_core.specs.Calls.{MayConfirm, after_endorse, after_half_confirmed, after_learn, after_log_confirmed, after_roll, fresh_authority, kept_claim};
 ghost use Rattle.authority_core.specs.ConfirmRows.{half_confirmed_row, log_confirmed_row};
 ghost use Rattle.ar_message.specs.Shown.{shows};
@@ -32,6 +30,7 @@ ghost use Rattle.authority_core.specs.State.{AuthorityState, IsAuthority, most_s
 ghost use Rattle.authority_core.specs.declared.refusal.AuthorityRefusal.TheVariants.{NotForAuthority};
 ghost use Rattle.authority_core.specs.declared.entries.Asked.{Asked};
 ghost use Rattle.authority_core.specs.declared.entries.Kept.{Kept};
+ghost use Rattle.party_keys.specs.Learning.{Announced};
 
 /// The record of an authority that has done nothing yet is an honest one's.
 pub fn a_fresh_authority_is_honest()
@@ -63,8 +62,8 @@ pub fn confirmations_keep_an_authority()
 /// A record stays an honest authority's where it sees the Roll of a party of the council, and where it announces its own
 /// next key.
 pub fn rolls_keep_an_authority()
-    ensures learn { (council : Council) (me : ℕ) (r : AuthorityRecord) (party : Party) (generation : ℕ) (key : List ℕ)
-        → HonestAuthority council me r → IsMember council party → HonestAuthority council me (after_learn r party generation key) }
+    ensures learn { (council : Council) (me : ℕ) (r : AuthorityRecord) (a : Announced) → HonestAuthority council me r
+        → IsMember council a.party → HonestAuthority council me (after_learn r a) }
     ensures roll { (council : Council) (me : ℕ) (r : AuthorityRecord) (key : List ℕ) → HonestAuthority council me r → me < 2 ^ 16
         → MayRoll r.signed key → HonestAuthority council me (after_roll me r key) }
 {}

@@ -2,7 +2,8 @@
 
 ghost use Rattle.std.specs.Prelude.{◌≡◌, ◌+◌, ◌<◌, ◌≤◌, ◌&&◌, length, vec_len, vec_capacity};
 ghost use Rattle.std.specs.List.{list_any};
-ghost use Rattle.authority_core.specs.Calls.{are_same, is_same_asked, is_same_bottom, is_same_kept, with_asked, with_kept};
+ghost use Rattle.ar_base.specs.Adding.{with_one};
+ghost use Rattle.authority_core.specs.Calls.{are_same, is_same_asked, is_same_bottom, is_same_kept};
 
 use crate::entries::{Asked, Kept};
 use ar_council::is_same_digest;
@@ -25,7 +26,7 @@ fn has_asked(asked: &[Asked], a: &Asked) -> bool
 /// Puts one more behind what the check said yes to, unless it is there. There is room for it.
 pub(crate) fn put_asked(asked: &mut Vec<Asked>, a: Asked)
     requires { vec_len asked.old < vec_capacity asked.old }
-    ensures { asked.new.items ≡ with_asked asked.old.items a }
+    ensures { asked.new.items ≡ with_one is_same_asked asked.old.items a }
 {
     if !has_asked(asked, &a) {
         asked.push_reserved(a);
@@ -88,7 +89,7 @@ fn has_kept(kept: &[Kept], k: &Kept) -> bool
 /// Puts one more behind what is kept, unless it is there. There is room for it.
 pub(crate) fn put_kept(kept: &mut Vec<Kept>, k: Kept)
     requires { vec_len kept.old < vec_capacity kept.old }
-    ensures { kept.new.items ≡ with_kept kept.old.items k }
+    ensures { kept.new.items ≡ with_one is_same_kept kept.old.items k }
 {
     if !has_kept(kept, &k) {
         kept.push_reserved(k);

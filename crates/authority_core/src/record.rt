@@ -3,8 +3,7 @@ ghost use Rattle.ar_base.specs.Gives.{GivesUnless, with_error};
 ghost use Rattle.key_roll.specs.Entry.{after_entry, entered};
 ghost use Rattle.key_roll.specs.Rolls.{is_roll};
 ghost use Rattle.ar_base.specs.Faults.{HasRisen};
-ghost use Rattle.ar_statement.specs.Claims.{claim_of, endorse, text_of};
-ghost use Rattle.party_keys.specs.Seen.{authority_party};
+ghost use Rattle.ar_statement.specs.Claims.{authority_party, claim_of, endorse, text_of};
 ghost use Rattle.authority_core.specs.Calls.{after_endorse, confirming, fresh_authority, kept_claim};
 ghost use Rattle.authority_core.specs.EndorseRow.{SaysAsTold, answers_after, endorse_due, outcome_by};
 ghost use Rattle.authority_core.specs.RollRows.{LearnsBy, RollsBy};
@@ -16,17 +15,14 @@ ghost use Rattle.authority_core.specs.declared.refusal.AuthorityRefusal.TheVaria
 use crate::entries::{Asked, Kept};
 use crate::lists::{put_asked, put_kept};
 use crate::refusal::{AuthorityRefusal, of_learning};
-use ar_council::{confirmation_statement, see, see_each};
-use ar_statement::{Party, Role, SeenText, Statement, Text};
-use key_roll::{RollBook, RollDue};
+use ar_council::{see, see_each, seen_text};
+use ar_statement::{Party, Role, SeenText, Statement, confirmation_statement};
+use key_roll::{LAST_GENERATION, RollBook, RollDue};
 use lms_tree::LmsPublic;
 use owner_check::OwnerCheck;
-use party_keys::Directory;
-use std::alloc::{AllocError, Global};
+use party_keys::{Announced, Directory};
+use std::alloc::Global;
 use std::marker::Model;
-
-/// The last generation.
-const LAST_GENERATION: u32 = 999;
 
 /// What an authority remembers.
 #[derive(Debug, Drop)]
@@ -164,25 +160,20 @@ impl AuthorityRecord {
         &mut self,
         alloc: Global,
         keys: &mut Directory,
-        party: Party,
-        generation: u32,
-        key: LmsPublic,
-        signature: &[u8],
+        announced: &Announced,
     ) -> Result<(), AuthorityRefusal>
-        ensures { LearnsBy result self.old self.new keys.old keys.new (record { party = party; generation = generation; key = key; signature = signature.now }) }
+        ensures { LearnsBy result self.old self.new keys.old keys.new announced.now }
     {
         self.seen.reserve(1)?;
-        let text = Text::of(&Statement::Roll {
-            signer: party,
-            generation,
-            key: key.bytes(),
-        });
-        match keys.learn(alloc, party, generation, key, signature) {
+        match keys.learn(alloc, announced) {
             Ok(_) => {
-                see(&mut self.seen, SeenText { party, text });
+                see(
+                    &mut self.seen,
+                    seen_text(announced.party, &announced.roll()),
+                );
                 Ok(())
             }
-            Err(fault) => Err(of_learning(party, generation, fault)),
+            Err(fault) => Err(of_learning(announced.party, announced.generation, fault)),
         }
     }
 

@@ -20,10 +20,9 @@ use crate::refusal::AuthorityRefusal;
 use ar_cert::Cert;
 use ar_council::key_told;
 use ar_message::{Confirming, Message, Signature, Unsigned};
-use ar_statement::Party;
 use lms_tree::LmsPublic;
 use owner_check::OwnerCheck;
-use party_keys::Directory;
+use party_keys::{Announced, Directory};
 use std::alloc::Global;
 use std::marker::Model;
 
@@ -136,15 +135,11 @@ impl AuthorityState {
     pub(crate) fn roll_note(
         &mut self,
         alloc: Global,
-        party: Party,
-        generation: u32,
-        key: LmsPublic,
-        signature: &[u8],
+        announced: &Announced,
     ) -> Result<Unsigned, AuthorityRefusal>
-        ensures { StepsBy result self.old self.new (roll_note_row self.old (record { party = party; generation = generation; key = key; signature = signature.now })) }
+        ensures { StepsBy result self.old self.new (roll_note_row self.old announced.now) }
     {
-        self.desk
-            .roll_note(alloc, party, generation, key, signature)
+        self.desk.roll_note(alloc, announced)
     }
 
     /// The row of a message, where the authority has retired.
@@ -168,7 +163,18 @@ impl AuthorityState {
                 generation,
                 key,
                 signature,
-            } => self.roll_note(alloc, party, generation, key, signature.as_slice()),
+            } => {
+                let signature = signature.as_slice();
+                self.roll_note(
+                    alloc,
+                    &Announced {
+                        party,
+                        generation,
+                        key,
+                        signature,
+                    },
+                )
+            }
             _ => Err(AuthorityRefusal::NotForAuthority),
         }
     }

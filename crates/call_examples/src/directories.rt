@@ -1,7 +1,7 @@
 use crate::fitting::{key, signature};
 use ar_statement::{Party, Role, Statement, Text};
 use lms_tree::LmsPublic;
-use party_keys::{Directory, LearnFault, Learned, VerifyFault};
+use party_keys::{Announced, Directory, LearnFault, Learned, VerifyFault};
 use std::alloc::{AllocError, Global};
 use std::test::Fail;
 
@@ -179,10 +179,12 @@ fn learn(
 ) -> u8 {
     learnt(d.learn(
         alloc,
-        party,
-        generation,
-        next_key(is_abc),
-        &signature(0, leaf),
+        &Announced {
+            party,
+            generation,
+            key: next_key(is_abc),
+            signature: &signature(0, leaf),
+        },
     ))
 }
 

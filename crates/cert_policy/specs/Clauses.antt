@@ -1,7 +1,8 @@
 -- The clauses for an update of a certificate, full or as a recovery, and for the registration of a name.
-use Rattle.std.specs.Prelude.{◌≡◌, ℕ, ◌+◌, ◌≤◌, ◌==◌, nat_le, Bool, not, ◌&&◌, ◌||◌, List, [], ◌∷◌, ◌++◌, length, replicate, is_some, Result, Ok, Err, if◌then◌else◌, IsTrue, IsSome}
+use Rattle.std.specs.Prelude.{◌≡◌, ℕ, ◌+◌, ◌≤◌, ◌==◌, nat_le, Bool, not, ◌&&◌, ◌||◌, List, [], ◌∷◌, ◌++◌, length, replicate, is_some, Result, if◌then◌else◌, IsTrue, IsSome}
 use Rattle.std.specs.List.{list_all}
 use Rattle.std.specs.Str.{bytes_eq}
+use Rattle.std.specs.Result.{result_map_both}
 use Rattle.cert_policy.specs.declared.refusal.PolicyRefusal.{PolicyRefusal}
 use Rattle.cert_policy.specs.declared.refusal.PolicyRefusal.TheVariants.{Revoked, Name, Serial, Previous, Endorsers, Threshold, Handover, Policy, Pending}
 use Rattle.cert_policy.specs.declared.manner.Manner.{Manner}
@@ -69,8 +70,7 @@ has_own old endorsers handover = list_all (λ c. c.1) (own_clauses old endorsers
 
 -- an update in this manner, unless a clause fails
 abbrev pub in_manner : Manner → Result (Unit {0}) PolicyRefusal → Result Manner PolicyRefusal
-in_manner manner (Ok u) = Ok manner
-in_manner manner (Err refusal) = Err refusal
+in_manner manner answer = result_map_both (λ _. manner) (λ refusal. refusal) answer
 
 -- How an update is taken, or else the least clause that fails. Where it fails a clause of the domain's own and
 -- the old policy has a wait, it is taken as a recovery, and else as a full update.

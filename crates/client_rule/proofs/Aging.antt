@@ -2,8 +2,8 @@
 use Rattle.std.proofs.Common.{◌≡◌, ℕ, ◌-◌, ◌≤◌, List, subst, arith}
 use Rattle.ar_cert.specs.Certificate.{Certificate}
 use Rattle.ar_message.specs.Confirmation.{Body, present, absent, Confirmation}
-use Rattle.client_rule.specs.Meaning.{Asked, IsYoung, IsCurrent, HoldsAll, Passes, Accepts, AcceptsNone, earlier}
-use Rattle.client_rule.specs.Rule.{judgement}
+use Rattle.client_rule.specs.Meaning.{IsYoung, IsCurrent, HoldsAll, Passes, earlier}
+use Rattle.client_rule.specs.Rule.{judgement, Asked}
 use Rattle.client_rule.specs.declared.judgement.Judgement.TheVariants.{Accepted, Absent}
 use Rattle.client_rule.proofs.Meanings.{accepted, absence}
 
@@ -33,8 +33,8 @@ passes_earlier : (asked : Asked) (bytes : List ℕ) (c : Confirmation) (epoch : 
 passes_earlier asked bytes c epoch begun le p = record { is_read = p.is_read; holds = all_earlier asked c epoch begun le p.holds }
 
 pub accepted_earlier : (asked : Asked) (bytes : List ℕ) (certificate : Certificate) (digest : List ℕ) (epoch : ℕ) (root : List ℕ) (now : ℕ)
-    → judgement asked.keys asked.name bytes asked.epoch asked.age ≡ Accepted certificate digest epoch root → epoch ≤ now → now ≤ asked.epoch
-    → judgement asked.keys asked.name bytes now asked.age ≡ Accepted certificate digest epoch root
+    → judgement asked bytes ≡ Accepted certificate digest epoch root → epoch ≤ now → now ≤ asked.epoch
+    → judgement (earlier asked now) bytes ≡ Accepted certificate digest epoch root
 accepted_earlier asked bytes certificate digest epoch root now h begun le =
     let a = (accepted asked bytes certificate digest epoch root).0 h in
     (accepted (earlier asked now) bytes certificate digest epoch root).1 record {
@@ -47,8 +47,8 @@ accepted_earlier asked bytes certificate digest epoch root now h begun le =
     }
 
 pub absent_earlier : (asked : Asked) (bytes : List ℕ) (epoch : ℕ) (root : List ℕ) (now : ℕ)
-    → judgement asked.keys asked.name bytes asked.epoch asked.age ≡ Absent epoch root → epoch ≤ now → now ≤ asked.epoch
-    → judgement asked.keys asked.name bytes now asked.age ≡ Absent epoch root
+    → judgement asked bytes ≡ Absent epoch root → epoch ≤ now → now ≤ asked.epoch
+    → judgement (earlier asked now) bytes ≡ Absent epoch root
 absent_earlier asked bytes epoch root now h begun le =
     let a = (absence asked bytes epoch root).0 h in
     (absence (earlier asked now) bytes epoch root).1 record {

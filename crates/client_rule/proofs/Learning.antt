@@ -2,7 +2,7 @@
 use Rattle.std.proofs.Common.{◌≡◌, ℕ, ◌<◌, List, [], ◌∷◌, length, Result, Ok, Err, refl, sym, ◌∙◌, subst}
 use Rattle.std.proofs.Math.ListN.{length-set}
 use Rattle.lms_tree.specs.declared.public_key.LmsPublic.{LmsPublic}
-use Rattle.ar_statement.specs.Claims.{text_of, party}
+use Rattle.ar_statement.specs.Claims.{authority_party, log_party, text_of}
 use Rattle.ar_statement.specs.declared.party.Party.{Party}
 use Rattle.ar_statement.specs.declared.party.Role.{Role}
 use Rattle.ar_statement.specs.declared.party.Role.TheVariants.{LogServer, Authority, Owner, Client}
@@ -14,8 +14,8 @@ use Rattle.party_keys.specs.declared.fault.LearnFault.{LearnFault}
 use Rattle.party_keys.specs.declared.learning.Learned.{Learned}
 use Rattle.party_keys.specs.declared.learning.Learned.TheVariants.{Again, New}
 use Rattle.party_keys.proofs.Growing.{lasts}
-use Rattle.client_rule.specs.Meaning.{Asked, HasParties, Confirms, HoldsAll, Passes}
-use Rattle.client_rule.specs.Rule.{claim_on, judgement}
+use Rattle.client_rule.specs.Meaning.{HasParties, Confirms, HoldsAll, Passes, learnt}
+use Rattle.client_rule.specs.Rule.{claim_on, judgement, Asked}
 use Rattle.client_rule.specs.declared.judgement.Judgement.TheVariants.{Accepted, Absent}
 use Rattle.client_rule.proofs.Meanings.{accepted, absence}
 
@@ -62,10 +62,6 @@ still_signed keys announced about body signer signature e = lasts keys announced
 
 -- ---- the checks
 
--- the same is asked, and the directory has learnt these
-abbrev learnt : Asked → List Announced → Asked
-learnt asked announced = record asked { keys = after_all asked.keys announced }
-
 still_holds : (asked : Asked) (announced : List Announced) (c : Confirmation) → HoldsAll asked c → HoldsAll (learnt asked announced) c
 still_holds asked announced c h =
     let h2 = h.1 in
@@ -73,17 +69,17 @@ still_holds asked announced c h =
     let h4 = h3.1 in
     let h5 = h4.1 in
     let known = still_known asked.keys (after_all asked.keys announced) c (many_all asked.keys announced) h2.0 in
-    let log = still_signed asked.keys announced c.about c.body (party LogServer c.log.number) c.log.signature h3.0 in
-    let first = still_signed asked.keys announced c.about c.body (party Authority c.first.number) c.first.signature h4.0 in
-    let second = still_signed asked.keys announced c.about c.body (party Authority c.second.number) c.second.signature h5.0 in
+    let log = still_signed asked.keys announced c.about c.body (log_party c.log.number) c.log.signature h3.0 in
+    let first = still_signed asked.keys announced c.about c.body (authority_party c.first.number) c.first.signature h4.0 in
+    let second = still_signed asked.keys announced c.about c.body (authority_party c.second.number) c.second.signature h5.0 in
     (h.0, (known, (log, (first, (second, h5.1)))))
 
 still_passes : (asked : Asked) (announced : List Announced) (bytes : List ℕ) (c : Confirmation) → Passes asked bytes c → Passes (learnt asked announced) bytes c
 still_passes asked announced bytes c p = record { is_read = p.is_read; holds = still_holds asked announced c p.holds }
 
 pub still_accepted : (asked : Asked) (announced : List Announced) (bytes : List ℕ) (certificate : Certificate) (digest : List ℕ) (epoch : ℕ) (root : List ℕ)
-    → judgement asked.keys asked.name bytes asked.epoch asked.age ≡ Accepted certificate digest epoch root
-    → judgement (after_all asked.keys announced) asked.name bytes asked.epoch asked.age ≡ Accepted certificate digest epoch root
+    → judgement asked bytes ≡ Accepted certificate digest epoch root
+    → judgement (learnt asked announced) bytes ≡ Accepted certificate digest epoch root
 still_accepted asked announced bytes certificate digest epoch root h =
     let a = (accepted asked bytes certificate digest epoch root).0 h in
     (accepted (learnt asked announced) bytes certificate digest epoch root).1 record {
@@ -96,8 +92,8 @@ still_accepted asked announced bytes certificate digest epoch root h =
     }
 
 pub still_absent : (asked : Asked) (announced : List Announced) (bytes : List ℕ) (epoch : ℕ) (root : List ℕ)
-    → judgement asked.keys asked.name bytes asked.epoch asked.age ≡ Absent epoch root
-    → judgement (after_all asked.keys announced) asked.name bytes asked.epoch asked.age ≡ Absent epoch root
+    → judgement asked bytes ≡ Absent epoch root
+    → judgement (learnt asked announced) bytes ≡ Absent epoch root
 still_absent asked announced bytes epoch root h =
     let a = (absence asked bytes epoch root).0 h in
     (absence (learnt asked announced) bytes epoch root).1 record {

@@ -11,16 +11,15 @@ use Rattle.ar_base.specs.FirstFailing.{DecidesEach}
 use Rattle.ar_base.proofs.Failing.{conditions_hold, condition_fails}
 use Rattle.ar_bytes.specs.Reading.{whole}
 use Rattle.ar_cert.specs.Certificate.{Certificate}
-use Rattle.ar_statement.specs.Claims.{text_of, party}
-use Rattle.ar_statement.specs.declared.party.Role.TheVariants.{LogServer, Authority}
+use Rattle.ar_statement.specs.Claims.{authority_party, log_party, text_of}
 use Rattle.ar_statement.specs.declared.party.Party.{Party}
 use Rattle.ar_message.specs.Confirmation.{Subject, Body, present, absent, Confirmation, confirmation_at}
 use Rattle.party_keys.specs.Directory.{Directory}
 use Rattle.party_keys.specs.Signatures.{verified}
 use Rattle.party_keys.specs.declared.fault.VerifyFault.{VerifyFault}
 use Rattle.ar_message.specs.Shown.{is_shown}
-use Rattle.client_rule.specs.Rule.{has_parties, confirms, is_young, is_live, is_current, refusal_of, claim_on, taken, unless_refused, judgement_on, judgement}
-use Rattle.client_rule.specs.Meaning.{Asked, Check, same_name, parties, log_signature, first_signature, second_signature, path, not_later, young, live, current, number_of, all_checks, HasParties, Confirms, IsShown, IsYoung, IsLive, IsCurrent, Holds, HoldsAll, HoldsUpTo, Accepts, AcceptsNone, Refuses}
+use Rattle.client_rule.specs.Rule.{has_parties, confirms, is_young, is_live, is_current, refusal_of, claim_on, taken, unless_refused, judgement_on, judgement, Asked}
+use Rattle.client_rule.specs.Meaning.{Check, same_name, parties, log_signature, first_signature, second_signature, path, not_later, young, live, current, number_of, all_checks, HasParties, Confirms, IsShown, IsYoung, IsLive, IsCurrent, Holds, HoldsAll, HoldsUpTo, Accepts, AcceptsNone, Refuses}
 use Rattle.client_rule.specs.declared.judgement.Judgement.{Judgement}
 use Rattle.client_rule.specs.declared.judgement.Judgement.TheVariants.{Accepted, Absent, Refused}
 
@@ -70,9 +69,9 @@ current_decides now (absent bottom) = ((λ h. tt), (λ h. refl))
 abbrev test_of : Asked → Confirmation → Check → Bool
 test_of asked c same_name = bytes_eq c.about.name asked.name
 test_of asked c parties = has_parties asked.keys c
-test_of asked c log_signature = confirms asked.keys c.about c.body (party LogServer c.log.number) c.log.signature
-test_of asked c first_signature = confirms asked.keys c.about c.body (party Authority c.first.number) c.first.signature
-test_of asked c second_signature = confirms asked.keys c.about c.body (party Authority c.second.number) c.second.signature
+test_of asked c log_signature = confirms asked.keys c.about c.body (log_party c.log.number) c.log.signature
+test_of asked c first_signature = confirms asked.keys c.about c.body (authority_party c.first.number) c.first.signature
+test_of asked c second_signature = confirms asked.keys c.about c.body (authority_party c.second.number) c.second.signature
 test_of asked c path = is_shown c.about c.body c.steps
 test_of asked c not_later = nat_le c.about.epoch asked.epoch
 test_of asked c young = is_young (asked.epoch - c.about.epoch) asked.age c.body
@@ -91,15 +90,11 @@ decided asked c young = young_decides (asked.epoch - c.about.epoch) asked.age c.
 decided asked c live = live_decides c.body
 decided asked c current = current_decides asked.epoch c.body
 
--- the refusal that the rule gives
-abbrev Refusal : Asked → Confirmation → Result (Unit {0}) ℕ
-Refusal asked c = refusal_of asked.keys asked.name asked.epoch asked.age c
-
-none : (asked : Asked) (c : Confirmation) → (Refusal asked c ≡ Ok tt) ↔ HoldsAll asked c
+none : (asked : Asked) (c : Confirmation) → (refusal_of asked c ≡ Ok tt) ↔ HoldsAll asked c
 unfolding refusal_of
 none asked c = conditions_hold number_of (Holds asked c) (test_of asked c) (decided asked c) all_checks
 
-some : (asked : Asked) (c : Confirmation) (k : ℕ) → (Refusal asked c ≡ Err k) ↔ HoldsUpTo asked c k
+some : (asked : Asked) (c : Confirmation) (k : ℕ) → (refusal_of asked c ≡ Err k) ↔ HoldsUpTo asked c k
 unfolding refusal_of
 some asked c k = condition_fails number_of (Holds asked c) (test_of asked c) (decided asked c) all_checks k
 
@@ -107,16 +102,16 @@ some asked c k = condition_fails number_of (Holds asked c) (test_of asked c) (de
 
 -- what is judged of what was read
 abbrev Judged : Asked → Result Confirmation ℕ → Judgement
-Judged asked read = judgement_on asked.keys asked.name asked.epoch asked.age (result_ok read)
+Judged asked read = judgement_on asked (result_ok read)
 
 abbrev Whole : List ℕ → Result Confirmation ℕ
 Whole bytes = whole confirmation_at bytes
 
 pub accepted : (asked : Asked) (bytes : List ℕ) (certificate : Certificate) (digest : List ℕ) (epoch : ℕ) (root : List ℕ)
-    → (judgement asked.keys asked.name bytes asked.epoch asked.age ≡ Accepted certificate digest epoch root) ↔ Accepts asked bytes certificate digest epoch root
+    → (judgement asked bytes ≡ Accepted certificate digest epoch root) ↔ Accepts asked bytes certificate digest epoch root
 unfolding judgement
 accepted asked bytes certificate digest epoch root = by_reading (Whole bytes) refl where
-  by_body : (c : Confirmation) (body : Body) → c.body ≡ body → Whole bytes ≡ Ok c → Refusal asked c ≡ Ok tt → taken c.about body ≡ Accepted certificate digest epoch root → Accepts asked bytes certificate digest epoch root
+  by_body : (c : Confirmation) (body : Body) → c.body ≡ body → Whole bytes ≡ Ok c → refusal_of asked c ≡ Ok tt → taken c.about body ≡ Accepted certificate digest epoch root → Accepts asked bytes certificate digest epoch root
   by_body c (present found) b read holds h = record {
     confirmation = c;
     passes = record { is_read = read; holds = (none asked c).0 holds };
@@ -127,25 +122,25 @@ accepted asked bytes certificate digest epoch root = by_reading (Whole bytes) re
   }
   by_body c (absent bottom) b read holds h = absurd cc
 
-  by_refusal : (c : Confirmation) (refusal : Result (Unit {0}) ℕ) → Refusal asked c ≡ refusal → Whole bytes ≡ Ok c → unless_refused refusal c ≡ Accepted certificate digest epoch root → Accepts asked bytes certificate digest epoch root
+  by_refusal : (c : Confirmation) (refusal : Result (Unit {0}) ℕ) → refusal_of asked c ≡ refusal → Whole bytes ≡ Ok c → unless_refused refusal c ≡ Accepted certificate digest epoch root → Accepts asked bytes certificate digest epoch root
   by_refusal c (Ok u) r read h = by_body c c.body refl read r h
   by_refusal c (Err k) r read h = absurd cc
 
-  backwards : (c : Confirmation) → Whole bytes ≡ Ok c → Accepts asked bytes certificate digest epoch root → unless_refused (Refusal asked c) c ≡ Accepted certificate digest epoch root
+  backwards : (c : Confirmation) → Whole bytes ≡ Ok c → Accepts asked bytes certificate digest epoch root → unless_refused (refusal_of asked c) c ≡ Accepted certificate digest epoch root
   backwards c read a =
       let same : c ≡ a.confirmation = cc in
-      let holds : Refusal asked a.confirmation ≡ Ok tt = (none asked a.confirmation).1 a.passes.holds in
+      let holds : refusal_of asked a.confirmation ≡ Ok tt = (none asked a.confirmation).1 a.passes.holds in
       rw (same, holds, a.body, a.digest_is, a.epoch_is, a.root_is) refl
 
   by_reading : (read : Result Confirmation ℕ) → Whole bytes ≡ read → (Judged asked read ≡ Accepted certificate digest epoch root) ↔ Accepts asked bytes certificate digest epoch root
   by_reading (Err place) e = ((λ h. absurd cc), (λ a. let i = a.passes.is_read in absurd cc))
-  by_reading (Ok c) e = ((λ h. by_refusal c (Refusal asked c) refl e h), (λ a. backwards c e a))
+  by_reading (Ok c) e = ((λ h. by_refusal c (refusal_of asked c) refl e h), (λ a. backwards c e a))
 
 pub absence : (asked : Asked) (bytes : List ℕ) (epoch : ℕ) (root : List ℕ)
-    → (judgement asked.keys asked.name bytes asked.epoch asked.age ≡ Absent epoch root) ↔ AcceptsNone asked bytes epoch root
+    → (judgement asked bytes ≡ Absent epoch root) ↔ AcceptsNone asked bytes epoch root
 unfolding judgement
 absence asked bytes epoch root = by_reading (Whole bytes) refl where
-  by_body : (c : Confirmation) (body : Body) → c.body ≡ body → Whole bytes ≡ Ok c → Refusal asked c ≡ Ok tt → taken c.about body ≡ Absent epoch root → AcceptsNone asked bytes epoch root
+  by_body : (c : Confirmation) (body : Body) → c.body ≡ body → Whole bytes ≡ Ok c → refusal_of asked c ≡ Ok tt → taken c.about body ≡ Absent epoch root → AcceptsNone asked bytes epoch root
   by_body c (present found) b read holds h = absurd cc
   by_body c (absent foot) b read holds h = record {
     confirmation = c;
@@ -155,37 +150,37 @@ absence asked bytes epoch root = by_reading (Whole bytes) refl where
     root_is = cc;
   }
 
-  by_refusal : (c : Confirmation) (refusal : Result (Unit {0}) ℕ) → Refusal asked c ≡ refusal → Whole bytes ≡ Ok c → unless_refused refusal c ≡ Absent epoch root → AcceptsNone asked bytes epoch root
+  by_refusal : (c : Confirmation) (refusal : Result (Unit {0}) ℕ) → refusal_of asked c ≡ refusal → Whole bytes ≡ Ok c → unless_refused refusal c ≡ Absent epoch root → AcceptsNone asked bytes epoch root
   by_refusal c (Ok u) r read h = by_body c c.body refl read r h
   by_refusal c (Err k) r read h = absurd cc
 
-  backwards : (c : Confirmation) → Whole bytes ≡ Ok c → AcceptsNone asked bytes epoch root → unless_refused (Refusal asked c) c ≡ Absent epoch root
+  backwards : (c : Confirmation) → Whole bytes ≡ Ok c → AcceptsNone asked bytes epoch root → unless_refused (refusal_of asked c) c ≡ Absent epoch root
   backwards c read a =
       let same : c ≡ a.confirmation = cc in
-      let holds : Refusal asked a.confirmation ≡ Ok tt = (none asked a.confirmation).1 a.passes.holds in
+      let holds : refusal_of asked a.confirmation ≡ Ok tt = (none asked a.confirmation).1 a.passes.holds in
       rw (same, holds, a.bottom.1, a.epoch_is, a.root_is) refl
 
   by_reading : (read : Result Confirmation ℕ) → Whole bytes ≡ read → (Judged asked read ≡ Absent epoch root) ↔ AcceptsNone asked bytes epoch root
   by_reading (Err place) e = ((λ h. absurd cc), (λ a. let i = a.passes.is_read in absurd cc))
-  by_reading (Ok c) e = ((λ h. by_refusal c (Refusal asked c) refl e h), (λ a. backwards c e a))
+  by_reading (Ok c) e = ((λ h. by_refusal c (refusal_of asked c) refl e h), (λ a. backwards c e a))
 
 pub refused : (asked : Asked) (bytes : List ℕ) (k : ℕ)
-    → (judgement asked.keys asked.name bytes asked.epoch asked.age ≡ Refused k) ↔ Refuses asked bytes k
+    → (judgement asked bytes ≡ Refused k) ↔ Refuses asked bytes k
 unfolding judgement
 refused asked bytes k = by_reading (Whole bytes) refl where
   not_taken : (about : Subject) (body : Body) → taken about body ≡ Refused k → ⊥
   not_taken about (present certificate) h = cc
   not_taken about (absent bottom) h = cc
 
-  by_refusal : (c : Confirmation) (refusal : Result (Unit {0}) ℕ) → Refusal asked c ≡ refusal → Whole bytes ≡ Ok c → unless_refused refusal c ≡ Refused k → Refuses asked bytes k
+  by_refusal : (c : Confirmation) (refusal : Result (Unit {0}) ℕ) → refusal_of asked c ≡ refusal → Whole bytes ≡ Ok c → unless_refused refusal c ≡ Refused k → Refuses asked bytes k
   by_refusal c (Ok u) r read h = absurd (not_taken c.about c.body h)
-  by_refusal c (Err n) r read h = let e : Refusal asked c ≡ Err k = cc in inr (c, read, (some asked c k).0 e)
+  by_refusal c (Err n) r read h = let e : refusal_of asked c ≡ Err k = cc in inr (c, read, (some asked c k).0 e)
 
-  backwards : (c : Confirmation) → Whole bytes ≡ Ok c → Refuses asked bytes k → unless_refused (Refusal asked c) c ≡ Refused k
+  backwards : (c : Confirmation) → Whole bytes ≡ Ok c → Refuses asked bytes k → unless_refused (refusal_of asked c) c ≡ Refused k
   backwards c read (inl unread) = let none_read : IsErr {T = Confirmation} {E = ℕ} (Ok c) = subst (λ (r : Result Confirmation ℕ). IsErr r) read unread.1 in absurd cc
   backwards c read (inr found) =
       let same : c ≡ found.0 = cc in
-      let e : Refusal asked found.0 ≡ Err k = (some asked found.0 k).1 found.2 in
+      let e : refusal_of asked found.0 ≡ Err k = (some asked found.0 k).1 found.2 in
       rw (same, e) refl
 
   no_form : (place : ℕ) → Whole bytes ≡ Err place → Refuses asked bytes k → Refused 1 ≡ Refused k
@@ -194,4 +189,4 @@ refused asked bytes k = by_reading (Whole bytes) refl where
 
   by_reading : (read : Result Confirmation ℕ) → Whole bytes ≡ read → (Judged asked read ≡ Refused k) ↔ Refuses asked bytes k
   by_reading (Err place) e = ((λ h. inl (cc, rw e refl)), (λ a. no_form place e a))
-  by_reading (Ok c) e = ((λ h. by_refusal c (Refusal asked c) refl e h), (λ a. backwards c e a))
+  by_reading (Ok c) e = ((λ h. by_refusal c (refusal_of asked c) refl e h), (λ a. backwards c e a))

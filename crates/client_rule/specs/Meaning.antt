@@ -1,30 +1,26 @@
 -- What a judgement means: the checks as facts about a confirmation, and the first that does not hold.
-use Rattle.std.specs.Prelude.{◌≡◌, ◌≢◌, ℕ, ◌-◌, ◌<◌, ◌≤◌, ◌⊎◌, Bool, false, List, [], ◌∷◌, length, Ok, IsErr}
-use Rattle.hash_tree.specs.Strings.{value_digest}
+use Rattle.std.specs.Prelude.{◌≡◌, ◌≢◌, ℕ, ◌-◌, ◌<◌, ◌≤◌, ◌⊎◌, false, List, [], ◌∷◌, length, Ok, IsErr}
 use Rattle.tree_proof.specs.Membership.{OnBytes, OffBytes}
-use Rattle.tree_proof.specs.declared.path.Bottom.{Bottom}
+use Rattle.hash_tree.specs.declared.bottom.Bottom.{Bottom}
 use Rattle.ar_base.specs.FirstFailing.{AllHold, FailsFirst}
 use Rattle.ar_bytes.specs.Reading.{whole}
 use Rattle.ar_names.specs.Names.{name_digest_of}
-use Rattle.ar_statement.specs.Claims.{text_of, party}
-use Rattle.ar_statement.specs.declared.party.Role.TheVariants.{LogServer, Authority}
+use Rattle.ar_statement.specs.Claims.{authority_party, log_party, text_of}
 use Rattle.ar_statement.specs.declared.party.Party.{Party}
-use Rattle.ar_cert.specs.Certificate.{Certificate, digest_of}
+use Rattle.ar_cert.specs.Certificate.{Certificate, certificate_value, digest_of}
 use Rattle.ar_message.specs.Confirmation.{Subject, Body, present, absent, Confirmation, confirmation_at}
 use Rattle.party_keys.specs.Directory.{Directory}
-use Rattle.party_keys.specs.Signatures.{verified}
-use Rattle.client_rule.specs.Rule.{claim_on}
-
--- what is asked: the directory that is trusted, the name, the epoch, and the age that is allowed
-pub record Asked : Type 0 where
-  pub keys : Directory
-  pub name : List ℕ
-  pub epoch : ℕ
-  pub age : ℕ
+use Rattle.party_keys.specs.Learning.{Announced, after_all}
+use Rattle.party_keys.specs.Signatures.{IsVerified}
+use Rattle.client_rule.specs.Rule.{Asked, claim_on}
 
 -- the same, asked in another epoch
 abbrev pub earlier : Asked → ℕ → Asked
 earlier asked epoch = record asked { epoch = epoch }
+
+-- the same, asked with a directory that has learnt these
+abbrev pub learnt : Asked → List Announced → Asked
+learnt asked announced = record asked { keys = after_all asked.keys announced }
 
 -- the checks of a confirmation
 pub data Check : Type 0 where
@@ -69,14 +65,14 @@ pub record HasParties (keys : Directory) (c : Confirmation) : Type 0 where
 
 -- the party's signature of its own statement is verified under the directory
 abbrev pub Confirms : Directory → Subject → Body → Party → List ℕ → Type 0
-Confirms keys about body signer signature = verified keys signer (text_of (claim_on about body signer)) signature ≡ Ok tt
+Confirms keys about body signer signature = IsVerified keys signer (text_of (claim_on about body signer)) signature
 
 -- The table with the root has this for the name: the certificate is the name's, and the steps show it under
 -- the key of the name; or they show that this key has no value.
 abbrev pub IsShown : Subject → Body → List ℕ → Type 0
 IsShown about (present certificate) steps =
     (certificate.name ≡ about.name)
-    × OnBytes (name_digest_of about.name) (value_digest certificate.serial (digest_of certificate)) steps about.root
+    × OnBytes (name_digest_of about.name) (certificate_value certificate) steps about.root
 IsShown about (absent bottom) steps = OffBytes (name_digest_of about.name) bottom steps about.root
 
 -- so many epochs after its own, it is not older than the client and the certificate allow
@@ -91,16 +87,24 @@ IsLive (absent bottom) = Unit {0}
 
 -- and has not expired
 abbrev pub IsCurrent : ℕ → Body → Type 0
-IsCurrent now (present certificate) = now ≤ certificate.policy.until
-IsCurrent now (absent bottom) = Unit {0}
+IsCurrent epoch (present certificate) = epoch ≤ certificate.policy.until
+IsCurrent epoch (absent bottom) = Unit {0}
+
+-- What is shown of an epoch is accepted in time: it is of no later epoch than is asked for, not older than the client and the
+-- certificate allow, and neither revoked nor expired.
+pub record IsTimely (asked : Asked) (epoch : ℕ) (body : Body) : Type 0 where
+  pub not_later : epoch ≤ asked.epoch
+  pub young : IsYoung (asked.epoch - epoch) asked.age body
+  pub live : IsLive body
+  pub current : IsCurrent asked.epoch body
 
 -- what each check asks of a confirmation
 abbrev pub Holds : Asked → Confirmation → Check → Type 0
 Holds asked c same_name = c.about.name ≡ asked.name
 Holds asked c parties = HasParties asked.keys c
-Holds asked c log_signature = Confirms asked.keys c.about c.body (party LogServer c.log.number) c.log.signature
-Holds asked c first_signature = Confirms asked.keys c.about c.body (party Authority c.first.number) c.first.signature
-Holds asked c second_signature = Confirms asked.keys c.about c.body (party Authority c.second.number) c.second.signature
+Holds asked c log_signature = Confirms asked.keys c.about c.body (log_party c.log.number) c.log.signature
+Holds asked c first_signature = Confirms asked.keys c.about c.body (authority_party c.first.number) c.first.signature
+Holds asked c second_signature = Confirms asked.keys c.about c.body (authority_party c.second.number) c.second.signature
 Holds asked c path = IsShown c.about c.body c.steps
 Holds asked c not_later = c.about.epoch ≤ asked.epoch
 Holds asked c young = IsYoung (asked.epoch - c.about.epoch) asked.age c.body

@@ -1,5 +1,6 @@
 ghost use Rattle.std.specs.Prelude.{◌≡◌, ◌-◌};
 ghost use Rattle.ar_statement.specs.Claims.{text_of};
+ghost use Rattle.ar_message.specs.Confirmation.{digest_in};
 ghost use Rattle.ar_message.specs.Shown.{is_shown};
 ghost use Rattle.client_rule.specs.Rule.{claim_on, confirms, has_parties, is_current, is_live, is_young, refusal_of};
 ghost use Rattle.client_rule.specs.Views.{body_of, HasDigest};
@@ -7,7 +8,7 @@ ghost use Rattle.client_rule.specs.Views.{body_of, HasDigest};
 use crate::shown::Shown;
 use ar_message::ConfView;
 use ar_names::{NameView, name_digest};
-use ar_statement::{Party, Role, Statement, Text};
+use ar_statement::{Party, Role, Text, confirmation_statement};
 use hash_tree::value_digest;
 use party_keys::Directory;
 use tree_proof::{check_absent, check_present};
@@ -22,27 +23,31 @@ fn has_parties(directory: &Directory, view: &ConfView) -> bool
         && view.first() != view.second()
 }
 
+// The digest of the name's certificate, if it has one.
+fn digest_in(shown: &Shown) -> Option<[u8; 32]>
+    requires { HasDigest shown.now }
+    ensures { result ≡ digest_in (body_of shown.now) }
+{
+    match shown {
+        Shown::Present { digest, .. } => Some(*digest),
+        Shown::Absent(_) => None,
+    }
+}
+
 // The text of what a party signs.
 fn text_on(view: &ConfView, shown: &Shown, signer: Party) -> Text
     requires { HasDigest shown.now }
     ensures { result ≡ text_of (claim_on view.now.about (body_of shown.now) signer) }
 {
     let name = NameView::from_name(view.name());
-    match shown {
-        Shown::Present { digest, .. } => Text::of(&Statement::Confirm {
-            signer,
-            epoch: view.epoch(),
-            name,
-            certificate: *digest,
-            root: view.root(),
-        }),
-        Shown::Absent(_) => Text::of(&Statement::ConfirmAbsent {
-            signer,
-            epoch: view.epoch(),
-            name,
-            root: view.root(),
-        }),
-    }
+    let statement = confirmation_statement(
+        signer,
+        view.epoch(),
+        name,
+        digest_in(shown),
+        view.root(),
+    );
+    Text::of(&statement)
 }
 
 // Whether a party signed what the confirmation says.
@@ -125,7 +130,7 @@ pub(crate) fn refusal(
 ) -> Result<(), u8>
     requires digest { HasDigest shown.now }
     requires body { body_of shown.now ≡ view.now.body }
-    ensures { result ≡ refusal_of directory.now name.now now age view.now }
+    ensures { result ≡ refusal_of (record { keys = directory.now; name = name.now; epoch = now; age = age }) view.now }
 {
     if view.name() != name {
         return Err(2);

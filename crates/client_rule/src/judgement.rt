@@ -63,7 +63,7 @@ pub fn judge<'a>(
     now: u64,
     age: u64,
 ) -> Judgement<'a>
-    ensures { result ≡ judgement directory.now name.now bytes.now now age }
+    ensures { result ≡ judgement (record { keys = directory.now; name = name.now; epoch = now; age = age }) bytes.now }
 {
     let Some(view) = ConfView::read(bytes) else {
         return Judgement::Refused(1);

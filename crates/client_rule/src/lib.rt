@@ -1,6 +1,6 @@
 //! What a client does with a confirmation: it judges it under a directory of keys, without memory.
 //!
-//! `specs/Rule.antt` has the checks in their order.
+//! `specs/Rule.antt` has what is asked, and the checks in their order.
 //! `specs/Meaning.antt` says what an answer means: each check as a fact about the confirmation.
 //!
 //! ```rust

@@ -8,7 +8,7 @@ ghost use Rattle.client_rule.specs.Notes.{note_of};
 use ar_message::{Message, MessageFault, Signature};
 use ar_statement::Party;
 use lms_tree::LmsPublic;
-use party_keys::{Directory, LearnFault, Learned};
+use party_keys::{Announced, Directory, LearnFault, Learned};
 use std::alloc::{AllocError, Global};
 use std::marker::Model;
 
@@ -66,13 +66,24 @@ impl RollNote {
         }
     }
 
+    /// What it announces.
+    pub fn announced(&self) -> Announced<'_>
+        ensures { result ≡ self.now }
+    {
+        Announced {
+            party: self.party,
+            generation: self.generation,
+            key: self.key,
+            signature: self.signature.as_slice(),
+        }
+    }
+
     /// A directory takes it: what is learnt, or why nothing is. After an error the directory is as it was.
     pub fn teach(&self, alloc: Global, directory: &mut Directory) -> Result<Learned, LearnFault>
         ensures answer { GivesOrWants Memory (λ learned. learned) result (learned directory.old self.now) }
         ensures ok { OnOk result (directory.new ≡ after_learning directory.old self.now) }
         ensures err { OnErr result (directory.new ≡ directory.old) }
     {
-        let signature = self.signature.as_slice();
-        directory.learn(alloc, self.party, self.generation, self.key, signature)
+        directory.learn(alloc, &self.announced())
     }
 }

@@ -4,14 +4,13 @@ use Rattle.std.specs.Prelude.{All}
 use Rattle.std.proofs.lemmas.List.{append-nil}
 use Rattle.std.proofs.lemmas.Option.{same_Some}
 use Rattle.ar_base.specs.Apart.{IsIn, Apart}
-use Rattle.ar_cert.specs.Certificate.{Certificate, IsCertificate, certificate_at, certificate_text, digest_of}
+use Rattle.ar_cert.specs.Certificate.{Certificate, IsCertificate, certificate_at, certificate_string, certificate_text, digest_of}
 use Rattle.ar_cert.specs.Changes.{Change, IsChange}
 use Rattle.ar_cert.specs.Judging.{IsChain}
 use Rattle.ar_cert.proofs.CertificateLaws.{certificate_again}
 use Rattle.ar_cert.proofs.ChangeLaws.{one_text}
 use Rattle.ar_cert.proofs.Accepted.{accepted_succeeds, serial_at}
 use Rattle.domain_table.specs.Tables.{certificates_of, newest}
-use Rattle.domain_table.specs.Tree.{certificate_string}
 use Rattle.domain_table.proofs.Newest.{newest_is}
 
 -- the digest tells which certificate it is

@@ -12,7 +12,7 @@ use Rattle.ar_base.specs.Apart.{IsIn, Apart}
 use Rattle.ar_base.proofs.Apart.{in_front, in_rest}
 use Rattle.hash_tree.specs.Entries.{key_cmp}
 use Rattle.hash_tree.proofs.Changed.{same_key, own_key}
-use Rattle.domain_table.specs.Tree.{tagged, keyed}
+use Rattle.domain_table.specs.Tree.{valued, keyed}
 
 -- digests tie where their strings do
 same_test : (strings : List (List ℕ)) → Apart strings → (s t : List ℕ) → IsIn strings s → IsIn strings t → eq_by_cmp key_cmp (sha256 s) (sha256 t) ≡ eq_by_cmp key_cmp s t
@@ -68,13 +68,13 @@ keyed_from {V} (p ∷ ps) key value e =
 behind_byte : (byte : ℕ) (q k : List ℕ) → eq_by_cmp key_cmp (byte ∷ q) (byte ∷ k) ≡ eq_by_cmp key_cmp q k
 behind_byte byte q k = ap (λ o. is_eq (ordering_then o (slice_cmp nat_cmp q k))) (tied_itself nat_cmp_total byte)
 
-pub tagged_find : {A V : Type 0} (byte : ℕ) (f : A → V) (es : List (List ℕ × A)) (name : List ℕ) → find key_cmp (byte ∷ name) (tagged byte f es) ≡ option_map f (find key_cmp name es)
+pub tagged_find : {A V : Type 0} (byte : ℕ) (f : A → V) (es : List (List ℕ × A)) (name : List ℕ) → find key_cmp (byte ∷ name) (valued (λ name. byte ∷ name) f es) ≡ option_map f (find key_cmp name es)
 tagged_find byte f [] name = refl
 tagged_find byte f (e ∷ es) name =
-    ap (λ b. cond b (Some (f e.1)) (find key_cmp (byte ∷ name) (tagged byte f es))) (behind_byte byte name e.0)
+    ap (λ b. cond b (Some (f e.1)) (find key_cmp (byte ∷ name) (valued (λ name. byte ∷ name) f es))) (behind_byte byte name e.0)
     ∙ at (eq_by_cmp key_cmp name e.0) (tagged_find byte f es name) where
-      at : (b : Bool) → find key_cmp (byte ∷ name) (tagged byte f es) ≡ option_map f (find key_cmp name es)
-          → cond b (Some (f e.1)) (find key_cmp (byte ∷ name) (tagged byte f es)) ≡ option_map f (cond b (Some e.1) (find key_cmp name es))
+      at : (b : Bool) → find key_cmp (byte ∷ name) (valued (λ name. byte ∷ name) f es) ≡ option_map f (find key_cmp name es)
+          → cond b (Some (f e.1)) (find key_cmp (byte ∷ name) (valued (λ name. byte ∷ name) f es)) ≡ option_map f (cond b (Some e.1) (find key_cmp name es))
       at true rest = refl
       at false rest = rest
 
@@ -85,10 +85,10 @@ other_byte byte other differ q k = at (eq_by_cmp key_cmp (other ∷ q) (byte ∷
   at true e = absurd (differ (ap (λ s. get_or s 0 0) (same_key (other ∷ q) (byte ∷ k) e)))
 
 -- under another byte nothing is found
-pub tagged_other : {A V : Type 0} (byte other : ℕ) → other ≢ byte → (f : A → V) (es : List (List ℕ × A)) (name : List ℕ) → find key_cmp (other ∷ name) (tagged byte f es) ≡ None
+pub tagged_other : {A V : Type 0} (byte other : ℕ) → other ≢ byte → (f : A → V) (es : List (List ℕ × A)) (name : List ℕ) → find key_cmp (other ∷ name) (valued (λ name. byte ∷ name) f es) ≡ None
 tagged_other byte other differ f [] name = refl
 tagged_other byte other differ f (e ∷ es) name =
-    ap (λ b. cond b (Some (f e.1)) (find key_cmp (other ∷ name) (tagged byte f es))) (other_byte byte other differ name e.0) ∙ tagged_other byte other differ f es name
+    ap (λ b. cond b (Some (f e.1)) (find key_cmp (other ∷ name) (valued (λ name. byte ∷ name) f es))) (other_byte byte other differ name e.0) ∙ tagged_other byte other differ f es name
 
 -- what is found under a string is found under a name
 pub record Tags (A V : Type 0) (byte : ℕ) (f : A → V) (es : List (List ℕ × A)) (string : List ℕ) (value : V) : Type 0 where
@@ -98,11 +98,11 @@ pub record Tags (A V : Type 0) (byte : ℕ) (f : A → V) (es : List (List ℕ �
   pub found : find key_cmp name es ≡ Some item
   pub is_value : f item ≡ value
 
-pub tagged_from : {A V : Type 0} (byte : ℕ) (f : A → V) (es : List (List ℕ × A)) (string : List ℕ) (value : V) → find key_cmp string (tagged byte f es) ≡ Some value → Tags A V byte f es string value
+pub tagged_from : {A V : Type 0} (byte : ℕ) (f : A → V) (es : List (List ℕ × A)) (string : List ℕ) (value : V) → find key_cmp string (valued (λ name. byte ∷ name) f es) ≡ Some value → Tags A V byte f es string value
 tagged_from byte f [] string value e = absurd (cc)
 tagged_from {A} {V} byte f (d ∷ es) string value e = at (eq_by_cmp key_cmp string (byte ∷ d.0)) refl e (tagged_from byte f es string value) where
-  at : (b : Bool) → eq_by_cmp key_cmp string (byte ∷ d.0) ≡ b → cond b (Some (f d.1)) (find key_cmp string (tagged byte f es)) ≡ Some value
-      → (find key_cmp string (tagged byte f es) ≡ Some value → Tags A V byte f es string value) → Tags A V byte f (d ∷ es) string value
+  at : (b : Bool) → eq_by_cmp key_cmp string (byte ∷ d.0) ≡ b → cond b (Some (f d.1)) (find key_cmp string (valued (λ name. byte ∷ name) f es)) ≡ Some value
+      → (find key_cmp string (valued (λ name. byte ∷ name) f es) ≡ Some value → Tags A V byte f es string value) → Tags A V byte f (d ∷ es) string value
   at true tied e rest = record {
     name = d.0;
     is_string = same_key string (byte ∷ d.0) tied;
@@ -140,7 +140,7 @@ find_both (x ∷ xs) ys q = at (eq_by_cmp key_cmp q x.0) (find_both xs ys q) whe
 
 -- of entries whose strings are listed, those under the byte are
 pub keys_of : {A V : Type 0} (strings : List (List ℕ)) (byte : ℕ) (f : A → V) (g : List ℕ → A → List (List ℕ)) (es : List (List ℕ × A))
-    → ((x : List ℕ) → IsIn (flat_map (λ e. (byte ∷ e.0) ∷ g e.0 e.1) es) x → IsIn strings x) → AllByRecursion (λ e. IsIn strings e.0) (tagged byte f es)
+    → ((x : List ℕ) → IsIn (flat_map (λ e. (byte ∷ e.0) ∷ g e.0 e.1) es) x → IsIn strings x) → AllByRecursion (λ e. IsIn strings e.0) (valued (λ name. byte ∷ name) f es)
 keys_of strings byte f g [] within = tt
 keys_of strings byte f g (e ∷ es) within =
     (within (byte ∷ e.0) (inl refl), keys_of strings byte f g es (λ x i. within x (in_rest ((byte ∷ e.0) ∷ g e.0 e.1) _ x i)))

@@ -14,6 +14,8 @@ use Rattle.std.proofs.lemmas.List.{map-append}
 use Rattle.std.proofs.lemmas.List.Elements.{filter_map-append, recursion_from_All}
 use Rattle.std.proofs.lemmas.List.Sums.{sum_by-cons}
 use Rattle.std.proofs.lemmas.Bool.{and_from, and_parts}
+use Rattle.ar_names.specs.Names.{name_string}
+use Rattle.hash_tree.specs.Strings.{pending_key_string}
 use Rattle.hash_tree.specs.Strings as strings
 use Rattle.sha2.specs.Sha256.{sha256}
 use Rattle.hash_tree.specs.Entries.{Entry, Entries, key_cmp}
@@ -22,7 +24,7 @@ use Rattle.hash_tree.proofs.Changed.{same_key}
 use Rattle.ar_cert.specs.Changes.{Change}
 use Rattle.domain_table.specs.declared.row.Marks.{Marks}
 use Rattle.domain_table.specs.Tables.{Pending, size}
-use Rattle.domain_table.specs.Tree.{value_of, pending_value, tagged, keyed, tree_entries}
+use Rattle.domain_table.specs.Tree.{value_of, pending_value, valued, keyed, tree_entries}
 use Rattle.domain_table.specs.Rows.{RowData, hit, chain_pair, pending_pair, table_of, name_entry, pending_entry, marked, marks_of, with_entry, IsMarked, AreRows}
 use Rattle.domain_table.proofs.Keyed.{find_both}
 use Rattle.ar_base.proofs.Shown.{or_none}
@@ -268,21 +270,21 @@ waits_rise (r ∷ rows) h = at (r.waiting) (waits_rise rows (and_parts (below_al
 
 -- ---- the entries of rows
 
-named : (rows : List RowData) → AllByRecursion IsMarked rows → keyed (tagged 0x11 value_of (map chain_pair rows)) ≡ map name_entry (marks_of rows)
+named : (rows : List RowData) → AllByRecursion IsMarked rows → keyed (valued name_string value_of (map chain_pair rows)) ≡ map name_entry (marks_of rows)
 named [] are = refl
 named (r ∷ rows) are =
     let key = sym are.0.key in
     let value = sym are.0.value in
     λ i. (key i, value i) ∷ named rows are.1 i
 
-waiting_named : (rows : List RowData) → AllByRecursion IsMarked rows → keyed (tagged 0x12 pending_value (filter_map pending_pair rows)) ≡ filter_map pending_entry (marks_of rows)
+waiting_named : (rows : List RowData) → AllByRecursion IsMarked rows → keyed (valued pending_key_string pending_value (filter_map pending_pair rows)) ≡ filter_map pending_entry (marks_of rows)
 waiting_named [] are = refl
 waiting_named (r ∷ rows) are =
     at (r.waiting) (waiting_named rows are.1)
     ∙ ap (λ v. cons_option (option_map (λ x. (strings.pending_key r.name, x)) v) (filter_map pending_entry (marks_of rows))) (sym are.0.pending_value)
     ∙ ap (λ k. cons_option (option_map (λ x. (k, x)) r.marks.pending_value) (filter_map pending_entry (marks_of rows))) (sym are.0.pending_key) where
-      at : (o : Option Pending) → keyed (tagged 0x12 pending_value (filter_map pending_pair rows)) ≡ filter_map pending_entry (marks_of rows)
-          → keyed (tagged 0x12 pending_value (cons_option (option_map (λ p. (r.name, p)) o) (filter_map pending_pair rows)))
+      at : (o : Option Pending) → keyed (valued pending_key_string pending_value (filter_map pending_pair rows)) ≡ filter_map pending_entry (marks_of rows)
+          → keyed (valued pending_key_string pending_value (cons_option (option_map (λ p. (r.name, p)) o) (filter_map pending_pair rows)))
           ≡ cons_option (option_map (λ x. (strings.pending_key r.name, x)) (option_map pending_value o)) (filter_map pending_entry (marks_of rows))
       at None rest = rest
       at (Some p) rest = λ i. (strings.pending_key r.name, pending_value p) ∷ rest i
@@ -291,9 +293,9 @@ pub tree_rows : (rows : List RowData) → AreRows rows → tree_entries (table_o
 unfolding tree_entries
 tree_rows rows are =
     ap from_entries
-    (ap (λ es. keyed (tagged 0x11 value_of es ++ tagged 0x12 pending_value (entries (table_of rows).waiting))) (entries_list (map chain_pair rows) are.rise)
-    ∙ ap (λ es. keyed (tagged 0x11 value_of (map chain_pair rows) ++ tagged 0x12 pending_value es)) (entries_list (filter_map pending_pair rows) (waits_rise rows are.rise))
-    ∙ map-append (λ e. (sha256 e.0, e.1)) (tagged 0x11 value_of (map chain_pair rows)) (tagged 0x12 pending_value (filter_map pending_pair rows))
+    (ap (λ es. keyed (valued name_string value_of es ++ valued pending_key_string pending_value (entries (table_of rows).waiting))) (entries_list (map chain_pair rows) are.rise)
+    ∙ ap (λ es. keyed (valued name_string value_of (map chain_pair rows) ++ valued pending_key_string pending_value es)) (entries_list (filter_map pending_pair rows) (waits_rise rows are.rise))
+    ∙ map-append (λ e. (sha256 e.0, e.1)) (valued name_string value_of (map chain_pair rows)) (valued pending_key_string pending_value (filter_map pending_pair rows))
     ∙ (λ i. named rows (recursion_from_All IsMarked rows are.marked) i ++ waiting_named rows (recursion_from_All IsMarked rows are.marked) i))
 
 -- ---- how many there are

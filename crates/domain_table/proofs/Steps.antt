@@ -6,10 +6,11 @@ use Rattle.std.specs.FinMap.{get}
 use Rattle.std.proofs.lemmas.List.{append-nil}
 use Rattle.std.proofs.lemmas.List.Elements.{All-push, All-nil}
 use Rattle.std.proofs.lemmas.Option.{same_Some}
+use Rattle.ar_base.specs.Prefixes.{BeginsWith}
 use Rattle.ar_cert.specs.Changes.{Change, IsChange}
 use Rattle.ar_cert.specs.Judging.{IsAccepted}
 use Rattle.ar_cert.proofs.Accepted.{one_is_chain, more_is_chain}
-use Rattle.domain_table.specs.Tables.{Pending, Table, chain_of, newest, Begins}
+use Rattle.domain_table.specs.Tables.{Pending, Table, chain_of, newest}
 use Rattle.domain_table.specs.Sound.{IsChainOf, Waits, IsSound}
 use Rattle.domain_table.proofs.Newest.{newest_is}
 
@@ -48,7 +49,7 @@ pub record Holds (P : List ℕ → Change → Type 0) (t : Table) : Type 0 where
 pub record Follows (P : List ℕ → Change → Type 0) (t u : Table) : Type 0 where
   pub sound : IsSound u
   pub holds : Holds P u
-  pub begins : (name : List ℕ) → Begins (chain_of t name) (chain_of u name)
+  pub begins : (name : List ℕ) → BeginsWith (chain_of u name) (chain_of t name)
 
 -- the chain of a name after a step
 grown : (P : List ℕ → Change → Type 0) (name : List ℕ) (before : Option (List Change)) (c : Change) (chain : List Change)

@@ -13,18 +13,18 @@ use Rattle.ar_base.proofs.Apart.{in_front, in_rest, in_both, apart, none_collide
 use Rattle.ar_base.specs.Bytes.{IsDigest}
 use Rattle.ar_base.proofs.Digests.{sha256-IsDigest}
 use Rattle.ar_base.proofs.Shown.{or_none, mapped}
-use Rattle.ar_names.specs.Names.{name_digest_of}
-use Rattle.hash_tree.specs.Strings.{value_string, pending_string, pending_key}
+use Rattle.ar_names.specs.Names.{name_digest_of, name_string}
+use Rattle.hash_tree.specs.Strings.{pending_key, pending_key_string, pending_string, value_string}
 use Rattle.hash_tree.specs.Entries.{key_cmp, HoldsDigests}
 use Rattle.hash_tree.specs.Root.{strings_of}
 use Rattle.hash_tree.proofs.Maps.{total}
 use Rattle.tree_proof.proofs.Lands.{same_parts}
 use Rattle.tree_proof.proofs.Bind.{equal_roots}
-use Rattle.ar_cert.specs.Certificate.{Certificate, IsCertificate, digest_of}
+use Rattle.ar_cert.specs.Certificate.{Certificate, IsCertificate, certificate_string, certificate_value, digest_of}
 use Rattle.ar_cert.specs.Changes.{Change}
 use Rattle.domain_table.specs.Tables.{Pending, Table, chain_of, certificates_of, newest, waiting_digest, pair_of, SameTable}
 use Rattle.domain_table.specs.Sound.{IsChainOf, Waits, IsSound}
-use Rattle.domain_table.specs.Tree.{value_of_cert, value_of, pending_value, tagged, tree_strings, tree_entries, root_of, certificate_string, newest_strings, chain_strings, pending_strings, table_strings}
+use Rattle.domain_table.specs.Tree.{value_of, pending_value, valued, tree_strings, tree_entries, root_of, newest_strings, chain_strings, pending_strings, table_strings}
 use Rattle.domain_table.proofs.Newest.{newest_there, newest_has}
 use Rattle.domain_table.proofs.Keyed.{keyed_find, keyed_from, tagged_find, tagged_from, tagged_other, find_both, keys_of, both_listed, of_entry}
 use Rattle.domain_table.proofs.Chains.{Good, one_certificate, one_chain}
@@ -57,30 +57,30 @@ waiting_listed strings table listed name p there x i =
 -- ---- what the tree has under a key
 
 string_find : (strings : List (List ℕ)) → Apart strings → (table : Table) → Listed strings table → (s : List ℕ) → IsIn strings s
-    → get (tree_entries table) (sha256 s) ≡ option_or (find key_cmp s (tagged 0x11 value_of (entries table.chains))) (find key_cmp s (tagged 0x12 pending_value (entries table.waiting)))
+    → get (tree_entries table) (sha256 s) ≡ option_or (find key_cmp s (valued name_string value_of (entries table.chains))) (find key_cmp s (valued pending_key_string pending_value (entries table.waiting)))
 unfolding tree_entries
 string_find strings apart table listed s is =
     get-from_entries total _ (sha256 s)
     ∙ keyed_find strings apart (tree_strings table)
-    (both_listed strings (tagged 0x11 value_of (entries table.chains)) (tagged 0x12 pending_value (entries table.waiting))
+    (both_listed strings (valued name_string value_of (entries table.chains)) (valued pending_key_string pending_value (entries table.waiting))
     (keys_of strings 0x11 value_of (λ name chain. newest_strings (newest chain) ++ map certificate_string (certificates_of chain)) (entries table.chains) listed.chains)
     (keys_of strings 0x12 pending_value (λ name p. pending_string p.since (waiting_digest p) ∷ (certificate_string p.change.cert ∷ [])) (entries table.waiting) listed.waiting)) s is
-    ∙ find_both (tagged 0x11 value_of (entries table.chains)) (tagged 0x12 pending_value (entries table.waiting)) s
+    ∙ find_both (valued name_string value_of (entries table.chains)) (valued pending_key_string pending_value (entries table.waiting)) s
 
-pub entry_at : (strings : List (List ℕ)) → Apart strings → (table : Table) → Listed strings table → (name : List ℕ) → IsIn strings (0x11 ∷ name)
+pub entry_at : (strings : List (List ℕ)) → Apart strings → (table : Table) → Listed strings table → (name : List ℕ) → IsIn strings (name_string name)
     → get (tree_entries table) (name_digest_of name) ≡ option_map value_of (get table.chains name)
 entry_at strings apart table listed name is =
-    string_find strings apart table listed (0x11 ∷ name) is
-    ∙ ap (option_or (find key_cmp (0x11 ∷ name) (tagged 0x11 value_of (entries table.chains)))) (tagged_other 0x12 0x11 (λ e. absurd (omega (arith, e))) pending_value (entries table.waiting) name)
-    ∙ or_none (find key_cmp (0x11 ∷ name) (tagged 0x11 value_of (entries table.chains)))
+    string_find strings apart table listed (name_string name) is
+    ∙ ap (option_or (find key_cmp (name_string name) (valued name_string value_of (entries table.chains)))) (tagged_other 0x12 0x11 (λ e. absurd (omega (arith, e))) pending_value (entries table.waiting) name)
+    ∙ or_none (find key_cmp (name_string name) (valued name_string value_of (entries table.chains)))
     ∙ tagged_find 0x11 value_of (entries table.chains) name
     ∙ ap (option_map value_of) (sym (get-entries table.chains name))
 
-pub pending_at : (strings : List (List ℕ)) → Apart strings → (table : Table) → Listed strings table → (name : List ℕ) → IsIn strings (0x12 ∷ name)
+pub pending_at : (strings : List (List ℕ)) → Apart strings → (table : Table) → Listed strings table → (name : List ℕ) → IsIn strings (pending_key_string name)
     → get (tree_entries table) (pending_key name) ≡ option_map pending_value (get table.waiting name)
 pending_at strings apart table listed name is =
-    string_find strings apart table listed (0x12 ∷ name) is
-    ∙ ap (λ o. option_or o (find key_cmp (0x12 ∷ name) (tagged 0x12 pending_value (entries table.waiting)))) (tagged_other 0x11 0x12 (λ e. absurd (omega (arith, e))) value_of (entries table.chains) name)
+    string_find strings apart table listed (pending_key_string name) is
+    ∙ ap (λ o. option_or o (find key_cmp (pending_key_string name) (valued pending_key_string pending_value (entries table.waiting)))) (tagged_other 0x11 0x12 (λ e. absurd (omega (arith, e))) value_of (entries table.chains) name)
     ∙ tagged_find 0x12 pending_value (entries table.waiting) name
     ∙ ap (option_map pending_value) (sym (get-entries table.waiting name))
 
@@ -88,18 +88,19 @@ pending_at strings apart table listed name is =
 
 value_is_digest : (chain : List Change) → 0 < length chain → IsDigest (value_of chain)
 value_is_digest [] l = absurd (omega (arith, l))
-value_is_digest (c ∷ chain) l = sha256-IsDigest _
+value_is_digest (c ∷ []) l = sha256-IsDigest _
+value_is_digest (c ∷ b ∷ chain) l = value_is_digest (b ∷ chain) (omega arith)
 
 pub holds_digests : (table : Table) → IsSound table → HoldsDigests (tree_entries table)
 unfolding tree_entries
 holds_digests table sound key value there =
     let found = keyed_from (tree_strings table) key value (sym (get-from_entries total _ key) ∙ there) in (
       subst IsDigest (sym found.is_key) (sha256-IsDigest found.string),
-      by found.string (find key_cmp found.string (tagged 0x11 value_of (entries table.chains))) refl
-          (sym (find_both (tagged 0x11 value_of (entries table.chains)) (tagged 0x12 pending_value (entries table.waiting)) found.string) ∙ found.found),
+      by found.string (find key_cmp found.string (valued name_string value_of (entries table.chains))) refl
+          (sym (find_both (valued name_string value_of (entries table.chains)) (valued pending_key_string pending_value (entries table.waiting)) found.string) ∙ found.found),
     ) where
-      by : (s : List ℕ) (first : Option (List ℕ)) → find key_cmp s (tagged 0x11 value_of (entries table.chains)) ≡ first
-          → option_or first (find key_cmp s (tagged 0x12 pending_value (entries table.waiting))) ≡ Some value → IsDigest value
+      by : (s : List ℕ) (first : Option (List ℕ)) → find key_cmp s (valued name_string value_of (entries table.chains)) ≡ first
+          → option_or first (find key_cmp s (valued pending_key_string pending_value (entries table.waiting))) ≡ Some value → IsDigest value
       by s (Some v) is e =
           let same : v ≡ value = cc in
           let tags = tagged_from 0x11 value_of (entries table.chains) s v is in
@@ -128,7 +129,7 @@ good_chain strings table sound listed name chain there =
 
 -- eight bytes and a digest behind a byte: the digest
 same_value : (strings : List (List ℕ)) → Apart strings → (a b : Certificate) → IsIn strings (value_string a.serial (digest_of a)) → IsIn strings (value_string b.serial (digest_of b))
-    → value_of_cert a ≡ value_of_cert b → digest_of a ≡ digest_of b
+    → certificate_value a ≡ certificate_value b → digest_of a ≡ digest_of b
 same_value strings apart a b in_a in_b e =
     let same = apart (value_string a.serial (digest_of a)) (value_string b.serial (digest_of b)) in_a in_b e in
     (same_parts (to_be_bytes w64 a.serial) (digest_of a) (to_be_bytes w64 b.serial) (digest_of b) (ap (drop 1) same) refl).1
@@ -140,7 +141,7 @@ record Top (strings : List (List ℕ)) (chain : List Change) : Type 0 where
   fits : IsCertificate cert
   hashed : IsIn strings (certificate_string cert)
   value_hashed : IsIn strings (value_string cert.serial (digest_of cert))
-  is_value : value_of chain ≡ value_of_cert cert
+  is_value : value_of chain ≡ certificate_value cert
 
 top_of : (strings : List (List ℕ)) (table : Table) → IsSound table → Listed strings table → (name : List ℕ) (chain : List Change) → get table.chains name ≡ Some chain → Top strings chain
 top_of strings table sound listed name chain there =
@@ -153,13 +154,13 @@ top_of strings table sound listed name chain there =
       hashed = newest_has (λ x. IsIn strings (certificate_string x)) chain c.0 good.hashed c.1;
       value_hashed = chain_listed strings table listed name chain there (value_string c.0.serial (digest_of c.0))
           (inr (in_front (newest_strings (newest chain)) _ (value_string c.0.serial (digest_of c.0)) (subst (λ o. IsIn (newest_strings o) (value_string c.0.serial (digest_of c.0))) (sym c.1) (inl refl))));
-      is_value = ap (λ o. unwrap_or (option_map value_of_cert o) []) c.1;
+      is_value = ap (λ o. unwrap_or (option_map certificate_value o) []) c.1;
     }
 
 pub shared_name : (strings : List (List ℕ)) → Apart strings → (one other : Table) → IsSound one → IsSound other → Listed strings one → Listed strings other → tree_entries one ≡ tree_entries other
     → (name : List ℕ) (chain : List Change) → get one.chains name ≡ Some chain → (x : List Change) × (get other.chains name ≡ Some x) × (certificates_of chain ≡ certificates_of x)
 shared_name strings apart one other sound_one sound_other listed_one listed_other e name chain there =
-    let is : IsIn strings (0x11 ∷ name) = chain_listed strings one listed_one name chain there (0x11 ∷ name) (inl refl) in
+    let is : IsIn strings (name_string name) = chain_listed strings one listed_one name chain there (name_string name) (inl refl) in
     let found = mapped value_of (get other.chains name) (value_of chain)
     (sym (entry_at strings apart other listed_other name is) ∙ ap (λ m. get m (name_digest_of name)) (sym e) ∙ entry_at strings apart one listed_one name is ∙ ap (option_map value_of) there) in
     let a : Top strings chain = top_of strings one sound_one listed_one name chain there in
@@ -175,7 +176,7 @@ shared_name strings apart one other sound_one sound_other listed_one listed_othe
 pub shared_pending : (strings : List (List ℕ)) → Apart strings → (one other : Table) → IsSound one → IsSound other → Listed strings one → Listed strings other → tree_entries one ≡ tree_entries other
     → (name : List ℕ) (p : Pending) → get one.waiting name ≡ Some p → (q : Pending) × (get other.waiting name ≡ Some q) × (pair_of p ≡ pair_of q)
 shared_pending strings apart one other sound_one sound_other listed_one listed_other e name p there =
-    let is : IsIn strings (0x12 ∷ name) = waiting_listed strings one listed_one name p there (0x12 ∷ name) (inl refl) in
+    let is : IsIn strings (pending_key_string name) = waiting_listed strings one listed_one name p there (pending_key_string name) (inl refl) in
     let found = mapped pending_value (get other.waiting name) (pending_value p)
     (sym (pending_at strings apart other listed_other name is) ∙ ap (λ m. get m (pending_key name)) (sym e) ∙ pending_at strings apart one listed_one name is ∙ ap (option_map pending_value) there) in
     let q : Pending = found.0 in

@@ -4,6 +4,7 @@ use Rattle.std.specs.Prelude.{◌≡◌, ℕ, ◌+◌, ◌≤◌, nat_le, Bool, 
 use Rattle.std.specs.List.{flat_map}
 use Rattle.std.specs.Option.{option_map, option_to_list}
 use Rattle.std.specs.FinMap.{entries, from_entries, get, insert, remove, retain_keys}
+use Rattle.std.specs.Result.{result_map_both}
 use Rattle.cert_policy.specs.declared.refusal.PolicyRefusal.{PolicyRefusal}
 use Rattle.cert_policy.specs.declared.refusal.PolicyRefusal.TheVariants.{NotPending}
 use Rattle.cert_policy.specs.declared.manner.Manner.{Manner}
@@ -93,8 +94,7 @@ judge table epoch change = judge_ripe (ripen table epoch) change
 
 -- the answer to whoever asks whether a change is taken
 abbrev pub answer_of : Result Manner ChangeRefusal → Result (Unit {0}) ChangeRefusal
-answer_of (Ok manner) = Ok tt
-answer_of (Err refusal) = Err refusal
+answer_of judged = result_map_both (λ _. tt) (λ refusal. refusal) judged
 
 -- ---- applying
 

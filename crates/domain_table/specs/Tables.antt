@@ -1,5 +1,6 @@
 -- Tables: for each name the chain of its changes, the oldest first, and at most one change that waits.
-use Rattle.std.specs.Prelude.{◌≡◌, ℕ, ◌+◌, List, [], ◌∷◌, ◌++◌, map, length, sum, Option, Some, None, unwrap_or}
+use Rattle.std.specs.Prelude.{◌≡◌, ℕ, ◌+◌, List, [], map, length, sum, Option, None, unwrap_or}
+use Rattle.std.specs.List.{last_or}
 use Rattle.std.specs.Option.{option_map}
 use Rattle.std.specs.FinMap.{FinMap, empty, entries, get}
 use Rattle.hash_tree.specs.Entries.{key_cmp}
@@ -28,14 +29,9 @@ chain_of table name = unwrap_or (get table.chains name) []
 abbrev pub certificates_of : List Change → List Certificate
 certificates_of changes = map (λ r. r.cert) changes
 
--- the last of a list
-abbrev pub last_of : {X : Type 0} → List X → Option X
-last_of [] = None
-last_of (x ∷ xs) = Some (unwrap_or (last_of xs) x)
-
 -- the newest certificate of a chain
 abbrev pub newest : List Change → Option Certificate
-newest chain = last_of (certificates_of chain)
+newest chain = last_or None (certificates_of chain)
 
 -- the digest of a certificate that waits
 abbrev pub waiting_digest : Pending → List ℕ
@@ -63,7 +59,3 @@ pairs table name = option_map pair_of (get table.waiting name)
 -- certificates is not compared.
 abbrev pub SameTable : Table → Table → Type 0
 SameTable one other = (name : List ℕ) → (certificates one name ≡ certificates other name) × (pairs one name ≡ pairs other name)
-
--- the second list begins with the first
-abbrev pub Begins : {X : Type 0} → List X → List X → Type 0
-Begins {X} front whole = (rest : List X) × (whole ≡ front ++ rest)

@@ -1,27 +1,21 @@
 ghost use Rattle.std.specs.Prelude.{◌≡◌, ◌<◌, ◌+◌, ◌++◌, ◌∷◌, [], length, take, drop, get_or, None, IfErr, OnOk, OnErr, vec_len, vec_capacity};
 ghost use Rattle.std.specs.FinMap.{from_entries};
 ghost use Rattle.std.specs.Option.{option_map};
-ghost use Rattle.domain_table.specs.Tree.{pending_value, value_of_cert};
+ghost use Rattle.ar_cert.specs.Certificate.{certificate_value};
+ghost use Rattle.domain_table.specs.Tree.{pending_value};
 ghost use Rattle.domain_table.specs.Rows.{RowData, AreRows, IsChanged, data_in, data_of, marked, marks_of, waits, with_row};
 
 use crate::row::{Marks, Row, Waiting};
 use crate::tree::{retrie_both, retrie_name, retrie_pending};
-use ar_cert::{Cert, Change};
-use hash_tree::{Trie, pending_digest, value_digest};
+use ar_cert::Change;
+use hash_tree::{Trie, pending_digest};
 use std::alloc::{AllocError, Global};
-
-/// The value of a certificate in the tree.
-pub(crate) fn value_of(cert: &Cert) -> [u8; 32]
-    ensures { result ≡ value_of_cert cert.now }
-{
-    value_digest(cert.serial, &cert.digest())
-}
 
 /// The value of a change in the tree once it is the newest.
 fn newest_value(change: &Change) -> [u8; 32]
-    ensures { result ≡ value_of_cert change.now.cert }
+    ensures { result ≡ certificate_value change.now.cert }
 {
-    value_of(&change.cert)
+    change.cert.value()
 }
 
 /// The value in the tree of a change that waits since this epoch, if it waits.

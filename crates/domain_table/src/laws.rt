@@ -6,13 +6,14 @@
 ghost use Rattle.std.specs.Prelude.{◌≡◌, ◌<◌, ◌^◌, ◌++◌, ◌∷◌, [], ◌↔◌, List, ℕ, All, Some, None, true, false, IsTrue, option_and_then};
 ghost use Rattle.std.specs.FinMap.{get};
 ghost use Rattle.std.specs.Option.{option_map};
-ghost use Rattle.ar_names.specs.Names.{name_digest_of};
+ghost use Rattle.ar_base.specs.Prefixes.{BeginsWith};
+ghost use Rattle.ar_names.specs.Names.{name_digest_of, name_string};
 ghost use Rattle.hash_tree.specs.Entries.{HoldsDigests};
-ghost use Rattle.hash_tree.specs.Strings.{pending_key};
+ghost use Rattle.hash_tree.specs.Strings.{pending_key, pending_key_string};
 ghost use Rattle.ar_base.specs.Apart.{none_collide};
 ghost use Rattle.ar_cert.specs.Changes.{Change, IsChange};
 ghost use Rattle.ar_cert.specs.Judging.{IsChain};
-ghost use Rattle.domain_table.specs.Tables.{Begins, Pending, SameTable, Table, chain_of, no_table};
+ghost use Rattle.domain_table.specs.Tables.{Pending, SameTable, Table, chain_of, no_table};
 ghost use Rattle.domain_table.specs.Applying.{Epoch, after_epochs, apply, changes_of, is_ripe, ripen, IsRipe};
 ghost use Rattle.domain_table.specs.Sound.{AllCameBy, IsEpochOf, IsSound};
 ghost use Rattle.domain_table.specs.Tree.{pending_value, root_of, table_strings, tree_entries, value_of};
@@ -35,9 +36,9 @@ pub fn each_name_has_a_chain()
 /// A chain changes only at its end: each begins with what it was, whatever ripens and whatever is applied.
 pub fn chains_only_grow()
     ensures ripening { (table : Table) (epoch : ℕ) (name : List ℕ) → IsSound table
-        → Begins (chain_of table name) (chain_of (ripen table epoch) name) }
+        → BeginsWith (chain_of (ripen table epoch) name) (chain_of table name) }
     ensures applying { (table after : Table) (epoch : ℕ) (changes : List Change) (name : List ℕ) → IsSound table → epoch < 2 ^ 64
-        → All IsChange changes → apply table epoch changes ≡ Some after → Begins (chain_of table name) (chain_of after name) }
+        → All IsChange changes → apply table epoch changes ≡ Some after → BeginsWith (chain_of after name) (chain_of table name) }
 {}
 
 /// Each change of a table that comes from the one without names, in a chain or waiting, was applied in one of
@@ -61,9 +62,9 @@ pub fn what_is_ripe_is_appended()
 /// for it the value of that; and nothing under the key of a name that has none. The premise is that no two of
 /// the strings collide that are hashed for the table and for the key.
 pub fn the_tree_has_each_name()
-    ensures names { (table : Table) (name : List ℕ) → IsTrue (none_collide ((0x11 ∷ name) ∷ table_strings table))
+    ensures names { (table : Table) (name : List ℕ) → IsTrue (none_collide (name_string name ∷ table_strings table))
         → get (tree_entries table) (name_digest_of name) ≡ option_map value_of (get table.chains name) }
-    ensures pending { (table : Table) (name : List ℕ) → IsTrue (none_collide ((0x12 ∷ name) ∷ table_strings table))
+    ensures pending { (table : Table) (name : List ℕ) → IsTrue (none_collide (pending_key_string name ∷ table_strings table))
         → get (tree_entries table) (pending_key name) ≡ option_map pending_value (get table.waiting name) }
     ensures digests { (table : Table) → IsSound table → HoldsDigests (tree_entries table) }
 {}

@@ -1,12 +1,11 @@
 ghost use Rattle.std.specs.Prelude.{◌≡◌, ◌<◌, ◌≤◌, ◌++◌, ◌∷◌, [], length, take, drop, None, IfErr, IfOk, OnOk, OnErr, vec_len, vec_capacity};
 ghost use Rattle.std.specs.FinMap.{from_entries};
+ghost use Rattle.ar_cert.specs.Certificate.{certificate_value};
 ghost use Rattle.ar_names.specs.Names.{name_digest_of};
 ghost use Rattle.hash_tree.specs.Strings as strings;
 ghost use Rattle.domain_table.specs.declared.row.Row.{Row};
-ghost use Rattle.domain_table.specs.Tree.{value_of_cert};
 ghost use Rattle.domain_table.specs.Rows.{IsCome, data_in, data_of, first_row, marked, marks_of};
 
-use crate::change_row::value_of;
 use crate::row::{Marks, Row};
 use crate::rows::name_of;
 use crate::tree::refresh;
@@ -17,13 +16,13 @@ use std::alloc::{AllocError, Global};
 /// What a name has in the tree whose first change this is.
 fn first_marks(change: &Change) -> Marks
     ensures key { result.key ≡ name_digest_of change.now.cert.name }
-    ensures value { result.value ≡ value_of_cert change.now.cert }
+    ensures value { result.value ≡ certificate_value change.now.cert }
     ensures pending_key { result.pending_key ≡ strings.pending_key change.now.cert.name }
     ensures pending_value { result.pending_value ≡ None }
 {
     Marks {
         key: change.cert.name.digest(),
-        value: value_of(&change.cert),
+        value: change.cert.value(),
         pending_key: pending_key(name_of(change)),
         pending_value: None,
     }

@@ -8,10 +8,10 @@ use mathlib.Core.List.{map-map}
 use Rattle.ar_cert.specs.Certificate.{digest_of}
 use Rattle.ar_cert.specs.Changes.{Change}
 use Rattle.ar_cert.specs.Judging.{endorsers_of}
-use Rattle.ar_statement.specs.declared.party.Party.{Party}
 use Rattle.ar_statement.specs.declared.text.SeenText.{SeenText}
-use Rattle.ar_statement.specs.Claims.{endorse, propose, roll, text_of}
-use Rattle.party_keys.specs.Seen.{Saw, authority_party, log_party}
+use Rattle.ar_statement.specs.Claims.{authority_party, endorse, log_party, propose, text_of}
+use Rattle.party_keys.specs.Seen.{Saw, seen_of}
+use Rattle.party_keys.specs.Learning.{Announced, roll_claim}
 use Rattle.vote_quorum.specs.Numbers.{distinct_count}
 use Rattle.vote_quorum.specs.Statuses.{Status}
 use Rattle.vote_quorum.specs.declared.value.Value.{Value}
@@ -20,7 +20,7 @@ use Rattle.ar_council.proofs.Lists.{All-unmap}
 use Rattle.ar_council.proofs.Seeing.{seen-has}
 use Rattle.ar_council.specs.Council.{Council, IsMember}
 use Rattle.ar_council.specs.Room.{HasRoom}
-use Rattle.ar_council.specs.Seen.{seen_after, seen_of}
+use Rattle.ar_council.specs.Seen.{seen_after}
 use Rattle.ar_council.specs.Values.{IsValue, status_claim, vote_claim}
 use Rattle.ar_council.specs.Votes.{SawVotes}
 use Rattle.epoch_log.specs.Calls.{AreEndorsers, IsProposed, IsTurn, MayDecide, MaySkip, MayState, MayVote, SignedStatus, after_ballot, after_decide, after_endorsed, after_learn, after_propose, after_skip, after_state, after_status_seen, after_vote, casting, counting_own, decision_seen, endorsements_of, fresh, is_turn, own_status_text, own_value, own_vote_text, proposal_of, proposal_texts, propose_claim, proposing, seeing, stating, statuses_seen, vote_of, votes_seen, with_ballot, with_report}
@@ -81,11 +81,11 @@ kept-vote s proposer value changes kept may proposed room =
     let has : All (Contains later) more = seen-has more s.past.seen in
     let first : SeenText = seen_of (log_party proposer) (propose proposer (epoch_of s) value.base value.root) in
     let saw = kept-seeing s more kept (All-cons (λ (t : SeenText). IsMember s.council t.party) first rest proposed.is_log (members s.council changes proposed.endorsers)) in
-    kept-casting (seeing s more) value changes saw may.not_voted may.not_stated
+    kept-casting (seeing s more) value changes saw may.open_to.not_voted may.open_to.not_stated
     (record {
       are_digests = may.are_digests;
-      from_base = may.from_base;
-      leads = record { applies = may.applies; endorsed = endorsed later changes (All-tail (Contains later) first rest has) };
+      from_base = may.open_to.from_base;
+      leads = record { reaches = may.open_to.reaches; are_changes = may.are_changes; endorsed = endorsed later changes (All-tail (Contains later) first rest has) };
     }) room
 
 pub kept-own : (s : LogState) (value : Value) → IsKept s → s.me < s.council.logs → IsKept (counting_own s value)
@@ -99,8 +99,8 @@ kept-own s value kept member =
 pub kept-proposed : (s : LogState) (value : Value) (changes : List Change) → IsKept s → MayVote s value changes → All (SawEndorsements s.past.seen) changes
     → HasRoom s.past.signed (proposal_texts s value) → IsKept (casting (proposing s value) (vote_of s value changes))
 kept-proposed s value changes kept may saw room =
-    kept-casting (proposing s value) value changes (kept-proposing s value kept may.are_digests) may.not_voted may.not_stated
-    (record { are_digests = may.are_digests; from_base = may.from_base; leads = record { applies = may.applies; endorsed = saw } })
+    kept-casting (proposing s value) value changes (kept-proposing s value kept may.are_digests) may.open_to.not_voted may.open_to.not_stated
+    (record { are_digests = may.are_digests; from_base = may.open_to.from_base; leads = record { reaches = may.open_to.reaches; are_changes = may.are_changes; endorsed = saw } })
     (second-room s.past.signed (text_of (propose_claim s value)) (own_vote_text s value) room)
 
 pub kept-propose : (s : LogState) (value : Value) (changes : List Change) → IsKept s → IsTurn s.council s.me (epoch_of s) → MayVote s value changes → All (SawEndorsements s.past.seen) changes
@@ -160,8 +160,8 @@ kept-decide s value changes votes kept may = by (may_end s.past) refl
 
     saw : IsKept (seeing s more)
     saw = kept-seeing s more kept (All-append (λ (t : SeenText). IsMember s.council t.party) cast (flat_map endorsements_of changes)
-        (All-map (λ (t : SeenText). IsMember s.council t.party) (λ (v : ℕ × List ℕ). seen_of (log_party v.0) (vote_claim v.0 (epoch_of s) value)) votes may.logs)
-        (members s.council changes may.endorsers))
+        (All-map (λ (t : SeenText). IsMember s.council t.party) (λ (v : ℕ × List ℕ). seen_of (log_party v.0) (vote_claim v.0 (epoch_of s) value)) votes may.can.logs)
+        (members s.council changes may.can.endorsers))
 
     parts : AllByRecursion (Contains later) cast × AllByRecursion (Contains later) (flat_map endorsements_of changes)
     parts = of-both-lists (Contains later) cast (flat_map endorsements_of changes) (recursion_from_All (Contains later) more (seen-has more s.past.seen))
@@ -170,7 +170,7 @@ kept-decide s value changes votes kept may = by (may_end s.past) refl
     votes-saw = All-unmap (Contains later) (λ (v : ℕ × List ℕ). seen_of (log_party v.0) (vote_claim v.0 (epoch_of s) value)) votes (All-from_recursion (Contains later) cast parts.0)
 
     leads : LeadsTo later (epoch_of s) (table_of s) changes value.root
-    leads = record { applies = may.applies; endorsed = endorsed later changes (All-from_recursion (Contains later) (flat_map endorsements_of changes) parts.1) }
+    leads = record { reaches = may.can.reaches; are_changes = may.are_changes; endorsed = endorsed later changes (All-from_recursion (Contains later) (flat_map endorsements_of changes) parts.1) }
 
     logs : List ℕ
     logs = map (λ (v : ℕ × List ℕ). v.0) votes
@@ -178,8 +178,8 @@ kept-decide s value changes votes kept may = by (may_end s.past) refl
     quorum : SawVotes s.council later (epoch_of s) value
     quorum = record {
       numbers = logs;
-      many = may.many;
-      below = All-map (λ k. k < s.council.logs) (λ (v : ℕ × List ℕ). v.0) votes may.logs;
+      many = may.can.many;
+      below = All-map (λ k. k < s.council.logs) (λ (v : ℕ × List ℕ). v.0) votes may.can.logs;
       each = All-map (λ log. Saw later (log_party log) (vote_claim log (epoch_of s) value)) (λ (v : ℕ × List ℕ). v.0) votes votes-saw;
     }
 
@@ -190,7 +190,7 @@ kept-decide s value changes votes kept may = by (may_end s.past) refl
     by true room = kept-decided (seeing s more) changes value signed saw (ltb-true (current s.past.ended) (2 ^ 63) room) may.from_base
         (record { leads = leads; votes = subst (λ b. SawVotes s.council later (epoch_of s) (record { base = b; root = value.root })) may.from_base quorum })
         (All-map (λ (v : ℕ × Option (List ℕ)). Saw later (log_party v.0) (vote_claim v.0 (epoch_of s) value)) (λ (v : ℕ × List ℕ). (v.0, Some v.1)) votes votes-saw)
-        (subst (λ l. s.council.quorum ≤ distinct_count l) (sym (signed-logs votes)) may.many)
+        (subst (λ l. s.council.quorum ≤ distinct_count l) (sym (signed-logs votes)) may.can.many)
     by false never = saw
 
 pub kept-skip : (s : LogState) (statuses : List SignedStatus) → IsKept s → MaySkip s statuses → IsKept (after_skip s statuses)
@@ -203,7 +203,7 @@ kept-skip s statuses kept may = by (may_end s.past) refl
     later = seen_after s.past.seen more
 
     logs-below : All (λ (x : SignedStatus). x.0 < s.council.logs) statuses
-    logs-below = All-unmap (λ (x : Status). x.0 < s.council.logs) (λ (x : SignedStatus). (x.0, x.1)) statuses (All-unmap (λ log. log < s.council.logs) (λ (x : Status). x.0) (reports_of statuses) may.of_logs.below)
+    logs-below = All-unmap (λ (x : Status). x.0 < s.council.logs) (λ (x : SignedStatus). (x.0, x.1)) statuses (All-unmap (λ log. log < s.council.logs) (λ (x : Status). x.0) (reports_of statuses) may.can.of_logs.below)
 
     saw : IsKept (seeing s more)
     saw = kept-seeing s more kept (All-map (λ (t : SeenText). IsMember s.council t.party) (λ (x : SignedStatus). seen_of (log_party x.0) (status_claim x.0 (epoch_of s) x.1)) statuses logs-below)
@@ -215,17 +215,17 @@ kept-skip s statuses kept may = by (may_end s.past) refl
     by true room = kept-skipped (seeing s more) (reports_of statuses) saw (ltb-true (current s.past.ended) (2 ^ 63) room)
         (record {
           are_seen = record {
-            of_logs = may.of_logs;
+            of_logs = may.can.of_logs;
             values = may.values;
             saw = All-map (λ (x : Status). Saw later (log_party x.0) (status_claim x.0 (epoch_of s) x.1)) (λ (x : SignedStatus). (x.0, x.1)) statuses statuses-saw;
           };
-          excludes = may.excludes;
+          excludes = may.can.excludes;
         })
     by false never = saw
 
-pub kept-learn : (s : LogState) (party : Party) (generation : ℕ) (key : List ℕ) → IsKept s → IsMember s.council party → IsKept (after_learn s party generation key)
-kept-learn s party generation key kept member =
-    let one : SeenText = seen_of party (roll party generation key) in
+pub kept-learn : (s : LogState) (a : Announced) → IsKept s → IsMember s.council a.party → IsKept (after_learn s a)
+kept-learn s a kept member =
+    let one : SeenText = seen_of a.party (roll_claim a) in
     kept-seeing s (one ∷ []) kept (All-cons (λ (t : SeenText). IsMember s.council t.party) one [] member (All-nil (λ (t : SeenText). IsMember s.council t.party)))
 
 -- ---- the beginning

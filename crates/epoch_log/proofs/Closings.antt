@@ -1,11 +1,11 @@
 -- An epoch that ends, and a confirmation, keep a record honest.
-use Rattle.std.proofs.Common.{◌≡◌, ℕ, ◌+◌, ◌<◌, ◌^◌, inl, inr, List, [], ◌∷◌, ◌++◌, length, get_or, refl, sym, ap, ◌∙◌, subst, arith, Bool, true, false, cond, ◌&&◌, eqb, Option, Some, None}
-use Rattle.std.specs.Prelude.{All, Contains, bytes_eq}
-use Rattle.std.specs.List.{list_any}
+use Rattle.std.proofs.Common.{◌≡◌, ℕ, ◌+◌, ◌<◌, ◌^◌, inl, inr, List, [], ◌∷◌, length, get_or, refl, sym, ap, ◌∙◌, subst, arith, true, false, ◌&&◌, eqb, Option, Some, None}
+use Rattle.std.specs.Prelude.{bytes_eq}
 use Rattle.std.proofs.lemmas.Bool.{and_parts, cases_eq, eqb-true}
 use Rattle.std.proofs.lemmas.List.{length-append}
-use Rattle.std.proofs.lemmas.List.Elements.{All-push, Contains-append_left, Contains-push}
 use Rattle.std.proofs.lemmas.Slice.Eq.{bytes_eq-Decides}
+use Rattle.ar_base.specs.Adding.{with_one}
+use Rattle.ar_base.proofs.Adding.{one-all, one-has, one-keeps}
 use Rattle.ar_cert.specs.Changes.{Change}
 use Rattle.ar_statement.specs.Claims.{text_of}
 use Rattle.ar_statement.specs.Ranges.{IsValid}
@@ -17,14 +17,14 @@ use Rattle.key_roll.proofs.Books.{after_entry_keeps}
 use Rattle.vote_quorum.specs.Statuses.{Status}
 use Rattle.domain_table.specs.Tree.{root_of}
 use Rattle.ar_council.proofs.Books.{entry-has, entry-keeps}
-use Rattle.ar_council.proofs.Lists.{Within, found, same-within}
+use Rattle.ar_council.proofs.Lists.{Within, same-within}
 use Rattle.ar_council.proofs.Texts.{own-text}
 use Rattle.ar_council.proofs.Values.{one_digest}
 use Rattle.ar_council.specs.Council.{Council}
 use Rattle.ar_council.specs.Room.{HasRoom}
 use Rattle.ar_council.specs.Values.{confirm_claim, is_same_digest}
 use Rattle.ar_council.specs.Votes.{SawVotes}
-use Rattle.epoch_log.specs.Calls.{is_same_confirmation, with_confirmed}
+use Rattle.epoch_log.specs.Calls.{is_same_confirmation}
 use Rattle.epoch_log.specs.Ending.{with_ending}
 use Rattle.epoch_log.specs.Honest.{EndsInOrder, HonestLog}
 use Rattle.epoch_log.specs.Record.{LogRecord, base_of, current, ending}
@@ -127,29 +127,6 @@ one_confirmation c d e =
     let root : c.root ≡ d.root = (bytes_eq-Decides c.root d.root).0 third.1 in
     λ i. record { epoch = epoch i; name = name i; certificate = certificate i; root = root i }
 
-with_confirmed-keeps : (confirmed : List Confirmed) (c : Confirmed) → Within confirmed (with_confirmed confirmed c)
-with_confirmed-keeps confirmed c x there = by (list_any (λ d. is_same_confirmation d c) confirmed)
-  where
-    by : (b : Bool) → Contains (cond b confirmed (confirmed ++ c ∷ [])) x
-    by true = there
-    by false = Contains-append_left confirmed (c ∷ []) x there
-
-with_confirmed-has : (confirmed : List Confirmed) (c : Confirmed) → Contains (with_confirmed confirmed c) c
-with_confirmed-has confirmed c = by (list_any (λ d. is_same_confirmation d c) confirmed) refl
-  where
-    by : (b : Bool) → list_any (λ d. is_same_confirmation d c) confirmed ≡ b → Contains (cond b confirmed (confirmed ++ c ∷ [])) c
-    by true e =
-        let f = found (λ d. is_same_confirmation d c) confirmed e in
-        subst (Contains confirmed) (one_confirmation f.0 c f.1.1) f.1.0
-    by false e = Contains-push confirmed c
-
-with_confirmed-all : (P : Confirmed → Type 0) (confirmed : List Confirmed) (c : Confirmed) → All P confirmed → P c → All P (with_confirmed confirmed c)
-with_confirmed-all P confirmed c all here = by (list_any (λ d. is_same_confirmation d c) confirmed)
-  where
-    by : (b : Bool) → All P (cond b confirmed (confirmed ++ c ∷ []))
-    by true = all
-    by false = All-push P confirmed c all here
-
 told-confirmed : (me : ℕ) (past : LogRecord) (confirmed : List Confirmed) (epoch : ℕ) (name : List ℕ) (certificate : Option (List ℕ)) (root : List ℕ)
     → HasConfirmed confirmed epoch name certificate root → Told me past.voted past.stated confirmed (confirm_claim me epoch name certificate root)
 unfolding Told
@@ -162,13 +139,13 @@ pub honest-confirming : (council : Council) (me : ℕ) (past : LogRecord) (c : C
     → is_roll (text_of (confirm_claim me c.epoch c.name c.certificate c.root)) ≡ false
     → HasRoom past.signed (text_of (confirm_claim me c.epoch c.name c.certificate c.root) ∷ [])
     → HonestLog council me (record past {
-      confirmed = with_confirmed past.confirmed c;
+      confirmed = with_one is_same_confirmation past.confirmed c;
       signed = after_entry past.signed (text_of (confirm_claim me c.epoch c.name c.certificate c.root));
     })
 honest-confirming council me past c h right valid plain room =
     let text : List ℕ = text_of (confirm_claim me c.epoch c.name c.certificate c.root) in
     let later : RollBook = after_entry past.signed text in
-    let confirmed' : List Confirmed = with_confirmed past.confirmed c in
+    let confirmed' : List Confirmed = with_one is_same_confirmation past.confirmed c in
     let kept : Within (texts_of past.signed) (texts_of later) = entry-keeps past.signed text in
     record {
       ends_in_order = h.ends_in_order;
@@ -177,16 +154,16 @@ honest-confirming council me past c h right valid plain room =
       votes_rightly = h.votes_rightly;
       decides_rightly = h.decides_rightly;
       skips_rightly = h.skips_rightly;
-      confirms_rightly = with_confirmed-all (IsRightConfirmation past.ended) past.confirmed c h.confirms_rightly right;
+      confirms_rightly = one-all (IsRightConfirmation past.ended) is_same_confirmation past.confirmed c h.confirms_rightly right;
       signs_what_it_tells = record {
         sound = after_entry_keeps past.signed text h.signs_what_it_tells.sound (inl plain);
         told = signs-more me past.signed text past.voted past.voted past.stated past.stated past.confirmed confirmed'
-            (same-within past.voted) (same-within past.stated) (with_confirmed-keeps past.confirmed c) h.signs_what_it_tells
+            (same-within past.voted) (same-within past.stated) (one-keeps is_same_confirmation past.confirmed c) h.signs_what_it_tells
             (own-text (Told me past.voted past.stated confirmed') (confirm_claim me c.epoch c.name c.certificate c.root) valid
-            (told-confirmed me past confirmed' c.epoch c.name c.certificate c.root (with_confirmed-has past.confirmed c)));
+            (told-confirmed me past confirmed' c.epoch c.name c.certificate c.root (one-has is_same_confirmation past.confirmed c (λ d. one_confirmation d c))));
         votes = votes-kept me past.signed later kept past.voted h.signs_what_it_tells.votes;
         statuses = statuses-kept me past.signed later kept past.stated h.signs_what_it_tells.statuses;
-        confirmations = with_confirmed-all (has_confirmation me (texts_of later)) past.confirmed c
+        confirmations = one-all (has_confirmation me (texts_of later)) is_same_confirmation past.confirmed c
             (confirmations-kept me past.signed later kept past.confirmed h.signs_what_it_tells.confirmations) (entry-has past.signed text room);
       };
       sees_members = h.sees_members;

@@ -11,9 +11,12 @@ use Rattle.std.proofs.lemmas.List.Sums.{sum_by-cons}
 use Rattle.std.proofs.lemmas.Slice.Eq.{bytes_eq-Decides}
 use mathlib.Core.List.{map-map}
 use Rattle.ar_statement.specs.declared.text.SeenText.{SeenText}
-use Rattle.party_keys.specs.Seen.{Saw, log_party}
+use Rattle.party_keys.specs.Seen.{Saw}
+use Rattle.ar_statement.specs.Claims.{log_party}
 use Rattle.vote_quorum.specs.Ballots.{has_ballot, is_same, log_count}
+use Rattle.ar_base.specs.Adding.{placed}
 use Rattle.ar_base.specs.Counting.{one_if}
+use Rattle.ar_base.proofs.Adding.{All-placed, AllPairs-placed}
 use Rattle.vote_quorum.specs.Numbers.{distinct_count}
 use Rattle.vote_quorum.specs.Statuses.{Excludes, Status, is_for, logs_of, report_count}
 use Rattle.vote_quorum.specs.declared.value.Value.{Value}
@@ -22,11 +25,10 @@ use Rattle.ar_council.proofs.Lists.{All-unmap}
 use Rattle.ar_council.specs.Council.{Council}
 use Rattle.ar_council.specs.Values.{IsValue, status_claim, vote_claim}
 use Rattle.ar_council.specs.Votes.{SawVotes}
-use Rattle.epoch_log.specs.Calls.{placed, with_status, with_vote}
+use Rattle.epoch_log.specs.Calls.{with_status, with_vote}
 use Rattle.epoch_log.specs.Ending.{excludes_all, falls_short, is_excluded, votes_for}
 use Rattle.epoch_log.specs.Right.{AreSeen}
 use Rattle.epoch_log.specs.State.{CountedStatus, CountedVote, IsSeenVote, ballots_of, reports_of}
-use Rattle.epoch_log.proofs.Lists.{All-placed, AllPairs-placed}
 
 -- ---- values
 

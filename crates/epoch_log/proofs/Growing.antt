@@ -8,14 +8,14 @@ use Rattle.std.proofs.lemmas.List.Quantifiers.{all_pairs_push}
 use Rattle.ar_cert.specs.Certificate.{digest_of}
 use Rattle.ar_cert.specs.Changes.{Change}
 use Rattle.ar_cert.specs.Judging.{endorsers_of}
-use Rattle.ar_statement.specs.Claims.{Claim, endorse, handover, propose, vote, confirm, confirm_absent, answer, status, roll, object, text_of}
+use Rattle.ar_statement.specs.Claims.{Claim, authority_party, endorse, handover, log_party, propose, vote, confirm, confirm_absent, answer, status, roll, object, text_of}
 use Rattle.ar_statement.specs.Ranges.{IsTextOf, IsValid}
 use Rattle.ar_statement.specs.declared.text.SeenText.{SeenText}
 use Rattle.key_roll.specs.Book.{RollBook, texts_of}
 use Rattle.key_roll.specs.Entry.{after_entry, with_roll}
 use Rattle.key_roll.specs.Rolls.{is_roll, named_generation}
 use Rattle.key_roll.proofs.Books.{after_entry_keeps, roll_keeps}
-use Rattle.party_keys.specs.Seen.{Saw, authority_party, log_party}
+use Rattle.party_keys.specs.Seen.{Saw}
 use Rattle.vote_quorum.specs.Statuses.{Status}
 use Rattle.vote_quorum.specs.declared.value.Value.{Value}
 use Rattle.domain_table.specs.Tables.{Table}
@@ -48,7 +48,8 @@ endorsements-more seen later within change all =
 pub leads-more : (seen later : List SeenText) → Within seen later → (epoch : ℕ) (before : Table) (changes : List Change) (to : List ℕ)
     → LeadsTo seen epoch before changes to → LeadsTo later epoch before changes to
 leads-more seen later within epoch before changes to leads = record {
-  applies = leads.applies;
+  reaches = leads.reaches;
+  are_changes = leads.are_changes;
   endorsed = All-weaker (SawEndorsements seen) (SawEndorsements later) (endorsements-more seen later within) changes leads.endorsed;
 }
 

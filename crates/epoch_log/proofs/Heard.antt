@@ -9,12 +9,12 @@ use Rattle.domain_table.specs.Applying.{apply}
 use Rattle.domain_table.specs.Sound.{IsSound}
 use Rattle.domain_table.specs.Tables.{Table}
 use Rattle.domain_table.specs.Tree.{root_of}
-use Rattle.epoch_log.specs.Calls.{SignedStatus, after_decide, after_skip, decision_seen, seeing, signed_votes, statuses_seen}
+use Rattle.epoch_log.specs.Calls.{SignedStatus, after_decide, after_skip, decision_seen, seeing, signed_votes, statuses_seen, CanDecide, CanSkip}
 use Rattle.epoch_log.specs.Ending.{decided, may_end, skipped}
 use Rattle.epoch_log.specs.Honest.{EndsInOrder}
 use Rattle.epoch_log.specs.Log.{IsLog, LogParts, moved, parts_of, state_in}
 use Rattle.epoch_log.specs.State.{IsKept, LogState, epoch_of, reports_of, table_of}
-use Rattle.epoch_log.specs.Telling.{CanDecide, CanSkip, IsTableBehind}
+use Rattle.epoch_log.specs.Telling.{IsTableBehind}
 use Rattle.epoch_log.specs.declared.parts.Parts.{Parts}
 use Rattle.epoch_log.proofs.Applying.{sound-applied}
 use Rattle.epoch_log.proofs.Called.{kept-decide, kept-skip}
@@ -37,7 +37,7 @@ pub log-skip : (p q : Parts) (statuses : List SignedStatus) → parts_of q ≡ m
     → CanSkip (state_in p) statuses → All (λ (s : Status). IfSome s.1 IsValue) (reports_of statuses) → IsLog q
 log-skip p q statuses there same log can told =
     log-moved p q (after_skip (state_in p) statuses) there same log
-    (kept-skip (state_in p) statuses log.kept (record { of_logs = can.of_logs; values = told; excludes = can.excludes }))
+    (kept-skip (state_in p) statuses log.kept (record { can = can; values = told }))
     (table-skip (state_in p) statuses log.kept.honest.ends_in_order)
 
 -- ---- a decision
@@ -75,14 +75,7 @@ log-decide p q changes value votes from there behind log can are digests =
     let state : state_in q ≡ later = ap (λ (l : LogParts). l.state) there in
     let its : IsItsTable s later q.table = its-table s value changes votes p.table q.table log.kept.honest.ends_in_order log.table log.sound are behind in
     record {
-      kept = subst IsKept (sym state) (kept-decide s value changes votes log.kept (record {
-        from_base = from;
-        applies = record { table = can.reaches.table; applied = can.reaches.applied; is_root = can.reaches.is_root; are_changes = are };
-        are_digests = digests;
-        endorsers = can.endorsers;
-        logs = can.logs;
-        many = can.many;
-      }));
+      kept = subst IsKept (sym state) (kept-decide s value changes votes log.kept (record { can = can; from_base = from; are_changes = are; are_digests = digests }));
       table = its.is_its ∙ sym (ap table_of state);
       sound = its.sound;
     }

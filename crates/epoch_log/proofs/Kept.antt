@@ -5,8 +5,8 @@ use Rattle.std.proofs.lemmas.Bool.{cases_eq, eqb-true, leb-true, ltb-true}
 use Rattle.std.proofs.lemmas.List.Elements.{All-contains, All-nil, All-weaker}
 use Rattle.ar_cert.specs.Changes.{Change}
 use Rattle.ar_statement.specs.declared.text.SeenText.{SeenText}
-use Rattle.ar_statement.specs.Claims.{text_of}
-use Rattle.party_keys.specs.Seen.{Saw, log_party}
+use Rattle.ar_statement.specs.Claims.{log_party, text_of}
+use Rattle.party_keys.specs.Seen.{Saw}
 use Rattle.vote_quorum.specs.Ballots.{log_count}
 use Rattle.vote_quorum.specs.Numbers.{distinct_count}
 use Rattle.vote_quorum.specs.Statuses.{Status}

@@ -12,7 +12,7 @@ use Rattle.ar_council.proofs.Needs.{need-both, need-most, need-none, need-one}
 use Rattle.key_roll.specs.Book.{IsRollBook, RollBook, texts_of}
 use Rattle.key_roll.specs.Entry.{after_at, due_at, due_of, entered, has_room, with_text}
 use Rattle.key_roll.specs.Rolls.{is_roll, plain_count}
-use Rattle.key_roll.specs.declared.fault.BookFault.TheVariants as book_fault
+use Rattle.ar_statement.specs.declared.fault.BookFault.TheVariants as book_fault
 use Rattle.key_roll.proofs.Books.{entered-new, is_entered}
 use Rattle.key_roll.specs.Due.{DueParts}
 use Rattle.epoch_log.specs.Answers.{first_entered}

@@ -10,7 +10,6 @@ pub mod Growing
 pub mod Heard
 pub mod Kept
 pub mod Leaves
-pub mod Lists
 pub mod Loops
 pub mod Moved
 pub mod Places

@@ -4,8 +4,8 @@ use Rattle.std.specs.Prelude.{All, Result, Ok, Err}
 use Rattle.std.proofs.lemmas.Bool.{eq-eqb}
 use Rattle.std.proofs.lemmas.List.Elements.{All-cons, All-nil}
 use Rattle.ar_council.specs.Council.{IsMember, council_of}
-use Rattle.ar_council.specs.Seen.{seen_of}
-use Rattle.ar_statement.specs.Claims.{roll}
+use Rattle.party_keys.specs.Seen.{seen_of}
+use Rattle.ar_statement.specs.Claims.{log_party}
 use Rattle.ar_statement.specs.Ranges.{IsKeyText}
 use Rattle.ar_statement.specs.declared.text.SeenText.{SeenText}
 use Rattle.key_roll.specs.Due.{DueParts}
@@ -15,8 +15,7 @@ use Rattle.key_roll.specs.declared.fault.RollFault.TheVariants as roll_fault
 use Rattle.lms_tree.specs.PublicKey.{HasWidths, key_text}
 use Rattle.lms_tree.specs.declared.public_key.LmsPublic.{LmsPublic}
 use Rattle.party_keys.specs.Directory.{Directory}
-use Rattle.party_keys.specs.Learning.{Announced, learned}
-use Rattle.party_keys.specs.Seen.{log_party}
+use Rattle.party_keys.specs.Learning.{Announced, learned, roll_claim}
 use Rattle.party_keys.specs.declared.learning.Learned.{Learned}
 use Rattle.domain_table.specs.Sound.{IsSound}
 use Rattle.domain_table.specs.Tables.{no_table}
@@ -67,10 +66,10 @@ pub log-learned : (p q : Parts) (a : Announced) (l : Learned) → learned p.dire
     → parts_of q ≡ learning (parts_of p) a
     → q.table ≡ p.table → IsLog p → IsLog q
 log-learned p q a l is there same log =
-    let one : SeenText = seen_of a.party (roll a.party a.generation (key_text a.key)) in
+    let one : SeenText = seen_of a.party (roll_claim a) in
     let member : All (λ (t : SeenText). IsMember (council_of p.directory) t.party) (one ∷ []) =
     All-cons (λ (t : SeenText). IsMember (council_of p.directory) t.party) one [] (learned-member p.directory a l is) (All-nil (λ (t : SeenText). IsMember (council_of p.directory) t.party)) in
-    log-stands p q (after_learn (state_in p) a.party a.generation (key_text a.key)) (ap (λ (k : LogParts). k.state) there) same log
+    log-stands p q (after_learn (state_in p) a) (ap (λ (k : LogParts). k.state) there) same log
     (kept-seeing (state_in p) (one ∷ []) log.kept member) refl
 
 not-last : (newest : ℕ) (text : List ℕ) (answer : Result DueParts RollFault) (due : DueParts) → cond (eqb newest 999) (Err roll_fault.Last) answer ≡ Ok due → newest ≢ 999

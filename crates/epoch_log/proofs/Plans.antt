@@ -2,7 +2,7 @@
 use Rattle.std.proofs.Common.{◌≡◌, ◌≢◌, ℕ, ◌<◌, ◌≤◌, ◌^◌, List, [], ◌∷◌, ◌++◌, length, refl, sym, ap, ◌∙◌, subst, arith, Bool, true, false, cond, eqb, ◌==◌, Option, Some, None, vec_capacity}
 use Rattle.std.specs.Prelude.{◌↔◌, All, Contains, IfSome, IsOk, IsSome, Result, Ok, Err, Vec, is_ok}
 use Rattle.std.specs.declared.alloc.Global.{Global}
-use Rattle.std.proofs.lemmas.Bool.{eq-eqb, eqb-true, lt-ltb, ne_eqb}
+use Rattle.std.proofs.lemmas.Bool.{eq-eqb, eqb-true, le-ltb, lt-ltb, ne_eqb}
 use Rattle.std.proofs.lemmas.List.{length-map}
 use Rattle.std.proofs.lemmas.List.Elements.{All-contains, All-head, All-tail}
 use Rattle.ar_council.proofs.Lists.{find-some}
@@ -33,7 +33,6 @@ use Rattle.epoch_log.proofs.Applying.{sound-applied}
 use Rattle.epoch_log.proofs.Counted.{excludes-each}
 use Rattle.epoch_log.proofs.Kept.{kept-closed}
 use Rattle.epoch_log.proofs.Moved.{log-moved}
-use Rattle.epoch_log.proofs.Places.{not-less}
 use Rattle.epoch_log.proofs.Read.{excludes-tested, table-decided, table-skipped}
 
 -- the test that is asked of the statuses is the one of the closing rule
@@ -120,7 +119,7 @@ pub own-applies : (p : Parts) (own : Option Voted) → IsLog p → own_vote p.pa
 own-applies p None log is = tt
 own-applies p (Some v) log is =
     let leads = own-leads (state_in p) v log.kept is in
-    subst IsSome (sym (ap (λ t. apply t (epoch_of (state_in p)) v.changes) log.table ∙ leads.applies.applied)) refl
+    subst IsSome (sym (ap (λ t. apply t (epoch_of (state_in p)) v.changes) log.table ∙ leads.reaches.applied)) refl
 
 -- the verdict is a decision only where there is an own vote
 pub own-decides : (council : Council) (own : Option Voted) (ballots : List Ballot) (reports : List Status) → verdict_of council own ballots reports ≡ verdicts.Decided → IsSome own
@@ -141,7 +140,7 @@ pub planned-late : (council : Council) (epoch : ℕ) (table : Table) (own : Opti
     → IsPlan council epoch table own ballots reports plans.Open
 unfolding IsPlan
 planned-late council epoch table own ballots reports late =
-    ap (λ b. cond b (verdict_of council own ballots reports) verdicts.Open) (not-less epoch (2 ^ 63) late)
+    ap (λ b. cond b (verdict_of council own ballots reports) verdicts.Open) (le-ltb epoch (2 ^ 63) late)
 
 pub planned-open : (council : Council) (epoch : ℕ) (table : Table) (own : Option Voted) (ballots : List Ballot) (reports : List Status) → epoch < 2 ^ 63
     → verdict_of council own ballots reports ≡ verdicts.Open → IsPlan council epoch table own ballots reports plans.Open
@@ -192,7 +191,7 @@ plan-decided p d log is =
       none = made.none;
       room = subst (λ n. n ≤ vec_capacity d.votes) (length-map p.votes.items (λ (w : CountedVote). (w.0, w.1))) made.has_room;
       applied = applied;
-      sound = sound-applied p.table d.table (epoch_of (state_in p)) v.changes (omega (arith, log.kept.honest.ends_in_order.in_range)) log.sound leads.applies.are_changes made.applied;
+      sound = sound-applied p.table d.table (epoch_of (state_in p)) v.changes (omega (arith, log.kept.honest.ends_in_order.in_range)) log.sound leads.are_changes made.applied;
     }
 
 -- ---- what a log keeps where its epoch ends as planned

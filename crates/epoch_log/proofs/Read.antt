@@ -22,7 +22,7 @@ use Rattle.ar_council.specs.Values.{confirm_claim, status_claim, vote_claim}
 use Rattle.epoch_log.specs.Ending.{closed, closed_by, closed_by_statuses, decided, excludes_all, falls_short, has_quorum, is_excluded, may_end, own_vote, skipped, votes_for}
 use Rattle.epoch_log.specs.State.{CountedStatus, CountedVote, LogState, ballots_of, epoch_of, reports_of, table_of}
 use Rattle.epoch_log.specs.Calls.{with_status, with_vote}
-use Rattle.epoch_log.proofs.Lists.{placed-exactly}
+use Rattle.ar_base.proofs.Adding.{placed-exactly}
 use Rattle.epoch_log.specs.declared.entries.Closing.{Closing}
 use Rattle.epoch_log.specs.declared.entries.Closing.TheVariants as closings
 use Rattle.epoch_log.specs.Honest.{EndsInOrder, HonestLog}

@@ -3,9 +3,9 @@ use Rattle.std.proofs.Common.{◌≡◌, ℕ, List, [], ◌∷◌, refl, sym, su
 use Rattle.std.specs.Prelude.{Contains, ◌+◌}
 use Rattle.ar_cert.specs.Changes.{Change}
 use Rattle.ar_council.proofs.Seeing.{seen-keeps}
-use Rattle.ar_council.specs.Seen.{seen_of}
+use Rattle.party_keys.specs.Seen.{seen_of}
 use Rattle.ar_council.specs.Values.{status_claim, vote_claim}
-use Rattle.party_keys.specs.Seen.{log_party}
+use Rattle.ar_statement.specs.Claims.{log_party}
 use Rattle.ar_statement.specs.declared.text.SeenText.{SeenText}
 use Rattle.vote_quorum.specs.declared.value.Value.{Value}
 use Rattle.epoch_log.specs.Calls.{SignedStatus, after_ballot, after_decide, after_propose, after_skip, after_state, after_status_seen, casting, counting_own, decision_seen, is_turn, own_value, proposing, seeing, signed_votes, stating, statuses_seen, vote_of, with_ballot, with_report}

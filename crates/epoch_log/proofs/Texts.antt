@@ -5,12 +5,11 @@ use Rattle.std.specs.Cmp.Derive.{both_true}
 use Rattle.std.proofs.lemmas.Bool.{le-leb}
 use Rattle.ar_base.specs.Bytes.{IsDigest}
 use Rattle.ar_names.specs.Names.{IsName}
-use Rattle.ar_statement.specs.Claims.{propose, roll, text_of}
+use Rattle.ar_statement.specs.Claims.{log_party, propose, roll, text_of}
 use Rattle.ar_statement.specs.Fields.{is_epoch}
 use Rattle.ar_statement.specs.Ranges.{IsKeyText, IsValid, is_readable}
 use Rattle.key_roll.specs.Rolls.{is_roll, named_generation}
 use Rattle.key_roll.proofs.Books.{is_roll-kind, named-roll}
-use Rattle.party_keys.specs.Seen.{log_party}
 use Rattle.vote_quorum.specs.declared.value.Value.{Value}
 use Rattle.ar_council.specs.Values.{IsValue, confirm_claim, status_claim, vote_claim}
 

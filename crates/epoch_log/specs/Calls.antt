@@ -1,21 +1,21 @@
 -- What each thing that a log does makes of where it stands, and when it may do so.
-use Rattle.std.specs.Prelude.{◌≡◌, ◌≢◌, ℕ, ◌+◌, ◌%◌, ◌<◌, ◌≤◌, ◌==◌, Bool, ◌&&◌, nat_le, nat_lt, if◌then◌else◌, List, [], ◌∷◌, ◌++◌, map, flat_map, All, Option, Some, None, IfSome}
+use Rattle.std.specs.Prelude.{◌≡◌, ◌≢◌, ℕ, ◌+◌, ◌%◌, ◌<◌, ◌≤◌, ◌==◌, Bool, ◌&&◌, nat_lt, if◌then◌else◌, List, [], ◌∷◌, ◌++◌, map, flat_map, All, Option, Some, None, IfSome}
 use Rattle.std.specs.List.{list_any}
 use Rattle.std.specs.Option.{option_map}
 use Rattle.std.specs.Str.{bytes_eq}
+use Rattle.ar_base.specs.Adding.{placed, with_one}
 use Rattle.ar_base.specs.Bytes.{IsDigest}
 use Rattle.ar_cert.specs.Certificate.{digest_of}
-use Rattle.ar_cert.specs.Changes.{Change}
+use Rattle.ar_cert.specs.Changes.{Change, IsChange}
 use Rattle.ar_cert.specs.Judging.{endorsers_of}
 use Rattle.ar_names.specs.Names.{IsName}
-use Rattle.ar_statement.specs.declared.party.Party.{Party}
 use Rattle.ar_statement.specs.declared.text.SeenText.{SeenText}
-use Rattle.ar_statement.specs.Claims.{Claim, endorse, propose, roll, text_of}
+use Rattle.ar_statement.specs.Claims.{Claim, authority_party, endorse, log_party, propose, roll, text_of}
+use Rattle.key_roll.specs.Book.{empty_book}
 use Rattle.key_roll.specs.Entry.{after_entry, with_roll}
 use Rattle.lms_tree.specs.PublicKey.{key_text}
 use Rattle.lms_tree.specs.declared.public_key.LmsPublic.{LmsPublic}
-use Rattle.party_keys.specs.Learning.{Announced, after_adopting, after_learning}
-use Rattle.party_keys.specs.Seen.{authority_party, log_party}
+use Rattle.party_keys.specs.Learning.{Announced, after_adopting, after_learning, roll_claim}
 use Rattle.vote_quorum.specs.Ballots.{has_ballot}
 use Rattle.vote_quorum.specs.Statuses.{AreStatuses, Excludes}
 use Rattle.vote_quorum.specs.Numbers.{distinct_count}
@@ -23,10 +23,11 @@ use Rattle.vote_quorum.specs.declared.value.Value.{Value}
 use Rattle.domain_table.specs.Tree.{root_of}
 use Rattle.ar_council.specs.Council.{Council}
 use Rattle.ar_council.specs.Values.{IsValue, is_same_digest, status_claim, vote_claim}
-use Rattle.ar_council.specs.Seen.{seen_after, seen_of}
+use Rattle.ar_council.specs.Seen.{seen_after}
+use Rattle.party_keys.specs.Seen.{seen_of}
 use Rattle.epoch_log.specs.Ending.{closed, decided_if, own_vote, skipped_if}
 use Rattle.epoch_log.specs.Log.{LogParts}
-use Rattle.epoch_log.specs.Right.{AppliesTo, newest_digest}
+use Rattle.epoch_log.specs.Right.{Reaches, newest_digest}
 use Rattle.epoch_log.specs.State.{CountedStatus, CountedVote, LogState, ballots_of, epoch_of, reports_of, table_of}
 use Rattle.epoch_log.specs.Told.{confirmation_claim, value_of}
 use Rattle.epoch_log.specs.declared.entries.Closing.{Closing}
@@ -57,11 +58,6 @@ seeing s more = record {
 }
 
 -- ---- what is counted
-
--- a list that ascends by number, with one more behind those whose number is not greater
-unfoldable pub placed : {X : Type 0} → (X → ℕ) → X → List X → List X
-placed number x [] = x ∷ []
-placed number x (y ∷ ys) = if nat_le (number y) (number x) then y ∷ placed number x ys else x ∷ (y ∷ ys)
 
 -- the counted ballots, logs ascending, with one more, unless this log's ballot for this value is counted
 abbrev pub with_vote : List CountedVote → CountedVote → List CountedVote
@@ -106,13 +102,22 @@ after_endorsed s change = seeing s (endorsements_of change)
 abbrev pub vote_of : LogState → Value → List Change → Voted
 vote_of s value changes = record { epoch = epoch_of s; base = value.base; changes = changes; root = value.root }
 
--- The log may vote: it has not voted and has stated nothing in the epoch, the value is for its base, and the changes
--- lead to its root.
-pub record MayVote (s : LogState) (value : Value) (changes : List Change) : Type 0 where
+-- the log has stated nothing in the epoch, and so may state what it did
+abbrev pub MayState : LogState → Type 0
+MayState s = All (λ t. t.epoch ≢ epoch_of s) s.past.stated
+
+-- The log is open to a value by these changes: it has not voted and has stated nothing in the epoch, the value is for its
+-- base, and the changes lead to its root.
+pub record IsOpenTo (s : LogState) (value : Value) (changes : List Change) : Type 0 where
   pub not_voted : All (λ v. v.epoch ≢ epoch_of s) s.past.voted
-  pub not_stated : All (λ t. t.epoch ≢ epoch_of s) s.past.stated
+  pub not_stated : MayState s
   pub from_base : value.base ≡ root_of (table_of s)
-  pub applies : AppliesTo (epoch_of s) (table_of s) changes value.root
+  pub reaches : Reaches (epoch_of s) (table_of s) changes value.root
+
+-- the log may vote for the value: it is open to it, the changes have texts, and base and root are digests
+pub record MayVote (s : LogState) (value : Value) (changes : List Change) : Type 0 where
+  pub open_to : IsOpenTo s value changes
+  pub are_changes : All IsChange changes
   pub are_digests : IsValue value
 
 -- the log signed its vote, and the record tells of it
@@ -177,10 +182,6 @@ after_ballot s log value signature = closed (with_ballot s log value (Some signa
 abbrev pub own_value : LogState → Option Value
 own_value s = option_map value_of (own_vote s.past.voted (epoch_of s))
 
--- the log may state what it did: it has stated nothing in the epoch
-abbrev pub MayState : LogState → Type 0
-MayState s = All (λ t. t.epoch ≢ epoch_of s) s.past.stated
-
 -- the log signed its status, and the record tells of it
 abbrev pub stating : LogState → LogState
 stating s = record s {
@@ -211,14 +212,20 @@ after_state s =
 abbrev pub votes_seen : ℕ → Value → List (ℕ × List ℕ) → List SeenText
 votes_seen epoch value votes = map (λ v. seen_of (log_party v.0) (vote_claim v.0 epoch value)) votes
 
--- the log may end the epoch as decided: the changes lead from its base to the root, and a quorum of logs voted
-pub record MayDecide (s : LogState) (value : Value) (changes : List Change) (votes : List (ℕ × List ℕ)) : Type 0 where
-  pub from_base : value.base ≡ root_of (table_of s)
-  pub applies : AppliesTo (epoch_of s) (table_of s) changes value.root
-  pub are_digests : IsValue value
+-- The epoch can end as decided with these changes and this root: they lead there, their endorsers are authorities of the
+-- council, and votes are of a quorum of its logs.
+pub record CanDecide (s : LogState) (changes : List Change) (root : List ℕ) (votes : List (ℕ × List ℕ)) : Type 0 where
+  pub reaches : Reaches (epoch_of s) (table_of s) changes root
   pub endorsers : All (AreEndorsers s.council) changes
   pub logs : All (λ v. v.0 < s.council.logs) votes
   pub many : s.council.quorum ≤ distinct_count (map (λ v. v.0) votes)
+
+-- the log may end the epoch so: the value is for its base, the changes have texts, and base and root are digests
+pub record MayDecide (s : LogState) (value : Value) (changes : List Change) (votes : List (ℕ × List ℕ)) : Type 0 where
+  pub can : CanDecide s changes value.root votes
+  pub from_base : value.base ≡ root_of (table_of s)
+  pub are_changes : All IsChange changes
+  pub are_digests : IsValue value
 
 -- what is seen where another log tells of a decision: the votes, and each endorsement
 abbrev pub decision_seen : LogState → Value → List Change → List (ℕ × List ℕ) → List SeenText
@@ -240,11 +247,15 @@ SignedStatus = ℕ × Option Value × List ℕ
 abbrev pub statuses_seen : ℕ → List SignedStatus → List SeenText
 statuses_seen epoch statuses = map (λ s. seen_of (log_party s.0) (status_claim s.0 epoch s.1)) statuses
 
--- the log may end the epoch as skipped: statuses of different logs exclude each root
-pub record MaySkip (s : LogState) (statuses : List SignedStatus) : Type 0 where
+-- The epoch can end as skipped by these statuses: they are of different logs of the council, and exclude each root.
+pub record CanSkip (s : LogState) (statuses : List SignedStatus) : Type 0 where
   pub of_logs : AreStatuses s.council.logs (reports_of statuses)
-  pub values : All (λ s. IfSome s.1 IsValue) (reports_of statuses)
   pub excludes : Excludes s.council.logs s.council.quorum (reports_of statuses)
+
+-- the log may end the epoch so: what is stated are digests
+pub record MaySkip (s : LogState) (statuses : List SignedStatus) : Type 0 where
+  pub can : CanSkip s statuses
+  pub values : All (λ s. IfSome s.1 IsValue) (reports_of statuses)
 
 -- the epoch ends as skipped
 abbrev pub after_skip : LogState → List SignedStatus → LogState
@@ -266,10 +277,6 @@ pub record MayConfirm (s : LogState) (w : Newest) (name : List ℕ) : Type 0 whe
 abbrev pub is_same_confirmation : Confirmed → Confirmed → Bool
 is_same_confirmation c d = (c.epoch == d.epoch) && (bytes_eq c.name d.name && (is_same_digest c.certificate d.certificate && bytes_eq c.root d.root))
 
--- the confirmations with one more, unless it is among them
-abbrev pub with_confirmed : List Confirmed → Confirmed → List Confirmed
-with_confirmed confirmed c = if list_any (λ d. is_same_confirmation d c) confirmed then confirmed else confirmed ++ c ∷ []
-
 -- the text of a confirmation
 abbrev pub confirmation_text : LogState → Newest → List ℕ → List ℕ
 confirmation_text s w name = text_of (confirmation_claim s.me (confirmed_of s w name))
@@ -277,7 +284,7 @@ confirmation_text s w name = text_of (confirmation_claim s.me (confirmed_of s w 
 -- the log signed the text of this confirmation, and the record tells of it
 abbrev pub confirming : LogState → List ℕ → Confirmed → LogState
 confirming s text c = record s {
-  past = record s.past { confirmed = with_confirmed s.past.confirmed c; signed = after_entry s.past.signed text };
+  past = record s.past { confirmed = with_one is_same_confirmation s.past.confirmed c; signed = after_entry s.past.signed text };
 }
 
 -- the log confirms what a name has, and the record tells of it
@@ -287,8 +294,8 @@ after_confirm s w name = confirming s (confirmation_text s w name) (confirmed_of
 -- ---- Rolls
 
 -- a party's Roll is seen
-abbrev pub after_learn : LogState → Party → ℕ → List ℕ → LogState
-after_learn s party generation key = seeing s (seen_of party (roll party generation key) ∷ [])
+abbrev pub after_learn : LogState → Announced → LogState
+after_learn s a = seeing s (seen_of a.party (roll_claim a) ∷ [])
 
 -- its own Roll is signed, and the book is at the next generation
 abbrev pub after_roll : LogState → List ℕ → LogState
@@ -298,7 +305,7 @@ after_roll s key = record s {
 
 -- the log knows the key that another party announces, and saw the Roll
 abbrev pub learning : LogParts → Announced → LogParts
-learning log a = record { state = after_learn log.state a.party a.generation (key_text a.key); keys = after_learning log.keys a }
+learning log a = record { state = after_learn log.state a; keys = after_learning log.keys a }
 
 -- the log signed its Roll of this key, and knows the key as its own next
 abbrev pub rolling : LogParts → LmsPublic → LogParts
@@ -314,7 +321,7 @@ abbrev pub fresh : ℕ → Council → ℕ → LogState
 fresh me council leaves = record {
   me = me;
   council = council;
-  past = record { seen = []; signed = record { leaves = leaves; newest = 0; list = [] }; voted = []; stated = []; ended = []; confirmed = [] };
+  past = record { seen = []; signed = empty_book leaves; voted = []; stated = []; ended = []; confirmed = [] };
   votes = [];
   statuses = [];
   newest = None;

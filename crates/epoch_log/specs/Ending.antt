@@ -1,6 +1,7 @@
 -- How an epoch ends: when the counted ballots decide it, when the counted statuses skip it, and what stands then.
-use Rattle.std.specs.Prelude.{ℕ, ◌+◌, ◌-◌, ◌^◌, ◌==◌, Bool, false, ◌&&◌, nat_le, nat_lt, if◌then◌else◌, List, [], ◌∷◌, ◌++◌, map, filter, find, length, Option, Some, None}
+use Rattle.std.specs.Prelude.{ℕ, ◌+◌, ◌-◌, ◌==◌, Bool, false, ◌&&◌, nat_le, nat_lt, if◌then◌else◌, List, [], ◌∷◌, ◌++◌, map, filter, find, length, Option, Some, None}
 use Rattle.std.specs.List.{list_all}
+use Rattle.ar_statement.specs.Fields.{last_epoch}
 use Rattle.ar_cert.specs.Changes.{Change}
 use Rattle.vote_quorum.specs.Ballots.{Ballot, is_same, log_count}
 use Rattle.vote_quorum.specs.Statuses.{Status, report_count}
@@ -17,9 +18,9 @@ use Rattle.epoch_log.specs.declared.entries.Voted.{Voted}
 
 -- ---- an epoch ends
 
--- whether the current epoch may end: the last that a statement can name, 2 ^ 63, does not
+-- whether the current epoch may end: the last that a statement can name does not
 abbrev pub may_end : LogRecord → Bool
-may_end past = nat_lt (current past.ended) (2 ^ 63)
+may_end past = nat_lt (current past.ended) last_epoch
 
 -- the record after the current epoch ended so
 abbrev pub with_ending : LogRecord → How → LogRecord

@@ -1,5 +1,6 @@
 -- What is planned of an epoch: whether it ends with what is counted, and what its end takes.
-use Rattle.std.specs.Prelude.{◌≡◌, ℕ, ◌^◌, ◌≤◌, nat_lt, if◌then◌else◌, List, [], length, Option, Some, vec_capacity}
+use Rattle.std.specs.Prelude.{◌≡◌, ℕ, ◌≤◌, nat_lt, if◌then◌else◌, List, [], length, Option, Some, vec_capacity}
+use Rattle.ar_statement.specs.Fields.{last_epoch}
 use Rattle.ar_council.specs.Council.{Council}
 use Rattle.vote_quorum.specs.Ballots.{Ballot}
 use Rattle.vote_quorum.specs.Statuses.{Status}
@@ -25,7 +26,7 @@ verdict_of council own ballots reports =
 -- the same, where the last epoch that a statement can name does not end
 abbrev pub verdict_at : ℕ → Council → Option Voted → List Ballot → List Status → Verdict
 verdict_at epoch council own ballots reports =
-    if nat_lt epoch (2 ^ 63) then verdict_of council own ballots reports else verdicts.Open
+    if nat_lt epoch last_epoch then verdict_of council own ballots reports else verdicts.Open
 
 -- A decision is that of this vote, with the table to which its changes lead from that one, and has room for so many votes.
 pub record IsDecision (epoch : ℕ) (table : Table) (vote : Voted) (room : ℕ) (d : Decision) : Type 0 where

@@ -5,8 +5,8 @@ use Rattle.ar_cert.specs.Certificate.{digest_of}
 use Rattle.ar_cert.specs.Changes.{Change, IsChange}
 use Rattle.ar_cert.specs.Judging.{endorsers_of}
 use Rattle.ar_statement.specs.declared.text.SeenText.{SeenText}
-use Rattle.ar_statement.specs.Claims.{endorse}
-use Rattle.party_keys.specs.Seen.{Saw, log_party, authority_party}
+use Rattle.ar_statement.specs.Claims.{authority_party, endorse, log_party}
+use Rattle.party_keys.specs.Seen.{Saw}
 use Rattle.vote_quorum.specs.Statuses.{AreStatuses, Excludes, Status}
 use Rattle.vote_quorum.specs.declared.value.Value.{Value}
 use Rattle.domain_table.specs.Applying.{apply}
@@ -30,16 +30,16 @@ SawEndorsements seen change = All (λ a. Saw seen (authority_party a) (endorse a
 
 -- ---- votes and decisions
 
--- from a table the changes, which have texts, apply in an epoch to a table with this root
-pub record AppliesTo (epoch : ℕ) (before : Table) (changes : List Change) (to : List ℕ) : Type 0 where
+-- from a table the changes apply in an epoch to a table with this root
+pub record Reaches (epoch : ℕ) (before : Table) (changes : List Change) (to : List ℕ) : Type 0 where
   pub table : Table
   pub applied : apply before epoch changes ≡ Some table
   pub is_root : root_of table ≡ to
-  pub are_changes : All IsChange changes
 
--- the changes apply to a table with this root, and their endorsements were seen
+-- the changes, which have texts, apply to a table with this root, and their endorsements were seen
 pub record LeadsTo (seen : List SeenText) (epoch : ℕ) (before : Table) (changes : List Change) (to : List ℕ) : Type 0 where
-  pub applies : AppliesTo epoch before changes to
+  pub reaches : Reaches epoch before changes to
+  pub are_changes : All IsChange changes
   pub endorsed : All (SawEndorsements seen) changes
 
 -- a vote is for the base of its epoch, and its changes lead from there to its root

@@ -3,7 +3,8 @@
 use Rattle.std.specs.Prelude.{◌≡◌, ◌≢◌, ℕ, ◌^◌, ◌<◌, ◌≤◌, List, map, All, Contains, Option, Some, None}
 use Rattle.ar_cert.specs.Changes.{Change}
 use Rattle.ar_statement.specs.declared.text.SeenText.{SeenText}
-use Rattle.party_keys.specs.Seen.{Saw, log_party}
+use Rattle.party_keys.specs.Seen.{Saw}
+use Rattle.ar_statement.specs.Claims.{log_party}
 use Rattle.vote_quorum.specs.Ballots.{Ballot}
 use Rattle.vote_quorum.specs.Numbers.{distinct_count}
 use Rattle.vote_quorum.specs.Statuses.{Status}

@@ -1,26 +1,18 @@
 -- What another log tells of the end of an epoch, as calls take it.
-use Rattle.std.specs.Prelude.{◌≡◌, ℕ, ◌<◌, ◌≤◌, List, All, map, Option, Some, Vec, if◌then◌else◌}
+use Rattle.std.specs.Prelude.{◌≡◌, ℕ, List, map, Option, Some, Vec, if◌then◌else◌}
 use Rattle.std.specs.declared.alloc.Global.{Global}
 use Rattle.ar_cert.specs.Changes.{Change}
-use Rattle.vote_quorum.specs.Numbers.{distinct_count}
-use Rattle.vote_quorum.specs.Statuses.{AreStatuses, Excludes}
 use Rattle.vote_quorum.specs.declared.value.Value.{Value}
 use Rattle.domain_table.specs.Applying.{apply}
 use Rattle.domain_table.specs.Tables.{Table}
 use Rattle.domain_table.specs.Tree.{root_of}
-use Rattle.epoch_log.specs.Answers.{Reaches}
-use Rattle.epoch_log.specs.Calls.{AreEndorsers, SignedStatus}
+use Rattle.epoch_log.specs.Calls.{SignedStatus}
 use Rattle.epoch_log.specs.Ending.{may_end}
-use Rattle.epoch_log.specs.State.{LogState, epoch_of, reports_of, table_of}
+use Rattle.epoch_log.specs.State.{LogState, epoch_of, table_of}
 
 -- statuses of logs with their signatures
 abbrev pub statuses_in : List (ℕ × Option Value × Vec ℕ Global) → List SignedStatus
 statuses_in statuses = map (λ s. (s.0, s.1, s.2.items)) statuses
-
--- The epoch can end as skipped by these statuses: they are of different logs of the council, and exclude each root.
-pub record CanSkip (s : LogState) (statuses : List SignedStatus) : Type 0 where
-  pub of_logs : AreStatuses s.council.logs (reports_of statuses)
-  pub excludes : Excludes s.council.logs s.council.quorum (reports_of statuses)
 
 -- votes of logs with their signatures
 abbrev pub votes_in : List (ℕ × Vec ℕ Global) → List (ℕ × List ℕ)
@@ -29,14 +21,6 @@ votes_in votes = map (λ v. (v.0, v.1.items)) votes
 -- a decision for this root, over the base of the current epoch
 abbrev pub to_root : LogState → List ℕ → Value
 to_root s root = record { base = root_of (table_of s); root = root }
-
--- The epoch can end as decided with these changes and this root: they lead there, their endorsers are authorities of the
--- council, and votes are of a quorum of its logs.
-pub record CanDecide (s : LogState) (changes : List Change) (root : List ℕ) (votes : List (ℕ × List ℕ)) : Type 0 where
-  pub reaches : Reaches (epoch_of s) (table_of s) changes root
-  pub endorsers : All (AreEndorsers s.council) changes
-  pub logs : All (λ v. v.0 < s.council.logs) votes
-  pub many : s.council.quorum ≤ distinct_count (map (λ v. v.0) votes)
 
 -- the table in which the next epoch begins, unless the epoch is the last
 abbrev pub table_if : LogState → Table → Table → Table

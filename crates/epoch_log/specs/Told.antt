@@ -1,8 +1,7 @@
 -- Which statements a log's record tells of.
 use Rattle.std.specs.Prelude.{◌≡◌, ℕ, List, Contains, Option, Some, None}
 use Rattle.std.specs.Option.{option_map}
-use Rattle.ar_statement.specs.Claims.{Claim, endorse, handover, propose, vote, confirm, confirm_absent, answer, status, roll, object}
-use Rattle.party_keys.specs.Seen.{log_party}
+use Rattle.ar_statement.specs.Claims.{Claim, endorse, handover, log_party, propose, vote, confirm, confirm_absent, answer, status, roll, object}
 use Rattle.vote_quorum.specs.declared.value.Value.{Value}
 use Rattle.ar_council.specs.Values.{confirm_claim, value_of_roots}
 use Rattle.epoch_log.specs.declared.entries.Confirmed.{Confirmed}

@@ -10,9 +10,10 @@ ghost use Rattle.epoch_log.specs.Ending.{backs, excludes_all};
 ghost use Rattle.epoch_log.specs.Plans.{IsDecision, IsOwnDecision, IsPlan, verdict_of};
 
 use crate::Voted;
-use crate::ending::{Decision, LAST_EPOCH};
+use crate::ending::Decision;
 use crate::statements::changes_told;
 use crate::tables::table_after;
+use ar_statement::fields::LAST_EPOCH;
 use domain_table::{Table, copy_changes};
 use party_keys::Directory;
 use std::alloc::{AllocError, Global};

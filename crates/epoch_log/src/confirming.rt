@@ -1,6 +1,7 @@
 //! Confirmations of what a name has.
 ghost use Rattle.std.specs.Prelude.{◌≡◌, ◌<◌, [], ◌∷◌, Option, IfSome, IsSome, OnOk, OnErr, false, vec_len, vec_capacity};
 ghost use Rattle.std.specs.List.{list_any};
+ghost use Rattle.ar_base.specs.Adding.{with_one};
 ghost use Rattle.ar_base.specs.Bytes.{IsDigest};
 ghost use Rattle.ar_base.specs.Gives.{GivesOrWants};
 ghost use Rattle.ar_council.specs.Room.{HasRoom};
@@ -8,10 +9,10 @@ ghost use Rattle.ar_council.specs.Values.{confirm_claim, is_same_digest};
 ghost use Rattle.ar_statement.specs.Claims.{claim_of, text_of};
 ghost use Rattle.key_roll.specs.Entry.{entered};
 ghost use Rattle.key_roll.specs.Rolls.{is_roll};
-ghost use Rattle.key_roll.specs.declared.fault.BookFault.TheVariants as book_fault;
+ghost use Rattle.ar_statement.specs.declared.fault.BookFault.TheVariants as book_fault;
 ghost use Rattle.domain_table.specs.Tables.{newest};
 ghost use Rattle.epoch_log.specs.Answers.{confirmed};
-ghost use Rattle.epoch_log.specs.Calls.{after_confirm, confirming, is_same_confirmation, with_confirmed};
+ghost use Rattle.epoch_log.specs.Calls.{after_confirm, confirming, is_same_confirmation};
 ghost use Rattle.epoch_log.specs.Log.{IsLog, moved, parts_of, state_in};
 ghost use Rattle.epoch_log.specs.Right.{newest_digest};
 
@@ -19,9 +20,9 @@ use crate::Confirmed;
 use crate::parts::Parts;
 use crate::signing::{leaf_for, sign};
 use ar_bytes::digest_told;
-use ar_council::{confirmation_statement, is_same_digest};
+use ar_council::is_same_digest;
 use ar_names::{Name, NameView};
-use ar_statement::{Role, Statement};
+use ar_statement::{Role, Statement, confirmation_statement};
 use domain_table::Table;
 use key_roll::{BookFault, RollDue};
 use std::alloc::Global;
@@ -63,7 +64,7 @@ fn was_confirmed(confirmed: &[Confirmed], more: &Confirmed) -> bool
 /// Adds a confirmation, unless it is there. There is room for it.
 fn put_confirmed(confirmed: &mut Vec<Confirmed>, more: Confirmed)
     requires { vec_len confirmed.old < vec_capacity confirmed.old }
-    ensures { confirmed.new.items ≡ with_confirmed confirmed.old.items more }
+    ensures { confirmed.new.items ≡ with_one is_same_confirmation confirmed.old.items more }
 {
     if !was_confirmed(confirmed, &more) {
         confirmed.push_reserved(more);

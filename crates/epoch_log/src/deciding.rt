@@ -1,14 +1,14 @@
 //! Decisions of which other logs tell.
 ghost use Rattle.std.specs.Prelude.{◌≡◌, ◌++◌, flat_map, All, IfOk, IsSome, OnOk, OnErr};
 ghost use Rattle.ar_cert.specs.Changes.{IsChange};
-ghost use Rattle.ar_council.specs.Seen.{seen_of};
+ghost use Rattle.party_keys.specs.Seen.{seen_of};
 ghost use Rattle.ar_council.specs.Values.{vote_claim};
 ghost use Rattle.domain_table.specs.Applying.{apply};
-ghost use Rattle.party_keys.specs.Seen.{log_party};
-ghost use Rattle.epoch_log.specs.Calls.{after_decide, endorsements_of, signed_votes, votes_seen};
+ghost use Rattle.ar_statement.specs.Claims.{log_party};
+ghost use Rattle.epoch_log.specs.Calls.{after_decide, endorsements_of, signed_votes, votes_seen, CanDecide};
 ghost use Rattle.epoch_log.specs.Log.{IsLog, moved, parts_of, state_in};
 ghost use Rattle.epoch_log.specs.State.{epoch_of};
-ghost use Rattle.epoch_log.specs.Telling.{CanDecide, IsTableBehind, to_root, votes_in};
+ghost use Rattle.epoch_log.specs.Telling.{IsTableBehind, to_root, votes_in};
 
 use crate::ending::Decision;
 use crate::parts::Parts;

@@ -9,13 +9,11 @@ use crate::parts::{CountedStatus, Parts};
 use crate::{Ended, How, Newest};
 use ar_base::Items;
 use ar_cert::Change;
+use ar_statement::fields::LAST_EPOCH;
 use domain_table::Table;
 use std::alloc::Global;
 use std::mem;
 use vote_quorum::Value;
-
-/// The last epoch that a statement can name. It does not end.
-pub const LAST_EPOCH: u64 = 1 << 63;
 
 /// What a decision takes: the changes, the value that a quorum is for, the table to which the changes lead, and the votes.
 #[derive(Drop)]

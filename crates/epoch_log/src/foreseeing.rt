@@ -13,13 +13,13 @@ ghost use Rattle.epoch_log.specs.declared.foreseeing.Foreseen.TheVariants as for
 use crate::closing::{Verdict, verdict_on};
 use crate::copying::{counted_copies, statuses_with, votes_with};
 use crate::counting::{ballots, ballots_with, reports, reports_with};
-use crate::ending::LAST_EPOCH;
 use crate::finishing::{own_vote, votes_for};
 use crate::parts::{CountedVote, Parts};
 use crate::{Newest, Voted};
 use ar_base::Items;
 use ar_cert::Change;
 use ar_council::ballot_told;
+use ar_statement::fields::LAST_EPOCH;
 use domain_table::copy_changes;
 use std::alloc::{AllocError, Global};
 use vote_quorum::Value;

@@ -4,7 +4,7 @@ ghost use Rattle.ar_base.specs.Gives.{GivesUnless};
 ghost use Rattle.key_roll.specs.Entry.{announced};
 ghost use Rattle.key_roll.specs.declared.fault.RollFault.TheVariants as roll_fault;
 ghost use Rattle.party_keys.specs.Learning.{learned};
-ghost use Rattle.party_keys.specs.Seen.{log_party};
+ghost use Rattle.ar_statement.specs.Claims.{log_party};
 ghost use Rattle.party_keys.specs.declared.fault.LearnFault.TheVariants as learn_fault;
 ghost use Rattle.epoch_log.specs.Calls.{AreEndorsers, after_endorsed, learning, rolling};
 ghost use Rattle.epoch_log.specs.Log.{IsLog, moved, parts_of, state_in};
@@ -13,10 +13,10 @@ use crate::parts::Parts;
 use crate::seeing::endorsements;
 use ar_cert::Change;
 use ar_council::{key_told, see, see_each, seen_text};
-use ar_statement::{Party, Role, Statement};
+use ar_statement::Role;
 use key_roll::{RollDue, RollFault};
 use lms_tree::LmsPublic;
-use party_keys::{LearnFault, Learned};
+use party_keys::{Announced, LearnFault, Learned};
 use std::alloc::{AllocError, Global};
 
 impl Parts {
@@ -47,30 +47,19 @@ impl Parts {
     }
 
     /// Takes an announced key, and sees the Roll that says so.
-    fn take_key(
-        &mut self,
-        alloc: Global,
-        party: Party,
-        generation: u32,
-        key: LmsPublic,
-        signature: &[u8],
-    ) -> Result<Learned, LearnFault>
+    fn take_key(&mut self, alloc: Global, announced: &Announced) -> Result<Learned, LearnFault>
         ensures answer { GivesUnless learn_fault.Memory (λ learned. learned) result
-            (learned self.old.directory (record { party = party; generation = generation; key = key; signature = signature.now })) }
-        ensures ok { OnOk result (parts_of self.new ≡ learning (parts_of self.old) (record { party = party; generation = generation; key = key; signature = signature.now })) }
+            (learned self.old.directory announced.now) }
+        ensures ok { OnOk result (parts_of self.new ≡ learning (parts_of self.old) announced.now) }
         ensures err { OnErr result (parts_of self.new ≡ parts_of self.old) }
         ensures table { self.new.table ≡ self.old.table }
     {
-        let statement = Statement::Roll {
-            signer: party,
-            generation,
-            key: key.bytes(),
-        };
         self.reserve(alloc, 1, 0)?;
-        let learned = self
-            .directory
-            .learn(alloc, party, generation, key, signature)?;
-        see(&mut self.past.seen, seen_text(party, &statement));
+        let learned = self.directory.learn(alloc, announced)?;
+        see(
+            &mut self.past.seen,
+            seen_text(announced.party, &announced.roll()),
+        );
         Ok(learned)
     }
 
@@ -78,19 +67,16 @@ impl Parts {
     pub(crate) fn learn(
         &mut self,
         alloc: Global,
-        party: Party,
-        generation: u32,
-        key: LmsPublic,
-        signature: &[u8],
+        announced: &Announced,
     ) -> Result<Learned, LearnFault>
         requires { IsLog self.old }
         ensures answer { GivesUnless learn_fault.Memory (λ learned. learned) result
-            (learned self.old.directory (record { party = party; generation = generation; key = key; signature = signature.now })) }
-        ensures ok { OnOk result (parts_of self.new ≡ learning (parts_of self.old) (record { party = party; generation = generation; key = key; signature = signature.now })) }
+            (learned self.old.directory announced.now) }
+        ensures ok { OnOk result (parts_of self.new ≡ learning (parts_of self.old) announced.now) }
         ensures err { OnErr result (parts_of self.new ≡ parts_of self.old) }
         ensures kept { IsLog self.new }
     {
-        match self.take_key(alloc, party, generation, key, signature) {
+        match self.take_key(alloc, announced) {
             Ok(learned) => Ok(learned),
             Err(fault) => Err(fault),
         }

@@ -25,6 +25,7 @@ ghost use Rattle.epoch_log.specs.Told.{HasConfirmed, HasStated, HasVoted, value_
 ghost use Rattle.epoch_log.specs.declared.entries.Closing.TheVariants as closings;
 ghost use Rattle.epoch_log.specs.declared.entries.Newest.{Newest};
 ghost use Rattle.epoch_log.specs.declared.entries.Voted.{Voted};
+ghost use Rattle.party_keys.specs.Learning.{Announced};
 
 /// A log that has done nothing yet is kept: its record is an honest log's.
 pub fn a_fresh_log_is_kept()
@@ -47,7 +48,7 @@ pub fn what_was_seen_stays_so()
     ensures status { (s : LogState) (log : ℕ) (value : Option Value) (signature : Option (List ℕ)) → SeesMore s (after_status_seen s log value signature).0 }
     ensures decision { (s : LogState) (value : Value) (changes : List Change) (votes : List (ℕ × List ℕ)) → SeesMore s (after_decide s value changes votes) }
     ensures skip { (s : LogState) (statuses : List SignedStatus) → SeesMore s (after_skip s statuses) }
-    ensures learn { (s : LogState) (party : Party) (generation : ℕ) (key : List ℕ) → SeesMore s (after_learn s party generation key) }
+    ensures learn { (s : LogState) (a : Announced) → SeesMore s (after_learn s a) }
 {}
 
 /// A log is kept where it votes for a proposal as it may, and has a leaf for its vote.
@@ -101,8 +102,7 @@ pub fn a_confirmation_keeps_a_log()
 
 /// A log is kept where it sees the Roll of a party of the council, and where it announces its own next key.
 pub fn rolls_keep_a_log()
-    ensures learn { (s : LogState) (party : Party) (generation : ℕ) (key : List ℕ) → IsKept s → IsMember s.council party
-        → IsKept (after_learn s party generation key) }
+    ensures learn { (s : LogState) (a : Announced) → IsKept s → IsMember s.council a.party → IsKept (after_learn s a) }
     ensures roll { (s : LogState) (key : List ℕ) → IsKept s → MayRoll s.past.signed key → IsKept (after_roll s key) }
 {}
 

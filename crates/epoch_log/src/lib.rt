@@ -5,7 +5,7 @@
 //! `specs/Told.antt` and `specs/Right.antt` say of single entries. `specs/State.antt` says where a log stands and what is
 //! kept of that, `specs/Ending.antt` how an epoch ends, and `specs/Calls.antt` what each call makes of where a log stands,
 //! and when it may be made; `specs/Log.antt` says what a log in the program holds and keeps of that, and `specs/Answers.antt`
-//! what a call needs and answers beside that, `specs/Telling.antt` where another log tells how an epoch ended,
+//! what a call answers beside that, `specs/Telling.antt` where another log tells how an epoch ended,
 //! `specs/Plans.antt` what is planned before an epoch ends with what is counted, and `specs/Foreseeing.antt` what is told of
 //! that before a step. `laws` says that each call keeps what is kept.
 #![tactic(auto)]
@@ -36,7 +36,6 @@ mod tables;
 mod voting;
 
 pub use confirming::{confirm_statement, newest_digest};
-pub use ending::LAST_EPOCH;
 pub use entries::{Closing, Confirmed, Ended, How, Newest, Stated, Voted};
 pub use finishing::own_vote;
 pub use foreseeing::Foreseen;

@@ -2,31 +2,30 @@ ghost use Rattle.std.specs.Prelude.{◌≡◌, ◌≢◌, ◌<◌, All, IfOk, If
 ghost use Rattle.std.specs.Option.{option_map};
 ghost use Rattle.ar_base.specs.Gives.{GivesOrWants, GivesUnless};
 ghost use Rattle.ar_council.specs.Council.{council_of};
-ghost use Rattle.ar_statement.specs.Claims.{claim_of, text_of};
+ghost use Rattle.ar_statement.specs.Claims.{claim_of, log_party, text_of};
 ghost use Rattle.key_roll.specs.Entry.{announced, due_of};
-ghost use Rattle.key_roll.specs.declared.fault.BookFault.TheVariants as book_fault;
+ghost use Rattle.ar_statement.specs.declared.fault.BookFault.TheVariants as book_fault;
 ghost use Rattle.key_roll.specs.declared.fault.RollFault.TheVariants as roll_fault;
 ghost use Rattle.party_keys.specs.Learning.{learned};
-ghost use Rattle.party_keys.specs.Seen.{log_party};
 ghost use Rattle.party_keys.specs.declared.fault.LearnFault.TheVariants as learn_fault;
 ghost use Rattle.domain_table.specs.Sound.{IsSound};
-ghost use Rattle.epoch_log.specs.Answers.{IsOpenTo, confirmed, proposed, stated, voted};
-ghost use Rattle.epoch_log.specs.Calls.{AreEndorsers, IsProposed, IsTurn, MayState, after_ballot, after_confirm, after_decide, after_endorsed, after_propose, after_skip, after_state, after_status_seen, after_vote, fresh, is_turn, learning, own_value, rolling};
+ghost use Rattle.epoch_log.specs.Answers.{confirmed, proposed, stated, voted};
+ghost use Rattle.epoch_log.specs.Calls.{AreEndorsers, IsProposed, IsTurn, MayState, after_ballot, after_confirm, after_decide, after_endorsed, after_propose, after_skip, after_state, after_status_seen, after_vote, fresh, is_turn, learning, own_value, rolling, IsOpenTo, CanDecide, CanSkip};
 ghost use Rattle.epoch_log.specs.Foreseeing.{IsForeseen};
 ghost use Rattle.epoch_log.specs.Log.{moved, record_of};
 ghost use Rattle.epoch_log.specs.Right.{SawEndorsements};
 ghost use Rattle.epoch_log.specs.State.{IsKept, epoch_of, table_of};
-ghost use Rattle.epoch_log.specs.Telling.{CanDecide, CanSkip, statuses_in, to_root, votes_in};
+ghost use Rattle.epoch_log.specs.Telling.{statuses_in, to_root, votes_in};
 
 use crate::parts::Parts;
 use crate::{Closing, Foreseen, Newest, Record};
 use ar_cert::Change;
 use ar_names::Name;
-use ar_statement::{Party, Statement};
+use ar_statement::Statement;
 use domain_table::Table;
 use key_roll::{BookFault, RollDue, RollFault};
 use lms_tree::LmsPublic;
-use party_keys::{Directory, LearnFault, Learned};
+use party_keys::{Announced, Directory, LearnFault, Learned};
 use std::alloc::{AllocError, Global};
 use std::marker::Model;
 use vote_quorum::Value;
@@ -279,20 +278,13 @@ impl EpochLog {
 
     /// Takes the key that a party announces as the next behind its key of this generation, and sees the Roll that says so.
     /// The answer and the faults are those of `Directory::learn`, but that `Memory` may come in place of each.
-    pub fn learn(
-        &mut self,
-        alloc: Global,
-        party: Party,
-        generation: u32,
-        key: LmsPublic,
-        signature: &[u8],
-    ) -> Result<Learned, LearnFault>
+    pub fn learn(&mut self, alloc: Global, announced: &Announced) -> Result<Learned, LearnFault>
         ensures answer { GivesUnless learn_fault.Memory (λ learned. learned) result
-            (learned self.old.keys (record { party = party; generation = generation; key = key; signature = signature.now })) }
-        ensures ok { OnOk result (self.new ≡ learning self.old (record { party = party; generation = generation; key = key; signature = signature.now })) }
+            (learned self.old.keys announced.now) }
+        ensures ok { OnOk result (self.new ≡ learning self.old announced.now) }
         ensures err { OnErr result (self.new ≡ self.old) }
     {
-        self.parts.learn(alloc, party, generation, key, signature)
+        self.parts.learn(alloc, announced)
     }
 
     /// Announces the log's next key, which the log knows then. It gives the leaf of the Roll, and is `Last` exactly where

@@ -3,7 +3,7 @@ ghost use Rattle.std.specs.Prelude.{◌≡◌, ◌<◌, ◌+◌, ◌%◌, ◌&&�
 ghost use Rattle.ar_base.specs.Gives.{GivesOrWants};
 ghost use Rattle.ar_council.specs.Room.{HasRoom};
 ghost use Rattle.key_roll.specs.Entry.{entered};
-ghost use Rattle.key_roll.specs.declared.fault.BookFault.TheVariants as book_fault;
+ghost use Rattle.ar_statement.specs.declared.fault.BookFault.TheVariants as book_fault;
 ghost use Rattle.epoch_log.specs.Answers.{beside, stated};
 ghost use Rattle.epoch_log.specs.Calls.{MayState, after_state, after_status_seen, is_turn, own_status_text, own_value, stating};
 ghost use Rattle.epoch_log.specs.Log.{IsLog, moved, parts_of, state_in};

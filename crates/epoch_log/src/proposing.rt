@@ -3,10 +3,10 @@ ghost use Rattle.std.specs.Prelude.{◌≡◌, ◌<◌, None, Ok, Err, Some, All
 ghost use Rattle.ar_base.specs.Gives.{GivesOrWants};
 ghost use Rattle.ar_council.specs.Room.{HasRoom};
 ghost use Rattle.ar_statement.specs.Claims.{text_of};
-ghost use Rattle.key_roll.specs.declared.fault.BookFault.TheVariants as book_fault;
+ghost use Rattle.ar_statement.specs.declared.fault.BookFault.TheVariants as book_fault;
 ghost use Rattle.domain_table.specs.Applying.{apply};
-ghost use Rattle.epoch_log.specs.Answers.{IsOpenTo, first_entered, proposed};
-ghost use Rattle.epoch_log.specs.Calls.{IsTurn, MayVote, after_propose, casting, own_vote_text, proposal_texts, propose_claim, proposing, vote_of, with_vote};
+ghost use Rattle.epoch_log.specs.Answers.{first_entered, proposed};
+ghost use Rattle.epoch_log.specs.Calls.{IsTurn, MayVote, after_propose, casting, own_vote_text, proposal_texts, propose_claim, proposing, vote_of, with_vote, IsOpenTo};
 ghost use Rattle.epoch_log.specs.Log.{IsLog, moved, parts_of, state_in};
 ghost use Rattle.epoch_log.specs.Plans.{IsPlan};
 ghost use Rattle.epoch_log.specs.Right.{SawEndorsements};

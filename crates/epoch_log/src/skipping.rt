@@ -1,12 +1,12 @@
 //! Skips of which other logs tell.
 ghost use Rattle.std.specs.Prelude.{◌≡◌, All, IfOk, IfSome, OnOk, OnErr};
-ghost use Rattle.ar_council.specs.Seen.{seen_of};
+ghost use Rattle.party_keys.specs.Seen.{seen_of};
 ghost use Rattle.ar_council.specs.Values.{IsValue, status_claim};
-ghost use Rattle.party_keys.specs.Seen.{log_party};
-ghost use Rattle.epoch_log.specs.Calls.{after_skip, statuses_seen};
+ghost use Rattle.ar_statement.specs.Claims.{log_party};
+ghost use Rattle.epoch_log.specs.Calls.{after_skip, statuses_seen, CanSkip};
 ghost use Rattle.epoch_log.specs.State.{reports_of};
 ghost use Rattle.epoch_log.specs.Log.{IsLog, moved, parts_of, state_in};
-ghost use Rattle.epoch_log.specs.Telling.{CanSkip, statuses_in};
+ghost use Rattle.epoch_log.specs.Telling.{statuses_in};
 
 use crate::parts::Parts;
 use ar_council::{ballot_told, see_each, seen_text, status_statement};

@@ -2,12 +2,11 @@
 ghost use Rattle.std.specs.Prelude.{◌≡◌, ◌<◌, [], ◌∷◌, flat_map, IfOk, OnOk, OnErr};
 ghost use Rattle.ar_base.specs.Gives.{GivesOrWants};
 ghost use Rattle.ar_council.specs.Room.{HasRoom};
-ghost use Rattle.ar_council.specs.Seen.{seen_of};
-ghost use Rattle.ar_statement.specs.Claims.{propose};
-ghost use Rattle.key_roll.specs.declared.fault.BookFault.TheVariants as book_fault;
-ghost use Rattle.party_keys.specs.Seen.{log_party};
-ghost use Rattle.epoch_log.specs.Answers.{IsOpenTo, voted};
-ghost use Rattle.epoch_log.specs.Calls.{IsProposed, after_vote, endorsements_of, own_vote_text};
+ghost use Rattle.party_keys.specs.Seen.{seen_of};
+ghost use Rattle.ar_statement.specs.Claims.{log_party, propose};
+ghost use Rattle.ar_statement.specs.declared.fault.BookFault.TheVariants as book_fault;
+ghost use Rattle.epoch_log.specs.Answers.{voted};
+ghost use Rattle.epoch_log.specs.Calls.{IsProposed, after_vote, endorsements_of, own_vote_text, IsOpenTo};
 ghost use Rattle.epoch_log.specs.Log.{IsLog, moved, parts_of, state_in};
 
 use crate::Voted;

@@ -10,6 +10,7 @@ use Rattle.hash_tree.specs.Entries.{Entry, Entries, key_cmp, bit, half, HoldsDig
 use Rattle.hash_tree.specs.Root.{by_count, digest_at, digest_below}
 use Rattle.hash_tree.specs.Path.{same_half, other_half, steps_below, bottom_below}
 use Rattle.hash_tree.specs.Kept.{listing, map_of, map_both, digest_of, Keeps, IsKept, HasHalves, AreHalves, IsStored, entry_of}
+use Rattle.hash_tree.specs.declared.bottom.Bottom.TheVariants.{Other}
 use Rattle.hash_tree.specs.declared.node.Node.{Node}
 use Rattle.hash_tree.specs.declared.node.Node.TheVariants.{Empty, Leaf, Branch'}
 use Rattle.hash_tree.proofs.Maps.{total, exact, get-half, one_at, entries-entries_of}
@@ -197,7 +198,7 @@ steps-deeper depth key m below many =
     ap length (steps-parted depth key m below many) ∙ length-append (steps_below (256 - (depth + 1)) key (half depth (bit key depth) m)) _
 
 -- the bottom where one entry is left
-pub bottom-only : (left : ℕ) (key : List ℕ) (m : Entries) (e : Entry) → entries m ≡ e ∷ [] → bottom_below left key m ≡ Some e
+pub bottom-only : (left : ℕ) (key : List ℕ) (m : Entries) (e : Entry) → entries m ≡ e ∷ [] → bottom_below left key m ≡ Other e.0 e.1
 bottom-only left key m e only = bottom-one left key m e (omega (arith, ap length only)) (omega (arith, ap length only)) ∙ rw only
 
 -- the same of the fields of a branch that was made of them

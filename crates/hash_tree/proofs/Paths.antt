@@ -1,9 +1,10 @@
 -- The path of a key, by how many entries there are.
-use Rattle.std.proofs.Common.{◌≡◌, ℕ, zero, suc, ◌<◌, ◌≤◌, List, [], ◌∷◌, ◌++◌, length, get_or, refl, Some, None, arith}
+use Rattle.std.proofs.Common.{◌≡◌, ℕ, zero, suc, ◌<◌, ◌≤◌, List, [], ◌∷◌, ◌++◌, length, get_or, refl, arith}
 use Rattle.std.specs.FinMap.{entries}
 use Rattle.hash_tree.specs.Entries.{Entry, Entries}
 use Rattle.hash_tree.specs.Root.{by_count, digest_below}
 use Rattle.hash_tree.specs.Path.{same_half, other_half, steps_below, bottom_below}
+use Rattle.hash_tree.specs.declared.bottom.Bottom.TheVariants.{Empty, Other}
 use Rattle.hash_tree.proofs.ByCount.{by_count-more}
 
 by_count-few : {A : Type 0} (es : List Entry) (few more : A) → length es < 2 → by_count es few (λ _. few) more ≡ few
@@ -26,13 +27,13 @@ unfolding steps_below
 steps-few zero key m few = refl
 steps-few (suc left) key m few = by_count-few (entries m) [] _ few
 
-pub bottom-none : (left : ℕ) (key : List ℕ) (m : Entries) → length (entries m) < 1 → bottom_below left key m ≡ None
+pub bottom-none : (left : ℕ) (key : List ℕ) (m : Entries) → length (entries m) < 1 → bottom_below left key m ≡ Empty
 unfolding bottom_below
 bottom-none zero key m none = by_count-none (entries m) _ _ _ none
 bottom-none (suc left) key m none = by_count-none (entries m) _ _ _ none
 
 pub bottom-one : (left : ℕ) (key : List ℕ) (m : Entries) (d : Entry) → 1 ≤ length (entries m) → length (entries m) < 2
-    → bottom_below left key m ≡ Some (get_or (entries m) 0 d)
+    → bottom_below left key m ≡ Other (get_or (entries m) 0 d).0 (get_or (entries m) 0 d).1
 unfolding bottom_below
 bottom-one zero key m d some one = by_count-one (entries m) _ _ _ d some one
 bottom-one (suc left) key m d some one = by_count-one (entries m) _ _ _ d some one

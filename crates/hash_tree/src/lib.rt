@@ -15,6 +15,7 @@
 #![tactic(auto)]
 
 pub use bits::key_bit;
+pub use bottom::Bottom;
 pub use digests::{
     empty_digest, entry_digest, node_digest, pending_digest, pending_key, value_digest,
 };
@@ -23,6 +24,7 @@ pub use steps::Steps;
 pub use trie::{Trie, Walk};
 
 mod bits;
+mod bottom;
 mod digests;
 pub mod laws;
 mod node;

@@ -6,6 +6,7 @@ ghost use Rattle.hash_tree.specs.Strings as strings;
 ghost use Rattle.hash_tree.specs.Path.{bottom_below, steps_below};
 ghost use Rattle.hash_tree.specs.Kept.{AgreesWith, AreHalves, AreTwo, HasHalves, IsKept, IsLeft, IsStored, Keeps, digest_of, lone_of, map_both, map_of, two_of};
 
+use crate::bottom::Bottom;
 use crate::steps::Steps;
 use crate::{empty_digest, key_bit, node_digest};
 use std::alloc::{AllocError, Global};
@@ -73,20 +74,23 @@ impl Node {
         }
     }
 
-    // Adds the steps of a key's path, the deepest first, and gives the entry at its foot.
+    // Adds the steps of a key's path, the deepest first, and gives what stands at its foot.
     pub(crate) fn walk(
         &self,
         steps: &mut Vec<[u8; 32]>,
         key: &[u8; 32],
         depth: usize,
-    ) -> Result<Option<([u8; 32], [u8; 32])>, AllocError>
+    ) -> Result<Bottom, AllocError>
         requires kept { IsKept depth self.now }
         ensures bottom { IfOk result (λ bottom. bottom ≡ bottom_below (256 - depth) key.now (map_of self.now)) }
         ensures steps { OnOk result (steps.new.items ≡ steps.old.items ++ steps_below (256 - depth) key.now (map_of self.now)) }
     {
         match self {
-            Node::Empty => Ok(None),
-            Node::Leaf(entry) => Ok(Some((entry.key, entry.value))),
+            Node::Empty => Ok(Bottom::Empty),
+            Node::Leaf(entry) => Ok(Bottom::Other {
+                key: entry.key,
+                value: entry.value,
+            }),
             Node::Branch(branch) => {
                 let (same, other) = branch.sides(key, depth);
                 let bottom = same.walk(steps, key, depth + 1)?;

@@ -5,6 +5,7 @@ ghost use Rattle.hash_tree.specs.Root as tree;
 ghost use Rattle.hash_tree.specs.Path.{bottom_of, steps_of};
 
 use crate::bits::read_key;
+use crate::bottom::Bottom;
 use crate::entry_digest;
 use crate::node::{Node, Stored};
 use crate::steps::Steps;
@@ -42,8 +43,8 @@ impl Model for Trie {
 /// The path of a key in a set of entries.
 #[derive(Debug, Drop)]
 pub struct Walk {
-    /// The entry at its foot, or none where it is empty.
-    pub bottom: Option<([u8; 32], [u8; 32])>,
+    /// What stands at its foot.
+    pub bottom: Bottom,
     /// The digests of siblings, the deepest first.
     pub steps: Items<[u8; 32]>,
 }

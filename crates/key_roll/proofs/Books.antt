@@ -19,7 +19,7 @@ use Rattle.ar_bytes.specs.RoundTrip.{number_text}
 use Rattle.ar_statement.specs.declared.party.Party.{Party}
 use Rattle.ar_statement.specs.Claims.{Claim, endorse, handover, propose, vote, confirm, confirm_absent, answer, status, roll, object, kind_of, text_of}
 use Rattle.key_roll.specs.declared.signed.Signed.{Signed}
-use Rattle.key_roll.specs.declared.fault.BookFault.TheVariants.{Spent}
+use Rattle.ar_statement.specs.declared.fault.BookFault.TheVariants.{Spent}
 use Rattle.key_roll.specs.Book.{RollBook, IsRollBook, texts_of}
 use Rattle.key_roll.specs.Due.{DueParts}
 use Rattle.key_roll.specs.Entry.{Serves, after_entry, due_at, due_of, entered, entered_new, has_room, leaf_of, with_text, with_roll, after_at}

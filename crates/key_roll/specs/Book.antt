@@ -1,5 +1,5 @@
 -- The book of a party's keys: the statements that the leaves of each generation serve.
-use Rattle.std.specs.Prelude.{◌≡◌, ◌+◌, ◌<◌, ◌≤◌, ℕ, true, List, map, All}
+use Rattle.std.specs.Prelude.{◌≡◌, ◌+◌, ◌<◌, ◌≤◌, ℕ, true, List, [], map, All}
 use Rattle.ar_base.specs.Places.{HasNoneTwice}
 use Rattle.key_roll.specs.declared.signed.Signed.{Signed}
 use Rattle.key_roll.specs.Rolls.{is_roll, named_generation, plain_count, roll_count}
@@ -11,6 +11,10 @@ pub record RollBook : Type 0 where
   pub newest : ℕ
   pub list : List Signed
 
+-- the book of keys with so many leaves each, before the first statement
+abbrev pub empty_book : ℕ → RollBook
+empty_book leaves = record { leaves = leaves; newest = 0; list = [] }
+
 -- a book beside the number of statements more for which there is room
 pub record Kept : Type 0 where
   pub book : RollBook
@@ -18,6 +22,10 @@ pub record Kept : Type 0 where
 
 abbrev pub texts_of : RollBook → List (List ℕ)
 texts_of book = map (λ s. s.text) book.list
+
+-- the last generation
+abbrev pub last_generation : ℕ
+last_generation = 999
 
 -- What is true of each book. No text stands twice, and none is of a later generation than the newest.
 -- Each generation has a leaf left beside those of its statements; each but the newest has one Roll,
@@ -29,4 +37,4 @@ pub record IsRollBook (book : RollBook) : Type 0 where
   pub rolled : (g : ℕ) → g < book.newest → roll_count g book.list ≡ 1
   pub unrolled : (g : ℕ) → book.newest ≤ g → roll_count g book.list ≡ 0
   pub named : All (λ s. is_roll s.text ≡ true → named_generation s.text ≡ s.generation) book.list
-  pub last : book.newest ≤ 999
+  pub last : book.newest ≤ last_generation

@@ -8,11 +8,11 @@ use Rattle.ar_statement.specs.Ranges.{IsKeyText, is_readable}
 use Rattle.lms_tree.specs.PublicKey.{key_text}
 use Rattle.lms_tree.specs.declared.public_key.LmsPublic.{LmsPublic}
 use Rattle.key_roll.specs.declared.signed.Signed.{Signed}
-use Rattle.key_roll.specs.declared.fault.BookFault.{BookFault}
-use Rattle.key_roll.specs.declared.fault.BookFault.TheVariants.{Spent}
+use Rattle.ar_statement.specs.declared.fault.BookFault.{BookFault}
+use Rattle.ar_statement.specs.declared.fault.BookFault.TheVariants.{Spent}
 use Rattle.key_roll.specs.declared.fault.RollFault.{RollFault}
 use Rattle.key_roll.specs.declared.fault.RollFault.TheVariants.{Last}
-use Rattle.key_roll.specs.Book.{RollBook, texts_of}
+use Rattle.key_roll.specs.Book.{RollBook, last_generation, texts_of}
 use Rattle.key_roll.specs.Due.{DueParts}
 use Rattle.key_roll.specs.Rolls.{is_roll, plain_count}
 
@@ -76,15 +76,7 @@ roll_text signer generation next = text_of (roll signer generation (key_text nex
 
 -- the book with a Roll at the newest generation, behind which is the next
 abbrev pub with_roll : RollBook → List ℕ → RollBook
-with_roll book text = record {
-  leaves = book.leaves;
-  newest = book.newest + 1;
-  list = book.list ++ record { generation = book.newest; text = text } ∷ [];
-}
-
--- the last generation
-abbrev pub last_generation : ℕ
-last_generation = 999
+with_roll book text = record (with_text book text) { newest = book.newest + 1 }
 
 -- A party may announce this key as its next one: the newest generation is not the last, and the key can be read.
 pub record MayRoll (book : RollBook) (key : List ℕ) : Type 0 where

@@ -1,11 +1,11 @@
 -- The keys of a party, one for each generation.
-use Rattle.std.specs.Prelude.{◌≡◌, ℕ, ◌+◌, ◌-◌, ◌^◌, ◌<◌, List, ◌∷◌, ◌++◌, length, slice_get, All, Some}
+use Rattle.std.specs.Prelude.{◌≡◌, ℕ, ◌+◌, ◌-◌, ◌<◌, List, ◌∷◌, ◌++◌, length, slice_get, All, Some}
 use Rattle.std.specs.Int.{w32}
 use Rattle.sha2.specs.Sha256.{sha256}
 use Rattle.ar_bytes.specs.RoundTrip.{number_text}
 use Rattle.lms_tree.specs.Key.{signature_of}
 use Rattle.lms_tree.specs.KeyParts.{KeyParts}
-use Rattle.lms_tree.specs.LmsKind.{height_of}
+use Rattle.lms_tree.specs.LmsKind.{leaves_of}
 use Rattle.lms_tree.specs.Signature.{lms_signature_len_of}
 use Rattle.key_roll.specs.Book.{RollBook}
 use Rattle.key_roll.specs.Due.{DueParts}
@@ -42,7 +42,7 @@ ring_signature_len key = 4 + lms_signature_len_of key.lms key.ots
 -- signature of so many bytes.
 pub record AreKeysOf (book : RollBook) (len : ℕ) (keys : List KeyParts) : Type 0 where
   pub many : length keys ≡ book.newest + 1
-  pub leaves : All (λ key. book.leaves ≡ 2 ^ height_of key.lms) keys
+  pub leaves : All (λ key. book.leaves ≡ leaves_of key.lms) keys
   pub bytes : All (λ key. len ≡ ring_signature_len key) keys
 
 -- the keys have the one that owes a signature, with the leaves that its book counts on, and this many bytes
@@ -50,7 +50,7 @@ pub record AreKeysOf (book : RollBook) (len : ℕ) (keys : List KeyParts) : Type
 pub record Owes (keys : List KeyParts) (due : DueParts) (bytes : ℕ) : Type 0 where
   pub key : KeyParts
   pub has : slice_get keys due.generation ≡ Some key
-  pub leaves : due.leaves ≡ 2 ^ height_of key.lms
+  pub leaves : due.leaves ≡ leaves_of key.lms
   pub bytes_are : bytes ≡ ring_signature_len key
 
 -- a signature of a log or an authority: the generation, and the signature by its key

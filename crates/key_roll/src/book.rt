@@ -1,11 +1,11 @@
-ghost use Rattle.std.specs.Prelude.{◌≡◌, ◌<◌, ◌≤◌, ◌+◌, ◌⊎◌, [], Some, None, Err, Contains, OnOk, OnErr, false, is_some, true, length, max, ◌↔◌};
+ghost use Rattle.std.specs.Prelude.{◌≡◌, ◌<◌, ◌≤◌, ◌+◌, ◌⊎◌, Some, None, Err, Contains, OnOk, OnErr, false, is_some, true, length, max, ◌↔◌};
 ghost use Rattle.ar_base.specs.Gives.{GivesOrWants};
 ghost use Rattle.ar_base.specs.Places.{place_of};
 ghost use Rattle.ar_statement.specs.Claims.{claim_of, text_of};
-ghost use Rattle.key_roll.specs.Book.{IsRollBook, texts_of};
+ghost use Rattle.key_roll.specs.Book.{IsRollBook, empty_book, texts_of};
 ghost use Rattle.key_roll.specs.Entry.{after_entry, announced, due_at, due_of, entered, entered_new, roll_text, rolled, with_roll, with_text};
 ghost use Rattle.key_roll.specs.Rolls.{is_roll, named_generation, plain_count};
-ghost use Rattle.key_roll.specs.declared.fault.BookFault.TheVariants as book_fault;
+ghost use Rattle.ar_statement.specs.declared.fault.BookFault.TheVariants as book_fault;
 ghost use Rattle.key_roll.specs.declared.fault.RollFault.TheVariants as roll_fault;
 
 use crate::entries::{is_roll, leaf_number, place_of, plain_count};
@@ -16,7 +16,7 @@ use std::alloc::{AllocError, Global};
 use std::marker::Model;
 
 /// The last generation.
-const LAST_GENERATION: u32 = 999;
+pub const LAST_GENERATION: u32 = 999;
 
 /// The statements that the leaves of a party's keys serve, in the order in which they were entered, each
 /// with the generation of its key.
@@ -51,7 +51,7 @@ impl RollBook {
     /// statement yet. It takes no memory.
     pub fn new(alloc: Global, leaves: u32) -> RollBook
         requires { 0 < leaves }
-        ensures { result ≡ record { book = record { leaves = leaves; newest = 0; list = [] }; room = 0 } }
+        ensures { result ≡ record { book = empty_book leaves; room = 0 } }
     {
         RollBook {
             list: Vec::new(alloc),

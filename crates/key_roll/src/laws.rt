@@ -5,7 +5,7 @@ ghost use Rattle.ar_statement.specs.Claims.{Claim, kind_of, roll, text_of};
 ghost use Rattle.ar_statement.specs.Ranges.{IsHeld};
 ghost use Rattle.ar_statement.specs.declared.party.Party.{Party};
 ghost use Rattle.ar_base.specs.Places.{place_of};
-ghost use Rattle.key_roll.specs.Book.{RollBook, IsRollBook, texts_of};
+ghost use Rattle.key_roll.specs.Book.{RollBook, IsRollBook, last_generation, texts_of};
 ghost use Rattle.key_roll.specs.Entry.{Serves, after_entry, with_roll};
 ghost use Rattle.key_roll.specs.Rolls.{is_roll, named_generation};
 ghost use Rattle.key_roll.specs.declared.signed.Signed.{Signed};
@@ -52,5 +52,5 @@ pub fn rolls_keep_a_book_sound()
     ensures new { (book : RollBook) (text : List ℕ) → IsRollBook book → is_roll text ≡ true
         → named_generation text ≡ book.newest → place_of (texts_of book) text ≡ None }
     ensures sound { (book : RollBook) (text : List ℕ) → IsRollBook book → is_roll text ≡ true
-        → named_generation text ≡ book.newest → book.newest < 999 → IsRollBook (with_roll book text) }
+        → named_generation text ≡ book.newest → book.newest < last_generation → IsRollBook (with_roll book text) }
 {}

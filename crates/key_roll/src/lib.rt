@@ -6,9 +6,10 @@
 //! `specs/Rolls.antt` says which texts are Rolls, the statements that announce a next key.
 #![tactic(auto)]
 
-pub use book::RollBook;
+pub use ar_statement::BookFault;
+pub use book::{LAST_GENERATION, RollBook};
 pub use due::{RollDue, forgo};
-pub use fault::{BookFault, RollFault};
+pub use fault::RollFault;
 pub use ring::{KeyRing, ring_signature_len};
 pub use signed::Signed;
 

@@ -1,6 +1,6 @@
-ghost use Rattle.std.specs.Prelude.{◌≡◌, ◌<◌, ◌^◌, length};
+ghost use Rattle.std.specs.Prelude.{◌≡◌, ◌<◌, length};
 ghost use Rattle.lms_tree.specs.Key.{signature_of};
-ghost use Rattle.lms_tree.specs.LmsKind.{height_of};
+ghost use Rattle.lms_tree.specs.LmsKind.{leaves_of};
 ghost use Rattle.lms_tree.specs.Signature.{lms_signature_len_of};
 
 use lms_tree::LmsKey;
@@ -50,7 +50,7 @@ impl Leaf {
 /// The key is the book's own: it has as many leaves as the book, no other book gives its leaves, and
 /// it has signed nothing before the book was made.
 pub fn sign_leaf(key: &LmsKey, leaf: Leaf, message: &[u8], out: &mut [u8])
-    requires leaves { leaf.leaves ≡ 2 ^ height_of key.now.lms }
+    requires leaves { leaf.leaves ≡ leaves_of key.now.lms }
     requires room { length out.old ≡ lms_signature_len_of key.now.lms key.now.ots }
     ensures { out.new ≡ signature_of key.now leaf.number message.now }
 {

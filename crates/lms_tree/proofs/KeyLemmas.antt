@@ -1,7 +1,6 @@
 -- Keys and their texts.
 use Rattle.std.proofs.Common.{◌≡◌, ◌∙◌, ap, sym, subst, refl, arith, ℕ, zero, suc, ◌+◌, ◌^◌, ◌<◌, ◌≤◌, List, [], ◌∷◌, ◌++◌, length, take, drop, Bool, true, false, Option, Some, None, Ok, eqb, eq-eqb, ltb}
 use Rattle.std.specs.Prelude.{is_some}
-use Rattle.std.specs.Option.{ok_or}
 use Rattle.std.specs.Result.{result_ok}
 use Rattle.std.specs.Int.{w32, from_be_bytes}
 use Rattle.std.proofs.lemmas.List.{length-append, length-drop}
@@ -15,6 +14,7 @@ use Rattle.ar_bytes.specs.RoundTrip.{Passes, ReadsBack, IsSpelledBy, number_text
 use Rattle.ar_bytes.proofs.Steps.{all_ok, Passes-then, Passes-first, Passes-second, AreBytes-behind}
 use Rattle.ar_bytes.proofs.Passing.{bytes_again, bytes_pass, number_again, number_pass, wide32, length-number_text}
 use Rattle.ar_bytes.proofs.Taken.{bytes_taken, left_of, number_taken}
+use Rattle.ar_bytes.proofs.JoinedFields.{known_again, known_pass, known_taken}
 use Rattle.ar_bytes.proofs.Parts.{whole_again, whole_pass}
 use Rattle.lm_ots.specs.declared.ots_type.OtsType.{OtsType}
 use Rattle.lm_ots.specs.declared.ots_type.OtsType.TheVariants.{W1, W2, W4, W8}
@@ -64,22 +64,14 @@ ots_number-type n kind e = grind (arith, nat_tests)
 type_again : {A : Type 0} (type_of_number : ℕ → Option A) (kind : A) (n : ℕ) → n < 2 ^ 32 → type_of_number n ≡ Some kind
     → ReadsBack (type_at type_of_number) kind (number_text w32 n)
 unfolding type_at
-type_again type_of_number kind n lt is at new p = rw (number_again w32 (2 ^ 32) wide32 n lt at new p, is) refl
-
-is_ok : {A : Type 0} (o : Option A) (place : ℕ) (x : A) → ok_or o place ≡ Ok x → o ≡ Some x
-is_ok None place x e = absurd cc
-is_ok (Some y) place x e = cc
+type_again type_of_number kind n lt is = known_again type_of_number (number_at w32) n kind (number_text w32 n) (number_again w32 (2 ^ 32) wide32 n lt) is
 
 type_pass : {A : Type 0} (type_of_number : ℕ → Option A) (number_of : A → ℕ) → ((n : ℕ) (kind : A) → type_of_number n ≡ Some kind → number_of kind ≡ n)
     → IsSpelledBy (type_at type_of_number) (λ kind. number_text w32 (number_of kind)) (λ _. Unit {0})
 unfolding type_at
-type_pass {A} type_of_number number_of own at new kind bytes e =
-    let b = bind_ok {B = A × Cursor} (number_at w32 at) (λ n. ok_or (type_of_number n.0) at.place >>= λ k. Ok (k, n.1)) (kind, new) e in
-    let k = bind_ok {B = A × Cursor} (ok_or (type_of_number b.0.0) at.place) (λ k. Ok (k, b.0.1)) (kind, new) b.2 in
-    let p = number_pass w32 (2 ^ 32) wide32 at b.0.1 b.0.0 bytes b.1 in
-    let number = own b.0.0 k.0 (is_ok (type_of_number b.0.0) at.place k.0 k.1) in
-    subst (λ (x : A × Cursor). Passes at (number_text w32 (number_of x.0)) x.1 × Unit {0}) (ok_is (k.0, b.0.1) (kind, new) k.2)
-    (rw number p.0, tt)
+type_pass type_of_number number_of own =
+    known_pass type_of_number (number_at w32) (number_text w32) (λ n. n < 2 ^ 32) (λ kind. number_text w32 (number_of kind)) (λ _. Unit {0}) (number_pass w32 (2 ^ 32) wide32)
+    (λ n kind lt is. (ap (number_text w32) (own n kind is), tt))
 
 -- ---- a key
 
@@ -240,16 +232,10 @@ readable bytes lms ots len is_lms is_ots =
 type_taken : {A : Type 0} (type_of_number : ℕ → Option A) (at new : Cursor) (kind : A) → type_at type_of_number at ≡ Ok (kind, new)
     → (type_of_number (from_be_bytes w32 (take 4 at.ahead)) ≡ Some kind) × (new.ahead ≡ drop 4 at.ahead) × (length new.ahead + 4 ≡ length at.ahead)
 unfolding type_at
-type_taken {A} type_of_number at new kind e =
-    let b = bind_ok {B = A × Cursor} (number_at w32 at) (λ n. ok_or (type_of_number n.0) at.place >>= λ k. Ok (k, n.1)) (kind, new) e in
-    let k = bind_ok {B = A × Cursor} (ok_or (type_of_number b.0.0) at.place) (λ k. Ok (k, b.0.1)) (kind, new) b.2 in
-    let took = number_taken w32 at b.0.1 b.0.0 b.1 in
-    let names = is_ok (type_of_number b.0.0) at.place k.0 k.1 in
-    let left = left_of _ _ _ _ _ took in
-    let rest = took.rest in
-    let same = ok_is (k.0, b.0.1) (kind, new) k.2 in
-    let P : A × Cursor → Type 0 = λ x. (type_of_number (from_be_bytes w32 (take 4 at.ahead)) ≡ Some x.0) × (x.1.ahead ≡ drop 4 at.ahead) × (length x.1.ahead + 4 ≡ length at.ahead) in
-    subst P same (ap type_of_number (sym took.value) ∙ names, rest, left)
+type_taken type_of_number at new kind e =
+    let number = known_taken type_of_number (number_at w32) at new kind e in
+    let took = number_taken w32 at new number.0 number.1 in
+    (ap type_of_number (sym took.value) ∙ number.2, took.rest, left_of _ _ _ _ _ took)
 
 -- what was read had 56 bytes and named two types
 read_says : (bytes : List ℕ) (key : LmsPublic) → key_of_text bytes ≡ Some key → (length bytes ≡ 56)

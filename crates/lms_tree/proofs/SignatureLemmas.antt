@@ -1,15 +1,14 @@
 -- The parts of a signature, and what it is judged by.
-use Rattle.std.proofs.Common.{◌≡◌, ◌∙◌, ap, sym, refl, arith, ℕ, ◌+◌, ◌*◌, ◌^◌, eqb, true, false, List, [], ◌∷◌, ◌++◌, length, take, drop, Some, None, Ok, eq-eqb}
-use Rattle.std.specs.Prelude.{All}
-use Rattle.std.specs.List.{flat_map}
+use Rattle.std.proofs.Common.{◌≡◌, ◌∙◌, ap, sym, refl, arith, ℕ, ◌+◌, ◌*◌, ◌^◌, eqb, true, false, List, ◌++◌, length, take, Some, None, Ok, eq-eqb}
+use Rattle.std.specs.List.{concat}
 use Rattle.std.specs.Result.{result_ok}
 use Rattle.std.specs.Int.{w32, from_be_bytes}
 use Rattle.std.specs.Simd.{first_chunks}
-use Rattle.std.proofs.lemmas.List.{take_at, drop_at, length-append, length-drop}
-use Rattle.std.proofs.lemmas.List.Elements.{All-head, All-tail}
+use Rattle.std.proofs.lemmas.List.{length-drop}
 use Rattle.std.proofs.lemmas.Bool.{ne_eqb}
 use Rattle.ar_base.specs.FirstFailing.{first_failing}
 use Rattle.ar_base.specs.Chaining.{◌>>=◌}
+use Rattle.ar_base.proofs.Joined.{cut-joined, length-joined}
 use Rattle.ar_base.proofs.Shown.{bind_ok, gave}
 use Rattle.ar_bytes.specs.Reading.{Cursor, all_of, behind, start_of, bytes_at, number_at, whole}
 use Rattle.ar_bytes.specs.RoundTrip.{ReadsBack, number_text}
@@ -29,38 +28,18 @@ use Rattle.lms_tree.proofs.KeyLemmas.{bytes_there, number_there}
 
 -- ---- the text of a signature
 
--- digests that were joined are cut again
-chunks-again : (nodes : List (List ℕ)) → All (λ node. length node ≡ 32) nodes → first_chunks 32 (length nodes) (flat_map (λ node. node) nodes) ≡ nodes
-chunks-again [] wide = refl
-chunks-again (x ∷ xs) wide =
-    let rest = flat_map (λ (node : List ℕ). node) xs in
-    let width = All-head (λ (node : List ℕ). length node ≡ 32) x xs wide in
-    ap (λ l. l ∷ first_chunks 32 (length xs) (drop 32 (x ++ rest))) (take_at x rest 32 width)
-    ∙ ap (λ l. x ∷ first_chunks 32 (length xs) l) (drop_at x rest 32 width)
-    ∙ ap (λ l. x ∷ l) (chunks-again xs (All-tail (λ (node : List ℕ). length node ≡ 32) x xs wide))
-
-length-joined : (nodes : List (List ℕ)) → All (λ node. length node ≡ 32) nodes → length (flat_map (λ node. node) nodes) ≡ 32 * length nodes
-length-joined [] wide = refl
-length-joined (x ∷ xs) wide =
-    omega (
-      arith,
-      All-head (λ (node : List ℕ). length node ≡ 32) x xs wide,
-      length-append x (flat_map (λ (node : List ℕ). node) xs),
-      length-joined xs (All-tail (λ (node : List ℕ). length node ≡ 32) x xs wide),
-    )
-
 -- a signature is read again
 pub signature_again : (lms : LmsType) (ots : OtsType) (parts : SignatureParts) → FitsTypes lms ots parts → ReadsBack (signature_at lms ots) parts (signature_text parts)
 unfolding signature_at signature_text
 signature_again lms ots parts fits at new p =
     let leaf = number_text w32 parts.leaf in
     let kind = number_text w32 parts.lms in
-    let path = flat_map (λ (node : List ℕ). node) parts.path in
+    let path = concat parts.path in
     let behind_leaf = Passes-second at new leaf (parts.one_time ++ (kind ++ path)) p in
     let behind_one_time = Passes-second _ new parts.one_time (kind ++ path) behind_leaf in
-    let steps : length path ≡ 32 * height_of lms = length-joined parts.path fits.nodes ∙ ap (λ n. 32 * n) fits.steps in
+    let steps : length path ≡ 32 * height_of lms = omega (arith, length-joined 32 parts.path fits.nodes, fits.steps) in
     let nodes : first_chunks 32 (height_of lms) path ≡ parts.path =
-    ap (λ n. first_chunks 32 n path) (sym fits.steps) ∙ chunks-again parts.path fits.nodes in
+    ap (λ n. first_chunks 32 n path) (sym fits.steps) ∙ cut-joined 32 parts.path fits.nodes in
     rw (
       number_again w32 (2 ^ 32) wide32 parts.leaf fits.leaf at _ (Passes-first at new leaf (parts.one_time ++ (kind ++ path)) p),
       bytes_again (signature_len_of ots) parts.one_time _ _ fits.one_time (Passes-first _ new parts.one_time (kind ++ path) behind_leaf),

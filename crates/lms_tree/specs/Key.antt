@@ -8,7 +8,7 @@ use Rattle.lm_ots.specs.declared.secret.OtsSecret.{OtsSecret}
 use Rattle.lm_ots.specs.OtsKind as ots_kind
 use Rattle.lm_ots.specs.Signing as one_time
 use Rattle.lms_tree.specs.LmsKind as lms_kind
-use Rattle.lms_tree.specs.LmsKind.{height_of}
+use Rattle.lms_tree.specs.LmsKind.{height_of, leaves_of}
 use Rattle.lms_tree.specs.KeyParts.{KeyParts}
 use Rattle.lms_tree.specs.Signature.{SignatureParts, signature_text}
 use Rattle.lms_tree.specs.Tree.{leaf_node, inner_node}
@@ -46,7 +46,7 @@ secret_of key leaf =
 -- 2r and 2r + 1 (section 5.3)
 unfoldable pub node_at : KeyParts → ℕ → ℕ → List ℕ
 node_at key zero r =
-    leaf_node (id_of key.seed) r (one_time.public_key_of (secret_of key (r - 2 ^ height_of key.lms)))
+    leaf_node (id_of key.seed) r (one_time.public_key_of (secret_of key (r - leaves_of key.lms)))
 node_at key (suc height) r =
     inner_node (id_of key.seed) r (node_at key height (2 * r)) (node_at key height (2 * r + 1))
 
@@ -61,7 +61,7 @@ sibling_of r = if r % 2 == 1 then r - 1 else r + 1
 
 -- path[k] of a leaf: the sibling of the node over the leaf at height k (section 5.4)
 abbrev pub path_element : KeyParts → ℕ → ℕ → List ℕ
-path_element key leaf k = node_at key k (sibling_of ((2 ^ height_of key.lms + leaf) / 2 ^ k))
+path_element key leaf k = node_at key k (sibling_of ((leaves_of key.lms + leaf) / 2 ^ k))
 
 -- the parts of a signature: q, the LM-OTS signature, the LMS type, and the path path[0] .. path[h - 1]
 abbrev pub signed_parts : KeyParts → ℕ → List ℕ → SignatureParts

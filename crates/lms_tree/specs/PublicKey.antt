@@ -1,10 +1,9 @@
 -- The text of an LMS public key (RFC 8554, section 5.3).
 use Rattle.std.specs.Prelude.{◌≡◌, ℕ, Bool, ◌==◌, ◌&&◌, List, ◌++◌, length, take, drop, Option, Ok, is_some}
-use Rattle.std.specs.Option.{ok_or}
 use Rattle.std.specs.Result.{result_ok}
 use Rattle.std.specs.Int.{w32, from_be_bytes}
 use Rattle.ar_base.specs.Chaining.{◌>>=◌}
-use Rattle.ar_bytes.specs.Reading.{Cursor, Reading, bytes_at, number_at, whole}
+use Rattle.ar_bytes.specs.Reading.{Cursor, Reading, bytes_at, known_at, number_at, whole}
 use Rattle.ar_bytes.specs.RoundTrip.{number_text}
 use Rattle.lm_ots.specs.OtsKind as ots_kind
 use Rattle.lms_tree.specs.LmsKind as lms_kind
@@ -18,10 +17,7 @@ key_text key =
 
 -- a type by its number, which fails where it is no type's
 unfoldable pub type_at : {A : Type 0} → (ℕ → Option A) → Cursor → Reading A
-type_at type_of_number at = do
-  number ← number_at w32 at
-  kind ← ok_or (type_of_number number.0) at.place
-  Ok (kind, number.1)
+type_at type_of_number = known_at type_of_number (number_at w32)
 
 -- the fields of a key
 unfoldable pub key_at : Cursor → Reading LmsPublic

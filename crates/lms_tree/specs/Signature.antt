@@ -1,6 +1,6 @@
 -- The text of an LMS signature (RFC 8554, section 5.4).
 use Rattle.std.specs.Prelude.{◌≡◌, ℕ, ◌+◌, ◌*◌, ◌<◌, ◌^◌, List, ◌++◌, length, All, Ok}
-use Rattle.std.specs.List.{flat_map}
+use Rattle.std.specs.List.{concat}
 use Rattle.std.specs.Simd.{first_chunks}
 use Rattle.std.specs.Int.{w32}
 use Rattle.ar_base.specs.Chaining.{◌>>=◌}
@@ -23,7 +23,7 @@ pub record SignatureParts : Type 0 where
 unfoldable pub signature_text : SignatureParts → List ℕ
 signature_text parts =
     number_text w32 parts.leaf ++ (parts.one_time ++ (number_text w32 parts.lms
-    ++ flat_map (λ node. node) parts.path))
+    ++ concat parts.path))
 
 -- how many bytes a signature of two types has
 abbrev pub lms_signature_len_of : LmsType → OtsType → ℕ

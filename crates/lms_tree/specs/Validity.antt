@@ -1,5 +1,5 @@
 -- When a signature of a message is valid under a key (RFC 8554, sections 5.4 and 5.4.2).
-use Rattle.std.specs.Prelude.{◌≡◌, ℕ, ◌+◌, ◌^◌, ◌<◌, ◌==◌, nat_lt, Bool, List, [], ◌∷◌, length, Option, Some, None, Result, Ok, Err}
+use Rattle.std.specs.Prelude.{◌≡◌, ℕ, ◌+◌, ◌<◌, ◌==◌, nat_lt, Bool, List, [], ◌∷◌, length, Option, Some, None, Result, Ok, Err}
 use Rattle.std.specs.Result.{result_ok}
 use Rattle.std.specs.Str.{bytes_eq}
 use Rattle.ar_base.specs.FirstFailing.{first_failing, AllHold, FailsFirst}
@@ -7,7 +7,7 @@ use Rattle.ar_bytes.specs.Reading.{whole}
 use Rattle.lm_ots.specs.OtsKind as ots_kind
 use Rattle.lm_ots.specs.Candidate.{candidate_key, type_number}
 use Rattle.lms_tree.specs.LmsKind as lms_kind
-use Rattle.lms_tree.specs.LmsKind.{height_of}
+use Rattle.lms_tree.specs.LmsKind.{leaves_of}
 use Rattle.lms_tree.specs.Signature.{SignatureParts, lms_signature_len_of, signature_at}
 use Rattle.lms_tree.specs.Tree.{leaf_node, go_up}
 use Rattle.lms_tree.specs.declared.public_key.LmsPublic.{LmsPublic}
@@ -21,7 +21,7 @@ parts_of key signature = result_ok (whole (signature_at key.lms key.ots) signatu
 -- Tc: the value at the root that the parts of a signature lead to (section 5.4.2, algorithm 6a)
 unfoldable pub candidate_root : LmsPublic → List ℕ → SignatureParts → List ℕ
 candidate_root key message parts =
-    let node = 2 ^ height_of key.lms + parts.leaf in
+    let node = leaves_of key.lms + parts.leaf in
     go_up key.id node (leaf_node key.id node (candidate_key key.id parts.leaf key.ots message parts.one_time)) parts.path
 
 -- the conditions on the parts, each with its number: 2 the LM-OTS type is the key's, 3 the LMS type is the
@@ -31,7 +31,7 @@ conditions_on key message None = []
 conditions_on key message (Some parts) =
     (2, type_number parts.one_time == ots_kind.number_of key.ots)
     ∷ (3, parts.lms == lms_kind.number_of key.lms)
-    ∷ (4, nat_lt parts.leaf (2 ^ height_of key.lms))
+    ∷ (4, nat_lt parts.leaf (leaves_of key.lms))
     ∷ (5, bytes_eq (candidate_root key message parts) key.root) ∷ []
 
 -- the five conditions: 1 the length is that of the key's types, so that there are parts, and those on the
@@ -69,7 +69,7 @@ HasLmsType key signature = OfParts key signature (λ parts. parts.lms ≡ lms_ki
 
 -- 4
 abbrev pub HasLeaf : LmsPublic → List ℕ → Type 0
-HasLeaf key signature = OfParts key signature (λ parts. parts.leaf < 2 ^ height_of key.lms)
+HasLeaf key signature = OfParts key signature (λ parts. parts.leaf < leaves_of key.lms)
 
 -- 5
 abbrev pub LeadsToRoot : LmsPublic → List ℕ → List ℕ → Type 0

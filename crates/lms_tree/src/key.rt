@@ -1,8 +1,8 @@
-ghost use Rattle.std.specs.Prelude.{◌≡◌, ◌^◌, ◌<◌, length, IfSome, Ok, Some};
+ghost use Rattle.std.specs.Prelude.{◌≡◌, ◌<◌, length, IfSome, Ok, Some};
 ghost use Rattle.ar_base.specs.Gives.{GivesOrWants};
 ghost use Rattle.lm_ots.specs.OtsKind as ots_kind;
 ghost use Rattle.lms_tree.specs.LmsKind as lms_kind;
-ghost use Rattle.lms_tree.specs.LmsKind.{height_of};
+ghost use Rattle.lms_tree.specs.LmsKind.{leaves_of};
 ghost use Rattle.lms_tree.specs.Key.{made, public_of, signature_of, type_to_make};
 ghost use Rattle.lms_tree.specs.Signature.{lms_signature_len_of};
 ghost use Rattle.lms_tree.specs.declared.key.KeyFault.TheVariants.{Memory};
@@ -48,19 +48,19 @@ pub struct LmsKey {
 }
 
 impl Model for LmsKey {
-    ghost use Rattle.std.specs.Prelude.{◌≡◌, ◌*◌, ◌^◌, length, Ok};
+    ghost use Rattle.std.specs.Prelude.{◌≡◌, ◌*◌, length, Ok};
     ghost use Rattle.lm_ots.specs.OtsKind as ots_kind;
     ghost use Rattle.lms_tree.specs.Key.{made};
     ghost use Rattle.lms_tree.specs.KeyParts.{KeyParts};
     ghost use Rattle.lms_tree.specs.LmsKind as lms_kind;
-    ghost use Rattle.lms_tree.specs.LmsKind.{height_of};
+    ghost use Rattle.lms_tree.specs.LmsKind.{leaves_of};
     ghost use Rattle.lms_tree.specs.Nodes.{HoldsFrom};
 
     ghost Value = { KeyParts };
 
     ghost view = { λ key. key.parts };
 
-    ghost invariant = { λ key. (length key.nodes.items ≡ 2 * 2 ^ height_of key.parts.lms)
+    ghost invariant = { λ key. (length key.nodes.items ≡ 2 * leaves_of key.parts.lms)
         × HoldsFrom key.parts 1 key.nodes.items
         × (made key.parts.seed (lms_kind.number_of key.parts.lms) (ots_kind.number_of key.parts.ots) ≡ Ok key.parts) };
 }
@@ -103,7 +103,7 @@ impl LmsKey {
 
     /// The number of leaves, 2^h.
     pub fn leaves(&self) -> u32
-        ensures { result ≡ 2 ^ height_of self.now.lms }
+        ensures { result ≡ leaves_of self.now.lms }
     {
         self.parts.lms().leaves()
     }
@@ -120,7 +120,7 @@ impl LmsKey {
     ///
     /// A leaf that signs two messages gives away how to sign more.
     pub fn sign_at(&self, leaf: u32, message: &[u8], out: &mut [u8])
-        requires leaf { leaf < 2 ^ height_of self.now.lms }
+        requires leaf { leaf < leaves_of self.now.lms }
         requires room { length out.old ≡ lms_signature_len_of self.now.lms self.now.ots }
         ensures { out.new ≡ signature_of self.now leaf message.now }
     {

@@ -1,10 +1,10 @@
 //! Laws of the definitions: each is the contract of a function that does nothing.
 
-ghost use Rattle.std.specs.Prelude.{◌≡◌, ◌^◌, ◌<◌, ◌↔◌, ℕ, List, Some, is_some};
+ghost use Rattle.std.specs.Prelude.{◌≡◌, ◌<◌, ◌↔◌, ℕ, List, Some, is_some};
 ghost use Rattle.ar_base.specs.Bytes.{AreBytes};
 ghost use Rattle.lms_tree.specs.Key.{public_of, signature_of};
 ghost use Rattle.lms_tree.specs.KeyParts.{KeyParts};
-ghost use Rattle.lms_tree.specs.LmsKind.{height_of};
+ghost use Rattle.lms_tree.specs.LmsKind.{leaves_of};
 ghost use Rattle.lms_tree.specs.PublicKey.{HasWidths, is_key_text, key_of_text, key_text};
 ghost use Rattle.lms_tree.specs.Signature.{SignatureParts, FitsTypes, signature_text};
 ghost use Rattle.lms_tree.specs.Validity.{HasLength, MeetsAll, MeetsUpTo, parts_of, verdict_of};
@@ -53,6 +53,6 @@ pub fn a_verdict_tells_the_first_condition_that_fails()
 
 /// Under the public key of a key, its signature of any message by any of its leaves is valid.
 pub fn what_is_signed_is_valid()
-    ensures { (key : KeyParts) (leaf : ℕ) (message : List ℕ) → leaf < 2 ^ height_of key.lms
+    ensures { (key : KeyParts) (leaf : ℕ) (message : List ℕ) → leaf < leaves_of key.lms
         → verdict_of (public_of key) message (signature_of key leaf message) ≡ Valid }
 {}

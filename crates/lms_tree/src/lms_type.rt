@@ -1,5 +1,5 @@
-ghost use Rattle.std.specs.Prelude.{◌≡◌, ◌^◌};
-ghost use Rattle.lms_tree.specs.LmsKind.{height_of, number_of, type_of_number};
+ghost use Rattle.std.specs.Prelude.{◌≡◌};
+ghost use Rattle.lms_tree.specs.LmsKind.{height_of, leaves_of, number_of, type_of_number};
 
 /// An LMS type with SHA-256 and m = 32: each is named for its h, the height of its tree (RFC 8554,
 /// section 5.1, table 2).
@@ -59,7 +59,7 @@ impl LmsType {
     }
     /// 2^h: the number of leaves.
     pub fn leaves(&self) -> u32
-        ensures { result ≡ 2 ^ height_of self.now }
+        ensures { result ≡ leaves_of self.now }
     {
         match self {
             LmsType::H5 => 1 << 5,

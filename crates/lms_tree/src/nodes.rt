@@ -1,5 +1,5 @@
-ghost use Rattle.std.specs.Prelude.{◌≡◌, ◌*◌, ◌^◌, length, IfOk};
-ghost use Rattle.lms_tree.specs.LmsKind.{height_of};
+ghost use Rattle.std.specs.Prelude.{◌≡◌, ◌*◌, length, IfOk};
+ghost use Rattle.lms_tree.specs.LmsKind.{leaves_of};
 ghost use Rattle.lms_tree.specs.Nodes.{HoldsFrom};
 
 use crate::parts::Parts;
@@ -9,7 +9,7 @@ use std::alloc::{AllocError, Global};
 
 /// The nodes of a key's tree, node r at place r.
 pub(crate) fn make_nodes(alloc: Global, parts: &Parts) -> Result<Vec<[u8; 32]>, AllocError>
-    ensures len { IfOk result (λ nodes. length nodes.items ≡ 2 * 2 ^ height_of parts.now.lms) }
+    ensures len { IfOk result (λ nodes. length nodes.items ≡ 2 * leaves_of parts.now.lms) }
     ensures nodes { IfOk result (λ nodes. HoldsFrom parts.now 1 nodes.items) }
 {
     let mut nodes = vec![in alloc; [0u8; 32]; 2 * parts.lms().leaves() as usize]?;
@@ -20,8 +20,8 @@ pub(crate) fn make_nodes(alloc: Global, parts: &Parts) -> Result<Vec<[u8; 32]>, 
 
 // Fills in the leaves, which are the second half of the nodes.
 fn fill_leaves(parts: &Parts, nodes: &mut [[u8; 32]])
-    requires { length nodes.old ≡ 2 * 2 ^ height_of parts.now.lms }
-    ensures { HoldsFrom parts.now (2 ^ height_of parts.now.lms) nodes.new }
+    requires { length nodes.old ≡ 2 * leaves_of parts.now.lms }
+    ensures { HoldsFrom parts.now (leaves_of parts.now.lms) nodes.new }
 {
     let leaves = parts.lms().leaves();
     for leaf in 0..leaves {
@@ -33,8 +33,8 @@ fn fill_leaves(parts: &Parts, nodes: &mut [[u8; 32]])
 
 // Fills in the inner nodes, from the last to the root.
 fn fill_inner(parts: &Parts, nodes: &mut [[u8; 32]])
-    requires len { length nodes.old ≡ 2 * 2 ^ height_of parts.now.lms }
-    requires leaves { HoldsFrom parts.now (2 ^ height_of parts.now.lms) nodes.old }
+    requires len { length nodes.old ≡ 2 * leaves_of parts.now.lms }
+    requires leaves { HoldsFrom parts.now (leaves_of parts.now.lms) nodes.old }
     ensures { HoldsFrom parts.now 1 nodes.new }
 {
     let leaves = parts.lms().leaves();

@@ -2,7 +2,7 @@ ghost use Rattle.std.specs.Prelude.{◌≡◌, ◌+◌, ◌*◌, ◌^◌, ◌<�
 ghost use Rattle.std.specs.List.{flat_map, range_with_len};
 ghost use Rattle.lm_ots.specs.OtsKind.{signature_len_of};
 ghost use Rattle.lm_ots.specs.Signing as one_time;
-ghost use Rattle.lms_tree.specs.LmsKind.{height_of};
+ghost use Rattle.lms_tree.specs.LmsKind.{height_of, leaves_of};
 ghost use Rattle.lms_tree.specs.Key.{path_element, sibling_of};
 ghost use Rattle.lms_tree.specs.Nodes.{HoldsFrom};
 ghost use Rattle.lms_tree.specs.Signature.{lms_signature_len_of};
@@ -26,8 +26,8 @@ pub(crate) fn put_one_time(secret: &OtsSecret, message: &[u8], out: &mut [u8])
 
 /// Writes the path of a leaf into a signature.
 pub(crate) fn put_path(parts: &Parts, nodes: &[[u8; 32]], leaf: u32, out: &mut [u8])
-    requires leaf { leaf < 2 ^ height_of parts.now.lms }
-    requires len { length nodes.now ≡ 2 * 2 ^ height_of parts.now.lms }
+    requires leaf { leaf < leaves_of parts.now.lms }
+    requires len { length nodes.now ≡ 2 * leaves_of parts.now.lms }
     requires nodes { HoldsFrom parts.now 1 nodes.now }
     requires room { length out.old ≡ lms_signature_len_of parts.now.lms parts.now.ots }
     ensures { out.new ≡ take (8 + signature_len_of parts.now.ots) out.old

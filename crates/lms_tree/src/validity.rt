@@ -1,7 +1,7 @@
-ghost use Rattle.std.specs.Prelude.{◌≡◌, ◌^◌, ◌<◌, length, Some};
+ghost use Rattle.std.specs.Prelude.{◌≡◌, ◌<◌, length, Some};
 ghost use Rattle.lm_ots.specs.OtsKind.{number_of, signature_len_of};
 ghost use Rattle.lm_ots.specs.Candidate.{type_number};
-ghost use Rattle.lms_tree.specs.LmsKind.{height_of};
+ghost use Rattle.lms_tree.specs.LmsKind.{leaves_of};
 ghost use Rattle.lms_tree.specs.Tree.{go_up};
 ghost use Rattle.lms_tree.specs.Validity.{candidate_root, conditions_on, verdict, verdict_of};
 ghost use Rattle.ar_base.specs.FirstFailing.{first_failing};
@@ -60,7 +60,7 @@ fn judge(key: &LmsPublic, message: &[u8], parts: &Signature) -> Verdict
 fn candidate_root(key: &LmsPublic, message: &[u8], parts: &Signature) -> [u8; 32]
     requires width { length parts.now.one_time.now ≡ signature_len_of key.now.ots }
     requires ots { type_number parts.now.one_time.now ≡ number_of key.now.ots }
-    requires leaf { parts.now.leaf < 2 ^ height_of key.now.lms }
+    requires leaf { parts.now.leaf < leaves_of key.now.lms }
     ensures { result ≡ candidate_root key.now message.now (borrowed parts.now) }
 {
     let Some(one_time_key) = ots_candidate(&key.id, parts.leaf, key.ots, message, parts.one_time)

@@ -1,12 +1,13 @@
 -- A step that ends with the closing rule is its row's.
 use Rattle.std.proofs.Common.{◌≡◌, ℕ, ◌<◌, List, [], ◌∷◌, ◌++◌, refl, sym, ap, ◌∙◌, ◌⊎◌, inl, inr, Result, Ok, Err, Option, Some}
+use Rattle.std.specs.Result.{result_and}
 use Rattle.ar_cert.specs.Changes.{Change}
 use Rattle.ar_message.specs.declared.unsigned.Unsigned.{Unsigned}
 use Rattle.ar_council.specs.Values.{status_claim, vote_claim}
-use Rattle.party_keys.specs.Seen.{log_party}
+use Rattle.ar_statement.specs.Claims.{log_party}
 use Rattle.key_roll.specs.Due.{DueParts}
 use Rattle.key_roll.specs.Entry.{entered}
-use Rattle.key_roll.specs.declared.fault.BookFault.{BookFault}
+use Rattle.ar_statement.specs.declared.fault.BookFault.{BookFault}
 use Rattle.vote_quorum.specs.declared.value.Value.{Value}
 use Rattle.epoch_log.specs.Answers.{beside, stated}
 use Rattle.epoch_log.specs.Calls.{MayState, after_ballot, after_state, after_status_seen, own_status_text}
@@ -14,19 +15,21 @@ use Rattle.epoch_log.specs.Log.{LogParts}
 use Rattle.epoch_log.specs.State.{LogState, epoch_of}
 use Rattle.epoch_log.specs.declared.entries.Closing.{Closing}
 use Rattle.log_core.specs.Balloted.{ballot_checks, ballot_judged, ballot_reply, ballot_row}
-use Rattle.log_sending.specs.Checks.{Check, first_refusal, leaves_left, not_stated}
-use Rattle.log_core.specs.Steps.{IsStep, given_by}
+use Rattle.log_sending.specs.Checks.{Check, leaves_left, not_stated}
+use Rattle.ar_base.specs.FirstFailing.{first_error}
+use Rattle.log_core.specs.Steps.{IsStep}
 use Rattle.log_sending.specs.Closings.{closing_drafts, ended_by, queue_after}
 use Rattle.log_core.specs.Replies.{closing_reply, core_after}
 use Rattle.log_core.specs.Kept.{IsKeptCore}
 use Rattle.log_core.specs.Passing.{passing_checks, passing_judged, passing_reply, passing_row, status_drafts}
 use Rattle.log_sending.specs.Sending.{Composed, Draft, none_composed, sealed, unsigned_of, with_drafts}
-use Rattle.log_sending.specs.Signers.{signed_by}
+use Rattle.party_keys.specs.Signers.{signed_by}
 use Rattle.log_core.specs.State.{CoreState, Reply}
 use Rattle.log_core.specs.Stated.{status_checks, status_judged, status_reply, status_row}
 use Rattle.log_sending.specs.declared.refusal.LogRefusal.{LogRefusal}
 use Rattle.log_sending.specs.declared.refusal.LogRefusal.TheVariants as refusals
-use Rattle.log_sending.proofs.Checked.{all-hold, none-stated, same-epoch}
+use Rattle.log_sending.proofs.Checked.{none-stated, same-epoch}
+use Rattle.ar_base.proofs.Failing.{all-good}
 use Rattle.log_core.proofs.KeptRows.{of-council}
 use Rattle.log_core.proofs.Replies.{core-of, made}
 use Rattle.log_sending.proofs.SignerLaws.{first-log}
@@ -34,9 +37,9 @@ use Rattle.log_sending.proofs.Sealing.{sealed-drafts}
 
 -- a row that refuses leaves all as it was
 pub row-refused : (check : Check) (s : CoreState) (reply : Reply) (refusal : LogRefusal) → (refusal ≡ refusals.Memory) ⊎ (check ≡ Err refusal)
-    → IsStep (Err refusal) s s (given_by check reply)
+    → IsStep (Err refusal) s s (result_and check (Ok reply))
 row-refused check s reply refusal (inl wants) = (refl, inl wants)
-row-refused check s reply refusal (inr is) = (refl, inr (ap (λ c. given_by c reply) is))
+row-refused check s reply refusal (inr is) = (refl, inr (ap (λ c. result_and c (Ok reply)) is))
 
 -- what is composed before a step and sealed behind it, with what is left of the queue, is the reply of its row
 pub close-step : (s : CoreState) (check : Check) (drafts : List Draft) (x : LogState × Closing) (ready : Composed) (unsigned : Unsigned) (log : LogParts)
@@ -44,7 +47,7 @@ pub close-step : (s : CoreState) (check : Check) (drafts : List Draft) (x : LogS
     → check ≡ Ok tt → ready ≡ with_drafts none_composed (drafts ++ closing_drafts x.1 s.signature_len s.log x.0) → closing ≡ x.1
     → log ≡ record { state = x.0; keys = s.keys } → epoch ≡ epoch_of s.log → queue ≡ queue_after closing log.state s.queue
     → unsigned ≡ sealed log.state.past.signed ready (ended_by closing epoch log.state.newest)
-    → given_by check (closing_reply s s.log drafts x) ≡ made unsigned (core-of s log queue)
+    → result_and check (Ok (closing_reply s s.log drafts x)) ≡ made unsigned (core-of s log queue)
 close-step s check drafts x ready unsigned log queue closing epoch holds readied closes logs epochs queues sends =
     let all : List Draft = drafts ++ closing_drafts x.1 s.signature_len s.log x.0 in
     let ended : Option (ℕ × Option (List ℕ)) = ended_by x.1 (epoch_of s.log) x.0.newest in
@@ -58,7 +61,7 @@ close-step s check drafts x ready unsigned log queue closing epoch holds readied
     ∙ sealed-drafts x.0.past.signed all ended in
     let keeps : queue ≡ left =
     queues ∙ ap (λ (l : LogParts). queue_after closing l.state s.queue) logs ∙ ap (λ (k : Closing). queue_after k x.0 s.queue) closes in
-    ap (λ c. given_by c (closing_reply s s.log drafts x)) holds
+    ap (λ c. result_and c (Ok (closing_reply s s.log drafts x))) holds
     ∙ sym
     (ap (λ (u : Unsigned). made u (core-of s log queue)) sent
     ∙ ap (λ (l : LogParts). made (unsigned_of x.0.past.signed all ended) (core-of s l queue)) logs
@@ -69,14 +72,14 @@ close-step s check drafts x ready unsigned log queue closing epoch holds readied
 pub ballot-refused : (s : CoreState) (log epoch : ℕ) (value : Value) (signature : List ℕ) (refusal : LogRefusal)
     → (refusal ≡ refusals.Memory) ⊎ (ballot_judged s log epoch value signature ≡ Err refusal) → IsStep (Err refusal) s s (ballot_row s log epoch value signature)
 unfolding ballot_row ballot_judged
-ballot-refused s log epoch value signature refusal is = row-refused (first_refusal (ballot_checks s log epoch value signature)) s (ballot_reply s log value signature) refusal is
+ballot-refused s log epoch value signature refusal is = row-refused (first_error (ballot_checks s log epoch value signature)) s (ballot_reply s log value signature) refusal is
 
 -- who voted is a log of the council, in the current epoch
 pub ballot-member : (s : CoreState) (log epoch : ℕ) (value : Value) (signature : List ℕ) → IsKeptCore s → ballot_judged s log epoch value signature ≡ Ok tt
     → log < s.log.council.logs
 unfolding ballot_judged
 ballot-member s log epoch value signature kept is =
-    let each = all-hold (ballot_checks s log epoch value signature) is in
+    let each = all-good (ballot_checks s log epoch value signature) is in
     of-council (λ c. log < c.logs) s kept (first-log s.keys log (signed_by (log_party log) (vote_claim log epoch value) signature) [] refl each.0)
 
 pub ballot-step : (s : CoreState) (log epoch : ℕ) (value : Value) (signature : List ℕ) (ready : Composed) (unsigned : Unsigned) (parts : LogParts)
@@ -87,8 +90,8 @@ pub ballot-step : (s : CoreState) (log epoch : ℕ) (value : Value) (signature :
     → ballot_row s log epoch value signature ≡ made unsigned (core-of s parts queue)
 unfolding ballot_row ballot_judged
 ballot-step s log epoch value signature ready unsigned parts queue closing is readied closes logs queues sends =
-    let each = all-hold (ballot_checks s log epoch value signature) is in
-    close-step s (first_refusal (ballot_checks s log epoch value signature)) [] (after_ballot s.log log value signature) ready unsigned parts queue closing epoch
+    let each = all-good (ballot_checks s log epoch value signature) is in
+    close-step s (first_error (ballot_checks s log epoch value signature)) [] (after_ballot s.log log value signature) ready unsigned parts queue closing epoch
     is readied closes logs (same-epoch s.log epoch each.1.0) queues sends
 
 -- ---- StatusNote
@@ -96,13 +99,13 @@ ballot-step s log epoch value signature ready unsigned parts queue closing is re
 pub status-refused : (s : CoreState) (log epoch : ℕ) (value : Option Value) (signature : List ℕ) (refusal : LogRefusal)
     → (refusal ≡ refusals.Memory) ⊎ (status_judged s log epoch value signature ≡ Err refusal) → IsStep (Err refusal) s s (status_row s log epoch value signature)
 unfolding status_row status_judged
-status-refused s log epoch value signature refusal is = row-refused (first_refusal (status_checks s log epoch value signature)) s (status_reply s log value signature) refusal is
+status-refused s log epoch value signature refusal is = row-refused (first_error (status_checks s log epoch value signature)) s (status_reply s log value signature) refusal is
 
 pub status-member : (s : CoreState) (log epoch : ℕ) (value : Option Value) (signature : List ℕ) → IsKeptCore s → status_judged s log epoch value signature ≡ Ok tt
     → log < s.log.council.logs
 unfolding status_judged
 status-member s log epoch value signature kept is =
-    let each = all-hold (status_checks s log epoch value signature) is in
+    let each = all-good (status_checks s log epoch value signature) is in
     of-council (λ c. log < c.logs) s kept (first-log s.keys log (signed_by (log_party log) (status_claim log epoch value) signature) [] refl each.0)
 
 pub status-step : (s : CoreState) (log epoch : ℕ) (value : Option Value) (signature : List ℕ) (ready : Composed) (unsigned : Unsigned) (parts : LogParts)
@@ -113,13 +116,13 @@ pub status-step : (s : CoreState) (log epoch : ℕ) (value : Option Value) (sign
     → status_row s log epoch value signature ≡ made unsigned (core-of s parts queue)
 unfolding status_row status_judged
 status-step s log epoch value signature ready unsigned parts queue closing is readied closes logs queues sends =
-    let each = all-hold (status_checks s log epoch value signature) is in
-    close-step s (first_refusal (status_checks s log epoch value signature)) [] (after_status_seen s.log log value (Some signature)) ready unsigned parts queue closing epoch
+    let each = all-good (status_checks s log epoch value signature) is in
+    close-step s (first_error (status_checks s log epoch value signature)) [] (after_status_seen s.log log value (Some signature)) ready unsigned parts queue closing epoch
     is readied closes logs (same-epoch s.log epoch each.1.0) queues sends
 
 -- ---- the order to pass
 
-last-check : (check : Check) → first_refusal (check ∷ []) ≡ check
+last-check : (check : Check) → first_error (check ∷ []) ≡ check
 last-check (Ok u) = refl
 last-check (Err refusal) = refl
 
@@ -128,17 +131,17 @@ pub passing-judges : (s : CoreState) (check : Check) → not_stated s.log ≡ Ok
 unfolding passing_judged
 passing-judges s check states leaf =
     let left : Check = leaves_left s.log.past.signed (own_status_text s.log ∷ []) in
-    leaf ∙ sym (ap (λ (c : Check). first_refusal (c ∷ (left ∷ []))) states ∙ last-check left)
+    leaf ∙ sym (ap (λ (c : Check). first_error (c ∷ (left ∷ []))) states ∙ last-check left)
 
 pub passing-refused : (s : CoreState) (refusal : LogRefusal) → (refusal ≡ refusals.Memory) ⊎ (passing_judged s ≡ Err refusal)
     → IsStep (Err refusal) s s (passing_row s)
 unfolding passing_row passing_judged
-passing-refused s refusal is = row-refused (first_refusal (passing_checks s)) s (passing_reply s) refusal is
+passing-refused s refusal is = row-refused (first_error (passing_checks s)) s (passing_reply s) refusal is
 
 -- the log has stated nothing in the epoch
 pub passing-may : (s : CoreState) → passing_judged s ≡ Ok tt → MayState s.log
 unfolding passing_judged
-passing-may s is = none-stated s.log (all-hold (passing_checks s) is).0
+passing-may s is = none-stated s.log (all-good (passing_checks s) is).0
 
 pub passing-step : (s : CoreState) (ready : Composed) (unsigned : Unsigned) (parts : LogParts) (queue : List Change) (closing : Closing) (epoch : ℕ)
     → let x : LogState × Closing = after_state s.log in
@@ -148,7 +151,7 @@ pub passing-step : (s : CoreState) (ready : Composed) (unsigned : Unsigned) (par
     → passing_row s ≡ made unsigned (core-of s parts queue)
 unfolding passing_row passing_judged
 passing-step s ready unsigned parts queue closing epoch is readied closes logs epochs queues sends =
-    close-step s (first_refusal (passing_checks s)) (status_drafts s) (after_state s.log) ready unsigned parts queue closing epoch
+    close-step s (first_error (passing_checks s)) (status_drafts s) (after_state s.log) ready unsigned parts queue closing epoch
     is readied closes logs epochs queues sends
 
 -- how the epoch closes is answered beside the leaf

@@ -1,24 +1,20 @@
 -- What each row sends is composed of drafts, each with zero bytes where a signature of the log's own is due.
 use Rattle.std.proofs.Common.{◌≡◌, ℕ, ◌+◌, List, [], ◌∷◌, ◌++◌, refl, subst, Bool, true, false, cond, Option, Some, None}
-use Rattle.std.specs.Prelude.{Ok, Err, Result}
+use Rattle.std.specs.Prelude.{Ok}
 use Rattle.std.specs.List.{AllByRecursion}
 use Rattle.std.specs.Option.{option_map}
 use Rattle.ar_cert.specs.Changes.{Change}
 use Rattle.ar_message.specs.declared.address.Address.TheVariants.{Logs, One}
 use Rattle.ar_message.specs.declared.lists.LogStatus.{LogStatus}
-use Rattle.ar_statement.specs.Claims.{text_of}
+use Rattle.ar_statement.specs.Claims.{log_party, text_of}
 use Rattle.key_roll.specs.Entry.{roll_text}
 use Rattle.party_keys.specs.Learning.{Announced}
-use Rattle.party_keys.specs.Seen.{log_party}
 use Rattle.vote_quorum.specs.declared.value.Value.{Value}
-use Rattle.ar_council.specs.Values.{roots_of, value_of_roots}
+use Rattle.ar_council.specs.Values.{roots_of}
 use Rattle.epoch_log.specs.Calls.{after_ballot, after_confirm, after_propose, after_state, after_status_seen, after_vote, is_turn, own_status_text, own_value, own_vote_text, propose_claim}
 use Rattle.epoch_log.specs.Ending.{own_vote}
 use Rattle.epoch_log.specs.State.{LogState, epoch_of, newest_value}
 use Rattle.log_sending.specs.Checks.{turn_of}
-use Rattle.ar_message.specs.Messages.{message_in}
-use Rattle.ar_message.specs.declared.message.Message.{Message}
-use Rattle.ar_message.specs.declared.message.Message.TheVariants as messages
 use Rattle.lms_tree.specs.declared.public_key.LmsPublic.{LmsPublic}
 use Rattle.epoch_log.specs.declared.entries.Closing.{Closing}
 use Rattle.epoch_log.specs.declared.entries.Closing.TheVariants as closings
@@ -34,13 +30,14 @@ use Rattle.log_core.specs.Passing.{passing_checks, passing_reply, passing_row, s
 use Rattle.log_core.specs.Proposed.{Proposal, ballot_draft, proposed_checks, proposed_reply, proposed_row}
 use Rattle.log_core.specs.Proposing.{proposal, proposal_draft, proposed_value, proposing_checks, proposing_reply, proposing_row}
 use Rattle.log_core.specs.Rolling.{roll_draft, rolling_checks, rolling_reply, rolling_row}
-use Rattle.log_core.specs.Row.{message_row, read_row, row}
+use Rattle.log_core.specs.Row.{row}
 use Rattle.log_sending.specs.Sending.{Draft}
 use Rattle.log_core.specs.Skipped.{skip_checks, skip_reply, skip_row}
-use Rattle.log_core.specs.State.{CoreState, Input, Reply, passes, proposes, rolls, takes}
+use Rattle.log_core.specs.State.{CoreState, Input, Reply}
 use Rattle.log_core.specs.Stated.{status_checks, status_reply, status_row}
 use Rattle.log_core.specs.Submit.{submit_checks, submit_reply, submit_row}
 use Rattle.log_sending.proofs.Blanks.{IsComposed}
+use Rattle.log_core.proofs.EachRow.{row-gives}
 use Rattle.log_core.proofs.Passed.{passed}
 use Rattle.log_sending.proofs.ZeroBytes.{ballot-is_draft, decision-is_draft, propose-draft, roll-is_draft, skip-is_draft, status-is_draft}
 use Rattle.log_core.proofs.ConfirmedDrafts.{confirmed-is_draft}
@@ -165,32 +162,16 @@ roll_note-composed s a reply answer =
     let h = passed (roll_note_checks s a) (roll_note_reply s a) reply answer in
     subst Composed h.1 (record { drafts = []; ended = None; is = refl; each = tt })
 
-message-composed : (s : CoreState) (m : Message) (reply : Reply) → message_row s m ≡ Ok reply → Composed reply
-message-composed s (messages.EndorseAsk owner cert) reply answer = absurd cc
-message-composed s (messages.Endorsed owner authority certificate signature) reply answer = absurd cc
-message-composed s (messages.Submit change) reply answer = submit-composed s change reply answer
-message-composed s (messages.Propose log epoch base root changes signature) reply answer =
-    proposed-composed s (record { log = log; epoch = epoch; value = value_of_roots (base, root); changes = changes; signature = signature }) reply answer
-message-composed s (messages.Ballot log epoch base root signature) reply answer = ballot-composed s log epoch (value_of_roots (base, root)) signature reply answer
-message-composed s (messages.StatusNote log epoch value signature) reply answer = status-composed s log epoch (option_map value_of_roots value) signature reply answer
-message-composed s (messages.Decision epoch base root changes votes) reply answer =
-    decision-composed s (record { epoch = epoch; value = value_of_roots (base, root); changes = changes; votes = votes }) reply answer
-message-composed s (messages.SkipNote epoch statuses) reply answer = skip-composed s epoch statuses reply answer
-message-composed s (messages.ConfirmAsk client name first second) reply answer =
-    confirm-composed s (record { client = client; name = name; first = first; second = second }) reply answer
-message-composed s (messages.LogConfirmed part) reply answer = absurd cc
-message-composed s (messages.HalfConfirmed part first_signature) reply answer = absurd cc
-message-composed s (messages.Confirmation client epoch name root body log log_signature first first_signature second second_signature) reply answer = absurd cc
-message-composed s (messages.RollNote party generation key signature) reply answer =
-    roll_note-composed s (record { party = party; generation = generation; key = key; signature = signature }) reply answer
-
-read-composed : (s : CoreState) (read : Result Message ℕ) (reply : Reply) → read_row s read ≡ Ok reply → Composed reply
-read-composed s (Ok m) reply answer = message-composed s m reply answer
-read-composed s (Err place) reply answer = absurd cc
-
 pub row-composed : (s : CoreState) (input : Input) (reply : Reply) → row s input ≡ Ok reply → Composed reply
-unfolding row
-row-composed s (takes bytes) reply answer = read-composed s (message_in bytes) reply answer
-row-composed s proposes reply answer = proposing-composed s reply answer
-row-composed s passes reply answer = passing-composed s reply answer
-row-composed s (rolls key) reply answer = rolling-composed s key reply answer
+row-composed s input reply answer = row-gives Composed s (record {
+  submit = submit-composed s;
+  proposed = proposed-composed s;
+  ballot = ballot-composed s;
+  status = status-composed s;
+  decision = decision-composed s;
+  skip = skip-composed s;
+  confirm = confirm-composed s;
+  roll_note = roll_note-composed s;
+  proposing = proposing-composed s;
+  passing = passing-composed s;
+}) (rolling-composed s) input reply answer

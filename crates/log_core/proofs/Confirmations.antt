@@ -1,6 +1,7 @@
 -- What is prepared for a confirmation, and what it makes of the log, is its row.
 use Rattle.std.proofs.Common.{◌≡◌, ◌⊎◌, inl, inr, ℕ, List, [], ◌∷◌, refl, sym, ap, ◌∙◌, subst, Bool, true, false, Option, Some, None}
 use Rattle.std.specs.Prelude.{IfSome, IsOk, IsSome, OnErr, OnOk, Result, Ok, Err}
+use Rattle.ar_base.specs.Chaining.{need}
 use Rattle.ar_base.specs.Gives.{GivesOrWants}
 use Rattle.ar_message.specs.Lists.{AreVotes}
 use Rattle.ar_message.specs.declared.unsigned.Unsigned.{Unsigned}
@@ -9,9 +10,9 @@ use Rattle.key_roll.specs.Book.{RollBook}
 use Rattle.key_roll.specs.Due.{DueParts}
 use Rattle.key_roll.specs.Entry.{entered}
 use Rattle.key_roll.specs.Rolls.{is_roll}
-use Rattle.key_roll.specs.declared.fault.BookFault.{BookFault}
-use Rattle.key_roll.specs.declared.fault.BookFault.TheVariants as book_fault
-use Rattle.party_keys.specs.Seen.{authority_party}
+use Rattle.ar_statement.specs.declared.fault.BookFault.{BookFault}
+use Rattle.ar_statement.specs.declared.fault.BookFault.TheVariants as book_fault
+use Rattle.ar_statement.specs.Claims.{authority_party}
 use Rattle.epoch_log.proofs.Leaves.{enters, spent}
 use Rattle.epoch_log.proofs.Texts.{plain-confirm}
 use Rattle.epoch_log.specs.Answers.{confirmed}
@@ -19,7 +20,7 @@ use Rattle.epoch_log.specs.Calls.{after_confirm, confirmation_text, confirmed_of
 use Rattle.epoch_log.specs.Log.{LogParts, moved}
 use Rattle.epoch_log.specs.declared.entries.Newest.{Newest}
 use Rattle.ar_council.specs.Room.{has_leaves}
-use Rattle.log_sending.specs.Checks.{Check, book_refusal, has_decision, leaves_left, unless}
+use Rattle.log_sending.specs.Checks.{Check, book_refusal, has_decision, leaves_left}
 use Rattle.log_core.specs.Steps.{IsStep, given}
 use Rattle.log_core.specs.Replies.{open_reply}
 use Rattle.log_core.specs.Confirming.{Asked, confirm_reply, confirm_row, confirmation_by, confirmation_prepared, confirmed_draft, leaf_to_confirm}
@@ -109,8 +110,8 @@ leaf-there s w name due kept is = by (has_leaves book (text ∷ [])) refl
     text : List ℕ
     text = confirmation_text s.log w name
 
-    by : (b : Bool) → has_leaves book (text ∷ []) ≡ b → unless (has_leaves book (text ∷ [])) refusals.Spent ≡ Ok tt
-    by true was = ap (λ (b : Bool). unless b refusals.Spent) was
+    by : (b : Bool) → has_leaves book (text ∷ []) ≡ b → need (has_leaves book (text ∷ [])) refusals.Spent ≡ Ok tt
+    by true was = ap (λ (b : Bool). need b refusals.Spent) was
     by false was =
         let none : entered book text ≡ Err book_fault.Spent = spent book text kept.log.honest.signs_what_it_tells.sound was in
         let bad = sym is ∙ none in absurd cc
@@ -125,8 +126,8 @@ none-left s w name kept is = by (has_leaves book (text ∷ [])) refl
     text : List ℕ
     text = confirmation_text s.log w name
 
-    by : (b : Bool) → has_leaves book (text ∷ []) ≡ b → unless (has_leaves book (text ∷ [])) refusals.Spent ≡ Err refusals.Spent
-    by false was = ap (λ (b : Bool). unless b refusals.Spent) was
+    by : (b : Bool) → has_leaves book (text ∷ []) ≡ b → need (has_leaves book (text ∷ [])) refusals.Spent ≡ Err refusals.Spent
+    by false was = ap (λ (b : Bool). need b refusals.Spent) was
     by true was =
         let some : IsOk (entered book text) = enters book text kept.log.honest.signs_what_it_tells.sound (is-plain s w name) was in
         let bad : IsOk {T = DueParts} {E = BookFault} (Err book_fault.Spent) = subst (λ (r : Result DueParts BookFault). IsOk r) is some in absurd cc

@@ -1,14 +1,9 @@
 -- How many messages a step sends, before it is signed and then.
 use Rattle.std.proofs.Common.{◌≡◌, ℕ, ◌+◌, ◌≤◌, List, [], ◌∷◌, ◌++◌, length, subst, arith, Bool, true, false, cond, Option, Some, None}
-use Rattle.std.specs.Prelude.{Ok, Err, Result, map}
-use Rattle.std.specs.Option.{option_map}
+use Rattle.std.specs.Prelude.{Ok, map}
 use Rattle.std.proofs.lemmas.List.{length-append, length-map}
 use Rattle.ar_cert.specs.Changes.{Change}
-use Rattle.ar_council.specs.Values.{value_of_roots}
-use Rattle.ar_message.specs.Messages.{message_in}
 use Rattle.ar_message.specs.declared.lists.LogStatus.{LogStatus}
-use Rattle.ar_message.specs.declared.message.Message.{Message}
-use Rattle.ar_message.specs.declared.message.Message.TheVariants as messages
 use Rattle.lms_tree.specs.declared.public_key.LmsPublic.{LmsPublic}
 use Rattle.party_keys.specs.Learning.{Announced}
 use Rattle.vote_quorum.specs.declared.value.Value.{Value}
@@ -29,12 +24,13 @@ use Rattle.log_core.specs.Passing.{passing_checks, passing_reply, passing_row, s
 use Rattle.log_core.specs.Proposed.{Proposal, proposed_checks, proposed_reply, proposed_row}
 use Rattle.log_core.specs.Proposing.{proposal, proposal_draft, proposed_value, proposing_checks, proposing_reply, proposing_row}
 use Rattle.log_core.specs.Rolling.{rolling_checks, rolling_reply, rolling_row}
-use Rattle.log_core.specs.Row.{message_row, read_row, row}
+use Rattle.log_core.specs.Row.{row}
 use Rattle.log_sending.specs.Sending.{Draft, letter_of}
 use Rattle.log_core.specs.Skipped.{skip_checks, skip_reply, skip_row}
-use Rattle.log_core.specs.State.{Answer, CoreState, Input, Reply, most_sent, passes, proposes, rolls, takes}
+use Rattle.log_core.specs.State.{Answer, CoreState, Input, Reply, most_sent}
 use Rattle.log_core.specs.Stated.{status_checks, status_reply, status_row}
 use Rattle.log_core.specs.Submit.{submit_checks, submit_reply, submit_row}
+use Rattle.log_core.proofs.EachRow.{row-gives}
 use Rattle.log_core.proofs.Passed.{passed}
 
 -- a reply sends few messages
@@ -129,34 +125,18 @@ roll_note-few : (s : CoreState) (a : Announced) → SendsFew (roll_note_row s a)
 unfolding roll_note_row
 roll_note-few s a = given-few (roll_note_checks s a) (roll_note_reply s a) (omega arith)
 
-message-few : (s : CoreState) (m : Message) → SendsFew (message_row s m)
-message-few s (messages.EndorseAsk owner cert) reply answer = absurd cc
-message-few s (messages.Endorsed owner authority certificate signature) reply answer = absurd cc
-message-few s (messages.Submit change) reply answer = submit-few s change reply answer
-message-few s (messages.Propose log epoch base root changes signature) reply answer =
-    proposed-few s (record { log = log; epoch = epoch; value = value_of_roots (base, root); changes = changes; signature = signature }) reply answer
-message-few s (messages.Ballot log epoch base root signature) reply answer = ballot-few s log epoch (value_of_roots (base, root)) signature reply answer
-message-few s (messages.StatusNote log epoch value signature) reply answer = status-few s log epoch (option_map value_of_roots value) signature reply answer
-message-few s (messages.Decision epoch base root changes votes) reply answer =
-    decision-few s (record { epoch = epoch; value = value_of_roots (base, root); changes = changes; votes = votes }) reply answer
-message-few s (messages.SkipNote epoch statuses) reply answer = skip-few s epoch statuses reply answer
-message-few s (messages.ConfirmAsk client name first second) reply answer =
-    confirm-few s (record { client = client; name = name; first = first; second = second }) reply answer
-message-few s (messages.LogConfirmed part) reply answer = absurd cc
-message-few s (messages.HalfConfirmed part first_signature) reply answer = absurd cc
-message-few s (messages.Confirmation client epoch name root body log log_signature first first_signature second second_signature) reply answer = absurd cc
-message-few s (messages.RollNote party generation key signature) reply answer =
-    roll_note-few s (record { party = party; generation = generation; key = key; signature = signature }) reply answer
-
-read-few : (s : CoreState) (read : Result Message ℕ) → SendsFew (read_row s read)
-read-few s (Ok m) reply answer = message-few s m reply answer
-read-few s (Err place) reply answer = absurd cc
-
 pub row-few : (s : CoreState) (input : Input) → SendsFew (row s input)
-unfolding row
-row-few s (takes bytes) reply answer = read-few s (message_in bytes) reply answer
-row-few s proposes reply answer = proposing-few s reply answer
-row-few s passes reply answer = passing-few s reply answer
-row-few s (rolls key) reply answer = rolling-few s key reply answer
+row-few s input = row-gives IsFew s (record {
+  submit = submit-few s;
+  proposed = proposed-few s;
+  ballot = ballot-few s;
+  status = status-few s;
+  decision = decision-few s;
+  skip = skip-few s;
+  confirm = confirm-few s;
+  roll_note = roll_note-few s;
+  proposing = proposing-few s;
+  passing = passing-few s;
+}) (rolling-few s) input
 
 -- ---- signed

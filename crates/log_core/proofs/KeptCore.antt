@@ -8,8 +8,8 @@ use Rattle.ar_cert.specs.Certificate.{digest_of}
 use Rattle.ar_cert.specs.Changes.{Change}
 use Rattle.ar_cert.specs.Judging.{endorsers_of}
 use Rattle.ar_statement.specs.declared.text.SeenText.{SeenText}
-use Rattle.ar_statement.specs.Claims.{endorse}
-use Rattle.party_keys.specs.Seen.{Saw, authority_party}
+use Rattle.ar_statement.specs.Claims.{authority_party, endorse}
+use Rattle.party_keys.specs.Seen.{Saw}
 use Rattle.domain_table.specs.Applying.{judge}
 use Rattle.ar_council.proofs.Lists.{Within}
 use Rattle.ar_council.specs.Council.{Council}

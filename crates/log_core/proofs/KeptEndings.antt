@@ -23,13 +23,12 @@ use Rattle.ar_message.specs.declared.lists.LogStatus.{LogStatus}
 use Rattle.ar_message.specs.declared.lists.Vote.{Vote}
 use Rattle.ar_statement.specs.declared.party.Party.{Party}
 use Rattle.ar_statement.specs.declared.text.SeenText.{SeenText}
-use Rattle.ar_statement.specs.Claims.{roll}
+use Rattle.ar_statement.specs.Claims.{log_party}
 use Rattle.ar_statement.specs.Ranges.{AreRoots, IsKeyText, is_readable}
 use Rattle.lms_tree.specs.PublicKey.{key_text}
 use Rattle.lms_tree.specs.declared.public_key.LmsPublic.{LmsPublic}
 use Rattle.party_keys.specs.Directory.{Directory, keys_of}
-use Rattle.party_keys.specs.Learning.{Announced, after_adopting, after_learning, learned, learned_if}
-use Rattle.party_keys.specs.Seen.{log_party}
+use Rattle.party_keys.specs.Learning.{Announced, after_adopting, after_learning, learned, learned_if, roll_claim}
 use Rattle.party_keys.specs.Signers.{Claimed, is_known}
 use Rattle.party_keys.specs.Signatures.{verified}
 use Rattle.party_keys.specs.declared.fault.VerifyFault.{VerifyFault}
@@ -46,7 +45,8 @@ use Rattle.ar_council.proofs.Lists.{Within}
 use Rattle.ar_council.proofs.Members.{council-adopting, council-learning, member}
 use Rattle.ar_council.proofs.Seeing.{seen-keeps}
 use Rattle.ar_council.specs.Council.{IsMember, council_of}
-use Rattle.ar_council.specs.Seen.{seen_after, seen_of}
+use Rattle.ar_council.specs.Seen.{seen_after}
+use Rattle.party_keys.specs.Seen.{seen_of}
 use Rattle.ar_council.specs.Values.{IsValue, value_of_roots}
 use Rattle.epoch_log.proofs.Acting.{kept-confirming, kept-rolling}
 use Rattle.epoch_log.proofs.Called.{kept-decide, kept-learn, kept-skip}
@@ -138,13 +138,16 @@ voters-many n votes are below =
 pub decision-may : (s : CoreState) (d : Decision) → IsKeptCore s → IsValue d.value → All IsChange d.changes → AreVotes d.votes
     → AllByRecursion (λ c. c ≡ Ok tt) (decision_checks s d) → MayDecide s.log d.value d.changes (plain_votes d.votes)
 decision-may s d kept digests are votes hold = record {
+  can = record {
+    reaches = record { table = leads.0; applied = leads.1.0; is_root = leads.1.1 };
+    endorsers = of-council (λ c. All (AreEndorsers c) d.changes) s kept (all-endorsers s.keys d.changes knows.1);
+    logs = of-council (λ c. All (λ (v : ℕ × List ℕ). v.0 < c.logs) (plain_votes d.votes)) s kept
+        (All-from_recursion (λ (v : ℕ × List ℕ). v.0 < length s.keys.logs) (plain_votes d.votes) (plain-below (length s.keys.logs) d.votes below));
+    many = subst (λ n. s.log.council.quorum ≤ n) (sym (voters-many (length s.keys.logs) d.votes votes below)) (a-quorum s.log.council (length d.votes) hold.1.1.1.1.1.0);
+  };
   from_base = its-base s.log d.value.base hold.1.1.0;
-  applies = record { table = leads.0; applied = leads.1.0; is_root = leads.1.1; are_changes = are };
+  are_changes = are;
   are_digests = digests;
-  endorsers = of-council (λ c. All (AreEndorsers c) d.changes) s kept (all-endorsers s.keys d.changes knows.1);
-  logs = of-council (λ c. All (λ (v : ℕ × List ℕ). v.0 < c.logs) (plain_votes d.votes)) s kept
-      (All-from_recursion (λ (v : ℕ × List ℕ). v.0 < length s.keys.logs) (plain_votes d.votes) (plain-below (length s.keys.logs) d.votes below));
-  many = subst (λ n. s.log.council.quorum ≤ n) (sym (voters-many (length s.keys.logs) d.votes votes below)) (a-quorum s.log.council (length d.votes) hold.1.1.1.1.1.0);
 }
   where
     knows : AllByRecursion (λ x. is_known s.keys x.party ≡ true) (votes_in d.epoch d.value d.votes) × AllByRecursion (λ x. is_known s.keys x.party ≡ true) (flat_map endorsements_in d.changes)
@@ -211,10 +214,12 @@ kept-skip_row s epoch statuses reply kept are answer = subst KeepsReply h.1 here
 
     may : MaySkip s.log signed
     may = record {
-      of_logs = of-council (λ c. AreStatuses c.logs (reports_of signed)) s kept (are-statuses s.keys epoch statuses are h.0.0);
+      can = record {
+        of_logs = of-council (λ c. AreStatuses c.logs (reports_of signed)) s kept (are-statuses s.keys epoch statuses are h.0.0);
+        excludes = none-wins s.log.council (reports_of signed) h.0.1.1.0;
+      };
       values = All-from_recursion (λ (x : Status). IfSome x.1 IsValue) (reports_of signed)
           (stated-values statuses (each-fits (λ (x : LogStatus). x.log) IsStatus 0 statuses are.1));
-      excludes = none-wins s.log.council (reports_of signed) h.0.1.1.0;
     }
 
     grows : Grows s.log (after_skip s.log signed)
@@ -245,7 +250,7 @@ decided-root : (s : LogState) (w : Newest) → IsKept s → s.newest ≡ Some w 
 decided-root s w kept is =
     let last : IsNewestDecision s.council s.past.seen s.past.ended w = subst (IsNewest s.council s.past.seen s.past.ended) is kept.newest in
     let right : IsRightDecision s.council s.past.seen s.past.ended w.epoch last.changes w.root = kept.honest.decides_rightly w.epoch last.changes w.root last.decided in
-    subst IsDigest right.leads.applies.is_root (root-digest right.leads.applies.table)
+    subst IsDigest right.leads.reaches.is_root (root-digest right.leads.reaches.table)
 
 confirm-by : (s : CoreState) (asked : Asked) (w : Option Newest) → s.log.newest ≡ w → IsKeptCore s → IsName asked.name → leaf_to_confirm s w asked.name ≡ Ok tt
     → IsKeptCore (confirm_reply s w asked).after
@@ -282,7 +287,7 @@ note-member keys a is =
 pub kept-roll_note : (s : CoreState) (a : Announced) (reply : Reply) → IsKeptCore s → roll_note_row s a ≡ Ok reply → IsKeptCore reply.after
 unfolding roll_note_row
 kept-roll_note s a reply kept answer = subst KeepsReply h.1 (record {
-  log = kept-learn s.log a.party a.generation (key_text a.key) kept.log (of-council (λ c. IsMember c a.party) s kept (note-member s.keys a h.0.0));
+  log = kept-learn s.log a kept.log (of-council (λ c. IsMember c a.party) s kept (note-member s.keys a h.0.0));
   sendable = seeing-can s.log more kept.sendable;
   council = kept.council ∙ sym (council-learning s.keys a);
   logs = kept.logs;
@@ -296,7 +301,7 @@ kept-roll_note s a reply kept answer = subst KeepsReply h.1 (record {
     h = passed (roll_note_checks s a) (roll_note_reply s a) reply answer
 
     more : List SeenText
-    more = seen_of a.party (roll a.party a.generation (key_text a.key)) ∷ []
+    more = seen_of a.party (roll_claim a) ∷ []
 
 -- ---- the order to roll
 

@@ -10,9 +10,8 @@ use Rattle.ar_cert.specs.Changes.{Change, IsChange, IsSignature}
 use Rattle.ar_cert.specs.Judging.{endorsers_of}
 use Rattle.ar_message.specs.Lists.{AreChanges}
 use Rattle.ar_statement.specs.declared.text.SeenText.{SeenText}
-use Rattle.ar_statement.specs.Claims.{endorse}
-use Rattle.party_keys.specs.Seen.{authority_party, log_party}
-use Rattle.party_keys.specs.Signers.{is_known}
+use Rattle.ar_statement.specs.Claims.{authority_party, endorse, log_party}
+use Rattle.party_keys.specs.Signers.{is_known, signed_by}
 use Rattle.vote_quorum.specs.declared.value.Value.{Value}
 use Rattle.domain_table.specs.Applying.{apply, ripen}
 use Rattle.domain_table.specs.Tables.{Table}
@@ -21,7 +20,8 @@ use Rattle.domain_table.proofs.Trees.{root-digest}
 use Rattle.ar_council.proofs.Lists.{All-unmap, Within}
 use Rattle.ar_council.proofs.Seeing.{seen-has, seen-keeps}
 use Rattle.ar_council.specs.Council.{Council, council_of}
-use Rattle.ar_council.specs.Seen.{seen_after, seen_of}
+use Rattle.ar_council.specs.Seen.{seen_after}
+use Rattle.party_keys.specs.Seen.{seen_of}
 use Rattle.ar_council.specs.Values.{IsValue, status_claim, vote_claim}
 use Rattle.epoch_log.proofs.Called.{kept-ballot, kept-endorsed, kept-propose, kept-state, kept-status, kept-vote}
 use Rattle.epoch_log.specs.Calls.{AreEndorsers, IsProposed, IsTurn, MayVote, after_endorsed, after_state, after_status_seen, after_vote, casting, counting_own, counting_status, counting_vote, endorsements_of, is_turn, own_status_text, own_value, own_vote_text, proposal_of, proposal_texts, proposing, seeing, stating, vote_of}
@@ -34,7 +34,7 @@ use Rattle.log_sending.specs.Checks.{has_place, turn_of}
 use Rattle.log_core.specs.Passing.{passing_checks, passing_reply, passing_row, status_drafts}
 use Rattle.log_core.specs.Proposed.{Proposal, ballot_draft, proposal_signers, proposed_checks, proposed_reply, proposed_row}
 use Rattle.log_core.specs.Proposing.{proposal, proposal_draft, proposed_value, proposing_checks, proposing_reply, proposing_row}
-use Rattle.log_sending.specs.Signers.{endorsements_in, signed_by}
+use Rattle.log_sending.specs.Signers.{endorsements_in}
 use Rattle.log_core.specs.Stated.{status_checks, status_reply, status_row}
 use Rattle.log_core.specs.Kept.{IsKeptCore, WasQueued}
 use Rattle.log_core.specs.State.{CoreState, Reply}
@@ -199,10 +199,13 @@ kept-proposing s reply kept answer =
 
     may : MayVote s.log value changes
     may = record {
-      not_voted = none-voted s.log h.0.1.0;
-      not_stated = none-stated s.log h.0.1.1.0;
-      from_base = refl;
-      applies = record { table = walked.0; applied = walked.1; is_root = sym (ap (λ o. root_of (unwrap_or o table)) walked.1); are_changes = are };
+      open_to = record {
+        not_voted = none-voted s.log h.0.1.0;
+        not_stated = none-stated s.log h.0.1.1.0;
+        from_base = refl;
+        reaches = record { table = walked.0; applied = walked.1; is_root = sym (ap (λ o. root_of (unwrap_or o table)) walked.1) };
+      };
+      are_changes = are;
       are_digests = record { base = root-digest table; root = root-digest (unwrap_or (apply table (epoch_of s.log) changes) table) };
     }
 
@@ -222,10 +225,13 @@ proposed-is s p kept hold = record {
 pub proposed-may : (s : CoreState) (p : Proposal) → IsValue p.value → All IsChange p.changes → AllByRecursion (λ c. c ≡ Ok tt) (proposed_checks s p)
     → MayVote s.log p.value p.changes
 proposed-may s p digests are hold = record {
-  not_voted = none-voted s.log hold.1.1.1.0;
-  not_stated = none-stated s.log hold.1.1.1.1.0;
-  from_base = its-base s.log p.value.base hold.1.1.1.1.1.0;
-  applies = record { table = leads.0; applied = leads.1.0; is_root = leads.1.1; are_changes = are };
+  open_to = record {
+    not_voted = none-voted s.log hold.1.1.1.0;
+    not_stated = none-stated s.log hold.1.1.1.1.0;
+    from_base = its-base s.log p.value.base hold.1.1.1.1.1.0;
+    reaches = record { table = leads.0; applied = leads.1.0; is_root = leads.1.1 };
+  };
+  are_changes = are;
   are_digests = digests;
 }
   where

@@ -1,15 +1,10 @@
 -- The keys of a log stay those of its book: a step leaves the book its keys, and a Roll has one more.
 use Rattle.std.proofs.Common.{◌≡◌, ℕ, ◌+◌, List, [], ◌∷◌, ◌++◌, Bool, true, false, cond, Option, Some, None, Result, Ok, Err, refl, sym, ap, ◌∙◌, subst}
 use Rattle.std.specs.Prelude.{OnOk, map}
-use Rattle.std.specs.Option.{option_map}
 use Rattle.ar_cert.specs.Changes.{Change}
 use Rattle.ar_council.proofs.Readable.{readable}
-use Rattle.ar_council.specs.Values.{value_of_roots}
 use Rattle.ar_message.specs.Filling.{CanFill}
-use Rattle.ar_message.specs.Messages.{message_in}
 use Rattle.ar_message.specs.declared.lists.LogStatus.{LogStatus}
-use Rattle.ar_message.specs.declared.message.Message.{Message}
-use Rattle.ar_message.specs.declared.message.Message.TheVariants as messages
 use Rattle.ar_message.specs.declared.sent.Sent.{Sent}
 use Rattle.ar_message.specs.declared.unsigned.Unsigned.{Unsigned}
 use Rattle.key_roll.specs.Book.{RollBook}
@@ -22,7 +17,6 @@ use Rattle.lms_tree.specs.KeyParts.{KeyParts}
 use Rattle.lms_tree.specs.PublicKey.{HasWidths, key_text}
 use Rattle.lms_tree.specs.declared.public_key.LmsPublic.{LmsPublic}
 use Rattle.party_keys.specs.Learning.{Announced}
-use Rattle.party_keys.specs.Seen.{log_party}
 use Rattle.vote_quorum.specs.declared.value.Value.{Value}
 use Rattle.epoch_log.specs.Calls.{after_status_seen, casting, counting_own, confirmation_text, decision_seen, is_turn, own_status_text, own_value, own_vote_text, propose_claim, proposing, seeing, stating, statuses_seen, vote_of}
 use Rattle.epoch_log.specs.Ending.{closed, closed_by, closed_by_statuses, decided, excludes_all, has_quorum, may_end, own_vote, skipped, votes_for}
@@ -32,7 +26,7 @@ use Rattle.epoch_log.specs.declared.entries.Closing.{Closing}
 use Rattle.epoch_log.specs.declared.entries.Closing.TheVariants as closings
 use Rattle.epoch_log.specs.declared.entries.Newest.{Newest}
 use Rattle.epoch_log.specs.declared.entries.Voted.{Voted}
-use Rattle.ar_statement.specs.Claims.{text_of}
+use Rattle.ar_statement.specs.Claims.{log_party, text_of}
 use Rattle.ar_statement.specs.Ranges.{IsKeyText}
 use Rattle.log_core.specs.Balloted.{ballot_checks, ballot_reply, ballot_row}
 use Rattle.log_core.specs.Confirming.{Asked, confirm_checks, confirm_reply, confirm_row}
@@ -44,14 +38,15 @@ use Rattle.log_core.specs.Passing.{passing_checks, passing_reply, passing_row}
 use Rattle.log_core.specs.Proposed.{Proposal, proposed_checks, proposed_reply, proposed_row}
 use Rattle.log_core.specs.Proposing.{proposal, proposed_value, proposing_checks, proposing_reply, proposing_row}
 use Rattle.log_core.specs.Rolling.{rolling_checks, rolling_reply, rolling_row}
-use Rattle.log_core.specs.Row.{IsInput, message_row, read_row, row}
+use Rattle.log_core.specs.Row.{IsInput, row}
 use Rattle.log_core.specs.Skipped.{signed_statuses, skip_checks, skip_reply, skip_row}
-use Rattle.log_core.specs.State.{Answer, CoreState, Input, Reply, passes, proposes, rolls, takes}
+use Rattle.log_core.specs.State.{Answer, CoreState, Input, Reply, rolls}
 use Rattle.log_core.specs.Stated.{status_checks, status_reply, status_row}
 use Rattle.log_sending.specs.Queued.{is_queued}
 use Rattle.log_core.specs.Submit.{queueing, submit_checks, submit_reply, submit_row}
 use Rattle.log_sending.specs.declared.refusal.LogRefusal.{LogRefusal}
 use Rattle.log_sending.proofs.Blanks.{composed-fill}
+use Rattle.log_core.proofs.EachRow.{plain-gives}
 use Rattle.log_core.proofs.Passed.{passed}
 use Rattle.log_core.proofs.Composed.{row-composed}
 use Rattle.log_core.proofs.KeptEndings.{kept-row}
@@ -203,35 +198,19 @@ roll_note-same s a reply answer =
     let h = passed (roll_note_checks s a) (roll_note_reply s a) reply answer in
     subst (Same s) h.1 (of-book s (roll_note_reply s a).after (itself s.log.past.signed) refl)
 
-message-same : (s : CoreState) (m : Message) (reply : Reply) → message_row s m ≡ Ok reply → Same s reply
-message-same s (messages.EndorseAsk owner cert) reply answer = absurd cc
-message-same s (messages.Endorsed owner authority certificate signature) reply answer = absurd cc
-message-same s (messages.Submit change) reply answer = submit-same s change reply answer
-message-same s (messages.Propose log epoch base root changes signature) reply answer =
-    proposed-same s (record { log = log; epoch = epoch; value = value_of_roots (base, root); changes = changes; signature = signature }) reply answer
-message-same s (messages.Ballot log epoch base root signature) reply answer = ballot-same s log epoch (value_of_roots (base, root)) signature reply answer
-message-same s (messages.StatusNote log epoch value signature) reply answer = status-same s log epoch (option_map value_of_roots value) signature reply answer
-message-same s (messages.Decision epoch base root changes votes) reply answer =
-    decision-same s (record { epoch = epoch; value = value_of_roots (base, root); changes = changes; votes = votes }) reply answer
-message-same s (messages.SkipNote epoch statuses) reply answer = skip-same s epoch statuses reply answer
-message-same s (messages.ConfirmAsk client name first second) reply answer =
-    confirm-same s (record { client = client; name = name; first = first; second = second }) reply answer
-message-same s (messages.LogConfirmed part) reply answer = absurd cc
-message-same s (messages.HalfConfirmed part first_signature) reply answer = absurd cc
-message-same s (messages.Confirmation client epoch name root body log log_signature first first_signature second second_signature) reply answer = absurd cc
-message-same s (messages.RollNote party generation key signature) reply answer =
-    roll_note-same s (record { party = party; generation = generation; key = key; signature = signature }) reply answer
-
-read-same : (s : CoreState) (read : Result Message ℕ) (reply : Reply) → read_row s read ≡ Ok reply → Same s reply
-read-same s (Ok m) reply answer = message-same s m reply answer
-read-same s (Err place) reply answer = absurd cc
-
 row-same : (s : CoreState) (input : Input) (reply : Reply) → IsPlain input → row s input ≡ Ok reply → Same s reply
-unfolding row
-row-same s (takes bytes) reply plain answer = read-same s (message_in bytes) reply answer
-row-same s proposes reply plain answer = proposing-same s reply answer
-row-same s passes reply plain answer = passing-same s reply answer
-row-same s (rolls key) reply plain answer = absurd plain
+row-same s input reply plain answer = plain-gives (Same s) s (record {
+  submit = submit-same s;
+  proposed = proposed-same s;
+  ballot = ballot-same s;
+  status = status-same s;
+  decision = decision-same s;
+  skip = skip-same s;
+  confirm = confirm-same s;
+  roll_note = roll_note-same s;
+  proposing = proposing-same s;
+  passing = passing-same s;
+}) input plain reply answer
 
 -- ---- the keys
 

@@ -4,6 +4,7 @@ pub mod Confirmations
 pub mod ConfirmedDrafts
 pub mod Decided
 pub mod Decisions
+pub mod EachRow
 pub mod Few
 pub mod KeptCore
 pub mod KeptEndings

@@ -1,13 +1,15 @@
 -- What it says that a row answers, or refuses.
 use Rattle.std.proofs.Common.{◌≡◌, List, ◌∷◌, ◌++◌, refl, ap}
+use Rattle.std.specs.Result.{result_and}
 use Rattle.std.specs.Prelude.{All, Ok, Err}
 use Rattle.std.specs.List.{AllByRecursion}
 use Rattle.std.proofs.lemmas.List.Elements.{recursion_from_All}
-use Rattle.log_sending.specs.Checks.{Check, first_refusal}
-use Rattle.log_core.specs.Steps.{given_by, given}
+use Rattle.log_sending.specs.Checks.{Check}
+use Rattle.ar_base.specs.FirstFailing.{first_error}
+use Rattle.log_core.specs.Steps.{given}
 use Rattle.log_core.specs.State.{Answer, Reply}
 use Rattle.log_sending.specs.declared.refusal.LogRefusal.{LogRefusal}
-use Rattle.log_sending.proofs.Checked.{all-hold, no-refusal, refused-behind}
+use Rattle.ar_base.proofs.Failing.{all-good, error-behind, none-bad}
 
 abbrev reply-in : Answer → Reply → Reply
 reply-in (Ok reply) other = reply
@@ -15,15 +17,15 @@ reply-in (Err refusal) other = other
 
 -- where a row answers, each check holds, and the answer is the row's reply
 pub passed : (checks : List Check) (reply r : Reply) → given checks reply ≡ Ok r → AllByRecursion (λ c. c ≡ Ok tt) checks × (reply ≡ r)
-passed checks reply r is = by (first_refusal checks) refl is
+passed checks reply r is = by (first_error checks) refl is
   where
-    by : (c : Check) → first_refusal checks ≡ c → given_by c reply ≡ Ok r → AllByRecursion (λ c. c ≡ Ok tt) checks × (reply ≡ r)
-    by (Ok u) was same = (all-hold checks was, ap (λ a. reply-in a reply) same)
+    by : (c : Check) → first_error checks ≡ c → result_and c (Ok reply) ≡ Ok r → AllByRecursion (λ c. c ≡ Ok tt) checks × (reply ≡ r)
+    by (Ok u) was same = (all-good checks was, ap (λ a. reply-in a reply) same)
     by (Err refusal) was same = absurd cc
 
 pub first-refused : (holding behind : List Check) (refusal : LogRefusal) (reply : Reply) → All (λ c. c ≡ Ok tt) holding → given (holding ++ Err refusal ∷ behind) reply ≡ Err refusal
 first-refused holding behind refusal reply all =
-    ap (λ c. given_by c reply) (refused-behind holding behind refusal (recursion_from_All (λ (c : Check). c ≡ Ok tt) holding all))
+    ap (λ c. result_and c (Ok reply)) (error-behind holding behind refusal (recursion_from_All (λ (c : Check). c ≡ Ok tt) holding all))
 
 pub none-refused : (checks : List Check) (reply : Reply) → All (λ c. c ≡ Ok tt) checks → given checks reply ≡ Ok reply
-none-refused checks reply all = ap (λ c. given_by c reply) (no-refusal checks (recursion_from_All (λ (c : Check). c ≡ Ok tt) checks all))
+none-refused checks reply all = ap (λ c. result_and c (Ok reply)) (none-bad checks (recursion_from_All (λ (c : Check). c ≡ Ok tt) checks all))

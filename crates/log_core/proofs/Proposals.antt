@@ -1,5 +1,6 @@
 -- What a log walked over it may propose, and what is made of that is its row.
 use Rattle.std.proofs.Common.{◌≡◌, ℕ, ◌<◌, List, [], ◌∷◌, ◌++◌, refl, sym, ap, ◌∙◌, ◌⊎◌, inl, inr, subst, Ok, Err, Result}
+use Rattle.std.specs.Result.{result_and}
 use Rattle.std.specs.Prelude.{All, IfOk}
 use Rattle.std.specs.declared.alloc.AllocError.{AllocError}
 use Rattle.std.specs.List.{AllByRecursion}
@@ -12,16 +13,17 @@ use Rattle.key_roll.specs.Due.{DueParts}
 use Rattle.ar_message.specs.declared.unsigned.Unsigned.{Unsigned}
 use Rattle.vote_quorum.specs.declared.value.Value.{Value}
 use Rattle.domain_table.specs.Applying.{ripen}
-use Rattle.epoch_log.specs.Answers.{IsOpenTo, first_entered, proposed}
-use Rattle.epoch_log.specs.Calls.{IsTurn, after_propose, own_vote_text, proposal_texts, propose_claim}
+use Rattle.epoch_log.specs.Answers.{first_entered, proposed}
+use Rattle.epoch_log.specs.Calls.{IsTurn, after_propose, own_vote_text, proposal_texts, propose_claim, IsOpenTo}
 use Rattle.epoch_log.specs.Foreseeing.{IsForeseen}
 use Rattle.epoch_log.specs.Log.{LogParts}
 use Rattle.epoch_log.specs.Right.{SawEndorsements}
 use Rattle.epoch_log.specs.State.{LogState, epoch_of, table_of}
 use Rattle.epoch_log.specs.declared.entries.Closing.{Closing}
 use Rattle.epoch_log.specs.declared.foreseeing.Foreseen.{Foreseen}
-use Rattle.log_sending.specs.Checks.{Check, first_refusal, leaves_left, turn_of}
-use Rattle.log_core.specs.Steps.{IsStep, given_by, given}
+use Rattle.log_sending.specs.Checks.{Check, leaves_left, turn_of}
+use Rattle.ar_base.specs.FirstFailing.{first_error}
+use Rattle.log_core.specs.Steps.{IsStep, given}
 use Rattle.log_sending.specs.Closings.{closing_drafts, ended_by, queue_after}
 use Rattle.log_core.specs.Replies.{closing_reply}
 use Rattle.log_core.specs.Kept.{IsKeptCore, WasQueued}
@@ -32,7 +34,8 @@ use Rattle.log_core.specs.State.{CoreState, Reply}
 use Rattle.log_sending.specs.Walk.{most_bytes, most_changes}
 use Rattle.log_sending.specs.declared.refusal.LogRefusal.{LogRefusal}
 use Rattle.log_sending.specs.declared.refusal.LogRefusal.TheVariants as refusals
-use Rattle.log_sending.proofs.Checked.{all-hold, its-turn, none-stated, none-voted}
+use Rattle.log_sending.proofs.Checked.{its-turn, none-stated, none-voted}
+use Rattle.ar_base.proofs.Failing.{all-good, error-append}
 use Rattle.log_core.proofs.Closed.{close-step, row-refused, beside-closing}
 use Rattle.log_core.proofs.KeptRows.{kept-proposing}
 use Rattle.log_sending.proofs.Sendable.{propose-can, told-can}
@@ -44,29 +47,25 @@ use Rattle.log_core.proofs.Replies.{core-of, made}
 -- ---- the checks
 
 -- a list of checks that hold, and one check behind them
-behind-all : (checks : List Check) (last : Check) → first_refusal checks ≡ Ok tt → first_refusal (checks ++ last ∷ []) ≡ first_refusal (last ∷ [])
-behind-all [] last is = refl
-behind-all (Ok u ∷ checks) last is = behind-all checks last is
-behind-all (Err refusal ∷ checks) last is = absurd cc
+behind-all : (checks : List Check) (last : Check) → first_error checks ≡ Ok tt → first_error (checks ++ last ∷ []) ≡ first_error (last ∷ [])
+behind-all checks last is = error-append checks (last ∷ []) ∙ ap (λ c. result_and c (first_error (last ∷ []))) is
 
 -- and one that refuses, whatever is behind it
-refused-all : (checks behind : List Check) (refusal : LogRefusal) → first_refusal checks ≡ Err refusal → first_refusal (checks ++ behind) ≡ Err refusal
-refused-all [] behind refusal is = absurd cc
-refused-all (Ok u ∷ checks) behind refusal is = refused-all checks behind refusal is
-refused-all (Err other ∷ checks) behind refusal is = is
+refused-all : (checks behind : List Check) (refusal : LogRefusal) → first_error checks ≡ Err refusal → first_error (checks ++ behind) ≡ Err refusal
+refused-all checks behind refusal is = error-append checks behind ∙ ap (λ c. result_and c (first_error behind)) is
 
 -- where it is not the log's turn, or it has voted or stated, the order is refused so
 pub turn-refused : (s : CoreState) (refusal : LogRefusal) → turn_judged s ≡ Err refusal → proposing_judged s ≡ Err refusal
 unfolding turn_judged proposing_judged
 turn-refused s refusal is =
-    ap (λ c. given_by c (proposed_value s, proposal s)) (refused-all (turn_checks s) (leaves_left s.log.past.signed (proposal_texts s.log (proposed_value s)) ∷ []) refusal is)
+    ap (λ c. result_and c (Ok (proposed_value s, proposal s))) (refused-all (turn_checks s) (leaves_left s.log.past.signed (proposal_texts s.log (proposed_value s)) ∷ []) refusal is)
 
 -- else it goes by the leaves
 pub leaves-judged : (s : CoreState) (value : Value) → turn_judged s ≡ Ok tt → value ≡ proposed_value s
     → proposing_judged s ≡ given (leaves_left s.log.past.signed (proposal_texts s.log value) ∷ []) (proposed_value s, proposal s)
 unfolding turn_judged proposing_judged
 leaves-judged s value turn is =
-    ap (λ c. given_by c (proposed_value s, proposal s)) (behind-all (turn_checks s) (leaves_left s.log.past.signed (proposal_texts s.log (proposed_value s))) turn)
+    ap (λ c. result_and c (Ok (proposed_value s, proposal s))) (behind-all (turn_checks s) (leaves_left s.log.past.signed (proposal_texts s.log (proposed_value s))) turn)
     ∙ ap (λ v. given (leaves_left s.log.past.signed (proposal_texts s.log v) ∷ []) (proposed_value s, proposal s)) (sym is)
 
 pub leaves-refused : (s : CoreState) (value : Value) (refusal : LogRefusal) → turn_judged s ≡ Ok tt → value ≡ proposed_value s
@@ -81,17 +80,17 @@ leaves-hold s value changes turn same all is =
     ∙ ap (λ v. Ok (v, proposal s)) (sym same) ∙ ap (λ l. Ok (value, l)) (sym all)
 
 judged-holds : (s : CoreState) (value : Value) (changes : List Change) → proposing_judged s ≡ Ok (value, changes)
-    → (first_refusal (proposing_checks s) ≡ Ok tt) × (proposed_value s ≡ value) × (proposal s ≡ changes)
+    → (first_error (proposing_checks s) ≡ Ok tt) × (proposed_value s ≡ value) × (proposal s ≡ changes)
 unfolding proposing_judged
 judged-holds s value changes is =
-    let h = given-holds (first_refusal (proposing_checks s)) (proposed_value s, proposal s) (value, changes) is in
+    let h = given-holds (first_error (proposing_checks s)) (proposed_value s, proposal s) (value, changes) is in
     (h.0, ap (λ (p : Value × List Change). p.0) h.1, ap (λ (p : Value × List Change). p.1) h.1)
 
 abbrev check-in : {A : Type 0} → Result A LogRefusal → LogRefusal → Check
 check-in (Ok value) other = Err other
 check-in (Err refusal) other = Err refusal
 
-given-refuses : {A : Type 0} (check : Check) (value : A) (refusal : LogRefusal) → given_by check value ≡ Err refusal → check ≡ Err refusal
+given-refuses : {A : Type 0} (check : Check) (value : A) (refusal : LogRefusal) → result_and check (Ok value) ≡ Err refusal → check ≡ Err refusal
 given-refuses (Ok u) value refusal is = absurd cc
 given-refuses (Err e) value refusal is = ap (λ r. check-in r e) is
 
@@ -100,7 +99,7 @@ pub propose-refused : (s : CoreState) (refusal : LogRefusal) → (refusal ≡ re
 unfolding proposing_row proposing_judged
 propose-refused s refusal (inl wants) = (refl, inl wants)
 propose-refused s refusal (inr is) =
-    row-refused (first_refusal (proposing_checks s)) s (proposing_reply s) refusal (inr (given-refuses (first_refusal (proposing_checks s)) (proposed_value s, proposal s) refusal is))
+    row-refused (first_error (proposing_checks s)) s (proposing_reply s) refusal (inr (given-refuses (first_error (proposing_checks s)) (proposed_value s, proposal s) refusal is))
 
 -- ---- what the calls ask
 
@@ -114,9 +113,9 @@ pub record MayPropose (s : CoreState) (value : Value) (changes : List Change) : 
 all-walked : (P : Change → Type 0) (s : CoreState) → All P s.queue → AllByRecursion P (proposal s)
 all-walked P s all = walk-all P s.queue (epoch_of s.log) most_changes most_bytes (ripen (table_of s.log) (epoch_of s.log)) (recursion_from_All P s.queue all)
 
-may-walked : (s : CoreState) → IsKeptCore s → first_refusal (proposing_checks s) ≡ Ok tt → MayPropose s (proposed_value s) (proposal s)
+may-walked : (s : CoreState) → IsKeptCore s → first_error (proposing_checks s) ≡ Ok tt → MayPropose s (proposed_value s) (proposal s)
 may-walked s kept is =
-    let each : AllByRecursion (λ c. c ≡ Ok tt) (proposing_checks s) = all-hold (proposing_checks s) is in
+    let each : AllByRecursion (λ c. c ≡ Ok tt) (proposing_checks s) = all-good (proposing_checks s) is in
     let mine : s.log.me ≡ turn_of s.log.council (epoch_of s.log) = its-turn s.log.council (epoch_of s.log) s.log.me each.0 in
     let leads = proposal-applies s in
     record {
@@ -159,10 +158,10 @@ pub propose-step : (s : CoreState) (value : Value) (changes : List Change) (read
 unfolding proposing_row
 propose-step s value changes ready unsigned parts queue closing epoch is readied closes logs epochs queues sends =
     let h = judged-holds s value changes is in
-    let check : Check = first_refusal (proposing_checks s) in
+    let check : Check = first_error (proposing_checks s) in
     let step = close-step s check (proposal_draft s value changes ∷ []) (after_propose s.log value changes) ready unsigned parts queue closing epoch
     h.0 readied closes logs epochs queues sends in
-    ap (λ v. given_by check (reply-of s v (proposal s))) h.1 ∙ ap (λ l. given_by check (reply-of s value l)) h.2 ∙ step
+    ap (λ v. result_and check (Ok (reply-of s v (proposal s)))) h.1 ∙ ap (λ l. result_and check (Ok (reply-of s value l))) h.2 ∙ step
 
 -- the proposal is made as the row says
 pub propose-made : (s : CoreState) (value : Value) (changes : List Change) (ready : Composed) (unsigned : Unsigned) (parts : LogParts)

@@ -1,29 +1,24 @@
 -- Whatever a log newly sees it verified, or it is its own.
 use Rattle.std.proofs.Common.{◌≡◌, ℕ, ◌+◌, List, [], ◌∷◌, refl, sym, subst, Bool, true, false, cond, Option, Some, None, inl, inr, ⊎_elim}
-use Rattle.std.specs.Prelude.{Contains, Ok, Err, Result, flat_map, map, slice_get}
+use Rattle.std.specs.Prelude.{Contains, Ok, flat_map, map, slice_get}
 use Rattle.std.specs.List.{AllByRecursion}
-use Rattle.std.specs.Option.{option_map}
 use Rattle.std.proofs.lemmas.List.Elements.{All-contains, All-from_recursion}
 use Rattle.key_roll.specs.Entry.{roll_text}
-use Rattle.lms_tree.specs.PublicKey.{key_text}
 use Rattle.lms_tree.specs.declared.public_key.LmsPublic.{LmsPublic}
 use Rattle.ar_cert.specs.Certificate.{digest_of}
 use Rattle.ar_cert.specs.Changes.{Change, Endorsement}
-use Rattle.ar_message.specs.Messages.{message_in}
 use Rattle.ar_message.specs.declared.lists.LogStatus.{LogStatus}
 use Rattle.ar_message.specs.declared.lists.Vote.{Vote}
-use Rattle.ar_message.specs.declared.message.Message.{Message}
-use Rattle.ar_message.specs.declared.message.Message.TheVariants as messages
 use Rattle.ar_statement.specs.declared.text.SeenText.{SeenText}
-use Rattle.ar_statement.specs.Claims.{endorse, propose, roll}
+use Rattle.ar_statement.specs.Claims.{authority_party, endorse, log_party, propose}
 use Rattle.party_keys.specs.Directory.{Directory, keys_of}
-use Rattle.party_keys.specs.Learning.{Announced, learned}
-use Rattle.party_keys.specs.Seen.{authority_party, log_party}
+use Rattle.party_keys.specs.Learning.{Announced, learned, roll_claim}
 use Rattle.party_keys.specs.Signatures.{verified}
 use Rattle.vote_quorum.specs.declared.value.Value.{Value}
 use Rattle.ar_council.proofs.Seeing.{seen-exactly}
-use Rattle.ar_council.specs.Seen.{seen_after, seen_of}
-use Rattle.ar_council.specs.Values.{status_claim, value_of_roots, vote_claim}
+use Rattle.ar_council.specs.Seen.{seen_after}
+use Rattle.party_keys.specs.Seen.{seen_of}
+use Rattle.ar_council.specs.Values.{status_claim, vote_claim}
 use Rattle.epoch_log.specs.Calls.{after_status_seen, casting, counting_own, counting_status, counting_vote, decision_seen, endorsements_of, is_turn, own_value, proposal_of, proposing, seeing, stating, statuses_seen, vote_of, votes_seen}
 use Rattle.epoch_log.specs.Ending.{closed, decided, may_end, skipped}
 use Rattle.epoch_log.specs.State.{LogState, epoch_of, reports_of}
@@ -38,14 +33,16 @@ use Rattle.log_core.specs.Passing.{passing_checks, passing_reply, passing_row}
 use Rattle.log_core.specs.Proposed.{Proposal, proposal_signers, proposed_checks, proposed_reply, proposed_row}
 use Rattle.log_core.specs.Proposing.{proposal, proposed_value, proposing_checks, proposing_reply, proposing_row}
 use Rattle.log_core.specs.Rolling.{rolling_checks, rolling_reply, rolling_row}
-use Rattle.log_core.specs.Row.{message_row, read_row, row}
+use Rattle.log_core.specs.Row.{row}
 use Rattle.log_core.specs.Sees.{IsOwnOrVerified, SeesVerified}
-use Rattle.log_sending.specs.Signers.{endorsements_in, signed_by, statuses_in, votes_in}
+use Rattle.log_sending.specs.Signers.{endorsements_in, statuses_in, votes_in}
+use Rattle.party_keys.specs.Signers.{signed_by}
 use Rattle.log_core.specs.Skipped.{signed_statuses, skip_checks, skip_reply, skip_row}
-use Rattle.log_core.specs.State.{CoreState, Input, Reply, passes, proposes, rolls, takes}
+use Rattle.log_core.specs.State.{CoreState, Input, Reply}
 use Rattle.log_core.specs.Stated.{status_checks, status_reply, status_row}
 use Rattle.log_sending.specs.Queued.{is_queued}
 use Rattle.log_core.specs.Submit.{queueing, submit_checks, submit_reply, submit_row}
+use Rattle.log_core.proofs.EachRow.{row-gives}
 use Rattle.log_core.proofs.Passed.{passed}
 use Rattle.log_sending.proofs.Checked.{same-epoch}
 use Rattle.log_core.proofs.KeptCore.{closed-same}
@@ -237,7 +234,7 @@ roll_note-sees s a reply answer =
     let text : List ℕ = roll_text a.party a.generation a.key in
     let fine : verified s.keys a.party text a.signature ≡ Ok tt =
     learnt-verified (verified s.keys a.party text a.signature) (slice_get (keys_of s.keys a.party) (a.generation + 1)) a.key a.party a.generation h.0.0 in
-    let more : List SeenText = seen_of a.party (roll a.party a.generation (key_text a.key)) ∷ [] in
+    let more : List SeenText = seen_of a.party (roll_claim a) ∷ [] in
     subst (Sees s) h.1 (these-new s.keys s.log.me s.log.past.seen more (inr (a.signature, fine), tt))
 
 rolling-sees : (s : CoreState) (key : LmsPublic) (reply : Reply) → rolling_row s key ≡ Ok reply → Sees s reply
@@ -245,32 +242,16 @@ unfolding rolling_row
 rolling-sees s key reply answer =
     let h = passed (rolling_checks s) (rolling_reply s key) reply answer in subst (Sees s) h.1 (nothing-new s.keys s.log.me s.log.past.seen)
 
-message-sees : (s : CoreState) (m : Message) (reply : Reply) → message_row s m ≡ Ok reply → Sees s reply
-message-sees s (messages.EndorseAsk owner cert) reply answer = absurd cc
-message-sees s (messages.Endorsed owner authority certificate signature) reply answer = absurd cc
-message-sees s (messages.Submit change) reply answer = submit-sees s change reply answer
-message-sees s (messages.Propose log epoch base root changes signature) reply answer =
-    proposed-sees s (record { log = log; epoch = epoch; value = value_of_roots (base, root); changes = changes; signature = signature }) reply answer
-message-sees s (messages.Ballot log epoch base root signature) reply answer = ballot-sees s log epoch (value_of_roots (base, root)) signature reply answer
-message-sees s (messages.StatusNote log epoch value signature) reply answer = status-sees s log epoch (option_map value_of_roots value) signature reply answer
-message-sees s (messages.Decision epoch base root changes votes) reply answer =
-    decision-sees s (record { epoch = epoch; value = value_of_roots (base, root); changes = changes; votes = votes }) reply answer
-message-sees s (messages.SkipNote epoch statuses) reply answer = skip-sees s epoch statuses reply answer
-message-sees s (messages.ConfirmAsk client name first second) reply answer =
-    confirm-sees s (record { client = client; name = name; first = first; second = second }) reply answer
-message-sees s (messages.LogConfirmed part) reply answer = absurd cc
-message-sees s (messages.HalfConfirmed part first_signature) reply answer = absurd cc
-message-sees s (messages.Confirmation client epoch name root body log log_signature first first_signature second second_signature) reply answer = absurd cc
-message-sees s (messages.RollNote party generation key signature) reply answer =
-    roll_note-sees s (record { party = party; generation = generation; key = key; signature = signature }) reply answer
-
-read-sees : (s : CoreState) (read : Result Message ℕ) (reply : Reply) → read_row s read ≡ Ok reply → Sees s reply
-read-sees s (Ok m) reply answer = message-sees s m reply answer
-read-sees s (Err place) reply answer = absurd cc
-
 pub row-sees : (s : CoreState) (input : Input) (reply : Reply) → row s input ≡ Ok reply → Sees s reply
-unfolding row
-row-sees s (takes bytes) reply answer = read-sees s (message_in bytes) reply answer
-row-sees s proposes reply answer = proposing-sees s reply answer
-row-sees s passes reply answer = passing-sees s reply answer
-row-sees s (rolls key) reply answer = rolling-sees s key reply answer
+row-sees s input reply answer = row-gives (Sees s) s (record {
+  submit = submit-sees s;
+  proposed = proposed-sees s;
+  ballot = ballot-sees s;
+  status = status-sees s;
+  decision = decision-sees s;
+  skip = skip-sees s;
+  confirm = confirm-sees s;
+  roll_note = roll_note-sees s;
+  proposing = proposing-sees s;
+  passing = passing-sees s;
+}) (rolling-sees s) input reply answer

@@ -1,7 +1,9 @@
 -- What is judged of a skip, and what it makes of the log, is its row.
 use Rattle.std.proofs.Common.{◌≡◌, ◌⊎◌, inl, inr, ℕ, List, length, refl, sym, ap, ◌∙◌, subst, arith, Bool, true, false, Option, None}
+use Rattle.std.specs.Result.{result_and}
 use Rattle.std.specs.Prelude.{Ok, Err}
 use Rattle.std.specs.List.{AllByRecursion}
+use Rattle.ar_base.specs.Chaining.{need}
 use Rattle.ar_message.specs.Lists as lists
 use Rattle.ar_message.specs.declared.lists.LogStatus.{LogStatus}
 use Rattle.ar_message.specs.declared.unsigned.Unsigned.{Unsigned}
@@ -11,20 +13,20 @@ use Rattle.vote_quorum.specs.Statuses.{AreStatuses, Excludes, IsMostReported, St
 use Rattle.ar_council.specs.Council.{Council, council_of}
 use Rattle.epoch_log.proofs.Counted.{excludes-each}
 use Rattle.epoch_log.proofs.Read.{excludes-tested}
-use Rattle.epoch_log.specs.Calls.{SignedStatus, after_skip}
+use Rattle.epoch_log.specs.Calls.{SignedStatus, after_skip, CanSkip}
 use Rattle.epoch_log.specs.State.{reports_of}
 use Rattle.epoch_log.specs.Ending.{excludes_all}
 use Rattle.epoch_log.specs.Log.{LogParts, moved}
-use Rattle.epoch_log.specs.Telling.{CanSkip}
-use Rattle.log_sending.specs.Checks.{Check, none_can_win, unless}
-use Rattle.log_core.specs.Steps.{IsStep, ended_epoch, given_by}
+use Rattle.log_sending.specs.Checks.{Check, none_can_win}
+use Rattle.log_core.specs.Steps.{IsStep, ended_epoch}
 use Rattle.log_core.specs.Kept.{IsKeptCore}
 use Rattle.log_sending.specs.Reported.{most_reported}
 use Rattle.log_core.specs.Skipped.{signed_statuses, skip_checks, skip_judged, skip_reply, skip_row}
 use Rattle.log_core.specs.State.{Answer, CoreState, Reply}
 use Rattle.log_sending.specs.declared.refusal.LogRefusal.{LogRefusal}
 use Rattle.log_sending.specs.declared.refusal.LogRefusal.TheVariants as refusals
-use Rattle.log_sending.proofs.Checked.{all-hold, none-wins}
+use Rattle.log_sending.proofs.Checked.{none-wins}
+use Rattle.ar_base.proofs.Failing.{all-good}
 use Rattle.log_core.proofs.KeptEndings.{kept-skip_row}
 use Rattle.log_core.proofs.KeptRows.{of-council}
 use Rattle.log_sending.proofs.Reported.{most-is}
@@ -44,7 +46,7 @@ back-to : (keys : Directory) (statuses : List Status) (n q : ℕ) → n ≡ leng
 back-to keys statuses n q logs quorum excludes root = omega (arith, excludes root, logs, quorum)
 
 abbrev by-test : Council → List Status → Bool → Check
-by-test council statuses excluded = unless excluded (refusals.CouldBeDecided (most_reported statuses).0 (most_reported statuses).1)
+by-test council statuses excluded = need excluded (refusals.CouldBeDecided (most_reported statuses).0 (most_reported statuses).1)
 
 pub none-can : (keys : Directory) (statuses : List Status) (n q : ℕ) → n ≡ length keys.logs → q ≡ keys.quorum → Excludes n q statuses
     → none_can_win (council_of keys) statuses ≡ Ok tt
@@ -68,7 +70,7 @@ pub can-skip : (s : CoreState) (epoch : ℕ) (statuses : List LogStatus) → IsK
     → CanSkip s.log (signed_statuses statuses)
 unfolding skip_judged
 can-skip s epoch statuses kept are is =
-    let each : AllByRecursion (λ c. c ≡ Ok tt) (skip_checks s epoch statuses) = all-hold (skip_checks s epoch statuses) is in
+    let each : AllByRecursion (λ c. c ≡ Ok tt) (skip_checks s epoch statuses) = all-good (skip_checks s epoch statuses) is in
     record {
       of_logs = of-council (λ c. AreStatuses c.logs (reports_of (signed_statuses statuses))) s kept (are-statuses s.keys epoch statuses are each.0);
       excludes = none-wins s.log.council (reports_of (signed_statuses statuses)) each.1.1.0;
@@ -76,7 +78,7 @@ can-skip s epoch statuses kept are is =
 
 skip-made : (s : CoreState) (epoch : ℕ) (statuses : List LogStatus) → skip_judged s epoch statuses ≡ Ok tt → skip_row s epoch statuses ≡ Ok (skip_reply s statuses)
 unfolding skip_judged skip_row
-skip-made s epoch statuses is = ap (λ c. given_by c (skip_reply s statuses)) is
+skip-made s epoch statuses is = ap (λ c. result_and c (Ok (skip_reply s statuses))) is
 
 abbrev refusal-of : Check → Reply → Answer
 refusal-of (Ok u) reply = Ok reply
@@ -86,7 +88,7 @@ pub skip-refused : (s : CoreState) (epoch : ℕ) (statuses : List LogStatus) (re
     → IsStep (Err refusal) s s (skip_row s epoch statuses)
 unfolding skip_judged skip_row
 skip-refused s epoch statuses refusal (inl wants) = (refl, inl wants)
-skip-refused s epoch statuses refusal (inr is) = (refl, inr (ap (λ c. given_by c (skip_reply s statuses)) is))
+skip-refused s epoch statuses refusal (inr is) = (refl, inr (ap (λ c. result_and c (Ok (skip_reply s statuses))) is))
 
 -- what the log is behind a skip
 abbrev log-skipped : CoreState → List LogStatus → LogParts

@@ -1,13 +1,8 @@
 -- Whatever a log is asked, it stays the log with its number, of the same council.
 use Rattle.std.proofs.Common.{◌≡◌, ℕ, ◌+◌, List, [], ◌∷◌, refl, subst, Bool, true, false, cond, Option, Some, None}
-use Rattle.std.specs.Prelude.{Ok, Err, Result, map}
-use Rattle.std.specs.Option.{option_map}
+use Rattle.std.specs.Prelude.{Ok, map}
 use Rattle.ar_cert.specs.Changes.{Change}
-use Rattle.ar_council.specs.Values.{value_of_roots}
-use Rattle.ar_message.specs.Messages.{message_in}
 use Rattle.ar_message.specs.declared.lists.LogStatus.{LogStatus}
-use Rattle.ar_message.specs.declared.message.Message.{Message}
-use Rattle.ar_message.specs.declared.message.Message.TheVariants as messages
 use Rattle.lms_tree.specs.declared.public_key.LmsPublic.{LmsPublic}
 use Rattle.party_keys.specs.Learning.{Announced}
 use Rattle.vote_quorum.specs.declared.value.Value.{Value}
@@ -19,10 +14,10 @@ use Rattle.epoch_log.specs.declared.entries.Closing.{Closing}
 use Rattle.epoch_log.specs.declared.entries.Closing.TheVariants as closings
 use Rattle.epoch_log.specs.declared.entries.Newest.{Newest}
 use Rattle.epoch_log.specs.declared.entries.Voted.{Voted}
-use Rattle.ar_council.specs.Seen.{seen_of}
+use Rattle.party_keys.specs.Seen.{seen_of}
 use Rattle.ar_council.specs.Values.{status_claim, vote_claim}
 use Rattle.ar_statement.specs.declared.text.SeenText.{SeenText}
-use Rattle.party_keys.specs.Seen.{log_party}
+use Rattle.ar_statement.specs.Claims.{log_party}
 use Rattle.log_core.specs.Balloted.{ballot_checks, ballot_reply, ballot_row}
 use Rattle.log_sending.specs.Checks.{Check}
 use Rattle.log_core.specs.Steps.{given}
@@ -33,12 +28,13 @@ use Rattle.log_core.specs.Passing.{passing_checks, passing_reply, passing_row}
 use Rattle.log_core.specs.Proposed.{Proposal, proposed_checks, proposed_reply, proposed_row}
 use Rattle.log_core.specs.Proposing.{proposal, proposed_value, proposing_checks, proposing_reply, proposing_row}
 use Rattle.log_core.specs.Rolling.{rolling_checks, rolling_reply, rolling_row}
-use Rattle.log_core.specs.Row.{message_row, read_row, row}
+use Rattle.log_core.specs.Row.{row}
 use Rattle.log_core.specs.Skipped.{signed_statuses, skip_checks, skip_reply, skip_row}
-use Rattle.log_core.specs.State.{Answer, CoreState, Input, Reply, passes, proposes, rolls, takes}
+use Rattle.log_core.specs.State.{Answer, CoreState, Input, Reply}
 use Rattle.log_core.specs.Stated.{status_checks, status_reply, status_row}
 use Rattle.log_sending.specs.Queued.{is_queued}
 use Rattle.log_core.specs.Submit.{queueing, submit_checks, submit_reply, submit_row}
+use Rattle.log_core.proofs.EachRow.{row-gives}
 use Rattle.log_core.proofs.Passed.{passed}
 
 -- one is the same log as another: its number is, and its council
@@ -166,32 +162,16 @@ roll_note-stays : (s : CoreState) (a : Announced) → StaysBy s (roll_note_row s
 unfolding roll_note_row
 roll_note-stays s a = given-stays s (roll_note_checks s a) (roll_note_reply s a) (refl, refl)
 
-message-stays : (s : CoreState) (m : Message) → StaysBy s (message_row s m)
-message-stays s (messages.EndorseAsk owner cert) reply answer = absurd cc
-message-stays s (messages.Endorsed owner authority certificate signature) reply answer = absurd cc
-message-stays s (messages.Submit change) reply answer = submit-stays s change reply answer
-message-stays s (messages.Propose log epoch base root changes signature) reply answer =
-    proposed-stays s (record { log = log; epoch = epoch; value = value_of_roots (base, root); changes = changes; signature = signature }) reply answer
-message-stays s (messages.Ballot log epoch base root signature) reply answer = ballot-stays s log epoch (value_of_roots (base, root)) signature reply answer
-message-stays s (messages.StatusNote log epoch value signature) reply answer = status-stays s log epoch (option_map value_of_roots value) signature reply answer
-message-stays s (messages.Decision epoch base root changes votes) reply answer =
-    decision-stays s (record { epoch = epoch; value = value_of_roots (base, root); changes = changes; votes = votes }) reply answer
-message-stays s (messages.SkipNote epoch statuses) reply answer = skip-stays s epoch statuses reply answer
-message-stays s (messages.ConfirmAsk client name first second) reply answer =
-    confirm-stays s (record { client = client; name = name; first = first; second = second }) reply answer
-message-stays s (messages.LogConfirmed part) reply answer = absurd cc
-message-stays s (messages.HalfConfirmed part first_signature) reply answer = absurd cc
-message-stays s (messages.Confirmation client epoch name root body log log_signature first first_signature second second_signature) reply answer = absurd cc
-message-stays s (messages.RollNote party generation key signature) reply answer =
-    roll_note-stays s (record { party = party; generation = generation; key = key; signature = signature }) reply answer
-
-read-stays : (s : CoreState) (read : Result Message ℕ) → StaysBy s (read_row s read)
-read-stays s (Ok m) reply answer = message-stays s m reply answer
-read-stays s (Err place) reply answer = absurd cc
-
 pub row-stays : (s : CoreState) (input : Input) → StaysBy s (row s input)
-unfolding row
-row-stays s (takes bytes) reply answer = read-stays s (message_in bytes) reply answer
-row-stays s proposes reply answer = proposing-stays s reply answer
-row-stays s passes reply answer = passing-stays s reply answer
-row-stays s (rolls key) reply answer = rolling-stays s key reply answer
+row-stays s input = row-gives (Stays s) s (record {
+  submit = submit-stays s;
+  proposed = proposed-stays s;
+  ballot = ballot-stays s;
+  status = status-stays s;
+  decision = decision-stays s;
+  skip = skip-stays s;
+  confirm = confirm-stays s;
+  roll_note = roll_note-stays s;
+  proposing = proposing-stays s;
+  passing = passing-stays s;
+}) (rolling-stays s) input

@@ -1,6 +1,7 @@
 -- Steps that are their rows'.
 use Rattle.std.proofs.Common.{◌≡◌, ◌-◌, ◌==◌, Bool, true, false, not, cond, None, [], ◌∷◌, refl, sym, ap, ◌∙◌, subst, ◌⊎◌, inl, inr}
 use Rattle.std.specs.Prelude.{Result, Ok, Err, OnOk, OnErr}
+use Rattle.ar_base.specs.Chaining.{need}
 use Rattle.ar_base.specs.Gives.{GivesUnless}
 use Rattle.ar_council.proofs.Readable.{readable}
 use Rattle.ar_message.specs.declared.address.Address.TheVariants.{Logs}
@@ -14,7 +15,7 @@ use Rattle.key_roll.specs.declared.fault.RollFault.{RollFault}
 use Rattle.key_roll.specs.declared.fault.RollFault.TheVariants as roll_fault
 use Rattle.lms_tree.specs.PublicKey.{HasWidths}
 use Rattle.lms_tree.specs.declared.public_key.LmsPublic.{LmsPublic}
-use Rattle.party_keys.specs.Seen.{log_party}
+use Rattle.ar_statement.specs.Claims.{log_party}
 use Rattle.lms_tree.specs.PublicKey.{key_text}
 use Rattle.party_keys.specs.Learning.{Announced, learned}
 use Rattle.party_keys.specs.declared.fault.LearnFault.{LearnFault}
@@ -23,7 +24,6 @@ use Rattle.party_keys.specs.declared.learning.Learned.{Learned}
 use Rattle.epoch_log.specs.Calls.{after_roll, learning, rolling}
 use Rattle.epoch_log.specs.Log.{LogParts}
 use Rattle.log_core.specs.Steps.{IsStep, given, learn_refusal, noted, roll_refusal}
-use Rattle.log_sending.specs.Checks.{unless}
 use Rattle.log_core.specs.Rolling.{roll_draft, rolling_reply, rolling_row}
 use Rattle.log_sending.specs.Sending.{none_composed, sealed, with_draft}
 use Rattle.log_core.specs.Kept.{IsKeptCore}
@@ -49,10 +49,7 @@ note-kept s a how kept is = kept-roll_note s a (roll_note_reply s a) kept (note-
 pub note-refused : (s : CoreState) (a : Announced) (fault : LearnFault) → (fault ≡ learn_fault.Memory) ⊎ (learned s.keys a ≡ Err fault)
     → (learn_refusal fault a.party a.generation ≡ refusals.Memory) ⊎ (roll_note_row s a ≡ Err (learn_refusal fault a.party a.generation))
 note-refused s a fault (inl wants) = inl (ap (λ f. learn_refusal f a.party a.generation) wants)
-note-refused s a learn_fault.Unknown (inr is) = inr (note-row s a (Err learn_fault.Unknown) is)
-note-refused s a (learn_fault.Bad number) (inr is) = inr (note-row s a (Err (learn_fault.Bad number)) is)
-note-refused s a learn_fault.Other (inr is) = inr (note-row s a (Err learn_fault.Other) is)
-note-refused s a learn_fault.Memory (inr is) = inl refl
+note-refused s a fault (inr is) = inr (note-row s a (Err fault) is)
 
 -- ---- the step
 
@@ -86,9 +83,9 @@ note-step s a r new out is gives ok err =
 -- ---- the order to roll
 
 rolled-row : (s : CoreState) (key : LmsPublic) (last : Bool) → (s.log.past.signed.newest == 999) ≡ last
-    → rolling_row s key ≡ given (unless (not last) refusals.LastGeneration ∷ []) (rolling_reply s key)
+    → rolling_row s key ≡ given (need (not last) refusals.LastGeneration ∷ []) (rolling_reply s key)
 unfolding rolling_row
-rolled-row s key last is = ap (λ b. given (unless (not b) refusals.LastGeneration ∷ []) (rolling_reply s key)) is
+rolled-row s key last is = ap (λ b. given (need (not b) refusals.LastGeneration ∷ []) (rolling_reply s key)) is
 
 abbrev roll-due : CoreState → LmsPublic → Result DueParts RollFault
 roll-due s key = announced s.log.past.signed (log_party s.log.me) key

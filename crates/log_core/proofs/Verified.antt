@@ -1,30 +1,29 @@
 -- Signatures that were verified stay valid, and need not be verified again.
 use Rattle.std.proofs.Common.{◌≡◌, ℕ, List, [], ◌∷◌, ◌++◌, length, refl, sym, ap, ◌∙◌, subst, append_assoc, Bool, true, false, not, cond, nat_lt}
 use Rattle.std.specs.Prelude.{All, Ok, Err, Result, filter, flat_map, is_some, map, slice_get, bytes_eq}
+use Rattle.std.specs.Result.{result_and}
 use Rattle.std.specs.List.{AllByRecursion}
 use Rattle.std.proofs.lemmas.List.{append-nil}
 use Rattle.std.proofs.lemmas.Slice.Eq.{bytes_eq-Decides}
 use Rattle.std.proofs.lemmas.List.Elements.{All-contains, recursion_from_All}
 use Rattle.ar_base.specs.Gives.{with_error}
+use Rattle.ar_base.proofs.Giving.{no-error, order-first, order-then}
 use Rattle.lms_tree.specs.declared.public_key.LmsPublic.{LmsPublic}
 use Rattle.ar_cert.specs.Certificate.{digest_of}
 use Rattle.ar_cert.specs.Changes.{Change, Endorsement, IsChange, change_at, change_text}
 use Rattle.ar_cert.proofs.ChangeLaws.{change_again, one_text}
 use Rattle.ar_statement.specs.declared.party.Party.{Party}
-use Rattle.ar_statement.specs.Claims.{endorse}
+use Rattle.ar_statement.specs.Claims.{authority_party, endorse, log_party}
 use Rattle.party_keys.specs.Directory.{Directory, keys_of}
 use Rattle.party_keys.specs.Learning.{Announced, after_adopting, after_learning, with_next}
-use Rattle.party_keys.specs.Seen.{authority_party, log_party}
-use Rattle.party_keys.specs.Signatures.{answer_under, verified}
-use Rattle.party_keys.specs.Signers.{Claimed, all_known, all_signed, and_then, is_known, signed_as, signer_fault}
+use Rattle.party_keys.specs.Signatures.{IsVerified, answer_under, verified}
+use Rattle.party_keys.specs.Signers.{Claimed, all_known, all_signed, is_known, signed_as, signed_by, signer_fault}
 use Rattle.party_keys.specs.declared.fault.SignerFault.{SignerFault}
 use Rattle.party_keys.specs.declared.fault.SignerFault.TheVariants as signer_faults
-use Rattle.party_keys.specs.declared.fault.VerifyFault.{VerifyFault}
-use Rattle.party_keys.specs.declared.fault.VerifyFault.TheVariants as verify_fault
 use Rattle.party_keys.proofs.Growing.{lasts}
 use Rattle.ar_council.proofs.Lists.{found}
 use Rattle.log_core.specs.Kept.{IsKeptCore, WasQueued}
-use Rattle.log_sending.specs.Signers.{by_signers, endorsements_in, signed_by, signers}
+use Rattle.log_sending.specs.Signers.{endorsements_in, of_signers, signers}
 use Rattle.log_core.specs.State.{CoreState}
 use Rattle.log_sending.specs.Queued.{is_queued}
 
@@ -32,7 +31,7 @@ use Rattle.log_sending.specs.Queued.{is_queued}
 
 -- the signature of a claim is valid under the keys
 abbrev pub IsValidUnder : Directory → Claimed → Type 0
-IsValidUnder keys c = verified keys c.party c.text c.signature ≡ Ok tt
+IsValidUnder keys c = IsVerified keys c.party c.text c.signature
 
 pub verified-has : (keys : List LmsPublic) (party : Party) (text signature : List ℕ) → answer_under keys party text signature ≡ Ok tt → is_some (slice_get keys 0) ≡ true
 verified-has [] party text signature is = absurd cc
@@ -43,30 +42,17 @@ signer-known : (keys : Directory) (c : Claimed) → IsValidUnder keys c → is_k
 unfolding verified
 signer-known keys c is = verified-has (keys_of keys c.party) c.party c.text c.signature is
 
-accepted : (party : Party) (v : Result (Unit {0}) VerifyFault) → with_error (signer_fault party) v ≡ Ok tt → v ≡ Ok tt
-accepted party (Ok u) is = refl
-accepted party (Err (verify_fault.Unknown unknown)) is = absurd cc
-accepted party (Err (verify_fault.Bad k)) is = absurd cc
-
-both-answers : (one other : Result (Unit {0}) SignerFault) → and_then one other ≡ Ok tt → (one ≡ Ok tt) × (other ≡ Ok tt)
-both-answers (Ok u) other is = (refl, is)
-both-answers (Err fault) other is = absurd cc
-
-no-signer : (one other : Result (Unit {0}) SignerFault) → by_signers (and_then one other) ≡ Ok tt → other ≡ Ok tt
-no-signer (Ok u) (Ok v) is = refl
-no-signer (Ok u) (Err (signer_faults.Unknown party)) is = absurd cc
-no-signer (Ok u) (Err (signer_faults.Bad party k)) is = absurd cc
-no-signer (Err (signer_faults.Unknown party)) other is = absurd cc
-no-signer (Err (signer_faults.Bad party k)) other is = absurd cc
-
 each-signed : (keys : Directory) (claims : List Claimed) → all_signed keys claims ≡ Ok tt → AllByRecursion (IsValidUnder keys) claims
 each-signed keys [] is = tt
 each-signed keys (c ∷ claims) is =
-    let two = both-answers (signed_as keys c) (all_signed keys claims) is in
-    (accepted c.party (verified keys c.party c.text c.signature) two.0, each-signed keys claims two.1)
+    let here : signed_as keys c ≡ Ok tt = order-first (signed_as keys c) (all_signed keys claims) tt is in
+    let rest : all_signed keys claims ≡ Ok tt = order-then (signed_as keys c) (all_signed keys claims) tt is in
+    (no-error (signer_fault c.party) (verified keys c.party c.text c.signature) tt here, each-signed keys claims rest)
 
 pub each-valid : (keys : Directory) (claims : List Claimed) → signers keys claims ≡ Ok tt → AllByRecursion (IsValidUnder keys) claims
-each-valid keys claims is = each-signed keys claims (no-signer (all_known keys (map (λ c. c.party) claims)) (all_signed keys claims) is)
+each-valid keys claims is =
+    let known = all_known keys (map (λ c. c.party) claims) in
+    each-signed keys claims (order-then known (all_signed keys claims) tt (no-error of_signers (result_and known (all_signed keys claims)) tt is))
 
 -- ---- claims that are valid may be left out
 
@@ -82,21 +68,21 @@ known-without keys [] (c ∷ middle) back all =
 known-without keys (c ∷ front) middle back all =
     ap (λ rest. cond (is_known keys c.party) rest (Err (signer_faults.Unknown c.party))) (known-without keys front middle back all)
 
-signed-with : (keys : Directory) (c : Claimed) (rest : Result (Unit {0}) SignerFault) → IsValidUnder keys c → and_then (signed_as keys c) rest ≡ rest
-signed-with keys c rest is = ap (λ v. and_then (with_error (signer_fault c.party) v) rest) is
+signed-with : (keys : Directory) (c : Claimed) (rest : Result (Unit {0}) SignerFault) → IsValidUnder keys c → result_and (signed_as keys c) rest ≡ rest
+signed-with keys c rest is = ap (λ v. result_and (with_error (signer_fault c.party) v) rest) is
 
 signed-without : (keys : Directory) (front middle back : List Claimed) → AllByRecursion (IsValidUnder keys) middle
     → all_signed keys (front ++ (middle ++ back)) ≡ all_signed keys (front ++ back)
 signed-without keys [] [] back all = refl
 signed-without keys [] (c ∷ middle) back all = signed-with keys c (all_signed keys (middle ++ back)) all.0 ∙ signed-without keys [] middle back all.1
-signed-without keys (c ∷ front) middle back all = ap (λ rest. and_then (signed_as keys c) rest) (signed-without keys front middle back all)
+signed-without keys (c ∷ front) middle back all = ap (λ rest. result_and (signed_as keys c) rest) (signed-without keys front middle back all)
 
 without : (keys : Directory) (front middle back : List Claimed) → AllByRecursion (IsValidUnder keys) middle
     → signers keys (front ++ (middle ++ back)) ≡ signers keys (front ++ back)
 without keys front middle back all =
     let known = known-without keys front middle back all in
     let signed = signed-without keys front middle back all in
-    λ i. by_signers (and_then (known i) (signed i))
+    λ i. with_error of_signers (result_and (known i) (signed i))
 
 all-valid : (keys : Directory) (claims : List Claimed) → AllByRecursion (IsValidUnder keys) claims → signers keys claims ≡ Ok tt
 all-valid keys claims all = ap (λ l. signers keys l) (sym (append-nil claims)) ∙ without keys [] claims [] all

@@ -1,5 +1,6 @@
 -- A vote for another log's proposal is its row.
 use Rattle.std.proofs.Common.{◌≡◌, None, refl, sym, ap, ◌∙◌, subst, ◌⊎◌, inl, inr}
+use Rattle.std.specs.Result.{result_and}
 use Rattle.std.specs.Prelude.{All, IsOk, Result, Ok, Err, OnOk, OnErr}
 use Rattle.std.specs.List.{AllByRecursion}
 use Rattle.ar_cert.specs.Changes.{IsChange}
@@ -11,24 +12,26 @@ use Rattle.ar_message.specs.declared.unsigned.Unsigned.{Unsigned}
 use Rattle.ar_message.specs.Filling.{zeros}
 use Rattle.key_roll.specs.Book.{RollBook}
 use Rattle.key_roll.specs.Due.{DueParts}
-use Rattle.key_roll.specs.declared.fault.BookFault.{BookFault}
-use Rattle.key_roll.specs.declared.fault.BookFault.TheVariants as book_fault
-use Rattle.party_keys.specs.Seen.{log_party}
+use Rattle.ar_statement.specs.declared.fault.BookFault.{BookFault}
+use Rattle.ar_statement.specs.declared.fault.BookFault.TheVariants as book_fault
+use Rattle.ar_statement.specs.Claims.{log_party}
 use Rattle.epoch_log.proofs.Leaves.{enters}
 use Rattle.epoch_log.proofs.Texts.{plain-vote}
-use Rattle.epoch_log.specs.Answers.{IsOpenTo, voted}
-use Rattle.epoch_log.specs.Calls.{IsProposed, MayVote, after_vote, own_vote_text}
+use Rattle.epoch_log.specs.Answers.{voted}
+use Rattle.epoch_log.specs.Calls.{IsProposed, after_vote, own_vote_text, IsOpenTo}
 use Rattle.epoch_log.specs.Log.{LogParts, moved}
 use Rattle.epoch_log.specs.State.{epoch_of}
-use Rattle.log_core.specs.Steps.{IsStep, given_by}
-use Rattle.log_sending.specs.Checks.{book_refusal, first_refusal, turn_of}
+use Rattle.log_core.specs.Steps.{IsStep}
+use Rattle.log_sending.specs.Checks.{book_refusal, turn_of}
+use Rattle.ar_base.specs.FirstFailing.{first_error}
 use Rattle.log_core.specs.Kept.{IsKeptCore}
 use Rattle.log_core.specs.Proposed.{Proposal, ballot_draft, proposed_checks, proposed_judged, proposed_reply, proposed_row}
 use Rattle.log_sending.specs.Sending.{Composed, none_composed, sealed, with_draft}
 use Rattle.log_core.specs.State.{CoreState}
 use Rattle.log_sending.specs.declared.refusal.LogRefusal.{LogRefusal}
 use Rattle.log_sending.specs.declared.refusal.LogRefusal.TheVariants as refusals
-use Rattle.log_sending.proofs.Checked.{all-hold, holds}
+use Rattle.log_sending.proofs.Checked.{holds}
+use Rattle.ar_base.proofs.Failing.{all-good}
 use Rattle.log_core.proofs.KeptRows.{kept-proposed, proposed-is, proposed-may}
 use Rattle.log_sending.proofs.Sealing.{sealed-one}
 use Rattle.log_core.proofs.Stepping.{core-with, log-in}
@@ -38,21 +41,21 @@ use Rattle.log_core.proofs.Replies.{made}
 -- ---- what is judged
 
 judged-holds : (s : CoreState) (p : Proposal) (composed : Composed) → proposed_judged s p ≡ Ok composed
-    → (first_refusal (proposed_checks s p) ≡ Ok tt) × (with_draft none_composed (ballot_draft s p.value) ≡ composed)
+    → (first_error (proposed_checks s p) ≡ Ok tt) × (with_draft none_composed (ballot_draft s p.value) ≡ composed)
 unfolding proposed_judged
-judged-holds s p composed is = given-holds (first_refusal (proposed_checks s p)) (with_draft none_composed (ballot_draft s p.value)) composed is
+judged-holds s p composed is = given-holds (first_error (proposed_checks s p)) (with_draft none_composed (ballot_draft s p.value)) composed is
 
 each-holds : (s : CoreState) (p : Proposal) (composed : Composed) → proposed_judged s p ≡ Ok composed → AllByRecursion (λ c. c ≡ Ok tt) (proposed_checks s p)
-each-holds s p composed is = all-hold (proposed_checks s p) (judged-holds s p composed is).0
+each-holds s p composed is = all-good (proposed_checks s p) (judged-holds s p composed is).0
 
 judged-row : (s : CoreState) (p : Proposal) (composed : Composed) → proposed_judged s p ≡ Ok composed → proposed_row s p ≡ Ok (proposed_reply s p)
 unfolding proposed_row
-judged-row s p composed is = ap (λ c. given_by c (proposed_reply s p)) (judged-holds s p composed is).0
+judged-row s p composed is = ap (λ c. result_and c (Ok (proposed_reply s p))) (judged-holds s p composed is).0
 
 judged-refused : (s : CoreState) (p : Proposal) (refusal : LogRefusal) → proposed_judged s p ≡ Err refusal → proposed_row s p ≡ Err refusal
 unfolding proposed_row proposed_judged
 judged-refused s p refusal is =
-    given-refused (first_refusal (proposed_checks s p)) (with_draft none_composed (ballot_draft s p.value)) (proposed_reply s p) refusal is
+    given-refused (first_error (proposed_checks s p)) (with_draft none_composed (ballot_draft s p.value)) (proposed_reply s p) refusal is
 
 pub vote-refused : (s : CoreState) (p : Proposal) (refusal : LogRefusal) → (refusal ≡ refusals.Memory) ⊎ (proposed_judged s p ≡ Err refusal)
     → IsStep (Err refusal) s s (proposed_row s p)
@@ -64,13 +67,7 @@ vote-refused s p refusal (inr is) = (refl, inr (judged-refused s p refusal is))
 pub may-vote : (s : CoreState) (p : Proposal) (composed : Composed) → IsValue p.value → All IsChange p.changes → proposed_judged s p ≡ Ok composed
     → IsOpenTo s.log p.value p.changes
 may-vote s p composed digests are is =
-    let may : MayVote s.log p.value p.changes = proposed-may s p digests are (each-holds s p composed is) in
-    record {
-      not_voted = may.not_voted;
-      not_stated = may.not_stated;
-      from_base = may.from_base;
-      reaches = record { table = may.applies.table; applied = may.applies.applied; is_root = may.applies.is_root };
-    }
+    (proposed-may s p digests are (each-holds s p composed is)).open_to
 
 pub may-propose : (s : CoreState) (p : Proposal) (composed : Composed) → IsKeptCore s → proposed_judged s p ≡ Ok composed → IsProposed s.log p.log p.changes
 may-propose s p composed kept is = proposed-is s p kept (each-holds s p composed is)

@@ -1,14 +1,16 @@
 -- The row of Ballot: a ballot is counted by the log whose turn it is.
 use Rattle.std.specs.Prelude.{ℕ, List, [], ◌∷◌}
-use Rattle.party_keys.specs.Seen.{log_party}
+use Rattle.ar_statement.specs.Claims.{log_party}
 use Rattle.vote_quorum.specs.declared.value.Value.{Value}
 use Rattle.ar_council.specs.Values.{vote_claim}
 use Rattle.epoch_log.specs.Calls.{after_ballot}
 use Rattle.epoch_log.specs.State.{epoch_of}
-use Rattle.log_sending.specs.Checks.{Check, first_refusal, in_epoch, in_turn}
+use Rattle.log_sending.specs.Checks.{Check, in_epoch, in_turn}
+use Rattle.ar_base.specs.FirstFailing.{first_error}
 use Rattle.log_core.specs.Steps.{given}
 use Rattle.log_core.specs.Replies.{closing_reply}
-use Rattle.log_sending.specs.Signers.{signed_by, signers}
+use Rattle.log_sending.specs.Signers.{signers}
+use Rattle.party_keys.specs.Signers.{signed_by}
 use Rattle.log_core.specs.State.{Answer, CoreState, Reply}
 
 -- the log has signed; it is of this log's epoch, which is its turn
@@ -28,4 +30,4 @@ ballot_row s log epoch value signature = given (ballot_checks s log epoch value 
 
 -- the refusal of a ballot, if there is one
 unfoldable pub ballot_judged : CoreState → ℕ → ℕ → Value → List ℕ → Check
-ballot_judged s log epoch value signature = first_refusal (ballot_checks s log epoch value signature)
+ballot_judged s log epoch value signature = first_error (ballot_checks s log epoch value signature)

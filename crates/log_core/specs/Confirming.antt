@@ -5,11 +5,10 @@ use Rattle.ar_message.specs.declared.address.Address.TheVariants.{One}
 use Rattle.ar_message.specs.declared.message.Confirming.{Confirming}
 use Rattle.ar_message.specs.declared.message.Message.TheVariants.{LogConfirmed}
 use Rattle.ar_message.specs.Filling.{nothing, zeros}
-use Rattle.party_keys.specs.Seen.{authority_party}
 use Rattle.ar_council.specs.Values.{vote_claim}
 use Rattle.epoch_log.specs.Calls.{after_confirm, confirmation_text}
 use Rattle.epoch_log.specs.State.{LogState, newest_value, table_of}
-use Rattle.ar_statement.specs.Claims.{text_of}
+use Rattle.ar_statement.specs.Claims.{authority_party, text_of}
 use Rattle.epoch_log.specs.declared.entries.Newest.{Newest}
 use Rattle.log_sending.specs.Checks.{Check, has_decision, leaves_left}
 use Rattle.log_core.specs.Steps.{given}

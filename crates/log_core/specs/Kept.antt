@@ -5,9 +5,10 @@ use Rattle.party_keys.specs.Directory.{Directory}
 use Rattle.ar_council.specs.Council.{council_of}
 use Rattle.epoch_log.specs.Right.{SawEndorsements}
 use Rattle.epoch_log.specs.State.{IsKept}
+use Rattle.log_sending.specs.Checks.{most_queued}
 use Rattle.log_sending.specs.Sendable.{CanBeSent}
 use Rattle.log_sending.specs.Signers.{endorsements_in, signers}
-use Rattle.log_core.specs.State.{CoreState, most_queued}
+use Rattle.log_core.specs.State.{CoreState}
 
 -- a change that was queued: it has a text, and its endorsements are valid under the keys that the log knows
 pub record WasQueued (keys : Directory) (change : Change) : Type 0 where

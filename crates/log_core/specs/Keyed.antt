@@ -1,5 +1,6 @@
 -- A log with its keys, and its answers with its signatures in them.
 use Rattle.std.specs.Prelude.{◌≡◌, ◌⊎◌, List, [], ◌∷◌, ◌++◌, Result, Ok, Err}
+use Rattle.std.specs.Result.{result_map_both}
 use Rattle.ar_message.specs.Filling.{filled}
 use Rattle.ar_message.specs.declared.sent.Sent.{Sent}
 use Rattle.key_roll.specs.Ring.{AreKeysOf, IsNext, RingParts}
@@ -48,8 +49,7 @@ AreBehind (rolls key) keys later = (next : KeyParts) → IsNext keys next → la
 
 -- the answer with the log's signatures in what it sends
 abbrev pub signed_answer : List KeyParts → Answer → Result (CoreState × Sent) LogRefusal
-signed_answer keys (Ok reply) = Ok (reply.after, filled keys reply.unsigned)
-signed_answer keys (Err refusal) = Err refusal
+signed_answer keys answer = result_map_both (λ reply. (reply.after, filled keys reply.unsigned)) (λ refusal. refusal) answer
 
 -- A call answered as the row does, signed with these keys, and the log stands where the row says; or it refused so, or wanted
 -- memory, and the log stands as before.

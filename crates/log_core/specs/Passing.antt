@@ -4,11 +4,12 @@ use Rattle.std.specs.Option.{option_map}
 use Rattle.ar_message.specs.declared.address.Address.TheVariants.{One}
 use Rattle.ar_message.specs.declared.message.Message.TheVariants.{StatusNote}
 use Rattle.ar_message.specs.Filling.{zeros}
-use Rattle.party_keys.specs.Seen.{log_party}
+use Rattle.ar_statement.specs.Claims.{log_party}
 use Rattle.ar_council.specs.Values.{roots_of}
 use Rattle.epoch_log.specs.Calls.{after_state, is_turn, own_status_text, own_value}
 use Rattle.epoch_log.specs.State.{epoch_of}
-use Rattle.log_sending.specs.Checks.{Check, first_refusal, leaves_left, not_stated, turn_of}
+use Rattle.log_sending.specs.Checks.{Check, leaves_left, not_stated, turn_of}
+use Rattle.ar_base.specs.FirstFailing.{first_error}
 use Rattle.log_core.specs.Steps.{given}
 use Rattle.log_core.specs.Replies.{closing_reply}
 use Rattle.log_sending.specs.Sending.{Draft, draft_with}
@@ -37,4 +38,4 @@ passing_row s = given (passing_checks s) (passing_reply s)
 
 -- the refusal of the order to pass, if there is one
 unfoldable pub passing_judged : CoreState → Check
-passing_judged s = first_refusal (passing_checks s)
+passing_judged s = first_error (passing_checks s)

@@ -4,9 +4,8 @@ use Rattle.ar_cert.specs.Changes.{Change}
 use Rattle.ar_message.specs.declared.address.Address.TheVariants.{One}
 use Rattle.ar_message.specs.declared.message.Message.TheVariants.{Ballot}
 use Rattle.ar_message.specs.Filling.{zeros}
-use Rattle.ar_statement.specs.Claims.{propose}
-use Rattle.party_keys.specs.Seen.{log_party}
-use Rattle.party_keys.specs.Signers.{Claimed}
+use Rattle.ar_statement.specs.Claims.{log_party, propose}
+use Rattle.party_keys.specs.Signers.{Claimed, signed_by}
 use Rattle.vote_quorum.specs.declared.value.Value.{Value}
 use Rattle.epoch_log.specs.Calls.{after_vote, own_vote_text}
 use Rattle.epoch_log.specs.State.{LogState, epoch_of}
@@ -15,7 +14,7 @@ use Rattle.log_sending.specs.Leading.{leading_checks}
 use Rattle.log_core.specs.Steps.{given}
 use Rattle.log_core.specs.Replies.{open_reply}
 use Rattle.log_sending.specs.Sending.{Composed, Draft, draft_with, none_composed, with_draft}
-use Rattle.log_sending.specs.Signers.{endorsements_in, signed_by, signers}
+use Rattle.log_sending.specs.Signers.{endorsements_in, signers}
 use Rattle.log_core.specs.State.{Answer, CoreState, Reply}
 use Rattle.log_sending.specs.declared.refusal.LogRefusal.{LogRefusal}
 

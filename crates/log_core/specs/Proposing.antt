@@ -10,7 +10,8 @@ use Rattle.domain_table.specs.Applying.{apply, ripen}
 use Rattle.domain_table.specs.Tree.{root_of}
 use Rattle.epoch_log.specs.Calls.{after_propose, proposal_texts, propose_claim}
 use Rattle.epoch_log.specs.State.{epoch_of, table_of}
-use Rattle.log_sending.specs.Checks.{Check, first_refusal, in_turn, leaves_left, not_stated, not_voted}
+use Rattle.log_sending.specs.Checks.{Check, in_turn, leaves_left, not_stated, not_voted}
+use Rattle.ar_base.specs.FirstFailing.{first_error}
 use Rattle.log_core.specs.Steps.{given}
 use Rattle.log_core.specs.Replies.{closing_reply}
 use Rattle.log_sending.specs.Sending.{Draft, draft_with}
@@ -54,7 +55,7 @@ proposing_row s = given (proposing_checks s) (proposing_reply s)
 
 -- whether it is the log's turn, as far as its vote and its status are known
 unfoldable pub turn_judged : CoreState → Check
-turn_judged s = first_refusal (turn_checks s)
+turn_judged s = first_error (turn_checks s)
 
 -- what the log proposes where it may, or the refusal of the order
 unfoldable pub proposing_judged : CoreState → Result (Value × List Change) LogRefusal

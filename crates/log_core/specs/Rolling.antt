@@ -7,7 +7,7 @@ use Rattle.ar_message.specs.declared.message.Message.TheVariants.{RollNote}
 use Rattle.ar_message.specs.Filling.{zeros}
 use Rattle.key_roll.specs.Entry.{roll_text}
 use Rattle.party_keys.specs.Learning.{after_adopting}
-use Rattle.party_keys.specs.Seen.{log_party}
+use Rattle.ar_statement.specs.Claims.{log_party}
 use Rattle.epoch_log.specs.Calls.{after_roll}
 use Rattle.log_sending.specs.Checks.{Check, has_next}
 use Rattle.log_core.specs.Steps.{given}

@@ -3,7 +3,8 @@ use Rattle.std.specs.Prelude.{ℕ, List, [], ◌∷◌, map, None}
 use Rattle.ar_message.specs.declared.lists.LogStatus.{LogStatus}
 use Rattle.epoch_log.specs.Calls.{SignedStatus, after_skip}
 use Rattle.epoch_log.specs.State.{reports_of}
-use Rattle.log_sending.specs.Checks.{Check, first_refusal, in_epoch, none_can_win}
+use Rattle.log_sending.specs.Checks.{Check, in_epoch, none_can_win}
+use Rattle.ar_base.specs.FirstFailing.{first_error}
 use Rattle.log_core.specs.Steps.{ended_epoch, given}
 use Rattle.log_core.specs.Replies.{core_after}
 use Rattle.log_sending.specs.Sending.{unsigned_of}
@@ -34,4 +35,4 @@ skip_row s epoch statuses = given (skip_checks s epoch statuses) (skip_reply s s
 
 -- what the checks of the row say together
 unfoldable pub skip_judged : CoreState → ℕ → List LogStatus → Check
-skip_judged s epoch statuses = first_refusal (skip_checks s epoch statuses)
+skip_judged s epoch statuses = first_error (skip_checks s epoch statuses)

@@ -35,10 +35,6 @@ pub record Reply : Type 0 where
 abbrev pub Answer : Type 0
 Answer = Result Reply LogRefusal
 
--- the most changes that are queued
-abbrev pub most_queued : ℕ
-most_queued = 256
-
 -- the most messages that a step sends: a proposal, and the decision where the log's own vote is a quorum
 abbrev pub most_sent : ℕ
 most_sent = 2

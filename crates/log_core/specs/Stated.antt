@@ -1,14 +1,16 @@
 -- The row of StatusNote: a status is counted by the log whose turn is the next epoch.
 use Rattle.std.specs.Prelude.{ℕ, ◌+◌, List, [], ◌∷◌, Option, Some}
-use Rattle.party_keys.specs.Seen.{log_party}
+use Rattle.ar_statement.specs.Claims.{log_party}
 use Rattle.vote_quorum.specs.declared.value.Value.{Value}
 use Rattle.ar_council.specs.Values.{status_claim}
 use Rattle.epoch_log.specs.Calls.{after_status_seen}
 use Rattle.epoch_log.specs.State.{epoch_of}
-use Rattle.log_sending.specs.Checks.{Check, first_refusal, in_epoch, in_turn}
+use Rattle.log_sending.specs.Checks.{Check, in_epoch, in_turn}
+use Rattle.ar_base.specs.FirstFailing.{first_error}
 use Rattle.log_core.specs.Steps.{given}
 use Rattle.log_core.specs.Replies.{closing_reply}
-use Rattle.log_sending.specs.Signers.{signed_by, signers}
+use Rattle.log_sending.specs.Signers.{signers}
+use Rattle.party_keys.specs.Signers.{signed_by}
 use Rattle.log_core.specs.State.{Answer, CoreState, Reply}
 
 -- the log has signed; it is of this log's epoch, behind which is its turn
@@ -28,4 +30,4 @@ status_row s log epoch value signature = given (status_checks s log epoch value 
 
 -- the refusal of a status, if there is one
 unfoldable pub status_judged : CoreState → ℕ → ℕ → Option Value → List ℕ → Check
-status_judged s log epoch value signature = first_refusal (status_checks s log epoch value signature)
+status_judged s log epoch value signature = first_error (status_checks s log epoch value signature)

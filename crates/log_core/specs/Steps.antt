@@ -1,5 +1,7 @@
 -- What it is that a step of a log is its row's.
-use Rattle.std.specs.Prelude.{◌≡◌, ◌⊎◌, ℕ, List, Option, Some, None, Result, Ok, Err, if◌then◌else◌}
+use Rattle.std.specs.Prelude.{ℕ, List, Option, Some, None, Result, Ok, if◌then◌else◌}
+use Rattle.std.specs.Result.{result_and, result_map_both}
+use Rattle.ar_base.specs.Gives.{StepsUnless}
 use Rattle.ar_message.specs.declared.unsigned.Unsigned.{Unsigned}
 use Rattle.ar_message.specs.Filling.{nothing}
 use Rattle.ar_statement.specs.declared.party.Party.{Party}
@@ -10,25 +12,20 @@ use Rattle.party_keys.specs.declared.fault.LearnFault.TheVariants as learn_fault
 use Rattle.party_keys.specs.declared.learning.Learned.{Learned}
 use Rattle.epoch_log.specs.Ending.{may_end}
 use Rattle.epoch_log.specs.State.{LogState, epoch_of}
-use Rattle.log_sending.specs.Checks.{Check, first_refusal}
+use Rattle.log_sending.specs.Checks.{Check}
+use Rattle.ar_base.specs.FirstFailing.{first_error}
 use Rattle.log_core.specs.State.{Answer, CoreState}
 use Rattle.log_sending.specs.declared.refusal.LogRefusal.{LogRefusal}
 use Rattle.log_sending.specs.declared.refusal.LogRefusal.TheVariants as refusals
 
--- the value where a check holds, or its refusal
-abbrev pub given_by : {A : Type 0} → Check → A → Result A LogRefusal
-given_by (Ok _) value = Ok value
-given_by (Err refusal) value = Err refusal
-
 -- the value where no check refuses, or the refusal of the first that does; of a row, what the step makes
 abbrev pub given : {A : Type 0} → List Check → A → Result A LogRefusal
-given checks value = given_by (first_refusal checks) value
+given checks value = result_and (first_error checks) (Ok value)
 
 -- The row answers with what is sent and with the log as it is behind the step. After an error the log is as it was, and it
 -- is the row's refusal, or want of memory.
 abbrev pub IsStep : Result Unsigned LogRefusal → CoreState → CoreState → Answer → Type 0
-IsStep (Ok unsigned) before after answer = answer ≡ Ok (record { unsigned = unsigned; after = after })
-IsStep (Err refusal) before after answer = (after ≡ before) × ((refusal ≡ refusals.Memory) ⊎ (answer ≡ Err refusal))
+IsStep = StepsUnless refusals.Memory (λ after unsigned. record { unsigned = unsigned; after = after })
 
 -- the epoch that ends, with the root with which it is decided, if it is, unless it is the last that a statement can name
 abbrev pub ended_epoch : LogState → Option (List ℕ) → Option (ℕ × Option (List ℕ))
@@ -43,8 +40,7 @@ learn_refusal learn_fault.Memory party generation = refusals.Memory
 
 -- what is answered to a note of a Roll, by what was learnt of it
 abbrev pub noted : Result Learned LearnFault → Party → ℕ → Result Unsigned LogRefusal
-noted (Ok how) party generation = Ok nothing
-noted (Err fault) party generation = Err (learn_refusal fault party generation)
+noted answer party generation = result_map_both (λ how. nothing) (λ fault. learn_refusal fault party generation) answer
 
 -- the refusal of a key that the log does not go on to
 abbrev pub roll_refusal : RollFault → LogRefusal

@@ -1,10 +1,9 @@
 -- The row of Submit: a change is queued.
-use Rattle.std.specs.Prelude.{Bool, ◌++◌, List, [], ◌∷◌, Result, Ok, Err, if◌then◌else◌}
+use Rattle.std.specs.Prelude.{Bool, ◌++◌, List, [], ◌∷◌, Result, Ok, if◌then◌else◌}
+use Rattle.ar_base.specs.Gives.{with_error}
 use Rattle.ar_message.specs.Filling.{nothing}
 use Rattle.ar_cert.specs.Changes.{Change}
-use Rattle.cert_policy.specs.declared.manner.Manner.{Manner}
-use Rattle.domain_table.specs.declared.refusal.ChangeRefusal.{ChangeRefusal}
-use Rattle.domain_table.specs.Applying.{judge}
+use Rattle.domain_table.specs.Applying.{answer_of, judge}
 use Rattle.epoch_log.specs.Calls.{after_endorsed}
 use Rattle.epoch_log.specs.State.{epoch_of, table_of}
 use Rattle.log_sending.specs.Checks.{Check, has_place}
@@ -16,20 +15,15 @@ use Rattle.log_core.specs.Replies.{core_after}
 use Rattle.log_sending.specs.declared.refusal.LogRefusal.{LogRefusal}
 use Rattle.log_sending.specs.declared.refusal.LogRefusal.TheVariants as refusals
 
--- the change is taken, by how it is judged; it is the only one, with the index 0
-abbrev pub taken_alone : Result Manner ChangeRefusal → Check
-taken_alone (Ok manner) = Ok tt
-taken_alone (Err refusal) = Err (refusals.BadChange 0 refusal)
-
 -- there is a place for the change, or it is queued already
 abbrev pub can_queue : List Change → Change → Check
 can_queue queue change = if is_queued queue change then Ok tt else has_place queue
 
--- its endorsers have signed, the table accepts it in the epoch, and there is a place for it
+-- its endorsers have signed, the table accepts it in the epoch, as the only change, and there is a place for it
 abbrev pub submit_checks : CoreState → Change → List Check
 submit_checks s change =
     signers s.keys (endorsements_in change)
-    ∷ taken_alone (judge (table_of s.log) (epoch_of s.log) change)
+    ∷ with_error (refusals.BadChange 0) (answer_of (judge (table_of s.log) (epoch_of s.log) change))
     ∷ can_queue s.queue change
     ∷ []
 

@@ -5,7 +5,7 @@ ghost use Rattle.ar_base.specs.Gives.{GivesUnless};
 ghost use Rattle.ar_cert.specs.Changes.{IsChange};
 ghost use Rattle.ar_message.specs.Lists.{AreChanges, AreVotes};
 ghost use Rattle.epoch_log.specs.Telling.{votes_in};
-ghost use Rattle.log_sending.specs.Checks.{first_refusal};
+ghost use Rattle.ar_base.specs.FirstFailing.{first_error};
 ghost use Rattle.log_sending.specs.Closings.{still_wanted};
 ghost use Rattle.log_core.specs.Decided.{decision_checks, decision_row, decision_signers, plain_votes};
 ghost use Rattle.log_sending.specs.Signers.{signers};
@@ -73,7 +73,7 @@ impl LogCore {
     ) -> Result<(), LogRefusal>
         requires { All IsChange changes.now }
         ensures { GivesUnless refusals.Memory (λ unit. unit) result
-            (first_refusal (decision_checks self.now (record { epoch = epoch; value = value.now; changes = changes.now; votes = votes.now }))) }
+            (first_error (decision_checks self.now (record { epoch = epoch; value = value.now; changes = changes.now; votes = votes.now }))) }
     {
         self.told();
         self.have_signed_decision(alloc, epoch, value, changes, votes)?;

@@ -1,4 +1,4 @@
-ghost use Rattle.std.specs.Prelude.{◌≡◌, ◌≤◌, ◌<◌, ◌++◌, ◌∷◌, ◌^◌, [], length, IfOk, OnOk, OnErr};
+ghost use Rattle.std.specs.Prelude.{◌≡◌, ◌≤◌, ◌<◌, ◌++◌, ◌∷◌, [], length, IfOk, OnOk, OnErr};
 ghost use Rattle.ar_council.specs.Council.{council_of};
 ghost use Rattle.epoch_log.specs.Calls.{fresh};
 ghost use Rattle.epoch_log.specs.Honest.{HonestLog};
@@ -7,7 +7,7 @@ ghost use Rattle.epoch_log.specs.State.{epoch_of};
 ghost use Rattle.key_roll.specs.Ring.{IsNext, ring_signature_len};
 ghost use Rattle.lms_tree.specs.Key.{public_of};
 ghost use Rattle.lms_tree.specs.KeyParts.{KeyParts};
-ghost use Rattle.lms_tree.specs.LmsKind.{height_of};
+ghost use Rattle.lms_tree.specs.LmsKind.{leaves_of};
 ghost use Rattle.log_core.specs.Inputs.{input_of};
 ghost use Rattle.log_core.specs.Keyed.{AreBehind, IsOwn, IsPlain, IsRingOf, SendsBy};
 ghost use Rattle.log_core.specs.Rolling.{rolling_row};
@@ -76,7 +76,7 @@ impl Log {
     ) -> Result<Log, AllocError>
         ensures { IfOk result (λ made. made ≡ record {
           core = record {
-            log = fresh number (council_of directory) (2 ^ height_of key.lms);
+            log = fresh number (council_of directory) (leaves_of key.lms);
             keys = directory;
             queue = [];
             signature_len = ring_signature_len key;

@@ -12,9 +12,9 @@ use crate::LogRefusal;
 use ar_cert::Change;
 use ar_message::Unsigned;
 use ar_statement::Party;
-use epoch_log::{EpochLog, LAST_EPOCH, Record};
-use lms_tree::LmsPublic;
-use party_keys::{Directory, LearnFault, Learned};
+use ar_statement::fields::LAST_EPOCH;
+use epoch_log::{EpochLog, Record};
+use party_keys::{Announced, Directory, LearnFault, Learned};
 use std::alloc::Global;
 use std::marker::Model;
 
@@ -137,14 +137,11 @@ impl LogCore {
     pub(crate) fn roll_note(
         &mut self,
         alloc: Global,
-        party: Party,
-        generation: u32,
-        key: LmsPublic,
-        signature: &[u8],
+        announced: &Announced,
     ) -> Result<Unsigned, LogRefusal>
-        ensures { IsStep result self.old self.new (roll_note_row self.old (record { party = party; generation = generation; key = key; signature = signature.now })) }
+        ensures { IsStep result self.old self.new (roll_note_row self.old announced.now) }
     {
-        let learned = self.log.learn(alloc, party, generation, key, signature);
-        noted(alloc, learned, party, generation)
+        let learned = self.log.learn(alloc, announced);
+        noted(alloc, learned, announced.party, announced.generation)
     }
 }

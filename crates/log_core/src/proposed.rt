@@ -4,7 +4,7 @@ ghost use Rattle.std.specs.Prelude.{◌≡◌, All, IfOk};
 ghost use Rattle.ar_base.specs.Gives.{GivesUnless};
 ghost use Rattle.ar_cert.specs.Changes.{IsChange};
 ghost use Rattle.ar_message.specs.Lists.{AreChanges};
-ghost use Rattle.log_sending.specs.Checks.{first_refusal};
+ghost use Rattle.ar_base.specs.FirstFailing.{first_error};
 ghost use Rattle.log_core.specs.Proposed.{ballot_draft, proposal_signers, proposed_checks, proposed_judged, proposed_row, voting_checks};
 ghost use Rattle.log_sending.specs.Sending.{none_composed, with_draft};
 ghost use Rattle.log_sending.specs.Signers.{signers};
@@ -48,7 +48,7 @@ impl LogCore {
     /// That the log has done nothing in the epoch, that it may vote for this value, and that it has a leaf for the vote.
     fn may_vote(&self, alloc: Global, value: &Value, changes: &[Change]) -> Result<(), LogRefusal>
         requires { All IsChange changes.now }
-        ensures { GivesUnless refusals.Memory (λ unit. unit) result (first_refusal (voting_checks self.now.log value.now changes.now)) }
+        ensures { GivesUnless refusals.Memory (λ unit. unit) result (first_error (voting_checks self.now.log value.now changes.now)) }
     {
         not_voted(&self.log)?;
         not_stated(&self.log)?;
@@ -69,7 +69,7 @@ impl LogCore {
     ) -> Result<(), LogRefusal>
         requires { All IsChange changes.now }
         ensures { GivesUnless refusals.Memory (λ unit. unit) result
-            (first_refusal (proposed_checks self.now (record { log = log; epoch = epoch; value = value.now; changes = changes.now; signature = signature.now }))) }
+            (first_error (proposed_checks self.now (record { log = log; epoch = epoch; value = value.now; changes = changes.now; signature = signature.now }))) }
     {
         self.told();
         self.have_signed_proposal(alloc, log, epoch, value, changes, signature)?;

@@ -13,6 +13,7 @@ use ar_base::Items;
 use ar_message::{Message, MessageFault, Unsigned};
 use lms_tree::LmsPublic;
 use log_sending::value_of_roots;
+use party_keys::Announced;
 use std::alloc::Global;
 use vote_quorum::Value;
 
@@ -71,7 +72,18 @@ impl LogCore {
                 generation,
                 key,
                 signature,
-            } => self.roll_note(alloc, party, generation, key, signature.as_slice()),
+            } => {
+                let signature = signature.as_slice();
+                self.roll_note(
+                    alloc,
+                    &Announced {
+                        party,
+                        generation,
+                        key,
+                        signature,
+                    },
+                )
+            }
             _ => Err(LogRefusal::NotForLog),
         }
     }

@@ -1,14 +1,11 @@
 //! The row of Submit: a change is queued.
 
 ghost use Rattle.std.specs.Prelude.{◌≡◌, Ok, Result, OnOk, OnErr, false};
-ghost use Rattle.ar_base.specs.Gives.{GivesUnless};
-ghost use Rattle.cert_policy.specs.declared.manner.Manner.{Manner};
-ghost use Rattle.domain_table.specs.Applying.{answer_of};
-ghost use Rattle.domain_table.specs.declared.refusal.ChangeRefusal.{ChangeRefusal};
+ghost use Rattle.ar_base.specs.Gives.{GivesUnless, with_error};
 ghost use Rattle.log_sending.specs.Checks.{has_place};
 ghost use Rattle.log_sending.specs.Signers.{endorsements_in, signers};
 ghost use Rattle.log_core.specs.Steps.{IsStep};
-ghost use Rattle.log_core.specs.Submit.{queueing, submit_judged, submit_row, taken_alone};
+ghost use Rattle.log_core.specs.Submit.{queueing, submit_judged, submit_row};
 ghost use Rattle.log_sending.specs.declared.refusal.LogRefusal.TheVariants as refusals;
 
 use crate::LogRefusal;
@@ -36,9 +33,9 @@ fn check_endorsements(
     signers.check(directory)
 }
 
-/// Whether a change is taken, by how it is judged; it is the only one, with the index 0.
+/// Whether a change is taken, by how the table judges it; it is the only one, with the index 0.
 fn taken_alone(judged: Result<(), ChangeRefusal>) -> Result<(), LogRefusal>
-    ensures { (manner : Result Manner ChangeRefusal) → judged ≡ answer_of manner → result ≡ taken_alone manner }
+    ensures { result ≡ with_error (refusals.BadChange 0) judged }
 {
     match judged {
         Ok(()) => Ok(()),

@@ -1,10 +1,11 @@
--- What it says that checks hold: each, and what each asks.
-use Rattle.std.proofs.Common.{◌≡◌, ◌≢◌, ℕ, ◌+◌, ◌<◌, ◌≤◌, List, [], ◌∷◌, ◌++◌, length, refl, Bool, true, false, not, ◌||◌, eqb, nat_le, nat_lt, Option, Some, None}
-use Rattle.std.specs.Prelude.{All, Ok, Err, bytes_eq}
+-- What each check asks that holds.
+use Rattle.std.proofs.Common.{◌≡◌, ◌≢◌, ℕ, ◌+◌, ◌<◌, ◌≤◌, List, [], ◌∷◌, length, refl, Bool, true, false, not, ◌||◌, eqb, nat_le, nat_lt, Option, Some, None}
+use Rattle.std.specs.Prelude.{All, Ok, bytes_eq}
 use Rattle.std.specs.List.{AllByRecursion, list_any}
 use Rattle.std.proofs.lemmas.Bool.{eq-eqb, eqb-true, leb-true, ltb-true, not-true}
 use Rattle.std.proofs.lemmas.Slice.Eq.{bytes_eq-Decides}
 use Rattle.std.proofs.lemmas.List.Elements.{All-from_recursion, All-weaker}
+use Rattle.ar_base.specs.Chaining.{need}
 use Rattle.ar_cert.specs.Changes.{Change}
 use Rattle.key_roll.specs.Book.{RollBook}
 use Rattle.key_roll.specs.Rolls.{plain_count}
@@ -18,32 +19,12 @@ use Rattle.epoch_log.specs.Ending.{excludes_all, own_vote}
 use Rattle.epoch_log.specs.State.{LogState, epoch_of, table_of}
 use Rattle.epoch_log.specs.declared.entries.Stated.{Stated}
 use Rattle.epoch_log.specs.declared.entries.Voted.{Voted}
-use Rattle.log_sending.specs.Checks.{Check, enough, first_refusal, leaves_left, has_next, has_place, in_epoch, in_turn, no_vote, none_can_win, not_stated, not_voted, same_base, turn_of, unless}
+use Rattle.log_sending.specs.Checks.{enough, leaves_left, has_next, has_place, in_epoch, in_turn, no_vote, none_can_win, not_stated, not_voted, same_base, turn_of}
 use Rattle.log_sending.specs.Reported.{most_reported}
 use Rattle.log_sending.specs.declared.refusal.LogRefusal.{LogRefusal}
 use Rattle.log_sending.specs.declared.refusal.LogRefusal.TheVariants as refusals
 
--- ---- lists of checks
-
--- where no check of a list refuses, each holds
-pub all-hold : (checks : List Check) → first_refusal checks ≡ Ok tt → AllByRecursion (λ c. c ≡ Ok tt) checks
-all-hold [] is = tt
-all-hold (Ok u ∷ checks) is = (refl, all-hold checks is)
-all-hold (Err refusal ∷ checks) is = absurd cc
-
-pub refused-behind : (holding behind : List Check) (refusal : LogRefusal) → AllByRecursion (λ c. c ≡ Ok tt) holding → first_refusal (holding ++ Err refusal ∷ behind) ≡ Err refusal
-refused-behind [] behind refusal all = refl
-refused-behind (Ok u ∷ holding) behind refusal all = refused-behind holding behind refusal all.1
-refused-behind (Err other ∷ holding) behind refusal all = let bad = all.0 in absurd cc
-
-pub no-refusal : (checks : List Check) → AllByRecursion (λ c. c ≡ Ok tt) checks → first_refusal checks ≡ Ok tt
-no-refusal [] all = refl
-no-refusal (Ok u ∷ checks) all = no-refusal checks all.1
-no-refusal (Err refusal ∷ checks) all = let bad = all.0 in absurd cc
-
--- ---- each check
-
-pub holds : (b : Bool) (refusal : LogRefusal) → unless b refusal ≡ Ok tt → b ≡ true
+pub holds : (b : Bool) (refusal : LogRefusal) → need b refusal ≡ Ok tt → b ≡ true
 holds true refusal is = refl
 holds false refusal is = absurd cc
 

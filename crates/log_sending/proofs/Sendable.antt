@@ -6,21 +6,23 @@ use Rattle.std.specs.Option.{option_map}
 use Rattle.std.proofs.lemmas.Bool.{and_parts, eq-eqb, leb-false, leb-true, ltb-true}
 use Rattle.std.proofs.lemmas.List.{length-map, length-replicate}
 use Rattle.std.proofs.lemmas.List.Elements.{All-contains, All-push}
+use Rattle.ar_base.specs.Adding.{placed}
 use Rattle.ar_bytes.specs.Ascending.{Ascend}
+use Rattle.ar_bytes.proofs.Ascending.{Ascend-placed}
 use Rattle.ar_cert.specs.Changes.{Change, IsSignature}
 use Rattle.ar_message.specs.Lists.{AreChanges, AreStatuses, AreVotes, IsStatus, IsVote}
 use Rattle.ar_message.specs.Filling.{zeros}
 use Rattle.ar_statement.specs.declared.text.SeenText.{SeenText}
 use Rattle.ar_statement.specs.Ranges.{AreRoots}
-use Rattle.party_keys.specs.Seen.{log_party}
+use Rattle.ar_statement.specs.Claims.{log_party}
 use Rattle.vote_quorum.specs.Ballots.{has_ballot, is_same}
 use Rattle.vote_quorum.specs.declared.value.Value.{Value}
 use Rattle.vote_quorum.proofs.Adding.{is_same-from, same_value}
 use Rattle.ar_council.proofs.Lists.{find-some}
-use Rattle.ar_council.specs.Seen.{seen_of}
+use Rattle.party_keys.specs.Seen.{seen_of}
 use Rattle.ar_council.specs.Values.{IsValue, roots_of, status_claim, vote_claim}
 use Rattle.epoch_log.proofs.Acting.{own-value}
-use Rattle.epoch_log.specs.Calls.{SignedStatus, after_ballot, after_confirm, after_propose, after_roll, after_skip, after_state, after_status_seen, casting, counting_own, counting_status, counting_vote, is_turn, own_value, placed, proposing, seeing, stating, statuses_seen, vote_of, with_status, with_vote}
+use Rattle.epoch_log.specs.Calls.{SignedStatus, after_ballot, after_confirm, after_propose, after_roll, after_skip, after_state, after_status_seen, casting, counting_own, counting_status, counting_vote, is_turn, own_value, proposing, seeing, stating, statuses_seen, vote_of, with_status, with_vote}
 use Rattle.epoch_log.specs.Ending.{closed, closed_by, closed_by_statuses, decided, excludes_all, has_quorum, may_end, own_vote, skipped, votes_for}
 use Rattle.epoch_log.specs.Foreseeing.{IsForeseen}
 use Rattle.epoch_log.specs.State.{CountedStatus, CountedVote, IsKept, LogState, ballots_of, epoch_of, reports_of}
@@ -87,40 +89,12 @@ more-votes logs votes v are below fits = by (has_ballot (ballots_of votes) (v.0,
 
 -- ---- one more status
 
-no-report : (s : CountedStatus) (t : CountedStatus) (rest : Bool) → ((t.0 == s.0) || rest) ≡ false → (t.0 ≢ s.0) × (rest ≡ false)
-no-report s t rest none = by (t.0 == s.0) refl none
-  where
-    by : (b : Bool) → (t.0 == s.0) ≡ b → (b || rest) ≡ false → (t.0 ≢ s.0) × (rest ≡ false)
-    by true is none = absurd cc
-    by false is none = (λ same. absurd (cc (sym is ∙ eq-eqb t.0 s.0 same)), none)
-
-placed-reports : (logs : ℕ) (s : CountedStatus) (statuses : List CountedStatus) (least : ℕ) → AreReports logs least statuses → list_any (λ t. t.0 == s.0) statuses ≡ false
-    → least ≤ s.0 → IsReport logs s → AreReports logs least (placed (λ (x : CountedStatus). x.0) s statuses)
-unfolding placed
-placed-reports logs s [] least are none low is = (low, is, tt)
-placed-reports logs s (t ∷ statuses) least are none low is =
-    by (nat_le t.0 s.0) refl (λ rest less. placed-reports logs s statuses (t.0 + 1) are.2 rest less is)
-  where
-    apart : (t.0 ≢ s.0) × (list_any (λ (u : CountedStatus). u.0 == s.0) statuses ≡ false)
-    apart = no-report s t (list_any (λ (u : CountedStatus). u.0 == s.0) statuses) none
-
-    by : (b : Bool) → nat_le t.0 s.0 ≡ b
-        → (list_any (λ (u : CountedStatus). u.0 == s.0) statuses ≡ false → t.0 + 1 ≤ s.0 → AreReports logs (t.0 + 1) (placed (λ (x : CountedStatus). x.0) s statuses))
-        → AreReports logs least (cond b (t ∷ placed (λ (x : CountedStatus). x.0) s statuses) (s ∷ (t ∷ statuses)))
-    by true le rest =
-        let less : t.0 + 1 ≤ s.0 = omega (arith, leb-true t.0 s.0 le, apart.0) in
-        (are.0, are.1, rest apart.1 less)
-    by false le rest =
-        let less = leb-false t.0 s.0 le in
-        let above : s.0 + 1 ≤ t.0 = omega (arith, less) in
-        (low, is, (above, are.1, are.2))
-
 more-statuses : (logs : ℕ) (statuses : List CountedStatus) (s : CountedStatus) → AreReports logs 0 statuses → IsReport logs s → AreReports logs 0 (with_status statuses s)
 more-statuses logs statuses s are is = by (list_any (λ t. t.0 == s.0) statuses) refl
   where
     by : (b : Bool) → list_any (λ t. t.0 == s.0) statuses ≡ b → AreReports logs 0 (cond b statuses (placed (λ (x : CountedStatus). x.0) s statuses))
     by true any = are
-    by false none = placed-reports logs s statuses 0 are none (omega arith) is
+    by false none = Ascend-placed (λ (x : CountedStatus). x.0) (IsReport logs) s statuses 0 are none (omega arith) is
 
 -- ---- the votes for a value
 

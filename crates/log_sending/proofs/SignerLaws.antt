@@ -1,6 +1,7 @@
 -- Who signed a message is of the council, where its signers hold.
 use Rattle.std.proofs.Common.{◌≡◌, ℕ, ◌<◌, List, [], ◌∷◌, length, refl, sym, ap, ◌∙◌, Bool, true, false, cond}
-use Rattle.std.specs.Prelude.{All, Ok, Err, Result, flat_map, map}
+use Rattle.std.specs.Prelude.{All, Ok, Err, flat_map, map}
+use Rattle.std.specs.Result.{result_and}
 use Rattle.std.specs.List.{AllByRecursion}
 use Rattle.std.proofs.lemmas.List.Elements.{All-from_recursion}
 use Rattle.ar_cert.specs.Changes.{Change, Endorsement}
@@ -8,18 +9,17 @@ use Rattle.ar_cert.specs.Certificate.{digest_of}
 use Rattle.ar_cert.specs.Judging.{endorsers_of}
 use Rattle.ar_message.specs.declared.lists.LogStatus.{LogStatus}
 use Rattle.ar_message.specs.declared.lists.Vote.{Vote}
-use Rattle.ar_statement.specs.Claims.{endorse}
+use Rattle.ar_statement.specs.Claims.{authority_party, endorse, log_party}
 use Rattle.party_keys.specs.Directory.{Directory}
-use Rattle.party_keys.specs.Seen.{authority_party, log_party}
-use Rattle.party_keys.specs.Signers.{Claimed, all_known, all_signed, and_then, is_known}
-use Rattle.party_keys.specs.declared.fault.SignerFault.{SignerFault}
+use Rattle.party_keys.specs.Signers.{Claimed, all_known, all_signed, is_known, signed_by}
 use Rattle.party_keys.specs.declared.fault.SignerFault.TheVariants as signer_fault
 use Rattle.vote_quorum.specs.declared.value.Value.{Value}
 use Rattle.ar_council.proofs.Members.{member}
 use Rattle.ar_council.specs.Council.{council_of}
 use Rattle.epoch_log.specs.Calls.{AreEndorsers}
-use Rattle.log_sending.specs.Signers.{by_signers, endorsements_in, signed_by, signers, statuses_in, votes_in}
+use Rattle.log_sending.specs.Signers.{endorsements_in, of_signers, signers, statuses_in, votes_in}
 use Rattle.ar_base.proofs.Lists.{of-both-lists}
+use Rattle.ar_base.proofs.Giving.{no-error, order-first}
 
 none-unknown : (keys : Directory) (claims : List Claimed) → all_known keys (map (λ c. c.party) claims) ≡ Ok tt → AllByRecursion (λ c. is_known keys c.party ≡ true) claims
 none-unknown keys [] is = tt
@@ -31,15 +31,11 @@ none-unknown keys (c ∷ claims) is = by (is_known keys c.party) refl is (none-u
     by true was fine rest = (was, rest fine)
     by false was fine rest = absurd cc
 
-known-first : (one other : Result (Unit {0}) SignerFault) → by_signers (and_then one other) ≡ Ok tt → one ≡ Ok tt
-known-first (Ok u) other is = refl
-known-first (Err (signer_fault.Unknown party)) other is = absurd cc
-known-first (Err (signer_fault.Bad party number)) other is = absurd cc
-
 -- each signer is known
 pub each-known : (keys : Directory) (claims : List Claimed) → signers keys claims ≡ Ok tt → AllByRecursion (λ c. is_known keys c.party ≡ true) claims
 each-known keys claims is =
-    none-unknown keys claims (known-first (all_known keys (map (λ c. c.party) claims)) (all_signed keys claims) is)
+    let known = all_known keys (map (λ c. c.party) claims) in
+    none-unknown keys claims (order-first known (all_signed keys claims) tt (no-error of_signers (result_and known (all_signed keys claims)) tt is))
 
 -- a log that is known is one of the council
 pub a-log : (keys : Directory) (log : ℕ) → is_known keys (log_party log) ≡ true → log < length keys.logs

@@ -5,10 +5,16 @@ use Rattle.cert_policy.specs.declared.manner.Manner.{Manner}
 use Rattle.domain_table.specs.declared.refusal.ChangeRefusal.{ChangeRefusal}
 use Rattle.domain_table.specs.Applying.{judge_ripe, ripen, taken}
 use Rattle.domain_table.specs.Tables.{Table}
+use Rattle.log_sending.specs.declared.refusal.LogRefusal.{LogRefusal}
+use Rattle.log_sending.specs.declared.refusal.LogRefusal.TheVariants as refusals
 
 -- the table after the changes, or the index of the first that is refused, and why
 abbrev pub Judged : Type 0
 Judged = Result Table (ℕ × ChangeRefusal)
+
+-- the refusal of a change, by its index and why it is refused
+abbrev pub bad_change : ℕ × ChangeRefusal → LogRefusal
+bad_change refused = refusals.BadChange refused.0 refused.1
 
 -- the rest of the changes, behind one that is judged so
 abbrev pub behind_one : Result Manner ChangeRefusal → ℕ → (Manner → Judged) → Judged

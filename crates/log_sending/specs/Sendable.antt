@@ -4,16 +4,13 @@ use Rattle.std.specs.Prelude.{◌≡◌, ◌≢◌, ℕ, ◌^◌, ◌<◌, ◌�
 use Rattle.std.specs.List.{AllByRecursion}
 use Rattle.ar_bytes.specs.Ascending.{Ascend}
 use Rattle.ar_cert.specs.Changes.{IsSignature}
+use Rattle.ar_statement.specs.Claims.{most_parties}
 use Rattle.ar_message.specs.Lists.{AreChanges, AreStatuses, AreVotes}
 use Rattle.ar_council.specs.Values.{IsValue}
 use Rattle.epoch_log.specs.State.{CountedStatus, CountedVote, LogState}
 use Rattle.epoch_log.specs.declared.foreseeing.Foreseen.{Foreseen}
 use Rattle.epoch_log.specs.declared.foreseeing.Foreseen.TheVariants as foreseen
 use Rattle.log_sending.specs.Sending.{sent_statuses, sent_votes}
-
--- the most logs, and so the most votes or statuses of a message
-abbrev pub most_logs : ℕ
-most_logs = 16
 
 -- a signature that is kept, if there is one, fits into a message
 abbrev pub FitsIn : Option (List ℕ) → Type 0
@@ -42,11 +39,11 @@ IsVoice v = (v.0 < 2 ^ 16) × FitsIn v.1
 
 -- the votes of a decision: no more than there are logs, and of different ones, in the order of their numbers
 abbrev pub AreVoices : List (ℕ × Option (List ℕ)) → Type 0
-AreVoices votes = (length votes ≤ most_logs) × Ascend (λ v. v.0) IsVoice 0 votes
+AreVoices votes = (length votes ≤ most_parties) × Ascend (λ v. v.0) IsVoice 0 votes
 
 -- what a log may have to send fits into messages
 pub record CanBeSent (s : LogState) : Type 0 where
-  pub logs : s.council.logs ≤ most_logs
+  pub logs : s.council.logs ≤ most_parties
   pub votes : AreBallots s.council.logs 0 s.votes
   pub statuses : AreReports s.council.logs 0 s.statuses
   pub newest : IfSome s.newest (λ w. AreVoices w.votes)

@@ -1,6 +1,6 @@
 -- What a step sends. Where a signature of the log's own is due a message has zero bytes, and a blank tells what is signed
 -- there.
-use Rattle.std.specs.Prelude.{ℕ, ◌+◌, ◌-◌, Bool, true, false, List, [], ◌∷◌, ◌++◌, length, flat_map, map, Option, Some, None, is_none, unwrap_or}
+use Rattle.std.specs.Prelude.{ℕ, ◌+◌, ◌-◌, Bool, true, false, List, [], ◌∷◌, ◌++◌, length, flat_map, fold, map, Option, Some, None, is_none, unwrap_or}
 use Rattle.key_roll.specs.Book.{RollBook}
 use Rattle.key_roll.specs.Due.{DueParts}
 use Rattle.key_roll.specs.Entry.{due_of}
@@ -80,8 +80,7 @@ with_draft c draft = record {
 
 -- more drafts, one behind the other
 abbrev pub with_drafts : Composed → List Draft → Composed
-with_drafts c [] = c
-with_drafts c (draft ∷ drafts) = with_drafts (with_draft c draft) drafts
+with_drafts c drafts = fold with_draft c drafts
 
 -- the blanks of places, with the leaves that the book has for them
 unfoldable pub blanks_in : RollBook → List (ℕ × Place) → List Blank

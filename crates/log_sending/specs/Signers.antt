@@ -1,42 +1,38 @@
 -- The signed statements that stand in a message, in the order in which they are verified: first each signer has to be
 -- known, and then each signature valid.
-use Rattle.std.specs.Prelude.{ℕ, List, map, Option, Result, Ok, Err}
+use Rattle.std.specs.Prelude.{ℕ, List, map, Option}
 use Rattle.std.specs.Option.{option_map}
+use Rattle.ar_base.specs.Gives.{with_error}
 use Rattle.ar_cert.specs.Certificate.{digest_of}
 use Rattle.ar_cert.specs.Changes.{Change}
 use Rattle.ar_statement.specs.declared.party.Party.{Party}
-use Rattle.ar_statement.specs.Claims.{Claim, endorse, text_of}
+use Rattle.ar_statement.specs.Claims.{authority_party, endorse, log_party}
 use Rattle.ar_message.specs.declared.lists.LogStatus.{LogStatus}
 use Rattle.ar_message.specs.declared.lists.Vote.{Vote}
 use Rattle.party_keys.specs.Directory.{Directory}
-use Rattle.party_keys.specs.Seen.{authority_party, log_party}
-use Rattle.party_keys.specs.Signers.{Claimed, all_known, signers_answer}
+use Rattle.party_keys.specs.Signers.{Claimed, all_known, signed_by, signers_answer}
 use Rattle.party_keys.specs.declared.fault.SignerFault.{SignerFault}
 use Rattle.party_keys.specs.declared.fault.SignerFault.TheVariants as signer_fault
 use Rattle.vote_quorum.specs.declared.value.Value.{Value}
 use Rattle.ar_council.specs.Values.{status_claim, value_of_roots, vote_claim}
 use Rattle.log_sending.specs.Checks.{Check}
+use Rattle.log_sending.specs.declared.refusal.LogRefusal.{LogRefusal}
 use Rattle.log_sending.specs.declared.refusal.LogRefusal.TheVariants as refusals
 
 -- ---- L3, L4: signers
 
 -- the refusal of a signer that is not accepted
-abbrev pub by_signers : Result (Unit {0}) SignerFault → Check
-by_signers (Ok _) = Ok tt
-by_signers (Err (signer_fault.Unknown party)) = Err (refusals.Unknown party)
-by_signers (Err (signer_fault.Bad party number)) = Err (refusals.BadSignature party number)
+abbrev pub of_signers : SignerFault → LogRefusal
+of_signers (signer_fault.Unknown party) = refusals.Unknown party
+of_signers (signer_fault.Bad party number) = refusals.BadSignature party number
 
 -- each signer is known; and then each signature is valid
 abbrev pub signers : Directory → List Claimed → Check
-signers keys claims = by_signers (signers_answer keys (map (λ c. c.party) claims) claims)
+signers keys claims = with_error of_signers (signers_answer keys (map (λ c. c.party) claims) claims)
 
 -- each of these parties is known
 abbrev pub known : Directory → List Party → Check
-known keys parties = by_signers (all_known keys parties)
-
--- the statement of a party, by what it says, with its signature
-abbrev pub signed_by : Party → Claim → List ℕ → Claimed
-signed_by party claim signature = record { party = party; text = text_of claim; signature = signature }
+known keys parties = with_error of_signers (all_known keys parties)
 
 -- ---- whose signatures stand in lists
 

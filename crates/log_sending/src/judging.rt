@@ -5,7 +5,7 @@ ghost use Rattle.ar_base.specs.Gives.{GivesUnless};
 ghost use Rattle.ar_cert.specs.Changes.{IsChange};
 ghost use Rattle.domain_table.specs.Applying.{judge, ripen};
 ghost use Rattle.domain_table.specs.Sound.{IsSound};
-ghost use Rattle.log_sending.specs.Checks.{first_refusal};
+ghost use Rattle.ar_base.specs.FirstFailing.{first_error};
 ghost use Rattle.log_sending.specs.Judged.{judged, judged_from};
 ghost use Rattle.log_sending.specs.Leading.{leading_checks, root_in, table_behind, table_in};
 ghost use Rattle.log_sending.specs.declared.refusal.LogRefusal.TheVariants as refusals;
@@ -85,7 +85,7 @@ pub fn leads(
     changes: &[Change],
 ) -> Result<(), LogRefusal>
     requires { All IsChange changes.now }
-    ensures { GivesUnless refusals.Memory (λ unit. unit) result (first_refusal (leading_checks log.now.state value.now changes.now)) }
+    ensures { GivesUnless refusals.Memory (λ unit. unit) result (first_error (leading_checks log.now.state value.now changes.now)) }
 {
     same_base(log, &value.base)?;
     log.told();

@@ -2,7 +2,7 @@
 //! taken, and behind the step the leaves of these signatures.
 
 ghost use Rattle.std.specs.Prelude.{◌≡◌, ◌+◌, ◌≤◌, ◌++◌, ◌∷◌, [], length, map, OnOk, IfOk, vec_len, vec_capacity};
-ghost use Rattle.ar_message.specs.Messages.{message_text};
+ghost use Rattle.ar_message.specs.Messages.{longest, message_text};
 ghost use Rattle.ar_message.specs.declared.message.Message.{Message};
 ghost use Rattle.ar_statement.specs.Claims.{claim_of, text_of};
 ghost use Rattle.key_roll.specs.Entry.{due_of};
@@ -122,7 +122,7 @@ impl<'a> Drafts<'a> {
         behind: usize,
         statement: Statement<'a>,
     ) -> Result<(), AllocError>
-        requires { signature_len + behind ≤ 4194304 }
+        requires { signature_len + behind ≤ longest }
         ensures { OnOk result (self.new ≡ with_draft self.old (draft_with to message.now signature_len behind (text_of (claim_of statement.entry)))) }
     {
         let bytes = message.text(alloc)?;

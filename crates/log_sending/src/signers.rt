@@ -3,9 +3,9 @@
 ghost use Rattle.std.specs.Prelude.{◌≡◌, ◌++◌, ◌∷◌, [], Err, map, flat_map, OnOk};
 ghost use Rattle.std.specs.Option.{option_map};
 ghost use Rattle.ar_council.specs.Values.{value_of_roots};
-ghost use Rattle.ar_statement.specs.Claims.{claim_of, endorse, signer_of};
-ghost use Rattle.party_keys.specs.Seen.{authority_party};
-ghost use Rattle.log_sending.specs.Signers.{by_signers, endorsements_in, known, signed_by, signers, statuses_in, votes_in};
+ghost use Rattle.ar_statement.specs.Claims.{authority_party, claim_of, endorse, signer_of};
+ghost use Rattle.log_sending.specs.Signers.{endorsements_in, known, of_signers, signers, statuses_in, votes_in};
+ghost use Rattle.party_keys.specs.Signers.{signed_by};
 ghost use Rattle.log_sending.specs.Queued.{unqueued};
 
 use crate::LogRefusal;
@@ -41,7 +41,7 @@ impl<'a> Model for Signers<'a> {
 
 /// The refusal of a signer that is not accepted.
 fn refusal(fault: SignerFault) -> LogRefusal
-    ensures { by_signers (Err fault) ≡ Err result }
+    ensures { result ≡ of_signers fault }
 {
     match fault {
         SignerFault::Unknown(party) => LogRefusal::Unknown(party),

@@ -1,19 +1,17 @@
 //! The walk over the queue: which changes a log proposes, and to which root they lead.
 
-ghost use Rattle.std.specs.Prelude.{◌≡◌, ◌+◌, ◌^◌, ◌<◌, ◌≤◌, ◌++◌, ◌∷◌, [], length, IfOk, IsOk, OnOk, Some};
-ghost use Rattle.ar_cert.specs.Changes.{IsChange, change_text};
+ghost use Rattle.std.specs.Prelude.{◌≡◌, ◌+◌, ◌^◌, ◌<◌, ◌≤◌, ◌++◌, ◌∷◌, [], IfOk, IsOk, OnOk, Some};
+ghost use Rattle.ar_cert.specs.Changes.{IsChange};
 ghost use Rattle.domain_table.specs.Applying.{apply, judge, ripen};
 ghost use Rattle.domain_table.specs.Sound.{IsSound};
 ghost use Rattle.log_sending.specs.Walk.{IsStepOver, IsWalked, left_of};
 
 use ar_cert::Change;
+use ar_message::MOST_CHANGES;
 use domain_table::Table;
 use epoch_log::apply_one;
 use std::alloc::{AllocError, Global};
 use vote_quorum::Value;
-
-/// The most changes of a proposal.
-const MOST_CHANGES: usize = 64;
 
 /// The most bytes of their texts.
 const MOST_BYTES: usize = 4_000_000;
@@ -35,15 +33,6 @@ pub(crate) struct Walker {
 pub struct Walked {
     pub changes: Vec<Change>,
     pub value: Value,
-}
-
-/// How many bytes the text of a change has.
-fn text_len(alloc: Global, change: &Change) -> Result<usize, AllocError>
-    ensures { IfOk result (λ len. len ≡ length (change_text change.now)) }
-{
-    let mut text = Vec::new(alloc);
-    change.write(alloc, &mut text)?;
-    Ok(text.len())
 }
 
 impl Walker {
@@ -74,7 +63,7 @@ impl Walker {
         requires is_change { IsChange change.now }
         ensures { OnOk result (IsStepOver change.now self.old self.new) }
     {
-        let len = text_len(alloc, change)?;
+        let len = change.text_len();
         if len > self.left {
             self.many = 0;
             return Ok(());
@@ -127,7 +116,7 @@ pub fn walk(
         epoch,
         table: table.copy(alloc)?,
         taken: Vec::new(alloc),
-        many: MOST_CHANGES,
+        many: MOST_CHANGES as usize,
         left: MOST_BYTES,
     };
     walker.over(alloc, queue)?;

@@ -2,7 +2,7 @@
 use Rattle.std.proofs.Common.{◌≡◌, ℕ, List, ◌++◌, Result, Ok, Err, refl, ap, sym, ◌∙◌}
 use Rattle.sign_book.specs.Book.{Book, IsSound}
 use Rattle.sign_book.specs.Entry.{after_entry, leaf_of}
-use Rattle.sign_book.specs.declared.fault.BookFault.{BookFault}
+use Rattle.ar_statement.specs.declared.fault.BookFault.{BookFault}
 use Rattle.ar_statement.specs.Claims.{Claim, text_of}
 use Rattle.lms_tree.specs.Key.{signature_of}
 use Rattle.owner_core.specs.declared.refusal.OwnerRefusal.{OwnerRefusal}

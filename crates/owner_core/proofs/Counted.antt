@@ -11,17 +11,17 @@ use Rattle.ar_message.specs.declared.address.Address.TheVariants.{One}
 use Rattle.ar_message.specs.declared.message.Message.{Message}
 use Rattle.ar_message.specs.declared.message.Message.TheVariants.{EndorseAsk, Endorsed, RollNote}
 use Rattle.ar_message.specs.declared.sent.Sent.{Sent}
-use Rattle.ar_statement.specs.Claims.{endorse, object, text_of}
+use Rattle.ar_statement.specs.Claims.{authority_party, endorse, object, text_of}
 use Rattle.party_keys.specs.Learning.{Announced, after_learning, learned}
-use Rattle.party_keys.specs.Seen.{authority_party}
 use Rattle.party_keys.specs.Signatures.{verified}
 use Rattle.owner_core.specs.declared.refusal.OwnerRefusal.{OwnerRefusal}
 use Rattle.owner_core.specs.declared.refusal.OwnerRefusal.TheVariants.{Form, NotForOwner}
 use Rattle.owner_core.specs.Drafts.{changed_draft, endorsed, place_of_draft}
 use Rattle.owner_core.specs.Objecting.{objection}
-use Rattle.owner_core.specs.Rows.{Row, begin_row, endorsed_row, found, is_own, letter, message_row, object_row, roll_refusal, roll_row, sent, step_row, submission, submit_row, verified_as}
+use Rattle.owner_core.specs.Rows.{Row, begin_row, endorsed_row, is_own, letter, message_row, object_row, roll_refusal, roll_row, sent, step_row, submission, submit_row, verified_as}
 use Rattle.owner_core.specs.Signing.{signed}
 use Rattle.owner_core.specs.State.{Owner}
+use Rattle.owner_core.proofs.Spots.{found}
 
 -- where a row answers, it sends so many messages
 abbrev Sends : ℕ → Row Sent → Type 0

@@ -11,15 +11,14 @@ use Rattle.ar_message.specs.Messages.{message_in}
 use Rattle.ar_message.specs.declared.message.Message.{Message}
 use Rattle.ar_message.specs.declared.message.Message.TheVariants.{Endorsed, RollNote}
 use Rattle.ar_message.specs.declared.sent.Sent.{Sent}
-use Rattle.ar_statement.specs.Claims.{Claim, endorse, object, text_of}
+use Rattle.ar_statement.specs.Claims.{Claim, authority_party, endorse, object, text_of}
 use Rattle.ar_statement.specs.declared.party.Party.{Party}
 use Rattle.lms_tree.specs.Key.{signature_of}
 use Rattle.lms_tree.specs.KeyParts.{KeyParts}
 use Rattle.sign_book.specs.Entry.{leaf_of}
-use Rattle.sign_book.specs.declared.fault.BookFault.{BookFault}
+use Rattle.ar_statement.specs.declared.fault.BookFault.{BookFault}
 use Rattle.party_keys.specs.Directory.{Directory}
 use Rattle.party_keys.specs.Learning.{Announced, after_all, after_learning, learned}
-use Rattle.party_keys.specs.Seen.{authority_party}
 use Rattle.party_keys.specs.Signatures.{verified}
 use Rattle.party_keys.specs.declared.fault.LearnFault.{LearnFault}
 use Rattle.party_keys.specs.declared.fault.VerifyFault.{VerifyFault}
@@ -29,11 +28,12 @@ use Rattle.owner_core.specs.declared.refusal.OwnerRefusal.{OwnerRefusal}
 use Rattle.owner_core.specs.declared.refusal.OwnerRefusal.TheVariants.{Form, NotForOwner}
 use Rattle.owner_core.specs.State.{Owner}
 use Rattle.owner_core.specs.Drafts.{begun_draft, changed_draft, endorsed, handed_over, place_of_draft}
-use Rattle.owner_core.specs.Rows.{Row, attach_row, begin_row, endorsed_row, first_owner, found, message_row, object_row, roll_refusal, roll_row, sent, step_row, submission, submit_row, verified_as, with_drafts}
+use Rattle.owner_core.specs.Rows.{Row, attach_row, begin_row, endorsed_row, first_owner, message_row, object_row, roll_refusal, roll_row, sent, step_row, submission, submit_row, verified_as, with_drafts}
 use Rattle.owner_core.specs.Objecting.{objection}
 use Rattle.owner_core.specs.Signing.{after_signing, signed, signed_at}
 use Rattle.owner_core.specs.Vouching.{AreEndorsed, Endorses, IsEndorsed}
 use Rattle.owner_core.proofs.Vouched.{begun-keeps, changed-keeps, endorsed-keeps, good-at, handed-keeps, of-digest}
+use Rattle.owner_core.proofs.Spots.{found}
 
 -- what was verified stays so, behind what a directory learns
 abbrev pub Lasts : Type 0

@@ -1,26 +1,20 @@
 -- Each endorsement of a draft is its authority's, whatever comes.
-use Rattle.std.proofs.Common.{◌≡◌, ℕ, nat_lt, Bool, true, false, if◌then◌else◌, List, [], ◌∷◌, length, get_or, All, Option, Some, None, Result, Ok, Err, refl, sym, subst}
+use Rattle.std.proofs.Common.{◌≡◌, ℕ, nat_lt, Bool, true, false, if◌then◌else◌, List, length, get_or, All, Option, Some, None, Result, Ok, Err, refl, sym, subst}
 use Rattle.std.specs.List.{slice_get, slice_set}
 use Rattle.std.specs.Str.{bytes_eq}
-use Rattle.std.proofs.lemmas.List.Elements.{All-append, All-cons, All-filter, All-nil, All-set}
+use Rattle.std.proofs.lemmas.List.Elements.{All-nil, All-set}
 use Rattle.std.proofs.lemmas.List.Quantifiers.{position-Some}
 use Rattle.std.proofs.lemmas.Option.{get_or_from_slice_get, slice_get_within}
 use Rattle.std.proofs.lemmas.Slice.Eq.{bytes_eq-Decides}
+use Rattle.ar_base.proofs.Adding.{All-placed, one-all}
 use Rattle.ar_cert.specs.Certificate.{Certificate, digest_of}
 use Rattle.ar_cert.specs.Changes.{Change, Endorsement}
 use Rattle.party_keys.specs.Directory.{Directory}
 use Rattle.owner_core.specs.declared.refusal.OwnerRefusal.{OwnerRefusal}
 use Rattle.owner_core.specs.declared.refusal.OwnerRefusal.TheVariants.{Full}
-use Rattle.owner_core.specs.Drafts.{above, below, begun_at, begun_draft, changed_at, changed_draft, changed_if, endorsed, first_draft, handed_over, has_endorsed, is_draft_of, place_of_draft, with_draft_at, with_endorsement}
+use Rattle.owner_core.specs.Drafts.{begun_draft, changed_draft, endorsed, first_draft, handed_over, has_endorsed, is_draft_of, place_of_draft, with_endorsement}
 use Rattle.owner_core.specs.Vouching.{Endorses, IsEndorsed}
-
--- with one more that endorses, all do
-with-one : (keys : Directory) (digest : List ℕ) (new : Endorsement) (vs : List Endorsement) → Endorses keys digest new → All (Endorses keys digest) vs
-    → All (Endorses keys digest) (with_endorsement new vs)
-with-one keys digest new vs one all =
-    All-append (Endorses keys digest) (below new.authority vs) (new ∷ above new.authority vs)
-    (All-filter (λ v. nat_lt v.authority new.authority) (Endorses keys digest) vs all)
-    (All-cons (Endorses keys digest) new (above new.authority vs) one (All-filter (λ v. nat_lt new.authority v.authority) (Endorses keys digest) vs all))
+use Rattle.owner_core.proofs.Spots.{changed_at, changed_if, put_at}
 
 -- a change of a draft that keeps its endorsements good
 abbrev pub KeepsGood : Directory → List ℕ → (Change → Result Change OwnerRefusal) → Type 0
@@ -36,7 +30,7 @@ endorsed-keeps keys digest new one draft later is good e = at (has_endorsed new.
   at false true e =
       let same : record draft { endorsements = with_endorsement new draft.endorsements } ≡ later = cc in
       let here : Endorses keys (digest_of draft.cert) new = subst (λ d. Endorses keys d new) (sym is) one in
-      subst (IsEndorsed keys) same (with-one keys (digest_of draft.cert) new draft.endorsements here good)
+      subst (IsEndorsed keys) same (All-placed (Endorses keys (digest_of draft.cert)) (λ v. v.authority) new draft.endorsements good here)
   at false false e = cc
 
 -- a handover keeps it so
@@ -62,7 +56,7 @@ good-at keys drafts place draft all is =
 pub changed-keeps : (keys : Directory) (digest : List ℕ) (change : Change → Result Change OwnerRefusal) (drafts later : List Change) → KeepsGood keys digest change → All (IsEndorsed keys) drafts
     → changed_draft drafts digest change ≡ Ok later → All (IsEndorsed keys) later
 changed-keeps keys digest change drafts later keeps all e = placed (place_of_draft drafts digest) refl e where
-  made : (place : ℕ) (draft : Change) → place_of_draft drafts digest ≡ Some place → slice_get drafts place ≡ Some draft → (answer : Result Change OwnerRefusal) → change draft ≡ answer → with_draft_at drafts place answer ≡ Ok later → All (IsEndorsed keys) later
+  made : (place : ℕ) (draft : Change) → place_of_draft drafts digest ≡ Some place → slice_get drafts place ≡ Some draft → (answer : Result Change OwnerRefusal) → change draft ≡ answer → put_at drafts place answer ≡ Ok later → All (IsEndorsed keys) later
   made place draft here is (Ok new) was e =
       let same : slice_set drafts place new ≡ later = cc in
       subst (All (IsEndorsed keys)) same (All-set (IsEndorsed keys) drafts place new (keeps draft new (of-digest drafts digest place draft here is) (good-at keys drafts place draft all is) was) all)
@@ -78,7 +72,5 @@ changed-keeps keys digest change drafts later keeps all e = placed (place_of_dra
 
 -- a certificate that begins as a draft keeps it so
 pub begun-keeps : (keys : Directory) (drafts : List Change) (cert : Certificate) → All (IsEndorsed keys) drafts → All (IsEndorsed keys) (begun_draft drafts cert)
-begun-keeps keys drafts cert all = at (place_of_draft drafts (digest_of cert)) where
-  at : (found : Option ℕ) → All (IsEndorsed keys) (begun_at found drafts cert)
-  at (Some place) = all
-  at None = All-append (IsEndorsed keys) drafts (first_draft cert ∷ []) all (All-cons (IsEndorsed keys) (first_draft cert) [] (All-nil _) (All-nil _))
+begun-keeps keys drafts cert all =
+    one-all (IsEndorsed keys) (λ draft new. is_draft_of (digest_of new.cert) draft) drafts (first_draft cert) all (All-nil _)

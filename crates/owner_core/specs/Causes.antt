@@ -1,8 +1,8 @@
 -- What the faults of the layers below are to an owner.
 use Rattle.ar_message.specs.declared.fault.MessageFault.{MessageFault}
 use Rattle.ar_message.specs.declared.fault.MessageFault.TheVariants as message_fault
-use Rattle.sign_book.specs.declared.fault.BookFault.{BookFault}
-use Rattle.sign_book.specs.declared.fault.BookFault.TheVariants as book_fault
+use Rattle.ar_statement.specs.declared.fault.BookFault.{BookFault}
+use Rattle.ar_statement.specs.declared.fault.BookFault.TheVariants as book_fault
 use Rattle.owner_core.specs.declared.refusal.OwnerRefusal.{OwnerRefusal}
 use Rattle.owner_core.specs.declared.refusal.OwnerRefusal.TheVariants.{Form, Spent, Memory}
 

@@ -1,5 +1,4 @@
 pub mod Causes
-pub mod Fitting
 pub mod State
 pub mod Drafts
 pub mod Objecting

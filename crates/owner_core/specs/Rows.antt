@@ -1,8 +1,9 @@
 -- The rows of an owner: what it makes of a message or an order, as the reply with the owner behind it, or as the first
 -- refusal of an ordered list of checks.
-use Rattle.std.specs.Prelude.{◌≡◌, ◌⊎◌, ℕ, ◌==◌, if◌then◌else◌, List, [], ◌∷◌, map, slice_get, Option, option_and_then, Some, None, Result, Ok, Err}
-use Rattle.ar_base.specs.Chaining.{◌>>=◌}
-use Rattle.ar_base.specs.Gives.{with_error}
+use Rattle.std.specs.Prelude.{ℕ, ◌==◌, List, [], ◌∷◌, map, slice_get, option_and_then, None, Result, Ok, Err}
+use Rattle.std.specs.Option.{ok_or}
+use Rattle.ar_base.specs.Chaining.{◌>>=◌, need}
+use Rattle.ar_base.specs.Gives.{StepsUnless, with_error}
 use Rattle.ar_cert.specs.Certificate.{Certificate, digest_of}
 use Rattle.ar_cert.specs.Changes.{Change}
 use Rattle.ar_message.specs.Messages.{message_in, message_text}
@@ -12,12 +13,11 @@ use Rattle.ar_message.specs.declared.address.Address.TheVariants.{Logs, One}
 use Rattle.ar_message.specs.declared.message.Message.{Message}
 use Rattle.ar_message.specs.declared.message.Message.TheVariants.{EndorseAsk, Endorsed, Submit, RollNote}
 use Rattle.ar_message.specs.declared.sent.Sent.{Sent}
-use Rattle.ar_statement.specs.Claims.{endorse, handover, object, text_of}
+use Rattle.ar_statement.specs.Claims.{authority_party, endorse, handover, object, text_of}
 use Rattle.ar_statement.specs.declared.party.Party.{Party}
 use Rattle.lms_tree.specs.KeyParts.{KeyParts}
 use Rattle.party_keys.specs.Directory.{Directory}
 use Rattle.party_keys.specs.Learning.{Announced, after_learning, learned}
-use Rattle.party_keys.specs.Seen.{authority_party}
 use Rattle.party_keys.specs.Signatures.{verified}
 use Rattle.party_keys.specs.declared.fault.LearnFault.{LearnFault}
 use Rattle.party_keys.specs.declared.fault.LearnFault.TheVariants as learn_fault
@@ -37,8 +37,7 @@ Row Reply = Result (Reply × Owner) OwnerRefusal
 -- The call answered as its row says, and left the owner behind it. Or it answered the row's refusal, or want of
 -- memory, and left the owner as it was.
 abbrev pub Answers : {T V : Type 0} → (T → V) → Owner → Owner → Result T OwnerRefusal → Row V → Type 0
-Answers view old new (Ok value) row = row ≡ Ok (view value, new)
-Answers view old new (Err refusal) row = (new ≡ old) × ((refusal ≡ Memory) ⊎ (row ≡ Err refusal))
+Answers view old new result row = StepsUnless Memory (λ me value. (view value, me)) result old new row
 
 -- ---- what is sent
 
@@ -79,7 +78,7 @@ with_drafts me drafts = Ok (sent [], record me { drafts = drafts })
 
 -- the message is for another owner
 abbrev pub is_own : Owner → ℕ → Result (Unit {0}) OwnerRefusal
-is_own me owner = if owner == me.number then Ok tt else Err NotForOwner
+is_own me owner = need (owner == me.number) NotForOwner
 
 -- An endorsement comes: it is for this owner, its authority signed it, and a draft with the digest takes it.
 abbrev pub endorsed_row : Owner → ℕ → ℕ → List ℕ → List ℕ → Row Sent
@@ -128,14 +127,9 @@ attach_row me digest bytes = do
 
 -- ---- what goes to the logs
 
--- the draft, where there is one
-abbrev pub found : Option Change → Result Change OwnerRefusal
-found None = Err NoDraft
-found (Some draft) = Ok draft
-
 -- the draft with this digest
 abbrev pub draft_of : Owner → List ℕ → Result Change OwnerRefusal
-draft_of me digest = found (option_and_then (slice_get me.drafts) (place_of_draft me.drafts digest))
+draft_of me digest = ok_or (option_and_then (slice_get me.drafts) (place_of_draft me.drafts digest)) NoDraft
 
 -- the draft with this digest goes to all logs, with the endorsements so far, however few; the owner stays as it is
 abbrev pub submit_row : Owner → List ℕ → Result Sent OwnerRefusal

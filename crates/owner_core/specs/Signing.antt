@@ -3,7 +3,7 @@ use Rattle.std.specs.Prelude.{ℕ, List, Result, Ok, Err}
 use Rattle.ar_statement.specs.Claims.{Claim, text_of}
 use Rattle.lms_tree.specs.Key.{signature_of}
 use Rattle.sign_book.specs.Entry.{after_entry, leaf_of}
-use Rattle.sign_book.specs.declared.fault.BookFault.{BookFault}
+use Rattle.ar_statement.specs.declared.fault.BookFault.{BookFault}
 use Rattle.owner_core.specs.State.{Owner}
 use Rattle.owner_core.specs.declared.refusal.OwnerRefusal.{OwnerRefusal}
 use Rattle.owner_core.specs.declared.refusal.OwnerRefusal.TheVariants.{Spent}

@@ -1,16 +1,15 @@
 -- What vouches for an owner's drafts.
-use Rattle.std.specs.Prelude.{◌≡◌, ℕ, List, All, Ok}
+use Rattle.std.specs.Prelude.{ℕ, List, All}
 use Rattle.ar_cert.specs.Certificate.{digest_of}
 use Rattle.ar_cert.specs.Changes.{Change, Endorsement}
-use Rattle.ar_statement.specs.Claims.{endorse, text_of}
+use Rattle.ar_statement.specs.Claims.{authority_party, endorse, text_of}
 use Rattle.party_keys.specs.Directory.{Directory}
-use Rattle.party_keys.specs.Seen.{authority_party}
-use Rattle.party_keys.specs.Signatures.{verified}
+use Rattle.party_keys.specs.Signatures.{IsVerified}
 use Rattle.owner_core.specs.State.{Owner}
 
 -- the endorsement is its authority's, of the certificate with this digest
 abbrev pub Endorses : Directory → List ℕ → Endorsement → Type 0
-Endorses keys digest v = verified keys (authority_party v.authority) (text_of (endorse v.authority digest)) v.signature ≡ Ok tt
+Endorses keys digest v = IsVerified keys (authority_party v.authority) (text_of (endorse v.authority digest)) v.signature
 
 -- each endorsement of a draft is one of its certificate
 abbrev pub IsEndorsed : Directory → Change → Type 0

@@ -1,14 +1,11 @@
 ghost use Rattle.std.specs.Prelude.{◌≡◌, IfOk};
 
-use crate::endorsing::{count_below, has_endorsed, insert};
+use crate::endorsing::{has_endorsed, insert, place_of};
 use crate::refusal::OwnerRefusal;
 use ar_base::Items;
-use ar_cert::{Cert, Change, Endorsement, copy_endorsements, copy_signature};
+use ar_cert::{Cert, Change, Endorsement, MOST_ENDORSEMENTS, copy_endorsements, copy_signature};
 use std::alloc::{AllocError, Global};
 use std::marker::Model;
-
-/// The most endorsements of a draft.
-const MOST_ENDORSEMENTS: usize = 8;
 
 /// A certificate on its way to the logs, with what vouches for it so far.
 #[derive(Debug, Drop)]
@@ -23,18 +20,18 @@ pub(crate) struct Draft {
 impl Model for Draft {
     ghost use Rattle.std.specs.Prelude.{◌≡◌, None, IfSome};
     ghost use Rattle.ar_cert.specs.Certificate.{digest_of};
-    ghost use Rattle.ar_cert.specs.Changes.{Change, IsSignature};
-    ghost use Rattle.owner_core.specs.Fitting.{AreFew};
+    ghost use Rattle.ar_cert.specs.Changes.{AreEndorsements, Change, IsSignature};
 
     ghost Value = { Change };
 
     ghost view = { λ d. record { cert = d.cert; endorsements = d.endorsements.items; handover = d.handover; objection = None } };
 
-    ghost invariant = { λ d. (d.digest ≡ digest_of d.cert) × AreFew d.endorsements.items × IfSome d.handover IsSignature };
+    ghost invariant = { λ d. (d.digest ≡ digest_of d.cert) × AreEndorsements d.endorsements.items × IfSome d.handover IsSignature };
 }
 
 impl Draft {
-    ghost use Rattle.std.specs.Prelude.{◌≡◌, ◌⊎◌, ◌<◌, ◌^◌, IfOk, IfErr, Ok, Err, length};
+    ghost use Rattle.std.specs.Prelude.{◌≡◌, ◌<◌, ◌^◌, IfOk, Ok, length};
+    ghost use Rattle.ar_base.specs.Gives.{StepsUnless};
     ghost use Rattle.ar_cert.specs.Certificate.{digest_of};
     ghost use Rattle.owner_core.specs.Drafts.{endorsed, first_draft, handed_over};
     ghost use Rattle.owner_core.specs.declared.refusal.OwnerRefusal.TheVariants.{Memory};
@@ -60,8 +57,7 @@ impl Draft {
 
     /// Takes an endorsement, unless its authority has endorsed the draft.
     pub(crate) fn endorse(&mut self, endorsement: Endorsement) -> Result<(), OwnerRefusal>
-        ensures ok { IfOk result (λ u. endorsed endorsement self.old ≡ Ok self.new) }
-        ensures err { IfErr result (λ e. (self.new ≡ self.old) × ((e ≡ Memory) ⊎ (endorsed endorsement self.old ≡ Err e))) }
+        ensures { StepsUnless Memory (λ draft _. draft) result self.old self.new (endorsed endorsement self.old) }
     {
         if has_endorsed(endorsement.authority, &self.endorsements) {
             return Ok(());
@@ -69,7 +65,7 @@ impl Draft {
         if self.endorsements.len() >= MOST_ENDORSEMENTS {
             return Err(OwnerRefusal::Full);
         }
-        let place = count_below(endorsement.authority, &self.endorsements);
+        let place = place_of(endorsement.authority, &self.endorsements);
         insert(&mut self.endorsements, place, endorsement)
     }
 

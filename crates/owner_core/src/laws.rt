@@ -3,7 +3,7 @@
 
 ghost use Rattle.std.specs.Prelude.{◌≡◌, ◌++◌, ℕ, List, [], ◌∷◌, None, Some, Ok, length, true};
 ghost use Rattle.ar_cert.specs.Certificate.{Certificate, digest_of};
-ghost use Rattle.ar_cert.specs.Changes.{Change, Endorsement, IsEndorsement};
+ghost use Rattle.ar_cert.specs.Changes.{AreEndorsements, Change, Endorsement, IsEndorsement};
 ghost use Rattle.ar_message.specs.declared.address.Address.TheVariants.{Logs};
 ghost use Rattle.ar_message.specs.declared.message.Message.TheVariants.{Submit};
 ghost use Rattle.ar_message.specs.declared.sent.Sent.{Sent};
@@ -11,7 +11,6 @@ ghost use Rattle.lms_tree.specs.KeyParts.{KeyParts};
 ghost use Rattle.party_keys.specs.Directory.{Directory};
 ghost use Rattle.sign_book.specs.Book.{IsSound};
 ghost use Rattle.owner_core.specs.Drafts.{endorsed, has_endorsed};
-ghost use Rattle.owner_core.specs.Fitting.{AreFew};
 ghost use Rattle.owner_core.specs.Rows.{attach_row, begin_row, first_owner, handover_row, letter, object_row, sent, step_row, submit_row, submission};
 ghost use Rattle.owner_core.specs.State.{Owner};
 ghost use Rattle.owner_core.specs.Vouching.{AreEndorsed, IsEndorsed};
@@ -32,8 +31,8 @@ pub fn a_handover_is_signed_once()
 /// An endorsement that a draft takes is there then, and what stands there ascends by the numbers of
 /// the authorities, and is 8 at most.
 pub fn endorsements_ascend()
-    ensures few { (new : Endorsement) (draft later : Change) → IsEndorsement new → AreFew draft.endorsements
-        → endorsed new draft ≡ Ok later → AreFew later.endorsements }
+    ensures few { (new : Endorsement) (draft later : Change) → IsEndorsement new → AreEndorsements draft.endorsements
+        → endorsed new draft ≡ Ok later → AreEndorsements later.endorsements }
     ensures there { (new : Endorsement) (draft later : Change)
         → endorsed new draft ≡ Ok later → has_endorsed new.authority later.endorsements ≡ true }
 {}

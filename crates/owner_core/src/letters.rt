@@ -2,7 +2,7 @@ ghost use Rattle.std.specs.Prelude.{◌≡◌, ◌<◌, [], ◌∷◌, map, vec_
 ghost use Rattle.ar_message.specs.Messages.{message_text};
 ghost use Rattle.ar_message.specs.declared.address.Address.TheVariants.{Logs, One};
 ghost use Rattle.ar_message.specs.declared.message.Message.TheVariants.{EndorseAsk, Submit};
-ghost use Rattle.party_keys.specs.Seen.{authority_party};
+ghost use Rattle.ar_statement.specs.Claims.{authority_party};
 ghost use Rattle.owner_core.specs.Rows.{letter, sent, submission};
 
 use ar_base::Items;

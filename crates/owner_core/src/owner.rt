@@ -18,21 +18,21 @@ pub struct Owner {
 
 // Clauses see what the owner keeps. The book is of the key.
 impl Model for Owner {
-    ghost use Rattle.std.specs.Prelude.{◌≡◌, ◌^◌};
-    ghost use Rattle.lms_tree.specs.LmsKind.{height_of};
+    ghost use Rattle.std.specs.Prelude.{◌≡◌};
+    ghost use Rattle.lms_tree.specs.LmsKind.{leaves_of};
     ghost use Rattle.owner_core.specs.State.{Owner as State};
 
     ghost Value = { State };
 
     ghost view = { λ o. record { number = o.number; directory = o.directory; key = o.key; book = o.book; drafts = o.drafts.items } };
 
-    ghost invariant = { λ o. o.book.leaves ≡ 2 ^ height_of o.key.lms };
+    ghost invariant = { λ o. o.book.leaves ≡ leaves_of o.key.lms };
 }
 
 impl Owner {
-    ghost use Rattle.std.specs.Prelude.{◌≡◌, ◌^◌, Ok};
+    ghost use Rattle.std.specs.Prelude.{◌≡◌, Ok};
     ghost use Rattle.lms_tree.specs.Key.{public_of};
-    ghost use Rattle.lms_tree.specs.LmsKind.{height_of};
+    ghost use Rattle.lms_tree.specs.LmsKind.{leaves_of};
     ghost use Rattle.owner_core.specs.Rows.{first_owner};
 
     /// The owner with this number, which knows these keys of logs and authorities, and has no
@@ -46,7 +46,7 @@ impl Owner {
         directory: Directory,
         key: LmsKey,
     ) -> Result<Owner, AllocError>
-        ensures { result ≡ Ok (first_owner number directory key (2 ^ height_of key.lms)) }
+        ensures { result ≡ Ok (first_owner number directory key (leaves_of key.lms)) }
     {
         let book = SignBook::new(alloc, key.leaves());
         Ok(Owner {

@@ -1,6 +1,6 @@
 ghost use Rattle.std.specs.Prelude.{◌≡◌, ◌-◌, ◌≤◌, ◌^◌, ◌++◌, length, take, IfOk};
 ghost use Rattle.lms_tree.specs.Key.{signature_of};
-ghost use Rattle.lms_tree.specs.LmsKind.{height_of};
+ghost use Rattle.lms_tree.specs.LmsKind.{leaves_of};
 ghost use Rattle.lms_tree.specs.Signature.{lms_signature_len_of};
 ghost use Rattle.owner_core.specs.Objecting.{AwaitsSignature};
 
@@ -25,7 +25,7 @@ fn blank(alloc: Global, key: &LmsKey) -> Result<Vec<u8>, AllocError>
 
 /// Writes the signature that is due over the last bytes of a text.
 fn sign_tail(key: &LmsKey, due: Due, text: &mut [u8])
-    requires leaves { due.leaves ≡ 2 ^ height_of key.now.lms }
+    requires leaves { due.leaves ≡ leaves_of key.now.lms }
     requires room { lms_signature_len_of key.now.lms key.now.ots ≤ length text.old }
     ensures text { text.new ≡ take (length text.old - lms_signature_len_of key.now.lms key.now.ots) text.old ++ signature_of key.now due.leaf due.text }
     ensures len { length (signature_of key.now due.leaf due.text) ≡ lms_signature_len_of key.now.lms key.now.ots }
@@ -51,21 +51,21 @@ fn unsigned_objection(alloc: Global, key: &LmsKey, cert: &Cert) -> Result<Vec<u8
 }
 
 impl Owner {
-    ghost use Rattle.std.specs.Prelude.{◌≡◌, ◌⊎◌, ◌<◌, ◌^◌, IfOk, IfErr, Ok, Err, length};
+    ghost use Rattle.std.specs.Prelude.{◌≡◌, ◌<◌, ◌^◌, IfOk, length};
+    ghost use Rattle.ar_base.specs.Gives.{StepsUnless};
     ghost use Rattle.ar_statement.specs.Claims.{claim_of};
     ghost use Rattle.lms_tree.specs.Key.{signature_of};
-    ghost use Rattle.lms_tree.specs.LmsKind.{height_of};
+    ghost use Rattle.lms_tree.specs.LmsKind.{leaves_of};
     ghost use Rattle.owner_core.specs.Rows.{Answers, handover_row, object_row};
     ghost use Rattle.owner_core.specs.Signing.{signed};
     ghost use Rattle.owner_core.specs.declared.refusal.OwnerRefusal.TheVariants.{Memory};
 
     /// Gives a statement its leaf. What is due then must be signed.
     fn enter(&mut self, alloc: Global, statement: &Statement) -> Result<Due, OwnerRefusal>
-        ensures due { IfOk result (λ due. due.leaves ≡ 2 ^ height_of self.old.key.lms) }
+        ensures due { IfOk result (λ due. due.leaves ≡ leaves_of self.old.key.lms) }
         ensures key { self.new.key ≡ self.old.key }
-        ensures ok { IfOk result (λ due. signed self.old (claim_of statement.now)
-            ≡ Ok (signature_of self.old.key due.leaf due.text, self.new)) }
-        ensures err { IfErr result (λ e. (self.new ≡ self.old) × ((e ≡ Memory) ⊎ (signed self.old (claim_of statement.now) ≡ Err e))) }
+        ensures step { StepsUnless Memory (λ me due. (signature_of self.old.key due.leaf due.text, me)) result
+            self.old self.new (signed self.old (claim_of statement.now)) }
     {
         let due = self.book.enter(alloc, statement)?;
         Ok(due)

@@ -1,6 +1,5 @@
 ghost use Rattle.std.specs.Prelude.{◌≡◌, Err};
-ghost use Rattle.ar_statement.specs.Claims.{endorse, text_of};
-ghost use Rattle.party_keys.specs.Seen.{authority_party};
+ghost use Rattle.ar_statement.specs.Claims.{authority_party, endorse, text_of};
 ghost use Rattle.party_keys.specs.Signatures.{verified};
 ghost use Rattle.owner_core.specs.Rows.{roll_refusal, verified_as};
 
@@ -11,8 +10,7 @@ use ar_base::Items;
 use ar_cert::Endorsement;
 use ar_message::{Message, Sent, Signature};
 use ar_statement::{Party, Role, Statement, Text};
-use lms_tree::LmsPublic;
-use party_keys::{Directory, LearnFault, VerifyFault};
+use party_keys::{Announced, Directory, LearnFault, VerifyFault};
 use std::alloc::Global;
 
 /// Why a signature of this party is refused.
@@ -101,23 +99,12 @@ impl Owner {
     }
 
     /// Learns the next key of a party.
-    fn take_roll(
-        &mut self,
-        alloc: Global,
-        party: Party,
-        generation: u32,
-        key: LmsPublic,
-        signature: Signature,
-    ) -> Result<Sent, OwnerRefusal>
-        ensures { Answers (λ s. s) self.old self.new result
-            (roll_row self.old (record { party = party; generation = generation; key = key; signature = signature })) }
+    fn take_roll(&mut self, alloc: Global, announced: &Announced) -> Result<Sent, OwnerRefusal>
+        ensures { Answers (λ s. s) self.old self.new result (roll_row self.old announced.now) }
     {
-        let learned = self
-            .directory
-            .learn(alloc, party, generation, key, signature.as_slice());
-        match learned {
+        match self.directory.learn(alloc, announced) {
             Ok(_) => Ok(Sent::nothing(alloc)),
-            Err(fault) => Err(roll_refusal(party, generation, fault)),
+            Err(fault) => Err(roll_refusal(announced.party, announced.generation, fault)),
         }
     }
 
@@ -137,7 +124,18 @@ impl Owner {
                 generation,
                 key,
                 signature,
-            } => self.take_roll(alloc, party, generation, key, signature),
+            } => {
+                let signature = signature.as_slice();
+                self.take_roll(
+                    alloc,
+                    &Announced {
+                        party,
+                        generation,
+                        key,
+                        signature,
+                    },
+                )
+            }
             _ => Err(OwnerRefusal::NotForOwner),
         }
     }

@@ -1,34 +1,25 @@
 -- What a directory knows, behind what it learnt.
 use Rattle.std.proofs.Common.{◌≡◌, ℕ, zero, suc, ◌+◌, ◌≤◌, Bool, true, false, List, [], ◌∷◌, ◌++◌, length, take, slice_get, slice_set, if◌then◌else◌, Option, Some, None, Result, Ok, Err, refl, sym, ap, subst, ◌∙◌, arith}
-use Rattle.std.proofs.lemmas.List.{append-nil, append_assoc, take_all}
+use Rattle.std.proofs.lemmas.List.{take_all}
 use Rattle.lms_tree.specs.declared.public_key.LmsPublic.{LmsPublic}
-use Rattle.lms_tree.specs.PublicKey.{key_text}
 use Rattle.ar_statement.specs.declared.party.Role.{Role}
 use Rattle.ar_statement.specs.declared.party.Role.TheVariants.{LogServer, Authority, Owner, Client}
 use Rattle.ar_statement.specs.declared.party.Party.{Party}
-use Rattle.ar_statement.specs.Claims.{roll, text_of}
+use Rattle.ar_statement.specs.Claims.{text_of}
 use Rattle.party_keys.specs.Directory.{Directory, keys_at, keys_of, role_keys}
 use Rattle.party_keys.specs.Signatures.{answer_at, answer_by, answer_under, behind_generation, generation_of, verified}
-use Rattle.party_keys.specs.Learning.{Announced, after_all, after_learning, is_key, learned, learned_as, learned_if, learning, next_behind, with_next_of}
+use Rattle.party_keys.specs.Learning.{Announced, after_all, after_learning, is_key, learned, learned_as, learned_if, learning, next_behind, roll_claim, with_next_of}
 use Rattle.party_keys.specs.declared.fault.VerifyFault.{VerifyFault}
 use Rattle.party_keys.specs.declared.fault.VerifyFault.TheVariants.{Unknown, Bad}
 use Rattle.party_keys.specs.declared.fault.LearnFault.{LearnFault}
 use Rattle.party_keys.specs.declared.fault.LearnFault.TheVariants.{Other}
 use Rattle.party_keys.specs.declared.learning.Learned.{Learned}
 use Rattle.party_keys.specs.declared.learning.Learned.TheVariants.{New, Again}
+use Rattle.ar_base.specs.Prefixes.{BeginsWith}
 use Rattle.ar_base.proofs.Lists.{get-more}
+use Rattle.ar_base.proofs.Prefixes.{begins_itself, begins_on}
 
 -- ---- lists that grow
-
--- the new list begins with the old one
-abbrev pub Grows : List LmsPublic → List LmsPublic → Type 0
-Grows old new = (more : List LmsPublic) × (new ≡ old ++ more)
-
-same : (keys : List LmsPublic) → Grows keys keys
-same keys = ([], sym (append-nil keys))
-
-more_of : (a b c : List LmsPublic) → Grows a b → Grows b c → Grows a c
-more_of a b c one two = (one.0 ++ two.0, two.1 ∙ ap (λ (l : List LmsPublic). l ++ two.0) one.1 ∙ append_assoc a one.0 two.0)
 
 past : (keys : List LmsPublic) (n : ℕ) → slice_get keys n ≡ None → length keys ≤ n
 past [] n e = omega arith
@@ -36,32 +27,32 @@ past (key ∷ keys) zero e = absurd cc
 past (key ∷ keys) (suc n) e = let le = past keys n e in omega (arith, le)
 
 -- a key behind those of one party
-one_grows : (lists : List (List LmsPublic)) (n m : ℕ) (more : List LmsPublic) → Grows (keys_at lists m) (keys_at (slice_set lists n (keys_at lists n ++ more)) m)
-one_grows [] n m more = same []
+one_grows : (lists : List (List LmsPublic)) (n m : ℕ) (more : List LmsPublic) → BeginsWith (keys_at (slice_set lists n (keys_at lists n ++ more)) m) (keys_at lists m)
+one_grows [] n m more = begins_itself []
 one_grows (keys ∷ lists) zero zero more = (more, refl)
-one_grows (keys ∷ lists) zero (suc m) more = same (keys_at lists m)
-one_grows (keys ∷ lists) (suc n) zero more = same keys
+one_grows (keys ∷ lists) zero (suc m) more = begins_itself (keys_at lists m)
+one_grows (keys ∷ lists) (suc n) zero more = begins_itself keys
 one_grows (keys ∷ lists) (suc n) (suc m) more = one_grows lists n m more
 
 next_grows : (lists : List (List LmsPublic)) (n m generation : ℕ) (key : LmsPublic) → slice_get (keys_at lists n) (generation + 1) ≡ None
-    → Grows (keys_at lists m) (keys_at (slice_set lists n (next_behind generation key (keys_at lists n))) m)
+    → BeginsWith (keys_at (slice_set lists n (next_behind generation key (keys_at lists n))) m) (keys_at lists m)
 next_grows lists n m generation key none =
     let all : take (generation + 1) (keys_at lists n) ≡ keys_at lists n = take_all (generation + 1) (keys_at lists n) (past (keys_at lists n) (generation + 1) none) in
-    subst (λ (front : List LmsPublic). Grows (keys_at lists m) (keys_at (slice_set lists n (front ++ key ∷ [])) m)) (sym all) (one_grows lists n m (key ∷ []))
+    subst (λ (front : List LmsPublic). BeginsWith (keys_at (slice_set lists n (front ++ key ∷ [])) m) (keys_at lists m)) (sym all) (one_grows lists n m (key ∷ []))
 
 -- the keys of a party of a role, with a next key of one of a role
 role_grows : (role other : Role) (keys : Directory) (n m generation : ℕ) (key : LmsPublic) → slice_get (keys_at (role_keys keys role) n) (generation + 1) ≡ None
-    → Grows (keys_at (role_keys keys other) m) (keys_at (role_keys (with_next_of role keys n generation key) other) m)
+    → BeginsWith (keys_at (role_keys (with_next_of role keys n generation key) other) m) (keys_at (role_keys keys other) m)
 role_grows LogServer LogServer keys n m generation key none = next_grows keys.logs n m generation key none
-role_grows LogServer Authority keys n m generation key none = same (keys_at keys.authorities m)
-role_grows LogServer Owner keys n m generation key none = same []
-role_grows LogServer Client keys n m generation key none = same []
-role_grows Authority LogServer keys n m generation key none = same (keys_at keys.logs m)
+role_grows LogServer Authority keys n m generation key none = begins_itself (keys_at keys.authorities m)
+role_grows LogServer Owner keys n m generation key none = begins_itself []
+role_grows LogServer Client keys n m generation key none = begins_itself []
+role_grows Authority LogServer keys n m generation key none = begins_itself (keys_at keys.logs m)
 role_grows Authority Authority keys n m generation key none = next_grows keys.authorities n m generation key none
-role_grows Authority Owner keys n m generation key none = same []
-role_grows Authority Client keys n m generation key none = same []
-role_grows Owner other keys n m generation key none = same (keys_at (role_keys keys other) m)
-role_grows Client other keys n m generation key none = same (keys_at (role_keys keys other) m)
+role_grows Authority Owner keys n m generation key none = begins_itself []
+role_grows Authority Client keys n m generation key none = begins_itself []
+role_grows Owner other keys n m generation key none = begins_itself (keys_at (role_keys keys other) m)
+role_grows Client other keys n m generation key none = begins_itself (keys_at (role_keys keys other) m)
 
 -- ---- learning
 
@@ -79,19 +70,19 @@ new_if (Err fault) known key e = absurd cc
 
 new_has_none : (keys : Directory) (a : Announced) → learned keys a ≡ Ok New → slice_get (keys_of keys a.party) (a.generation + 1) ≡ None
 unfolding learned
-new_has_none keys a e = new_if (verified keys a.party (text_of (roll a.party a.generation (key_text a.key))) a.signature) (slice_get (keys_of keys a.party) (a.generation + 1)) a.key e
+new_has_none keys a e = new_if (verified keys a.party (text_of (roll_claim a)) a.signature) (slice_get (keys_of keys a.party) (a.generation + 1)) a.key e
 
-learning_grows : (keys : Directory) (a : Announced) (party : Party) → Grows (keys_of keys party) (keys_of (after_learning keys a) party)
+learning_grows : (keys : Directory) (a : Announced) (party : Party) → BeginsWith (keys_of (after_learning keys a) party) (keys_of keys party)
 learning_grows keys a party = by_answer (learned keys a) refl where
-  by_answer : (answer : Result Learned LearnFault) → learned keys a ≡ answer → Grows (keys_of keys party) (keys_of (learning answer keys a) party)
+  by_answer : (answer : Result Learned LearnFault) → learned keys a ≡ answer → BeginsWith (keys_of (learning answer keys a) party) (keys_of keys party)
   by_answer (Ok New) e = role_grows a.party.role party.role keys a.party.number party.number a.generation a.key (new_has_none keys a e)
-  by_answer (Ok Again) e = same (keys_of keys party)
-  by_answer (Err fault) e = same (keys_of keys party)
+  by_answer (Ok Again) e = begins_itself (keys_of keys party)
+  by_answer (Err fault) e = begins_itself (keys_of keys party)
 
-pub all_grows : (keys : Directory) (announced : List Announced) (party : Party) → Grows (keys_of keys party) (keys_of (after_all keys announced) party)
-all_grows keys [] party = same (keys_of keys party)
+pub all_grows : (keys : Directory) (announced : List Announced) (party : Party) → BeginsWith (keys_of (after_all keys announced) party) (keys_of keys party)
+all_grows keys [] party = begins_itself (keys_of keys party)
 all_grows keys (a ∷ announced) party =
-    more_of (keys_of keys party) (keys_of (after_learning keys a) party) _ (learning_grows keys a party) (all_grows (after_learning keys a) announced party)
+    begins_on (keys_of keys party) (keys_of (after_learning keys a) party) _ (all_grows (after_learning keys a) announced party) (learning_grows keys a party)
 
 -- ---- what was verified
 

@@ -5,6 +5,7 @@ use Rattle.lms_tree.specs.declared.public_key.LmsPublic.{LmsPublic}
 use Rattle.ar_statement.specs.declared.party.Role.{Role}
 use Rattle.ar_statement.specs.declared.party.Role.TheVariants.{LogServer, Authority, Owner, Client}
 use Rattle.ar_statement.specs.declared.party.Party.{Party}
+use Rattle.ar_statement.specs.Claims.{most_parties}
 use Rattle.party_keys.specs.declared.fault.DirectoryFault.{DirectoryFault}
 use Rattle.party_keys.specs.declared.fault.DirectoryFault.TheVariants.{Logs, Authorities, Quorum}
 
@@ -41,7 +42,7 @@ first_keys keys = map (λ key. key ∷ []) keys
 
 -- how many logs, and how many authorities, there may be
 abbrev pub is_party_count : ℕ → Bool
-is_party_count n = is_from_to 3 16 n
+is_party_count n = is_from_to 3 most_parties n
 
 -- whether q of n logs are a quorum: any two quorums share more than two logs
 abbrev pub is_quorum : ℕ → ℕ → Bool
@@ -54,9 +55,9 @@ HaveKeys lists = All (λ keys. 0 < length keys) lists
 -- the bounds that each directory keeps
 pub record IsDirectory (keys : Directory) : Type 0 where
   pub logs_least : 3 ≤ length keys.logs
-  pub logs_most : length keys.logs ≤ 16
+  pub logs_most : length keys.logs ≤ most_parties
   pub authorities_least : 3 ≤ length keys.authorities
-  pub authorities_most : length keys.authorities ≤ 16
+  pub authorities_most : length keys.authorities ≤ most_parties
   pub quorum_least : length keys.logs + 2 < 2 * keys.quorum
   pub quorum_most : keys.quorum ≤ length keys.logs
   pub logs_keys : HaveKeys keys.logs

@@ -1,12 +1,12 @@
 -- How a directory comes to know the keys behind those of generation 0.
-use Rattle.std.specs.Prelude.{ℕ, ◌+◌, nat_lt, Bool, if◌then◌else◌, List, [], ◌∷◌, ◌++◌, length, take, slice_get, slice_set, Option, Some, None, Result, Ok, Err}
+use Rattle.std.specs.Prelude.{ℕ, ◌+◌, nat_lt, Bool, if◌then◌else◌, List, [], ◌∷◌, ◌++◌, fold, length, take, slice_get, slice_set, Option, Some, None, Result, Ok, Err}
 use Rattle.std.specs.Str.{bytes_eq}
 use Rattle.lms_tree.specs.PublicKey.{key_text}
 use Rattle.lms_tree.specs.declared.public_key.LmsPublic.{LmsPublic}
 use Rattle.ar_statement.specs.declared.party.Role.{Role}
 use Rattle.ar_statement.specs.declared.party.Role.TheVariants.{LogServer, Authority, Owner, Client}
 use Rattle.ar_statement.specs.declared.party.Party.{Party}
-use Rattle.ar_statement.specs.Claims.{roll, text_of}
+use Rattle.ar_statement.specs.Claims.{Claim, roll, text_of}
 use Rattle.party_keys.specs.Directory.{Directory, keys_at, keys_of}
 use Rattle.party_keys.specs.Signatures.{verified}
 use Rattle.party_keys.specs.declared.fault.VerifyFault.{VerifyFault}
@@ -23,6 +23,10 @@ pub record Announced : Type 0 where
   pub generation : ℕ
   pub key : LmsPublic
   pub signature : List ℕ
+
+-- the statement that the party signs so
+abbrev pub roll_claim : Announced → Claim
+roll_claim a = roll a.party a.generation (key_text a.key)
 
 -- ---- a key more
 
@@ -74,7 +78,7 @@ learned_if (Err fault) known key = Err (fault_of fault)
 -- there.
 unfoldable pub learned : Directory → Announced → Result Learned LearnFault
 learned keys a =
-    learned_if (verified keys a.party (text_of (roll a.party a.generation (key_text a.key))) a.signature)
+    learned_if (verified keys a.party (text_of (roll_claim a)) a.signature)
     (slice_get (keys_of keys a.party) (a.generation + 1)) a.key
 
 -- the directory behind what it learnt
@@ -88,8 +92,7 @@ after_learning keys a = learning (learned keys a) keys a
 
 -- the directory behind all of these, in order
 abbrev pub after_all : Directory → List Announced → Directory
-after_all keys [] = keys
-after_all keys (a ∷ more) = after_all (after_learning keys a) more
+after_all keys announced = fold after_learning keys announced
 
 -- ---- a party's own next key
 

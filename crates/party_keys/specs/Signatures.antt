@@ -1,9 +1,10 @@
 -- Signatures of logs and authorities: u32 generation, and behind it the LMS signature by the key of this
 -- generation.
-use Rattle.std.specs.Prelude.{ℕ, ◌+◌, ◌^◌, ◌==◌, nat_lt, Bool, true, false, not, ◌&&◌, if◌then◌else◌, List, [], ◌∷◌, length, take, drop, slice_get, Option, Some, None, option_and_then, Result, Ok, Err}
+use Rattle.std.specs.Prelude.{◌≡◌, ℕ, ◌+◌, ◌==◌, nat_lt, Bool, true, false, not, ◌&&◌, if◌then◌else◌, List, [], ◌∷◌, length, take, drop, slice_get, Option, Some, None, option_and_then, Result, Ok, Err}
 use Rattle.std.specs.Int.{w32, from_be_bytes}
 use Rattle.std.specs.Result.{result_ok}
-use Rattle.lms_tree.specs.LmsKind.{height_of}
+use Rattle.lms_tree.specs.LmsKind.{leaves_of}
+use Rattle.std.proofs.lemmas.Map.Entries.{option_filter}
 use Rattle.lms_tree.specs.declared.public_key.LmsPublic.{LmsPublic}
 use Rattle.lms_tree.specs.declared.validity.Verdict.{Verdict}
 use Rattle.lms_tree.specs.declared.validity.Verdict.TheVariants.{Valid, Invalid}
@@ -37,14 +38,9 @@ leaf_of signature = number_in_front signature
 
 -- ---- what stands at a key's last leaf
 
--- what was read, where it is a statement that may be signed
-abbrev pub if_valid : Option Claim → Option Claim
-if_valid None = None
-if_valid (Some claim) = if is_in_range claim then Some claim else None
-
--- the statement that has this text
+-- the statement that has this text, where it may be signed
 unfoldable pub claim_in : List ℕ → Option Claim
-claim_in text = if_valid (result_ok (whole statement_at text))
+claim_in text = option_filter is_in_range (result_ok (whole statement_at text))
 
 -- the generation that a statement names as that of its key, where it is a Roll
 abbrev pub rolls_from : Claim → Option ℕ
@@ -66,7 +62,7 @@ roll_in text = option_and_then rolls_from (claim_in text)
 -- the leaf is the last of the key's
 abbrev pub is_last_leaf : LmsPublic → Option ℕ → Bool
 is_last_leaf key None = false
-is_last_leaf key (Some leaf) = leaf + 1 == 2 ^ height_of key.lms
+is_last_leaf key (Some leaf) = leaf + 1 == leaves_of key.lms
 
 -- The last leaf of a key is kept for the Roll that announces the next key: there stands the Roll that names
 -- the key's own generation, and no other text stands there.
@@ -105,3 +101,7 @@ answer_under (first ∷ later) party text signature = answer_at (generation_of s
 -- the verdict under the key of this generation (RFC 8554, section 5.4.2), 7 the text is not one for its leaf.
 unfoldable pub verified : Directory → Party → List ℕ → List ℕ → Result (Unit {0}) VerifyFault
 verified keys party text signature = answer_under (keys_of keys party) party text signature
+
+-- the party's signature of the text is valid under the keys
+abbrev pub IsVerified : Directory → Party → List ℕ → List ℕ → Type 0
+IsVerified keys party text signature = verified keys party text signature ≡ Ok tt

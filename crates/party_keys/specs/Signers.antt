@@ -1,8 +1,12 @@
 -- Who signed what: of a list of parties the first that is unknown, and of a list of claims the first whose signature is
 -- not accepted. The two lists may differ, and all parties are looked at before any signature.
-use Rattle.std.specs.Prelude.{ℕ, Bool, is_some, if◌then◌else◌, List, [], ◌∷◌, slice_get, Result, Ok, Err}
+use Rattle.std.specs.Prelude.{ℕ, Bool, is_some, List, map, slice_get, Result}
+use Rattle.std.specs.Result.{result_and}
+use Rattle.ar_base.specs.FirstFailing.{first_error, first_failing, tests_of}
 use Rattle.ar_base.specs.Gives.{with_error}
+use Rattle.ar_statement.specs.Claims.{Claim, text_of}
 use Rattle.ar_statement.specs.declared.party.Party.{Party}
+use Rattle.ar_statement.specs.declared.text.SeenText.{SeenText}
 use Rattle.party_keys.specs.Directory.{Directory, keys_of}
 use Rattle.party_keys.specs.Signatures.{verified}
 use Rattle.party_keys.specs.declared.fault.VerifyFault.{VerifyFault}
@@ -16,6 +20,14 @@ pub record Claimed : Type 0 where
   pub text : List ℕ
   pub signature : List ℕ
 
+-- the party's statement, by what it says, with its signature
+abbrev pub signed_by : Party → Claim → List ℕ → Claimed
+signed_by party claim signature = record { party = party; text = text_of claim; signature = signature }
+
+-- the text with its party, as it is seen where the signature is accepted
+abbrev pub seen_in : Claimed → SeenText
+seen_in c = record { party = c.party; text = c.text }
+
 -- ---- parties
 
 -- the party is in the directory: its key of generation 0 is known
@@ -24,8 +36,7 @@ is_known keys party = is_some (slice_get (keys_of keys party) 0)
 
 -- each of the parties is known, or the first that is not
 abbrev pub all_known : Directory → List Party → Result (Unit {0}) SignerFault
-all_known keys [] = Ok tt
-all_known keys (party ∷ parties) = if is_known keys party then all_known keys parties else Err (Unknown party)
+all_known keys parties = first_failing (tests_of Unknown (is_known keys) parties)
 
 -- ---- signatures
 
@@ -38,16 +49,10 @@ signer_fault party (verify_fault.Bad k) = Bad party k
 abbrev pub signed_as : Directory → Claimed → Result (Unit {0}) SignerFault
 signed_as keys c = with_error (signer_fault c.party) (verified keys c.party c.text c.signature)
 
--- an answer, and behind it another where it is a good one
-abbrev pub and_then : Result (Unit {0}) SignerFault → Result (Unit {0}) SignerFault → Result (Unit {0}) SignerFault
-and_then (Ok _) later = later
-and_then (Err fault) later = Err fault
-
 -- each claim's signature is accepted, or the first that is not
 abbrev pub all_signed : Directory → List Claimed → Result (Unit {0}) SignerFault
-all_signed keys [] = Ok tt
-all_signed keys (c ∷ cs) = and_then (signed_as keys c) (all_signed keys cs)
+all_signed keys claims = first_error (map (signed_as keys) claims)
 
 -- first the unknown party, then the signature that is not accepted
 abbrev pub signers_answer : Directory → List Party → List Claimed → Result (Unit {0}) SignerFault
-signers_answer keys parties claims = and_then (all_known keys parties) (all_signed keys claims)
+signers_answer keys parties claims = result_and (all_known keys parties) (all_signed keys claims)

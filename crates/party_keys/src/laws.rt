@@ -1,12 +1,13 @@
 //! Laws on the definitions of `specs/`: each is the contract of a function with an empty body.
 ghost use Rattle.std.specs.Prelude.{◌≡◌, ◌≢◌, ◌≤◌, ◌++◌, ℕ, List, Ok, Err};
+ghost use Rattle.ar_base.specs.Prefixes.{BeginsWith};
 ghost use Rattle.ar_statement.specs.Claims.{Claim};
 ghost use Rattle.ar_statement.specs.declared.party.Party.{Party};
 ghost use Rattle.ar_statement.specs.declared.text.SeenText.{SeenText};
 ghost use Rattle.party_keys.specs.Seen.{Saw};
 ghost use Rattle.party_keys.specs.Directory.{Directory, IsDirectory, directory_of, keys_of};
 ghost use Rattle.party_keys.specs.Learning.{Announced, after_all};
-ghost use Rattle.party_keys.specs.Signatures.{verified};
+ghost use Rattle.party_keys.specs.Signatures.{IsVerified, verified};
 ghost use Rattle.party_keys.specs.declared.fault.VerifyFault.TheVariants.{Bad};
 ghost use Rattle.lms_tree.specs.declared.public_key.LmsPublic.{LmsPublic};
 
@@ -22,9 +23,9 @@ pub fn a_directory_keeps_its_bounds()
 /// the same test there, but where the generation was not known.
 pub fn what_was_verified_stays_so()
     ensures keys { (keys : Directory) (announced : List Announced) (party : Party)
-        → (more : List LmsPublic) × (keys_of (after_all keys announced) party ≡ keys_of keys party ++ more) }
+        → BeginsWith (keys_of (after_all keys announced) party) (keys_of keys party) }
     ensures valid { (keys : Directory) (announced : List Announced) (party : Party) (text signature : List ℕ)
-        → verified keys party text signature ≡ Ok tt → verified (after_all keys announced) party text signature ≡ Ok tt }
+        → IsVerified keys party text signature → IsVerified (after_all keys announced) party text signature }
     ensures bad { (keys : Directory) (announced : List Announced) (party : Party) (text signature : List ℕ) (k : ℕ)
         → k ≢ 6 → verified keys party text signature ≡ Err (Bad k) → verified (after_all keys announced) party text signature ≡ Err (Bad k) }
 {}

@@ -25,6 +25,6 @@ mod verifying;
 
 pub use directory::{Directory, is_party_count, is_quorum};
 pub use fault::{DirectoryFault, LearnFault, SignerFault, VerifyFault};
-pub use learning::Learned;
+pub use learning::{Announced, Learned};
 pub use seed::party_seed;
 pub use signers::Claimed;

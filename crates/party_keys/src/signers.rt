@@ -1,5 +1,5 @@
 ghost use Rattle.std.specs.Prelude.{◌≡◌};
-ghost use Rattle.party_keys.specs.Signers.{all_known, all_signed, is_known, signed_as, signer_fault, signers_answer};
+ghost use Rattle.party_keys.specs.Signers.{all_known, all_signed, is_known, seen_in, signed_as, signer_fault, signers_answer};
 
 use crate::Directory;
 use crate::fault::{SignerFault, VerifyFault};
@@ -37,7 +37,7 @@ impl<'a> Claimed<'a> {
 
     /// The text with its party, as it is seen once the signature was accepted.
     pub fn seen(&self) -> SeenText
-        ensures { result ≡ record { party = self.now.party; text = self.now.text } }
+        ensures { result ≡ seen_in self.now }
     {
         SeenText {
             party: self.party,

@@ -1,8 +1,8 @@
 -- When a connection is open, and when it is what else.
 use Rattle.std.proofs.Common.{◌≡◌, ◌↔◌, ℕ, ◌<◌, ◌^◌, List, refl}
 use Rattle.ar_cert.specs.Certificate.{Certificate}
-use Rattle.client_rule.specs.Meaning.{Accepts, AcceptsNone, Asked, Refuses}
-use Rattle.client_rule.specs.Rule.{judgement}
+use Rattle.client_rule.specs.Meaning.{Accepts, AcceptsNone, Refuses}
+use Rattle.client_rule.specs.Rule.{judgement, Asked}
 use Rattle.client_rule.specs.declared.judgement.Judgement.{Judgement}
 use Rattle.client_rule.specs.declared.judgement.Judgement.TheVariants.{Absent, Accepted, Refused}
 use Rattle.client_rule.proofs.Meanings.{absence, accepted, refused}
@@ -16,10 +16,6 @@ use Rattle.possession.specs.Answering.{Server, answer_text}
 use Rattle.possession.specs.Connections.{LacksKey, Shows, connected, connection_of, possessed}
 use Rattle.possession.specs.declared.connection.Connection.TheVariants as connection
 
--- what the client's rule makes of what is asked
-abbrev Judged : Asked → List ℕ → Judgement
-Judged asked confirmation = judgement asked.keys asked.name confirmation asked.epoch asked.age
-
 -- the verdict on the answer to a client's challenge
 abbrev On : Asked → List ℕ → List ℕ → Certificate → List ℕ → Verdict
 On asked challenge answer certificate digest = verdict_of certificate.subject (answer_text asked.name digest challenge) answer
@@ -27,15 +23,15 @@ On asked challenge answer certificate digest = verdict_of certificate.subject (a
 pub is_open : (asked : Asked) (confirmation challenge answer : List ℕ) (certificate : Certificate) (digest : List ℕ) (epoch : ℕ) (root : List ℕ)
     → (connection_of asked confirmation challenge answer ≡ connection.Open certificate digest epoch root) ↔ Shows asked confirmation challenge answer certificate digest epoch root Valid
 unfolding connected
-is_open asked confirmation challenge answer certificate digest epoch root = (by_judgement (Judged asked confirmation) refl, back) where
-  by_verdict : (found : Certificate) (d : List ℕ) (e : ℕ) (r : List ℕ) (v : Verdict) → Judged asked confirmation ≡ Accepted found d e r → On asked challenge answer found d ≡ v → possessed found d e r v ≡ connection.Open certificate digest epoch root → Shows asked confirmation challenge answer certificate digest epoch root Valid
+is_open asked confirmation challenge answer certificate digest epoch root = (by_judgement (judgement asked confirmation) refl, back) where
+  by_verdict : (found : Certificate) (d : List ℕ) (e : ℕ) (r : List ℕ) (v : Verdict) → judgement asked confirmation ≡ Accepted found d e r → On asked challenge answer found d ≡ v → possessed found d e r v ≡ connection.Open certificate digest epoch root → Shows asked confirmation challenge answer certificate digest epoch root Valid
   by_verdict found d e r Valid j v h =
-      let same : Judged asked confirmation ≡ Accepted certificate digest epoch root = cc in
+      let same : judgement asked confirmation ≡ Accepted certificate digest epoch root = cc in
       let valid : On asked challenge answer certificate digest ≡ Valid = cc in
       record { accepts = (accepted asked confirmation certificate digest epoch root).0 same; judged = valid }
   by_verdict found d e r (Invalid k) j v h = absurd cc
 
-  by_judgement : (judged : Judgement) → Judged asked confirmation ≡ judged → connected asked.name challenge answer judged ≡ connection.Open certificate digest epoch root → Shows asked confirmation challenge answer certificate digest epoch root Valid
+  by_judgement : (judged : Judgement) → judgement asked confirmation ≡ judged → connected asked.name challenge answer judged ≡ connection.Open certificate digest epoch root → Shows asked confirmation challenge answer certificate digest epoch root Valid
   by_judgement (Accepted found d e r) j h = by_verdict found d e r (On asked challenge answer found d) j refl h
   by_judgement (Absent e r) j h = absurd cc
   by_judgement (Refused k) j h = absurd cc
@@ -46,8 +42,8 @@ is_open asked confirmation challenge answer certificate digest epoch root = (by_
 pub lacks_key : (asked : Asked) (confirmation challenge answer : List ℕ) (k : ℕ)
     → (connection_of asked confirmation challenge answer ≡ connection.NoPossession k) ↔ LacksKey asked confirmation challenge answer k
 unfolding connected
-lacks_key asked confirmation challenge answer k = (by_judgement (Judged asked confirmation) refl, back) where
-  by_verdict : (found : Certificate) (d : List ℕ) (e : ℕ) (r : List ℕ) (v : Verdict) → Judged asked confirmation ≡ Accepted found d e r → On asked challenge answer found d ≡ v → possessed found d e r v ≡ connection.NoPossession k → LacksKey asked confirmation challenge answer k
+lacks_key asked confirmation challenge answer k = (by_judgement (judgement asked confirmation) refl, back) where
+  by_verdict : (found : Certificate) (d : List ℕ) (e : ℕ) (r : List ℕ) (v : Verdict) → judgement asked confirmation ≡ Accepted found d e r → On asked challenge answer found d ≡ v → possessed found d e r v ≡ connection.NoPossession k → LacksKey asked confirmation challenge answer k
   by_verdict found d e r Valid j v h = absurd cc
   by_verdict found d e r (Invalid n) j v h =
       let invalid : On asked challenge answer found d ≡ Invalid k = cc in
@@ -59,7 +55,7 @@ lacks_key asked confirmation challenge answer k = (by_judgement (Judged asked co
         shows = record { accepts = (accepted asked confirmation found d e r).0 j; judged = invalid };
       }
 
-  by_judgement : (judged : Judgement) → Judged asked confirmation ≡ judged → connected asked.name challenge answer judged ≡ connection.NoPossession k → LacksKey asked confirmation challenge answer k
+  by_judgement : (judged : Judgement) → judgement asked confirmation ≡ judged → connected asked.name challenge answer judged ≡ connection.NoPossession k → LacksKey asked confirmation challenge answer k
   by_judgement (Accepted found d e r) j h = by_verdict found d e r (On asked challenge answer found d) j refl h
   by_judgement (Absent e r) j h = absurd cc
   by_judgement (Refused n) j h = absurd cc
@@ -79,11 +75,11 @@ not_refused found d e r k (Invalid n) h = cc
 pub is_absent : (asked : Asked) (confirmation challenge answer : List ℕ) (epoch : ℕ) (root : List ℕ)
     → (connection_of asked confirmation challenge answer ≡ connection.Absent epoch root) ↔ AcceptsNone asked confirmation epoch root
 unfolding connected
-is_absent asked confirmation challenge answer epoch root = (by_judgement (Judged asked confirmation) refl, back) where
-  by_judgement : (judged : Judgement) → Judged asked confirmation ≡ judged → connected asked.name challenge answer judged ≡ connection.Absent epoch root → AcceptsNone asked confirmation epoch root
+is_absent asked confirmation challenge answer epoch root = (by_judgement (judgement asked confirmation) refl, back) where
+  by_judgement : (judged : Judgement) → judgement asked confirmation ≡ judged → connected asked.name challenge answer judged ≡ connection.Absent epoch root → AcceptsNone asked confirmation epoch root
   by_judgement (Accepted found d e r) j h = absurd (not_absent found d e epoch r root (On asked challenge answer found d) h)
   by_judgement (Absent e r) j h =
-      let same : Judged asked confirmation ≡ Absent epoch root = cc in
+      let same : judgement asked confirmation ≡ Absent epoch root = cc in
       (absence asked confirmation epoch root).0 same
   by_judgement (Refused k) j h = absurd cc
 
@@ -93,12 +89,12 @@ is_absent asked confirmation challenge answer epoch root = (by_judgement (Judged
 pub is_refused : (asked : Asked) (confirmation challenge answer : List ℕ) (k : ℕ)
     → (connection_of asked confirmation challenge answer ≡ connection.Refused k) ↔ Refuses asked confirmation k
 unfolding connected
-is_refused asked confirmation challenge answer k = (by_judgement (Judged asked confirmation) refl, back) where
-  by_judgement : (judged : Judgement) → Judged asked confirmation ≡ judged → connected asked.name challenge answer judged ≡ connection.Refused k → Refuses asked confirmation k
+is_refused asked confirmation challenge answer k = (by_judgement (judgement asked confirmation) refl, back) where
+  by_judgement : (judged : Judgement) → judgement asked confirmation ≡ judged → connected asked.name challenge answer judged ≡ connection.Refused k → Refuses asked confirmation k
   by_judgement (Accepted found d e r) j h = absurd (not_refused found d e r k (On asked challenge answer found d) h)
   by_judgement (Absent e r) j h = absurd cc
   by_judgement (Refused n) j h =
-      let same : Judged asked confirmation ≡ Refused k = cc in
+      let same : judgement asked confirmation ≡ Refused k = cc in
       (refused asked confirmation k).0 same
 
   back : Refuses asked confirmation k → connection_of asked confirmation challenge answer ≡ connection.Refused k

@@ -1,8 +1,8 @@
 -- What a client makes of a server that shows a confirmation, and answers its challenge.
 use Rattle.std.specs.Prelude.{ℕ, ◌≡◌, List}
 use Rattle.ar_cert.specs.Certificate.{Certificate}
-use Rattle.client_rule.specs.Meaning.{Asked, Accepts}
-use Rattle.client_rule.specs.Rule.{judgement as judgement_of}
+use Rattle.client_rule.specs.Meaning.{Accepts}
+use Rattle.client_rule.specs.Rule.{judgement as judgement_of, Asked}
 use Rattle.client_rule.specs.declared.judgement.Judgement.{Judgement}
 use Rattle.client_rule.specs.declared.judgement.Judgement.TheVariants as judgement
 use Rattle.lms_tree.specs.Validity.{verdict_of}
@@ -28,7 +28,7 @@ connected name challenge answer (judgement.Refused k) = connection.Refused k
 -- the connection for what a client asks, by the confirmation that it is shown, its challenge and the answer
 abbrev pub connection_of : Asked → List ℕ → List ℕ → List ℕ → Connection
 connection_of asked confirmation challenge answer =
-    connected asked.name challenge answer (judgement_of asked.keys asked.name confirmation asked.epoch asked.age)
+    connected asked.name challenge answer (judgement_of asked confirmation)
 
 -- The confirmation is accepted, and shows this certificate of the name; and the answer to the challenge has this
 -- verdict under the certificate's subject key.

@@ -1,7 +1,6 @@
 ghost use Rattle.std.specs.Prelude.{◌≡◌};
-ghost use Rattle.client_rule.specs.Rule.{judgement};
 ghost use Rattle.possession.specs.Answering.{answer_text};
-ghost use Rattle.possession.specs.Connections.{connected};
+ghost use Rattle.possession.specs.Connections.{connection_of};
 
 use ar_cert::CertView;
 use ar_names::NameView;
@@ -59,7 +58,7 @@ pub fn connect<'a>(
     challenge: &[u8; 32],
     answer: &[u8],
 ) -> Connection<'a>
-    ensures { result ≡ connected name.now challenge.now answer.now (judgement directory.now name.now confirmation.now now age) }
+    ensures { result ≡ connection_of (record { keys = directory.now; name = name.now; epoch = now; age = age }) confirmation.now challenge.now answer.now }
 {
     match judge(directory, name, confirmation, now, age) {
         Judgement::Accepted {

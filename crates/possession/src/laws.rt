@@ -1,12 +1,13 @@
 //! Laws on servers and clients, over the definitions alone: each is the contract of a function without a body.
 
-ghost use Rattle.std.specs.Prelude.{◌≡◌, ◌≢◌, ◌<◌, ◌^◌, ◌↔◌, List, ℕ};
+ghost use Rattle.std.specs.Prelude.{◌≡◌, ◌≢◌, ◌<◌, ◌↔◌, List, ℕ};
 ghost use Rattle.ar_cert.specs.Certificate.{Certificate};
 ghost use Rattle.ar_statement.specs.Claims.{answer, handover};
 ghost use Rattle.ar_statement.specs.Ranges.{IsHeld};
-ghost use Rattle.client_rule.specs.Meaning.{Accepts, AcceptsNone, Asked, Refuses};
+ghost use Rattle.client_rule.specs.Meaning.{Accepts, AcceptsNone, Refuses};
+ghost use Rattle.client_rule.specs.Rule.{Asked};
 ghost use Rattle.lms_tree.specs.Key.{public_of, signature_of};
-ghost use Rattle.lms_tree.specs.LmsKind.{height_of};
+ghost use Rattle.lms_tree.specs.LmsKind.{leaves_of};
 ghost use Rattle.lms_tree.specs.declared.validity.Verdict.TheVariants.{Valid};
 ghost use Rattle.possession.specs.Answering.{Server, answer_text, handover_text};
 ghost use Rattle.possession.specs.Connections.{LacksKey, Shows, connection_of};
@@ -48,7 +49,7 @@ pub fn an_answer_is_to_one_challenge()
 /// certificate, whose subject key is the server's.
 pub fn an_answer_opens()
     ensures { (server : Server) (asked : Asked) (confirmation challenge : List ℕ) (leaf : ℕ) (certificate : Certificate) (epoch : ℕ) (root : List ℕ)
-        → leaf < 2 ^ height_of server.key.lms
+        → leaf < leaves_of server.key.lms
         → certificate.subject ≡ public_of server.key
         → asked.name ≡ server.name
         → Accepts asked confirmation certificate server.certificate epoch root

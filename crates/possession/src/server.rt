@@ -28,15 +28,15 @@ pub struct Server {
 
 // Clauses see the book, the key, the name and the digest. The book has as many leaves as the key.
 impl Model for Server {
-    ghost use Rattle.std.specs.Prelude.{◌≡◌, ◌^◌};
-    ghost use Rattle.lms_tree.specs.LmsKind.{height_of};
+    ghost use Rattle.std.specs.Prelude.{◌≡◌};
+    ghost use Rattle.lms_tree.specs.LmsKind.{leaves_of};
     ghost use Rattle.possession.specs.Answering.{Server as Spec};
 
     ghost Value = { Spec };
 
     ghost view = { λ s. record { book = s.book; key = s.key; name = s.name; certificate = s.certificate } };
 
-    ghost invariant = { λ s. s.book.leaves ≡ 2 ^ height_of s.key.lms };
+    ghost invariant = { λ s. s.book.leaves ≡ leaves_of s.key.lms };
 }
 
 /// The text that hands a name over to the certificate with this digest.

@@ -12,7 +12,7 @@ use Rattle.ar_lines.specs.Lines.{words_of}
 use Rattle.ar_lines.specs.Parties.{member_word, party_word}
 use Rattle.ar_lines.proofs.Spelled.{decimal_is_word, hex_is_word, name_is_word}
 use Rattle.ar_lines.proofs.TextLaws.{is_word, words_of-first, words_of-last}
-use Rattle.ar_statement.specs.Claims.{party}
+use Rattle.ar_statement.specs.Claims.{authority_party, log_party}
 use Rattle.ar_statement.specs.declared.party.Party.{Party}
 use Rattle.ar_statement.specs.declared.party.Role.{Role}
 use Rattle.ar_statement.specs.declared.party.Role.TheVariants.{LogServer, Authority, Owner, Client}
@@ -201,13 +201,13 @@ numbers_right (n ∷ ns) h = rw (decimal_is_word n h.0, numbers_right ns h.1) re
 words_right : (h : Happening) → IsHappening h → list_all is_word (words_of_happening h) ≡ true
 words_right (happening.Made p d) h = rw (word_of_party p h.0, digest_word d h.1) refl
 words_right (happening.Dishonest p) h = rw (word_of_party p h) refl
-words_right (happening.Taught a) h = rw (word_of_party (party Authority a) h) refl
-words_right (happening.Forgot a) h = rw (word_of_party (party Authority a) h) refl
-words_right (happening.Retired a) h = rw (word_of_party (party Authority a) h) refl
+words_right (happening.Taught a) h = rw (word_of_party (authority_party a) h) refl
+words_right (happening.Forgot a) h = rw (word_of_party (authority_party a) h) refl
+words_right (happening.Retired a) h = rw (word_of_party (authority_party a) h) refl
 words_right (happening.Draft n d) h = rw (decimal_is_word n h.0, digest_word d h.1) refl
 words_right (happening.Step p w refused) h = rw (word_of_party p h.0, what_right w (outcome_words refused) h.1 (outcome_right refused h.2)) refl
-words_right (happening.Ended log epoch None) h = rw (word_of_party (party LogServer log) h.0, decimal_is_word epoch h.1) refl
-words_right (happening.Ended log epoch (Some root)) h = rw (word_of_party (party LogServer log) h.0, decimal_is_word epoch h.1, digest_word root h.2) refl
+words_right (happening.Ended log epoch None) h = rw (word_of_party (log_party log) h.0, decimal_is_word epoch h.1) refl
+words_right (happening.Ended log epoch (Some root)) h = rw (word_of_party (log_party log) h.0, decimal_is_word epoch h.1, digest_word root h.2) refl
 words_right (happening.Learnt m refused) h = rw (decimal_is_word m h.0, learning_right refused h.1) refl
 words_right (happening.Entered m k from to len d) h =
     rw (decimal_is_word m h.0, kind_right k, sender_right from h.1, target_right to h.2, decimal_is_word len h.3, digest_word d h.4) refl

@@ -15,7 +15,7 @@ use Rattle.ar_lines.specs.Forms.{bytes_of_hex, is_numeral, number_of}
 use Rattle.ar_lines.specs.Parties.{member_word, party_word, role_of}
 use Rattle.ar_lines.proofs.Respelled.{number_own}
 use Rattle.ar_lines.proofs.Spelled.{bytes_of_hex-encode, number_of-decimal}
-use Rattle.ar_statement.specs.Claims.{party}
+use Rattle.ar_statement.specs.Claims.{authority_party, log_party, party}
 use Rattle.ar_statement.specs.declared.party.Party.{Party}
 use Rattle.ar_statement.specs.declared.party.Role.{Role}
 use Rattle.ar_statement.specs.declared.party.Role.TheVariants.{LogServer, Authority, Owner, Client}
@@ -380,12 +380,12 @@ ending_words None = codes "skipped" ∷ []
 abbrev pub words_of_happening : Happening → List (List ℕ)
 words_of_happening (happening.Made party digest) = codes "party" ∷ party_word party ∷ encode_lower digest ∷ []
 words_of_happening (happening.Dishonest party) = codes "dishonest" ∷ party_word party ∷ []
-words_of_happening (happening.Taught authority) = party_word (party Authority authority) ∷ codes "taught" ∷ []
-words_of_happening (happening.Forgot authority) = party_word (party Authority authority) ∷ codes "forgot" ∷ []
-words_of_happening (happening.Retired authority) = party_word (party Authority authority) ∷ codes "retired" ∷ []
+words_of_happening (happening.Taught authority) = party_word (authority_party authority) ∷ codes "taught" ∷ []
+words_of_happening (happening.Forgot authority) = party_word (authority_party authority) ∷ codes "forgot" ∷ []
+words_of_happening (happening.Retired authority) = party_word (authority_party authority) ∷ codes "retired" ∷ []
 words_of_happening (happening.Draft draft digest) = codes "draft" ∷ decimal draft ∷ encode_lower digest ∷ []
 words_of_happening (happening.Step party what refused) = party_word party ∷ what_then what (outcome_words refused)
-words_of_happening (happening.Ended log epoch root) = party_word (party LogServer log) ∷ codes "ended" ∷ decimal epoch ∷ ending_words root
+words_of_happening (happening.Ended log epoch root) = party_word (log_party log) ∷ codes "ended" ∷ decimal epoch ∷ ending_words root
 words_of_happening (happening.Learnt message refused) = codes "learn" ∷ decimal message ∷ learning_words refused
 words_of_happening (happening.Entered message kind from to len digest) =
     codes "message" ∷ decimal message ∷ kind_text kind ∷ codes "from" ∷ sender_text from ∷ codes "to" ∷ target_text to ∷ decimal len ∷ encode_lower digest ∷ []
@@ -409,7 +409,7 @@ step_is_told p (what.Submit n) refused h r = rw (number_is_told n h, outcome_is_
 step_is_told p (what.Handover n) refused h r = rw (number_is_told n h, outcome_is_told refused r) refl
 step_is_told p (what.Object n) refused h r = rw (number_is_told n h, outcome_is_told refused r) refl
 
-ended_is_told : (log epoch : ℕ) (root : Option (List ℕ)) → IsNumber epoch → IfSome root IsDigest → party_line (party LogServer log) (codes "ended" ∷ decimal epoch ∷ ending_words root) ≡ Some (happening.Ended log epoch root)
+ended_is_told : (log epoch : ℕ) (root : Option (List ℕ)) → IsNumber epoch → IfSome root IsDigest → party_line (log_party log) (codes "ended" ∷ decimal epoch ∷ ending_words root) ≡ Some (happening.Ended log epoch root)
 unfolding party_line
 ended_is_told log epoch None h r = rw (number_is_told epoch h) refl
 ended_is_told log epoch (Some root) h r = rw (number_is_told epoch h, digest_is_told root r) refl
@@ -418,12 +418,12 @@ pub happening_is_told : (h : Happening) → IsHappening h → told (words_of_hap
 unfolding word_line party_line
 happening_is_told (happening.Made p d) h = no_party (codes "party") _ (unfold party_told in refl) ∙ rw (party_is_told p h.0, digest_is_told d h.1) refl
 happening_is_told (happening.Dishonest p) h = no_party (codes "dishonest") _ (unfold party_told in refl) ∙ rw (party_is_told p h) refl
-happening_is_told (happening.Taught a) h = first_is (party Authority a) _ h
-happening_is_told (happening.Forgot a) h = first_is (party Authority a) _ h
-happening_is_told (happening.Retired a) h = first_is (party Authority a) _ h
+happening_is_told (happening.Taught a) h = first_is (authority_party a) _ h
+happening_is_told (happening.Forgot a) h = first_is (authority_party a) _ h
+happening_is_told (happening.Retired a) h = first_is (authority_party a) _ h
 happening_is_told (happening.Draft n d) h = no_party (codes "draft") _ (unfold party_told in refl) ∙ rw (number_is_told n h.0, digest_is_told d h.1) refl
 happening_is_told (happening.Step p w refused) h = first_is p _ h.0 ∙ step_is_told p w refused h.1 h.2
-happening_is_told (happening.Ended log epoch root) h = first_is (party LogServer log) _ h.0 ∙ ended_is_told log epoch root h.1 h.2
+happening_is_told (happening.Ended log epoch root) h = first_is (log_party log) _ h.0 ∙ ended_is_told log epoch root h.1 h.2
 happening_is_told (happening.Learnt m refused) h = no_party (codes "learn") _ (unfold party_told in refl) ∙ rw (number_is_told m h.0, learning_is_told refused h.1) refl
 happening_is_told (happening.Entered m k from to len d) h =
     no_party (codes "message") _ (unfold party_told in refl)

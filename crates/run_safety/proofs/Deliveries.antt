@@ -1,29 +1,30 @@
 -- What a delivery does to the pool: a few messages come behind it, and who takes deliveries stays.
-use Rattle.std.proofs.Common.{◌≡◌, ◌∙◌, ◌≤◌, ℕ, zero, suc, List, [], ◌∷◌, ◌++◌, append-nil, length, refl, sym, ap, arith, Bool, true, false, cond, get_or, Option, Some, None, is_some, Ok, Err}
+use Rattle.std.proofs.Common.{◌≡◌, ◌∙◌, ◌≤◌, ℕ, zero, suc, List, [], ◌∷◌, ◌++◌, append-nil, length, refl, sym, ap, subst, arith, Bool, true, false, cond, get_or, Option, Some, None, is_some, Ok, Err}
 use Rattle.std.specs.Prelude.{find, is_none, map, position, slice_set, ◌==◌}
+use Rattle.std.specs.Option.{option_map}
 use Rattle.std.proofs.lemmas.Bool.{eqb-true}
 use Rattle.std.proofs.lemmas.List.{length-map, length-set}
 use Rattle.std.proofs.lemmas.List.Quantifiers.{position-Some}
+use Rattle.std.proofs.lemmas.Option.{same_Some}
 use Rattle.ar_message.specs.Filling.{filled}
 use Rattle.ar_message.specs.Messages.{message_in}
 use Rattle.ar_message.specs.Sending.{Letter}
 use Rattle.ar_message.specs.declared.sent.Sent.{Sent}
 use Rattle.ar_message.specs.declared.unsigned.Unsigned.{Unsigned}
 use Rattle.ar_message.proofs.Filled.{filled-few}
+use Rattle.ar_statement.specs.Claims.{party}
 use Rattle.ar_statement.specs.declared.party.Party.{Party}
 use Rattle.ar_statement.specs.declared.party.Role.{Role}
 use Rattle.ar_statement.specs.declared.party.Role.TheVariants as role
-use Rattle.ar_world.specs.Authorities.{authority_answers, authority_takes}
+use Rattle.ar_nodes.specs.Acting.{acted, authority_delivered, authority_does, authority_took, bytes_of, log_delivered, log_does, log_obeyed, noted_in, owner_delivered, owner_does}
 use Rattle.ar_nodes.specs.Authorities.{authority_reply, node_behind, says_to}
-use Rattle.ar_world.specs.Delivering.{Taker, a_log, an_authority, an_owner, delivery, noted, taker_at, taker_in}
-use Rattle.ar_world.specs.Finding.{authority_at, log_at, with_owner}
+use Rattle.ar_world.specs.Delivering.{Taker, a_log, an_authority, an_owner, delivery, taker_at, taker_in}
+use Rattle.ar_world.specs.Finding.{authority_at, log_at, owner_at, with_owner}
 use Rattle.ar_nodes.specs.Finding.{honest_in, is_owner, set_if}
-use Rattle.ar_world.specs.Logs.{log_answers, log_steps}
-use Rattle.ar_nodes.specs.Owners.{owner_party}
+use Rattle.ar_world.specs.Sending.{authority_made, log_made, owner_made}
 use Rattle.ar_nodes.specs.Parties.{AuthorityNode, LogNode}
-use Rattle.ar_nodes.specs.Pool.{Pooled, pooled_from}
+use Rattle.ar_nodes.specs.Pool.{Pooled, numbered, pooled_from}
 use Rattle.ar_world.specs.State.{World, with_authority, with_log}
-use Rattle.ar_world.specs.Submitting.{owner_answers}
 use Rattle.ar_nodes.specs.declared.event.LogEvent.{LogEvent}
 use Rattle.ar_nodes.specs.declared.event.LogEvent.TheVariants as events
 use Rattle.authority_core.proofs.Few as authority
@@ -37,7 +38,7 @@ use Rattle.owner_check.specs.declared.answer.Outcome.{Outcome}
 use Rattle.owner_core.proofs.Counted.{stepped}
 use Rattle.owner_core.specs.Rows.{Row, step_row}
 use Rattle.owner_core.specs.State.{Owner}
-use Rattle.party_keys.specs.Seen.{authority_party, log_party}
+use Rattle.ar_statement.specs.Claims.{authority_party, log_party, owner_party}
 use Rattle.report_text.specs.declared.happening.What.{What}
 use Rattle.report_text.specs.declared.happening.What.TheVariants.{Take}
 use Rattle.ar_world.proofs.Deliveries.{some-mapped}
@@ -112,17 +113,13 @@ owner-takers w is pool role.Client n = refl
 
 -- ---- steps
 
--- nothing changes and nothing is sent
-sends-nothing : (w : World) → Sends w w
-sends-nothing w = record { logs = refl; takers = λ who. refl; new = []; pool = sym (append-nil w.pool); few = omega arith }
-
 -- as many messages as letters
 posted-few : (who : Party) (letters : List Letter) → length letters ≤ 2 → length (map (pooled_from who) letters) ≤ 2
 posted-few who letters few = let many = length-map letters (pooled_from who) in omega arith
 
 log-sends : (w : World) (number : ℕ) (node : LogNode) (keys : List KeyParts) (what : What) (event : LogEvent) (a : log_state.Answer) → log_at w number ≡ Some node
     → ((reply : log_state.Reply) → a ≡ Ok reply → length reply.unsigned.sent.messages ≤ log_state.most_sent)
-    → Sends w (log_answers w number node keys what event a).0
+    → Sends w (log_made w number (acted w.pool (log_party number) what (log_does node keys event a))).0
 log-sends w number node keys what event (Ok reply) there few =
     let is : LogNode = record { core = reply.after; keys = keys; taken = node.taken ++ event ∷ [] } in
     let sent : List Letter = (filled keys reply.unsigned).messages in
@@ -134,16 +131,22 @@ log-sends w number node keys what event (Ok reply) there few =
       pool = refl;
       few = posted-few (log_party number) sent (filled-few log_state.most_sent keys reply.unsigned (filled keys reply.unsigned) (few reply refl) refl);
     }
-log-sends w number node keys what event (Err refusal) there few = sends-nothing w
+log-sends w number node keys what event (Err refusal) there few = record {
+  logs = length-set w.logs number (Some node);
+  takers = λ who. log-takers w number node node w.pool who.role who.number there;
+  new = [];
+  pool = sym (append-nil w.pool);
+  few = omega arith;
+}
 
-log-steps-sends : (w : World) (number : ℕ) (node : LogNode) (what : What) (event : LogEvent) (input : log_state.Input) → log_at w number ≡ Some node
-    → Sends w (log_steps w number node what event input).0
-unfolding log_steps
-log-steps-sends w number node what event input there = log-sends w number node node.keys what event (row node.core input) there (log.row-few node.core input)
+obeyed-sends : (w : World) (number : ℕ) (what : What) (event : LogEvent) (input : log_state.Input) (node : LogNode) → log_at w number ≡ Some node
+    → Sends w (log_made w number (log_obeyed w.pool number what event input node)).0
+unfolding log_obeyed
+obeyed-sends w number what event input node there = log-sends w number node node.keys what event (row node.core input) there (log.row-few node.core input)
 
 authority-sends : (w : World) (number : ℕ) (was node : AuthorityNode) (what : What) (a : authority_state.Answer) → authority_at w number ≡ Some was
     → ((later : authority_state.AuthorityState) (sent : Unsigned) → a ≡ Ok (later, sent) → length sent.sent.messages ≤ authority_state.most_sent)
-    → Sends w (authority_answers w number node what a).0
+    → Sends w (authority_made w number (acted w.pool (authority_party number) what (authority_does node a))).0
 authority-sends w number was node what (Ok answer) there few =
     let sent = filled node.keys answer.1 in
     let new : List Pooled = map (pooled_from (authority_party number)) sent.messages in
@@ -163,18 +166,17 @@ authority-sends w number was node what (Err refusal) there few = record {
   few = omega arith;
 }
 
-authority-takes-sends : (says : Outcome) (w : World) (number : ℕ) (node : AuthorityNode) (what : What) (bytes : List ℕ) → authority_at w number ≡ Some node
-    → Sends w (authority_takes says w number node what bytes).0
-unfolding authority_takes
-authority-takes-sends says w number node what bytes there =
+took-sends : (says : Outcome) (w : World) (number : ℕ) (node : AuthorityNode) (what : What) (bytes : List ℕ) → authority_at w number ≡ Some node
+    → Sends w (authority_made w number (acted w.pool (authority_party number) what (authority_took says node bytes))).0
+took-sends says w number node what bytes there =
     let m = message_in bytes
     in let a = authority_reply says node m
     in authority-sends w number node (node_behind node m a) what a there
     (authority.row-few node.state (is_none node.check) m (says_to says node.check (asked_in m)))
 
-owner-sends : (w : World) (number : ℕ) (what : What) (r : Row Sent) → ((reply : Sent) (later : Owner) → r ≡ Ok (reply, later) → length reply.messages ≡ 0)
-    → Sends w (owner_answers w number what r).0
-owner-sends w number what (Ok made) none =
+owner-sends : (w : World) (number : ℕ) (what : What) (me : Owner) (r : Row Sent) → ((reply : Sent) (later : Owner) → r ≡ Ok (reply, later) → length reply.messages ≡ 0)
+    → Sends w (owner_made w (acted w.pool (owner_party number) what (owner_does me r))).0
+owner-sends w number what me (Ok made) none =
     let new : List Pooled = map (pooled_from (owner_party number)) made.0.messages in
     record {
       logs = refl;
@@ -183,22 +185,67 @@ owner-sends w number what (Ok made) none =
       pool = refl;
       few = posted-few (owner_party number) made.0.messages (let nothing = none made.0 made.1 refl in omega arith);
     }
-owner-sends w number what (Err refusal) none = sends-nothing w
+owner-sends w number what me (Err refusal) none = record {
+  logs = refl;
+  takers = λ who. owner-takers w me w.pool who.role who.number;
+  new = [];
+  pool = sym (append-nil w.pool);
+  few = omega arith;
+}
 
 -- ---- a delivery
 
-pub delivery-sends : (says : Outcome) (w : World) (message : ℕ) (p : Pooled) (who : Party) (taker : Taker) → taker_at w who ≡ Some taker
-    → Sends (noted w message p who) (delivery says (noted w message p who) message p.bytes who.number taker).0
-delivery-sends says w message p who (a_log node) there =
-    log-steps-sends (noted w message p who) who.number node (Take message) (events.Take message) (log_state.takes p.bytes) (log-takes w who.role who.number node there)
-delivery-sends says w message p who (an_authority node) there =
-    authority-takes-sends says (noted w message p who) who.number node (Take message) p.bytes (authority-takes w who.role who.number node there)
-delivery-sends says w message p who (an_owner me) there =
-    owner-sends (noted w message p who) who.number (Take message) (step_row me p.bytes) (stepped me p.bytes)
+-- the world in which it is noted
+abbrev pub noted : World → ℕ → Party → World
+noted w message who = record w { pool = noted_in w.pool message who }
 
 -- that it is noted changes nobody
-pub noted-takers : (w : World) (message : ℕ) (p : Pooled) (to : Party) (r : Role) (n : ℕ) → is_some (taker_in (noted w message p to) r n) ≡ is_some (taker_in w r n)
-noted-takers w message p to role.LogServer n = refl
-noted-takers w message p to role.Authority n = refl
-noted-takers w message p to role.Owner n = refl
-noted-takers w message p to role.Client n = refl
+pub noted-takers : (w : World) (message : ℕ) (to : Party) (r : Role) (n : ℕ) → is_some (taker_in (noted w message to) r n) ≡ is_some (taker_in w r n)
+noted-takers w message to role.LogServer n = refl
+noted-takers w message to role.Authority n = refl
+noted-takers w message to role.Owner n = refl
+noted-takers w message to role.Client n = refl
+
+-- the role of who takes it
+abbrev taker-role : Taker → Role
+taker-role (a_log node) = role.LogServer
+taker-role (an_authority node) = role.Authority
+taker-role (an_owner me) = role.Owner
+
+takes-role : (w : World) (r : Role) (number : ℕ) (taker : Taker) → taker_in w r number ≡ Some taker → r ≡ taker-role taker
+takes-role w role.LogServer number taker h = by (log_at w number) h
+  where
+    by : (o : Option LogNode) → option_map a_log o ≡ Some taker → role.LogServer ≡ taker-role taker
+    by None e = absurd cc
+    by (Some x) e = ap taker-role (same_Some (a_log x) taker e)
+takes-role w role.Authority number taker h = by (authority_at w number) h
+  where
+    by : (o : Option AuthorityNode) → option_map an_authority o ≡ Some taker → role.Authority ≡ taker-role taker
+    by None e = absurd cc
+    by (Some x) e = ap taker-role (same_Some (an_authority x) taker e)
+takes-role w role.Owner number taker h = by (owner_at w number) h
+  where
+    by : (o : Option Owner) → option_map an_owner o ≡ Some taker → role.Owner ≡ taker-role taker
+    by None e = absurd cc
+    by (Some x) e = ap taker-role (same_Some (an_owner x) taker e)
+takes-role w role.Client number taker h = absurd cc
+
+taker-sends : (says : Outcome) (w : World) (message number : ℕ) (taker : Taker) → taker_in w (taker-role taker) number ≡ Some taker
+    → Sends (noted w message (party (taker-role taker) number)) (delivery says w message number taker).0
+unfolding log_delivered authority_delivered owner_delivered
+taker-sends says w message number (a_log node) there =
+    obeyed-sends (noted w message (log_party number)) number (Take message) (events.Take message) (log_state.takes (bytes_of (numbered w.pool message))) node
+    (log-takes w role.LogServer number node there)
+taker-sends says w message number (an_authority node) there =
+    took-sends says (noted w message (authority_party number)) number node (Take message) (bytes_of (numbered w.pool message))
+    (authority-takes w role.Authority number node there)
+taker-sends says w message number (an_owner me) there =
+    let bytes = bytes_of (numbered w.pool message)
+    in owner-sends (noted w message (owner_party number)) number (Take message) me (step_row me bytes) (stepped me bytes)
+
+pub delivery-sends : (says : Outcome) (w : World) (message : ℕ) (who : Party) (taker : Taker) → taker_at w who ≡ Some taker
+    → Sends (noted w message who) (delivery says w message who.number taker).0
+delivery-sends says w message who taker there =
+    let is : who.role ≡ taker-role taker = takes-role w who.role who.number taker there in
+    subst (λ (r : Role). Sends (noted w message (party r who.number)) (delivery says w message who.number taker).0) (sym is)
+    (taker-sends says w message who.number taker (subst (λ (r : Role). taker_in w r who.number ≡ Some taker) is there))

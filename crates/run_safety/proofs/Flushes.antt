@@ -4,14 +4,13 @@ use Rattle.std.specs.Prelude.{nat_lt, slice_get, slice_set}
 use Rattle.std.proofs.lemmas.Bool.{and_parts, ltb-true}
 use Rattle.std.proofs.lemmas.Option.{same_Some}
 use Rattle.std.proofs.lemmas.List.{length-set}
-use Rattle.ar_base.specs.Chaining.{◌>>=◌}
+use Rattle.ar_base.specs.Chaining.{◌>>=◌, need}
 use Rattle.ar_base.proofs.Shown.{if-chained}
 use Rattle.ar_statement.specs.declared.party.Party.{Party}
-use Rattle.ar_world.specs.Delivering.{can_deliver, deliver_line, delivery, due_from, due_or, due_to, next_due, noted, taker_at}
+use Rattle.ar_world.specs.Delivering.{can_deliver, deliver_line, delivery, due_from, due_or, due_to, next_due, taker_at}
 use Rattle.ar_nodes.specs.Pool.{delivered_to}
 use Rattle.ar_world.specs.Finding.{Effect, has_room, message_at, room}
 use Rattle.ar_nodes.specs.Pool.{most_bytes, most_messages}
-use Rattle.ar_nodes.specs.Finding.{need}
 use Rattle.ar_world.specs.Founding.{led_to, may_come}
 use Rattle.ar_nodes.specs.Pool.{Pooled, bytes_in, numbered, set_numbered}
 use Rattle.ar_world.specs.Run.{Progress, delivering, flushed, most_deliveries, progress_of, taken, then_on}
@@ -23,7 +22,8 @@ use Rattle.owner_check.specs.declared.answer.Outcome.{Outcome}
 use Rattle.script_text.specs.declared.line.Line.TheVariants as line
 use Rattle.run_safety.specs.Flushes.{LeavesNothingDue}
 use Rattle.run_safety.proofs.Chains.{need-holds}
-use Rattle.run_safety.proofs.Deliveries.{Sends, delivery-sends, noted-takers}
+use Rattle.ar_nodes.proofs.Noted.{noted-is}
+use Rattle.run_safety.proofs.Deliveries.{Sends, delivery-sends, noted, noted-takers}
 use Rattle.run_safety.proofs.Lines.{can-take}
 use Rattle.run_safety.proofs.Waiting.{pool-falls, pool-few, waiting-in}
 
@@ -80,14 +80,15 @@ longer pool new place p = length-append (slice_set pool place p) new ∙ ap (λ 
 
 -- where one more was enough before a delivery, so many are behind it
 enough-behind : (more : ℕ) (w v : World) (due : ℕ × Party) (p : Pooled) → IsDue w 1 w.pool due → message_at w due.0 ≡ Some p → length w.pool < most_messages
-    → Sends (noted w due.0 p due.1) v → AreEnough (suc more) w → AreEnough more v
+    → Sends (noted w due.0 due.1) v → AreEnough (suc more) w → AreEnough more v
 enough-behind more w v due p is found free sends enough =
     let number : due.0 ≡ suc is.place = omega arith in
     let there : slice_get w.pool is.place ≡ Some p = sym (ap (numbered w.pool) number) ∙ found in
     let to : due_to w p ≡ Some due.1 = ap (due_to w) (sym (same_Some is.message p (sym is.there ∙ there))) ∙ is.to in
     let had : Pooled = delivered_to due.1 p in
-    let takers : takers-in v ≡ takers-in w = λ i who. (sends.takers who ∙ noted-takers w due.0 p due.1 who.role who.number) i in
-    let pool : v.pool ≡ slice_set w.pool is.place had ++ sends.new = sends.pool ∙ ap (λ n. set_numbered w.pool n had ++ sends.new) number in
+    let takers : takers-in v ≡ takers-in w = λ i who. (sends.takers who ∙ noted-takers w due.0 due.1 who.role who.number) i in
+    let pool : v.pool ≡ slice_set w.pool is.place had ++ sends.new =
+    sends.pool ∙ ap (λ (xs : List Pooled). xs ++ sends.new) (noted-is w.pool due.0 due.1 p found) ∙ ap (λ n. set_numbered w.pool n had ++ sends.new) number in
     let later : due-in v ≡ waiting-in (takers-in w) (length w.logs) (slice_set w.pool is.place had ++ sends.new) = λ i. waiting-in (takers i) (sends.logs i) (pool i) in
     let falls = pool-falls (takers-in w) (length w.logs) w.pool sends.new is.place p due.1 enough.few there to in
     let long : length v.pool ≡ length w.pool + length sends.new = ap length pool ∙ longer w.pool sends.new is.place had in
@@ -100,10 +101,10 @@ enough-behind more w v due p is found free sends enough =
 deliver-enough : (says : Outcome) (more : ℕ) (w : World) (due : ℕ × Party) → next_due w ≡ Some due → AreEnough (suc more) w
     → IfOk (deliver_line says w due.0 due.1) (λ made. AreEnough more made.0)
 deliver-enough says more w due is enough =
-    if-chained (can_deliver w due.0 due.1) (λ found. Ok (delivery says (noted w due.0 found.0 due.1) due.0 found.0.bytes due.1.number found.1)) (λ made. AreEnough more made.0) (λ found same.
-    let parts = can-take (message_at w due.0) (taker_at w due.1) (room w) found same in
-    enough-behind more w (delivery says (noted w due.0 found.0 due.1) due.0 found.0.bytes due.1.number found.1).0 due found.0
-    (due-at w 1 w.pool due is) parts.0 (has-free w (need-holds (has_room w) Limit tt parts.2)) (delivery-sends says w due.0 found.0 due.1 found.1 parts.1) enough)
+    if-chained (can_deliver w due.0 due.1) (λ taker. Ok (delivery says w due.0 due.1.number taker)) (λ made. AreEnough more made.0) (λ taker same.
+    let parts = can-take (message_at w due.0) (taker_at w due.1) (room w) taker same in
+    enough-behind more w (delivery says w due.0 due.1.number taker).0 due parts.0.0
+    (due-at w 1 w.pool due is) parts.0.1 (has-free w (need-holds (has_room w) Limit tt parts.2)) (delivery-sends says w due.0 due.1 taker parts.1) enough)
 
 -- ---- a flush
 

@@ -7,7 +7,7 @@ use Rattle.std.proofs.lemmas.List.{length-map}
 use Rattle.std.proofs.lemmas.List.Elements.{All-nil}
 use Rattle.std.proofs.lemmas.List.FromFn.{length-map-range_with_len}
 use Rattle.ar_safety.specs.Held.{IsTaken, Taken, verdict_on}
-use Rattle.ar_statement.specs.Claims.{is_party}
+use Rattle.ar_statement.specs.Claims.{authority_party, is_party, log_party}
 use Rattle.ar_statement.specs.declared.party.Party.{Party}
 use Rattle.ar_statement.specs.declared.party.Role.{Role}
 use Rattle.ar_statement.specs.declared.party.Role.TheVariants as role
@@ -22,15 +22,13 @@ use Rattle.lms_tree.specs.Key.{public_of}
 use Rattle.lms_tree.specs.KeyParts.{KeyParts}
 use Rattle.lms_tree.specs.declared.public_key.LmsPublic.{LmsPublic}
 use Rattle.party_keys.specs.Directory.{Directory, directory_of, directory_with, first_keys, is_party_count, is_quorum, keys_at, keys_of}
-use Rattle.party_keys.specs.Seen.{authority_party, log_party}
 use Rattle.party_keys.specs.declared.fault.DirectoryFault.{DirectoryFault}
 use Rattle.party_keys.specs.declared.fault.DirectoryFault.TheVariants.{Authorities, Logs, Quorum}
 use Rattle.run_safety.specs.Headline.{accepted_in}
 use Rattle.run_safety.specs.Seats.{AreSeated, IsAuthorityOf, IsLogOf, honest_count}
-use Rattle.run_safety.proofs.Chains.{named-there}
 use Rattle.run_safety.proofs.Places.{honest-below}
 use Rattle.run_safety.proofs.Parts.{Bare, Makes, SeatedIn, Stands, part_of, told_by, told_in}
-use Rattle.ar_base.proofs.Shown.{if-chained}
+use Rattle.ar_base.proofs.Shown.{if-chained, needed}
 
 -- ---- the first directory
 
@@ -169,7 +167,7 @@ none-told clients judged none = ap (map (told_by clients)) none
 pub authorities-makes : (w : World) (count : ℕ) → (Stands (part_of w) → Bare (part_of w)) → IfOk (authorities_line w count) (Makes w)
 authorities-makes w count bare =
     if-chained (named 1 (genesis_of w.setup count)) _ (Makes w) (λ genesis same.
-    let made = named-there 1 (genesis_of w.setup count) genesis same in
+    let made = needed (genesis_of w.setup count) _ genesis same in
     record {
       phase = refl;
       keeps = record {

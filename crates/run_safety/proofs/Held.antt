@@ -9,7 +9,7 @@ use Rattle.ar_council.specs.Council.{Council, council_of}
 use Rattle.ar_safety.proofs.Held.{honest-count, own-record}
 use Rattle.ar_safety.specs.Held.{AreKept, honest_records, record_at, records_of}
 use Rattle.ar_safety.specs.Records.{IsHonest, IsHonestLog}
-use Rattle.ar_statement.specs.Claims.{is_party}
+use Rattle.ar_statement.specs.Claims.{authority_party, is_party, log_party}
 use Rattle.ar_statement.specs.declared.party.Party.{Party}
 use Rattle.ar_nodes.specs.Finding.{honest_in}
 use Rattle.ar_nodes.specs.Parties.{AuthorityNode, LogNode}
@@ -21,7 +21,6 @@ use Rattle.authority_core.specs.Record.{AuthorityRecord}
 use Rattle.epoch_log.specs.Calls.{fresh}
 use Rattle.epoch_log.specs.Honest.{HonestLog}
 use Rattle.epoch_log.specs.Record.{LogRecord}
-use Rattle.party_keys.specs.Seen.{authority_party, log_party}
 use Rattle.run_safety.specs.Seats.{AreSeated, IsAuthorityOf, IsLogOf, IsSeated}
 
 -- ---- the records of those who sit

@@ -8,43 +8,43 @@ use Rattle.std.proofs.lemmas.Bool.{and_parts, leb-true}
 use Rattle.std.proofs.lemmas.List.{length-append, map-append, length-set}
 use Rattle.std.proofs.lemmas.List.Quantifiers.{position-Some}
 use Rattle.std.proofs.lemmas.Option.{option_and_then_some}
-use Rattle.ar_base.specs.Chaining.{◌>>=◌}
-use Rattle.ar_base.proofs.Shown.{if-chained}
+use Rattle.ar_base.specs.Chaining.{◌>>=◌, need}
+use Rattle.ar_base.specs.Gives.{with_error}
+use Rattle.ar_base.proofs.Shown.{if-chained, needed}
 use Rattle.ar_cert.specs.Certificate.{Certificate, digest_of}
 use Rattle.ar_council.proofs.Seeing.{one_party}
 use Rattle.ar_message.specs.Messages.{message_in}
 use Rattle.ar_message.specs.declared.sent.Sent.{Sent}
-use Rattle.ar_statement.specs.Claims.{party}
+use Rattle.ar_statement.specs.Claims.{authority_party, client_party, log_party, owner_party, party}
 use Rattle.ar_statement.specs.declared.party.Party.{Party}
 use Rattle.ar_statement.specs.declared.party.Role.{Role}
 use Rattle.ar_statement.specs.declared.party.Role.TheVariants as role
-use Rattle.ar_nodes.specs.Finding.{honest_in}
 use Rattle.ar_world.specs.Asking.{ask_line, question}
+use Rattle.ar_nodes.specs.Acting.{owner_does}
 use Rattle.ar_nodes.specs.Codes.{owner_code}
-use Rattle.ar_world.specs.Delivering.{Taker, a_log, an_authority, an_owner, can_deliver, deliver_line, delivery, noted, taker_at, taker_in}
+use Rattle.ar_world.specs.Delivering.{Taker, a_log, an_authority, an_owner, can_deliver, deliver_line, delivery, taker_at, taker_in}
 use Rattle.ar_world.specs.Drafting.{begun, draft_if, draft_room, drafted, first_certificate, next_certificate, policy_of, register_line, revoke_line, update_line}
 use Rattle.ar_world.specs.Finding.{authority_at, checking_at, draft_at, existing, forger_at, known_asks, log_at, message_at, owner_at, room, with_owner}
-use Rattle.ar_nodes.specs.Finding.{is_forger, named, need, set_if, with_check}
+use Rattle.ar_nodes.specs.Finding.{is_forger, named, set_if, with_check}
 use Rattle.ar_world.specs.Forging.{composed_in, inject_line, receiver_in, sign_line, signing_if}
 use Rattle.ar_nodes.specs.Forging.{forged}
 use Rattle.ar_world.specs.Founding.{dishonest_line, honest_key, keys_line, logs_line, turned}
 use Rattle.ar_world.specs.Records.{HasParties}
 use Rattle.ar_founding.specs.FirstKeys.{first_key, key_made, keys_made}
-use Rattle.ar_nodes.specs.Parties.{leaves_of}
+use Rattle.lms_tree.specs.LmsKind.{leaves_of}
 use Rattle.ar_world.specs.Judging.{judge_line, judged_number}
 use Rattle.ar_world.specs.Learning.{learn_line}
 use Rattle.client_rule.specs.Notes.{note_of}
 use Rattle.ar_nodes.specs.Parties.{next_of}
 use Rattle.ar_world.specs.Ordering.{log_order, roll_line, roll_of}
 use Rattle.ar_world.specs.Owning.{check_line, owner_key, owner_line, retire_line}
-use Rattle.ar_nodes.specs.Owners.{known_key, owner_party}
+use Rattle.ar_nodes.specs.Owners.{known_key}
 use Rattle.ar_nodes.specs.Teaching.{retold}
 use Rattle.ar_nodes.specs.Parties.{AuthorityNode, CheckParts, Forger, LogNode}
 use Rattle.ar_nodes.specs.Pool.{Pooled, raw}
 use Rattle.ar_world.specs.State.{Drafted, World}
 use Rattle.ar_world.specs.Submitting.{handed, handover_line, object_line, submit_line}
 use Rattle.ar_nodes.specs.declared.event.LogEvent.{LogEvent}
-use Rattle.ar_nodes.specs.declared.event.LogEvent.TheVariants as events
 use Rattle.ar_nodes.specs.declared.fault.WorldFault.{WorldFault}
 use Rattle.ar_nodes.specs.declared.fault.WorldFault.TheVariants.{Absent}
 use Rattle.lm_ots.specs.OtsKind.{type_of_number}
@@ -53,23 +53,22 @@ use Rattle.lms_tree.specs.KeyParts.{KeyParts}
 use Rattle.log_core.specs.State as log_input
 use Rattle.owner_check.specs.Answers.{Told}
 use Rattle.owner_check.specs.declared.answer.Outcome.{Outcome}
-use Rattle.owner_core.specs.Rows.{Row, begin_row, handover_row, object_row, step_row, submit_row}
+use Rattle.owner_core.specs.Rows.{Row, begin_row, handover_row, object_row, submit_row}
 use Rattle.owner_core.specs.State.{Owner}
 use Rattle.party_keys.specs.Directory.{is_party_count, is_quorum}
-use Rattle.party_keys.specs.Seen.{authority_party, log_party}
 use Rattle.report_text.specs.declared.happening.Happening.{Happening}
 use Rattle.report_text.specs.declared.happening.Happening.TheVariants.{Dishonest, Draft, Retired, SignRefused, Step}
 use Rattle.report_text.specs.declared.happening.Target.TheVariants.{Nobody}
 use Rattle.report_text.specs.declared.happening.What.{What}
-use Rattle.report_text.specs.declared.happening.What.TheVariants.{Handover, Object, Submit, Take}
+use Rattle.report_text.specs.declared.happening.What.TheVariants.{Handover, Object, Submit}
 use Rattle.script_text.specs.declared.line.PolicyWords.{PolicyWords}
 use Rattle.run_safety.specs.Headline.{accepted_in}
 use Rattle.run_safety.specs.Seats.{IsAuthorityOf, IsLogOf, honest_count}
 use Rattle.ar_world.proofs.OwnerReplies.{attached-by-alone}
-use Rattle.run_safety.proofs.Chains.{named-there, need-holds}
+use Rattle.run_safety.proofs.Chains.{need-holds}
 use Rattle.run_safety.proofs.Clients.{judging-makes, learning-makes}
 use Rattle.run_safety.proofs.Founded.{keys-quiet}
-use Rattle.run_safety.proofs.Nodes.{authority-put, authority-rolls-makes, authority-takes-makes, entries-quiet, log-rolls-makes, log-steps-makes, owner-makes, posted-makes, submitted-makes}
+use Rattle.run_safety.proofs.Nodes.{authority-delivered-makes, authority-put, authority-rolled-makes, entries-quiet, log-delivered-makes, log-rolled-makes, obeyed-makes, owner-delivered-makes, owner-makes, posted-makes}
 use Rattle.run_safety.proofs.Parts.{Goes, Makes, Part, SeatedIn, behind, counts, part_of, still, told_in}
 use Rattle.run_safety.proofs.Places.{seated-beside, seated-without, count-without}
 
@@ -131,14 +130,14 @@ pub object-makes : (w : World) (number draft : ℕ) → IfOk (object_line w numb
 object-makes w number draft =
     if-chained (named 1 (owner_at w number)) _ (Makes w) (λ owner same.
     if-chained (named 2 (draft_at w draft)) _ (Makes w) (λ found there.
-    if-chained (room w) _ (Makes w) (λ free all. owner-makes w number (Object draft) (object_row owner found.cert))))
+    if-chained (room w) _ (Makes w) (λ free all. owner-makes w w.pool number (Object draft) (owner_does owner (object_row owner found.cert)))))
 
 pub submit-makes : (w : World) (draft : ℕ) → IfOk (submit_line w draft) (Makes w)
 submit-makes w draft =
     if-chained (named 1 (draft_at w draft)) _ (Makes w) (λ found same.
     if-chained (named 1 (owner_at w found.owner)) _ (Makes w) (λ owner there.
     if-chained (room w) _ (Makes w) (λ free all.
-    submitted-makes w found.owner (Submit draft) (submit_row owner (digest_of found.cert)))))
+    owner-makes w w.pool found.owner (Submit draft) (owner, with_error owner_code (submit_row owner (digest_of found.cert))))))
 
 -- ---- the setup
 
@@ -215,7 +214,7 @@ turned-makes w role.Client number key late there = absurd cc
 pub dishonest-makes : (w : World) (who : Party) → HasParties w → IfOk (dishonest_line w who) (Makes w)
 dishonest-makes w who late =
     if-chained (named 1 (honest_key w who.role who.number)) _ (Makes w) (λ key same.
-    turned-makes w who.role who.number key late (named-there 1 (honest_key w who.role who.number) key same))
+    turned-makes w who.role who.number key late (needed (honest_key w who.role who.number) _ key same))
 
 -- ---- what authorities know
 
@@ -233,30 +232,30 @@ check-line-makes w number owner tells said none =
     if-chained (named 1 (checking_at w number)) _ (Makes w) (λ found same.
     if-chained (named 3 (owner_at w owner)) _ (Makes w) (λ holder there.
     authority-put w number found.0 (retold (tells (known_key holder)) found) (said ∷ [])
-    (checking-there w number found (named-there 1 (checking_at w number) found same)) (refl, refl) (λ first is. is) none))
+    (checking-there w number found (needed (checking_at w number) _ found same)) (refl, refl) (λ first is. is) none))
 
 pub retire-makes : (w : World) (number : ℕ) → IfOk (retire_line w number) (Makes w)
 retire-makes w number =
     if-chained (named 1 (checking_at w number)) _ (Makes w) (λ found same.
     authority-put w number found.0 (record found.0 { check = None }) (Retired number ∷ [])
-    (checking-there w number found (named-there 1 (checking_at w number) found same)) (refl, refl) (λ first is. is) refl)
+    (checking-there w number found (needed (checking_at w number) _ found same)) (refl, refl) (λ first is. is) refl)
 
 -- ---- orders
 
 pub log-order-makes : (w : World) (number : ℕ) (what : What) (event : LogEvent) (input : log_input.Input) → IfOk (log_order w number what event input) (Makes w)
 log-order-makes w number what event input =
     if-chained (named 1 (log_at w number)) _ (Makes w) (λ node same.
-    if-chained (room w) _ (Makes w) (λ free there. log-steps-makes w number node what event input (named-there 1 (log_at w number) node same)))
+    if-chained (room w) _ (Makes w) (λ free there. obeyed-makes w number w.pool what event input node (needed (log_at w number) _ node same)))
 
 roll-of-makes : (w : World) (r : Role) (number : ℕ) → IfOk (roll_of w r number) (Makes w)
 roll-of-makes w role.LogServer number =
     if-chained (named 1 (log_at w number)) _ (Makes w) (λ node same.
     if-chained (named 1 (next_of node.keys)) _ (Makes w) (λ next there.
-    if-chained (room w) _ (Makes w) (λ free all. log-rolls-makes w number node next (named-there 1 (log_at w number) node same))))
+    if-chained (room w) _ (Makes w) (λ free all. log-rolled-makes w number next node (needed (log_at w number) _ node same))))
 roll-of-makes w role.Authority number =
     if-chained (named 1 (authority_at w number)) _ (Makes w) (λ node same.
     if-chained (named 1 (next_of node.keys)) _ (Makes w) (λ next there.
-    if-chained (room w) _ (Makes w) (λ free all. authority-rolls-makes w number node next (named-there 1 (authority_at w number) node same))))
+    if-chained (room w) _ (Makes w) (λ free all. authority-rolled-makes w number next node (needed (authority_at w number) _ node same))))
 roll-of-makes w role.Owner number = tt
 roll-of-makes w role.Client number = tt
 
@@ -302,29 +301,24 @@ authority-takes w role.Owner number node h = by (owner_at w number) h
     by (Some x) e = absurd cc
 authority-takes w role.Client number node h = absurd cc
 
--- what a delivery needs is there: the message, the party that takes it, and room
-pub can-take : (o : Option Pooled) (t : Option Taker) (r : Result (Unit {0}) WorldFault) (found : Pooled × Taker)
-    → (named 1 o >>= λ p. named 2 t >>= λ taker. r >>= λ free. Ok (p, taker)) ≡ Ok found → (o ≡ Some found.0) × (t ≡ Some found.1) × (r ≡ Ok tt)
-can-take None t r found same = absurd cc
-can-take (Some p) None r found same = absurd cc
-can-take (Some p) (Some taker) (Err e) found same = absurd cc
-can-take (Some p) (Some taker) (Ok u) found same =
-    let is : (p, taker) ≡ found = ap (λ (x : Result (Pooled × Taker) WorldFault). unwrap_or (result_ok x) (p, taker)) same in
-    (ap (λ (f : Pooled × Taker). Some f.0) is, ap (λ (f : Pooled × Taker). Some f.1) is, refl)
+-- what a delivery needs is there: a message, the party that takes it, and room
+pub can-take : (o : Option Pooled) (t : Option Taker) (r : Result (Unit {0}) WorldFault) (taker : Taker)
+    → (named 1 o >>= λ p. named 2 t >>= λ found. r >>= λ free. Ok found) ≡ Ok taker → ((p : Pooled) × (o ≡ Some p)) × (t ≡ Some taker) × (r ≡ Ok tt)
+can-take None t r taker same = absurd cc
+can-take (Some p) None r taker same = absurd cc
+can-take (Some p) (Some found) (Err e) taker same = absurd cc
+can-take (Some p) (Some found) (Ok u) taker same = ((p, refl), ap result_ok same, refl)
 
-delivery-makes : (says : Outcome) (w v : World) (message : ℕ) (bytes : List ℕ) (r : Role) (number : ℕ) (taker : Taker) → v.logs ≡ w.logs → v.authorities ≡ w.authorities
-    → taker_in w r number ≡ Some taker → Makes v (delivery says v message bytes number taker)
-delivery-makes says w v message bytes r number (a_log node) logs authorities there =
-    log-steps-makes v number node (Take message) (events.Take message) (log_input.takes bytes) (ap (λ (l : List (Option LogNode)). honest_in l number) logs ∙ log-takes w r number node there)
-delivery-makes says w v message bytes r number (an_authority node) logs authorities there =
-    authority-takes-makes says v number node (Take message) bytes (ap (λ (l : List (Option AuthorityNode)). honest_in l number) authorities ∙ authority-takes w r number node there)
-delivery-makes says w v message bytes r number (an_owner me) logs authorities there = owner-makes v number (Take message) (step_row me bytes)
+delivery-makes : (says : Outcome) (w : World) (message : ℕ) (r : Role) (number : ℕ) (taker : Taker) → taker_in w r number ≡ Some taker
+    → Makes w (delivery says w message number taker)
+delivery-makes says w message r number (a_log node) there = log-delivered-makes w message number node (log-takes w r number node there)
+delivery-makes says w message r number (an_authority node) there = authority-delivered-makes says w message number node (authority-takes w r number node there)
+delivery-makes says w message r number (an_owner me) there = owner-delivered-makes w message number me
 
 pub deliver-makes : (says : Outcome) (w : World) (message : ℕ) (who : Party) → IfOk (deliver_line says w message who) (Makes w)
 deliver-makes says w message who =
-    if-chained (can_deliver w message who) (λ found. Ok (delivery says (noted w message found.0 who) message found.0.bytes who.number found.1)) (Makes w) (λ found same.
-    delivery-makes says w (noted w message found.0 who) message found.0.bytes who.role who.number found.1 refl refl
-    (can-take (message_at w message) (taker_at w who) (room w) found same).1)
+    if-chained (can_deliver w message who) _ (Makes w) (λ taker same.
+    delivery-makes says w message who.role who.number taker (can-take (message_at w message) (taker_at w who) (room w) taker same).1)
 
 -- ---- messages, clients, dishonest parties
 
@@ -338,7 +332,7 @@ ask-makes w asked name first second client =
     if-chained (existing w 3 role.Authority first) _ (Makes w) (λ one same_one.
     if-chained (existing w 4 role.Authority second) _ (Makes w) (λ other same_other.
     if-chained (room w) _ (Makes w) (λ free all.
-    posted-makes w (party role.Client client) (question asked name first second client)))))
+    posted-makes w (client_party client) (question asked name first second client)))))
 
 pub judge-makes : (w : World) (which : Option ℕ) (name : List ℕ) (now age : ℕ) → HasParties w → IfOk (judge_line w which name now age) (Makes w)
 judge-makes w which name now age late =
@@ -367,7 +361,7 @@ signing-makes false w forger text = still _ _ (SignRefused forger.party ∷ []) 
 pub sign-makes : (w : World) (who : Party) (pieces : List (List ℕ)) → IfOk (sign_line w who pieces) (Makes w)
 sign-makes w who pieces =
     if-chained (named 1 (forger_at w who)) _ (Makes w) (λ forger same.
-    if-chained (composed_in w pieces) _ (Makes w) (λ text there. signing-makes (nat_lt forger.next (leaves_of forger.key)) w forger text))
+    if-chained (composed_in w pieces) _ (Makes w) (λ text there. signing-makes (nat_lt forger.next (leaves_of forger.key.lms)) w forger text))
 
 pub inject-makes : (w : World) (who : Option Party) (pieces : List (List ℕ)) → IfOk (inject_line w who pieces) (Makes w)
 inject-makes w who pieces =

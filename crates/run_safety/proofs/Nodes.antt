@@ -1,5 +1,5 @@
 -- The steps of honest logs and authorities, and what parties send: each that changes stays who it is.
-use Rattle.std.proofs.Common.{◌≡◌, ◌∙◌, ℕ, ◌+◌, List, [], ◌∷◌, ◌++◌, refl, sym, ap, Option, Some, None, Ok, Err, Result}
+use Rattle.std.proofs.Common.{◌≡◌, ◌∙◌, ℕ, ◌+◌, List, [], ◌∷◌, ◌++◌, refl, sym, ap, Option, Some, None, Ok, Err}
 use Rattle.std.proofs.lemmas.List.{length-set}
 use Rattle.std.specs.Prelude.{is_none, length, map, slice_get, slice_set}
 use Rattle.std.specs.List.{filter_map}
@@ -9,18 +9,15 @@ use Rattle.ar_message.specs.Messages.{message_in}
 use Rattle.ar_message.specs.declared.sent.Sent.{Sent}
 use Rattle.ar_message.specs.declared.unsigned.Unsigned.{Unsigned}
 use Rattle.ar_statement.specs.declared.party.Party.{Party}
-use Rattle.ar_world.specs.Authorities.{authority_answers, authority_rolled, authority_rolls, authority_takes}
+use Rattle.ar_nodes.specs.Acting.{Reply, acted, authority_delivered, authority_does, authority_rolled, authority_turned, bytes_of, log_delivered, log_does, log_obeyed, log_rolled, noted_in, owner_delivered, owner_does, told_of}
 use Rattle.ar_nodes.specs.Authorities.{authority_reply, node_behind, says_to}
-use Rattle.ar_nodes.specs.Codes.{authority_code, log_code, owner_code}
+use Rattle.ar_nodes.specs.Codes.{authority_code, log_code}
 use Rattle.ar_world.specs.Finding.{authority_at, log_at}
-use Rattle.ar_world.specs.Logs.{log_answers, log_rolls, log_steps}
-use Rattle.ar_nodes.specs.Owners.{owner_party}
 use Rattle.ar_nodes.specs.Parties.{AuthorityNode, LogNode}
-use Rattle.ar_nodes.specs.Pool.{Pooled, entries_from, pooled_from}
+use Rattle.ar_nodes.specs.Pool.{Pooled, entries_from, numbered, pooled_from}
 use Rattle.ar_nodes.specs.Sending.{ending_of}
-use Rattle.ar_world.specs.Sending.{posted}
+use Rattle.ar_world.specs.Sending.{authority_made, log_made, owner_made, posted}
 use Rattle.ar_world.specs.State.{World, with_authority, with_log}
-use Rattle.ar_world.specs.Submitting.{owner_answers, submitted}
 use Rattle.ar_nodes.specs.declared.event.LogEvent.{LogEvent}
 use Rattle.ar_nodes.specs.declared.event.LogEvent.TheVariants as events
 use Rattle.authority_core.proofs.Standing as authority
@@ -34,9 +31,9 @@ use Rattle.log_core.proofs.Standing as log
 use Rattle.log_core.specs.Row.{row}
 use Rattle.log_core.specs.State as log_state
 use Rattle.owner_check.specs.declared.answer.Outcome.{Outcome}
-use Rattle.owner_core.specs.Rows.{Row}
-use Rattle.owner_core.specs.declared.refusal.OwnerRefusal.{OwnerRefusal}
-use Rattle.party_keys.specs.Seen.{authority_party, log_party}
+use Rattle.owner_core.specs.Rows.{step_row}
+use Rattle.owner_core.specs.State.{Owner}
+use Rattle.ar_statement.specs.Claims.{authority_party, log_party, owner_party}
 use Rattle.report_text.specs.declared.happening.Happening.{Happening}
 use Rattle.report_text.specs.declared.happening.Happening.TheVariants.{Step}
 use Rattle.report_text.specs.declared.happening.What.{What}
@@ -54,10 +51,15 @@ entries-quiet n [] = refl
 entries-quiet n (x ∷ xs) = entries-quiet (n + 1) xs
 
 -- nor does a party's step
-pub does-quiet : (who : Party) (what : What) (log : ℕ) (ended : Option (ℕ × Option (List ℕ))) (n : ℕ) (xs : List Pooled)
+does-quiet : (who : Party) (what : What) (log : ℕ) (ended : Option (ℕ × Option (List ℕ))) (n : ℕ) (xs : List Pooled)
     → filter_map accepted_in ((Step who what None ∷ ending_of log ended) ++ entries_from n xs) ≡ []
 does-quiet who what log None n xs = entries-quiet n xs
 does-quiet who what log (Some ended) n xs = entries-quiet n xs
+
+-- whatever it replies
+pub reply-quiet : (pool : List Pooled) (who : Party) (what : What) (reply : Reply) → filter_map accepted_in (told_of pool who what reply) ≡ []
+reply-quiet pool who what (Ok sent) = does-quiet who what who.number sent.ended (length pool + 1) (map (pooled_from who) sent.messages)
+reply-quiet pool who what (Err code) = refl
 
 -- ---- a party in its place
 
@@ -107,25 +109,34 @@ authority-put w number was is said there stays first none =
 
 -- ---- logs
 
-log-makes : (w : World) (number : ℕ) (node : LogNode) (keys : List KeyParts) (what : What) (event : LogEvent) (a : log_state.Answer) → log_at w number ≡ Some node
-    → StaysFirst node.keys keys
-    → ((reply : log_state.Reply) → a ≡ Ok reply → (reply.after.log.me ≡ node.core.log.me) × (reply.after.log.council ≡ node.core.log.council))
-    → Makes w (log_answers w number node keys what event a)
-log-makes w number node keys what event (Ok reply) there first stays =
+-- a step stays with who a log is, where its answer does
+abbrev LogStays : LogNode → log_state.Answer → Type 0
+LogStays node a = (reply : log_state.Reply) → a ≡ Ok reply → (reply.after.log.me ≡ node.core.log.me) × (reply.after.log.council ≡ node.core.log.council)
+
+log-makes : (w : World) (number : ℕ) (pool : List Pooled) (node : LogNode) (keys : List KeyParts) (what : What) (event : LogEvent) (a : log_state.Answer) → log_at w number ≡ Some node
+    → StaysFirst node.keys keys → LogStays node a → Makes w (log_made w number (acted pool (log_party number) what (log_does node keys event a)))
+log-makes w number pool node keys what event (Ok reply) there first stays =
     log-put w number node (record { core = reply.after; keys = keys; taken = node.taken ++ event ∷ [] }) _ there (stays reply refl) first
-    (does-quiet (log_party number) what number (filled keys reply.unsigned).ended _ (map (pooled_from (log_party number)) (filled keys reply.unsigned).messages))
-log-makes w number node keys what event (Err refusal) there first stays = still _ _ (Step (log_party number) what (Some (log_code refusal)) ∷ []) refl refl
+    (reply-quiet pool (log_party number) what (Ok (filled keys reply.unsigned)))
+log-makes w number pool node keys what event (Err refusal) there first stays =
+    log-put w number node node _ there (refl, refl) (λ first is. is) (reply-quiet pool (log_party number) what (Err (log_code refusal)))
 
-pub log-steps-makes : (w : World) (number : ℕ) (node : LogNode) (what : What) (event : LogEvent) (input : log_state.Input) → log_at w number ≡ Some node
-    → Makes w (log_steps w number node what event input)
-unfolding log_steps
-log-steps-makes w number node what event input there = log-makes w number node node.keys what event (row node.core input) there (λ first is. is) (log.row-stays node.core input)
+pub obeyed-makes : (w : World) (number : ℕ) (pool : List Pooled) (what : What) (event : LogEvent) (input : log_state.Input) (node : LogNode) → log_at w number ≡ Some node
+    → Makes w (log_made w number (log_obeyed pool number what event input node))
+unfolding log_obeyed
+obeyed-makes w number pool what event input node there =
+    log-makes w number pool node node.keys what event (row node.core input) there (λ first is. is) (log.row-stays node.core input)
 
-pub log-rolls-makes : (w : World) (number : ℕ) (node : LogNode) (next : KeyParts) → log_at w number ≡ Some node → Makes w (log_rolls w number node next)
-unfolding log_rolls
-log-rolls-makes w number node next there =
+pub log-delivered-makes : (w : World) (message number : ℕ) (node : LogNode) → log_at w number ≡ Some node → Makes w (log_made w number (log_delivered w.pool message number node))
+unfolding log_delivered
+log-delivered-makes w message number node there =
+    obeyed-makes w number (noted_in w.pool message (log_party number)) (whats.Take message) (events.Take message) (log_state.takes (bytes_of (numbered w.pool message))) node there
+
+pub log-rolled-makes : (w : World) (number : ℕ) (next : KeyParts) (node : LogNode) → log_at w number ≡ Some node → Makes w (log_made w number (log_rolled w.pool number next node))
+unfolding log_rolled
+log-rolled-makes w number next node there =
     let input = log_state.rolls (public_of next)
-    in log-makes w number node (node.keys ++ next ∷ []) whats.Roll events.Roll (row node.core input) there (first-stays node.keys (next ∷ [])) (log.row-stays node.core input)
+    in log-makes w number w.pool node (node.keys ++ next ∷ []) whats.Roll events.Roll (row node.core input) there (first-stays node.keys (next ∷ [])) (log.row-stays node.core input)
 
 -- ---- authorities
 
@@ -133,47 +144,47 @@ log-rolls-makes w number node next there =
 abbrev Stays : authority_state.AuthorityState → authority_state.Answer → Type 0
 Stays s a = (later : authority_state.AuthorityState) (sent : Unsigned) → a ≡ Ok (later, sent) → (later.me ≡ s.me) × (council_of later.keys ≡ council_of s.keys)
 
-authority-makes : (w : World) (number : ℕ) (was node : AuthorityNode) (what : What) (a : authority_state.Answer) → authority_at w number ≡ Some was
-    → node.state ≡ was.state → StaysFirst was.keys node.keys → Stays was.state a → Makes w (authority_answers w number node what a)
-authority-makes w number was node what (Ok answer) there same first stays =
+authority-makes : (w : World) (number : ℕ) (pool : List Pooled) (was node : AuthorityNode) (what : What) (a : authority_state.Answer) → authority_at w number ≡ Some was
+    → node.state ≡ was.state → StaysFirst was.keys node.keys → Stays was.state a
+    → Makes w (authority_made w number (acted pool (authority_party number) what (authority_does node a)))
+authority-makes w number pool was node what (Ok answer) there same first stays =
     authority-put w number was (record node { state = answer.0 }) _ there (stays answer.0 answer.1 refl) first
-    (does-quiet (authority_party number) what number (filled node.keys answer.1).ended _ (map (pooled_from (authority_party number)) (filled node.keys answer.1).messages))
-authority-makes w number was node what (Err refusal) there same first stays =
-    authority-put w number was node (Step (authority_party number) what (Some (authority_code refusal)) ∷ []) there
-    (ap (λ s. s.me) same, ap (λ s. council_of s.keys) same) first refl
+    (reply-quiet pool (authority_party number) what (Ok (filled node.keys answer.1)))
+authority-makes w number pool was node what (Err refusal) there same first stays =
+    authority-put w number was node _ there (ap (λ s. s.me) same, ap (λ s. council_of s.keys) same) first
+    (reply-quiet pool (authority_party number) what (Err (authority_code refusal)))
 
-pub authority-takes-makes : (says : Outcome) (w : World) (number : ℕ) (node : AuthorityNode) (what : What) (bytes : List ℕ) → authority_at w number ≡ Some node
-    → Makes w (authority_takes says w number node what bytes)
-unfolding authority_takes
-authority-takes-makes says w number node what bytes there =
-    let m = message_in bytes
+pub authority-delivered-makes : (says : Outcome) (w : World) (message number : ℕ) (node : AuthorityNode) → authority_at w number ≡ Some node
+    → Makes w (authority_made w number (authority_delivered says w.pool message number node))
+unfolding authority_delivered
+authority-delivered-makes says w message number node there =
+    let m = message_in (bytes_of (numbered w.pool message))
     in let a = authority_reply says node m
-    in authority-makes w number node (node_behind node m a) what a there refl (λ first is. is)
+    in authority-makes w number (noted_in w.pool message (authority_party number)) node (node_behind node m a) (whats.Take message) a there refl (λ first is. is)
     (authority.row-stays node.state (is_none node.check) m (says_to says node.check (asked_in m)))
 
-rolled-makes : (w : World) (number : ℕ) (node : AuthorityNode) (next : KeyParts) (a : authority_state.Answer) → authority_at w number ≡ Some node → Stays node.state a
-    → Makes w (authority_rolled w number node next a)
-rolled-makes w number node next (Ok answer) there stays =
-    authority-makes w number node (record node { keys = node.keys ++ next ∷ [] }) whats.Roll (Ok answer) there refl (first-stays node.keys (next ∷ [])) stays
-rolled-makes w number node next (Err refusal) there stays = authority-makes w number node node whats.Roll (Err refusal) there refl (λ first is. is) stays
+turned-makes : (w : World) (number : ℕ) (node : AuthorityNode) (next : KeyParts) (a : authority_state.Answer) → authority_at w number ≡ Some node → Stays node.state a
+    → Makes w (authority_made w number (acted w.pool (authority_party number) whats.Roll (authority_turned node next a)))
+turned-makes w number node next (Ok answer) there stays =
+    authority-makes w number w.pool node (record node { keys = node.keys ++ next ∷ [] }) whats.Roll (Ok answer) there refl (first-stays node.keys (next ∷ [])) stays
+turned-makes w number node next (Err refusal) there stays = authority-makes w number w.pool node node whats.Roll (Err refusal) there refl (λ first is. is) stays
 
-pub authority-rolls-makes : (w : World) (number : ℕ) (node : AuthorityNode) (next : KeyParts) → authority_at w number ≡ Some node
-    → Makes w (authority_rolls w number node next)
-unfolding authority_rolls
-authority-rolls-makes w number node next there =
-    rolled-makes w number node next (roll_row node.state (public_of next)) there (authority.rolling-stays node.state (public_of next))
+pub authority-rolled-makes : (w : World) (number : ℕ) (next : KeyParts) (node : AuthorityNode) → authority_at w number ≡ Some node
+    → Makes w (authority_made w number (authority_rolled w.pool number next node))
+unfolding authority_rolled
+authority-rolled-makes w number next node there =
+    turned-makes w number node next (roll_row node.state (public_of next)) there (authority.rolling-stays node.state (public_of next))
 
 -- ---- others that send
 
 pub posted-makes : (w : World) (who : Party) (sent : Sent) → Makes w (posted w who sent)
 posted-makes w who sent = still _ _ _ refl (entries-quiet _ (map (pooled_from who) sent.messages))
 
-pub owner-makes : (w : World) (number : ℕ) (what : What) (r : Row Sent) → Makes w (owner_answers w number what r)
-owner-makes w number what (Ok made) =
-    still _ _ _ refl (does-quiet (owner_party number) what number made.0.ended _ (map (pooled_from (owner_party number)) made.0.messages))
-owner-makes w number what (Err refusal) = still _ _ (Step (owner_party number) what (Some (owner_code refusal)) ∷ []) refl refl
+-- owners are not seated
+pub owner-makes : (w : World) (pool : List Pooled) (number : ℕ) (what : What) (made : Owner × Reply) → Makes w (owner_made w (acted pool (owner_party number) what made))
+owner-makes w pool number what made = still _ _ _ refl (reply-quiet pool (owner_party number) what made.1)
 
-pub submitted-makes : (w : World) (number : ℕ) (what : What) (r : Result Sent OwnerRefusal) → Makes w (submitted w number what r)
-submitted-makes w number what (Ok sent) =
-    still _ _ _ refl (does-quiet (owner_party number) what number sent.ended _ (map (pooled_from (owner_party number)) sent.messages))
-submitted-makes w number what (Err refusal) = still _ _ (Step (owner_party number) what (Some (owner_code refusal)) ∷ []) refl refl
+pub owner-delivered-makes : (w : World) (message number : ℕ) (me : Owner) → Makes w (owner_made w (owner_delivered w.pool message number me))
+unfolding owner_delivered
+owner-delivered-makes w message number me =
+    owner-makes w (noted_in w.pool message (owner_party number)) number (whats.Take message) (owner_does me (step_row me (bytes_of (numbered w.pool message))))

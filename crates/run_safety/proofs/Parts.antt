@@ -13,7 +13,7 @@ use Rattle.ar_world.specs.State.{Moved, World}
 use Rattle.ar_world.specs.declared.phase.Phase.{Phase}
 use Rattle.lms_tree.specs.declared.public_key.LmsPublic.{LmsPublic}
 use Rattle.party_keys.specs.Directory.{Directory, keys_of}
-use Rattle.party_keys.specs.Seen.{authority_party, log_party}
+use Rattle.ar_statement.specs.Claims.{authority_party, log_party}
 use Rattle.report_text.specs.declared.happening.Happening.{Happening}
 use Rattle.report_text.specs.declared.happening.Said.{Said}
 use Rattle.run_safety.specs.Headline.{accepted_in}

@@ -1,5 +1,5 @@
 -- Honest parties in their places: one that changes, one that becomes dishonest, and one of another role that does.
-use Rattle.std.proofs.Common.{◌≡◌, ◌≢◌, ◌⊎◌, inl, inr, ℕ, zero, suc, ◌<◌, List, [], ◌∷◌, ◌++◌, refl, sym, ap, ◌∙◌, subst, arith, Bool, true, false, ◌||◌, eqb, Option, Some, None, is_none}
+use Rattle.std.proofs.Common.{◌≡◌, ◌≢◌, ◌⊎◌, inl, inr, ℕ, zero, suc, ◌<◌, List, [], ◌∷◌, ◌++◌, refl, sym, ap, ◌∙◌, subst, arith, Bool, true, false, ◌||◌, eqb, Option, Some, None, is_none, is_some}
 use Rattle.std.specs.Prelude.{length, slice_set}
 use Rattle.std.specs.List.{list_any}
 use Rattle.std.proofs.lemmas.Bool.Decides.{eqb_tells}
@@ -10,15 +10,14 @@ use Rattle.ar_statement.specs.Claims.{is_party, party}
 use Rattle.ar_statement.specs.declared.party.Party.{Party}
 use Rattle.ar_statement.specs.declared.party.Role.{Role}
 use Rattle.ar_nodes.specs.Finding.{honest_in}
+use Rattle.ar_nodes.proofs.Spots.{honest_within}
 use Rattle.run_safety.specs.Seats.{AreSeated, honest_count}
 
 -- ---- places of a list
 
 -- an honest party has a place
 pub honest-below : {X : Type 0} (parties : List (Option X)) (n : ℕ) (x : X) → honest_in parties n ≡ Some x → n < length parties
-honest-below [] n x there = absurd cc
-honest-below (p ∷ more) zero x there = omega arith
-honest-below (p ∷ more) (suc n) x there = let less = honest-below more n x there in omega (arith, less)
+honest-below parties n x there = honest_within parties n (ap is_some there)
 
 -- in its place stands what was put there
 pub put-there : {X : Type 0} (parties : List (Option X)) (n : ℕ) (slot : Option X) → n < length parties → honest_in (slice_set parties n slot) n ≡ slot

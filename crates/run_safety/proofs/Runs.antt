@@ -5,10 +5,10 @@ use Rattle.std.specs.List.{filter_map}
 use Rattle.std.proofs.lemmas.Bool.{false_from_ne_true, leb-true, ltb-true}
 use Rattle.std.proofs.lemmas.List.Elements.{All-nil}
 use Rattle.std.proofs.lemmas.Option.{same_Some}
+use Rattle.ar_base.specs.Chaining.{need}
 use Rattle.ar_safety.specs.Held.{IsTaken, verdict_on}
 use Rattle.ar_world.specs.Delivering.{deliver_line}
 use Rattle.ar_world.specs.Finding.{Effect}
-use Rattle.ar_nodes.specs.Finding.{need}
 use Rattle.ar_world.specs.Founding.{led_to, may_come, place_of}
 use Rattle.ar_nodes.specs.Parties.{CheckParts}
 use Rattle.ar_world.specs.Records.{held_of}

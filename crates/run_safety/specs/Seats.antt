@@ -1,9 +1,9 @@
 -- Who sits where in a world, and what its clients hold.
 use Rattle.std.specs.Prelude.{◌≡◌, ℕ, ◌+◌, ◌<◌, List, All, length, is_none, slice_get, Option, Some}
-use Rattle.std.specs.List.{filter_map, list_any}
+use Rattle.std.specs.List.{filter_map}
 use Rattle.ar_council.specs.Council.{council_of}
 use Rattle.ar_safety.specs.Held.{IsTaken, verdict_on}
-use Rattle.ar_statement.specs.Claims.{is_party}
+use Rattle.ar_statement.specs.Claims.{authority_party, has_party, log_party}
 use Rattle.ar_statement.specs.declared.party.Party.{Party}
 use Rattle.ar_nodes.specs.Finding.{honest_in}
 use Rattle.ar_nodes.specs.Parties.{AuthorityNode, LogNode}
@@ -13,7 +13,6 @@ use Rattle.lms_tree.specs.Key.{public_of}
 use Rattle.lms_tree.specs.KeyParts.{KeyParts}
 use Rattle.lms_tree.specs.declared.public_key.LmsPublic.{LmsPublic}
 use Rattle.party_keys.specs.Directory.{Directory, keys_of}
-use Rattle.party_keys.specs.Seen.{authority_party, log_party}
 
 -- of the keys that are known of a party the first is that of its own first key
 pub record KnowsFirst (known : List LmsPublic) (keys : List KeyParts) : Type 0 where
@@ -39,7 +38,7 @@ pub record IsAuthorityOf (genesis : Directory) (place : ℕ) (node : AuthorityNo
 pub record AreSeated {X : Type 0} (party : ℕ → Party) (dishonest : List Party) (count : ℕ) (sits : ℕ → X → Type 0) (parties : List (Option X)) : Type 0 where
   pub all : length parties ≡ count
   pub own : (number : ℕ) (node : X) → honest_in parties number ≡ Some node → sits number node
-  pub empty : (number : ℕ) → number < count → is_none (honest_in parties number) ≡ list_any (is_party (party number)) dishonest
+  pub empty : (number : ℕ) → number < count → is_none (honest_in parties number) ≡ has_party dishonest (party number)
 
 -- how many of these are honest
 abbrev pub honest_count : {X : Type 0} → List (Option X) → ℕ

@@ -7,7 +7,7 @@ use Rattle.ar_statement.specs.declared.party.Party.{Party}
 use Rattle.owner_check.specs.declared.answer.Outcome.{Outcome}
 use Rattle.owner_check.specs.declared.answer.Outcome.TheVariants.{Failed}
 use Rattle.ar_world.specs.Delivering.{deliver_line, next_due}
-use Rattle.ar_world.specs.Run.{Progress, behind, delivering, flushed, progress_of, then_if, then_on}
+use Rattle.ar_world.specs.Run.{Course, Progress, behind, delivering, flushed, progress_of, then_if, then_on}
 use Rattle.ar_world.specs.State.{World}
 use Rattle.ar_world.specs.declared.cause.Cause.{Cause}
 use Rattle.script_play.specs.Playing.{PlaysPart, PlaysSome, Stand}
@@ -27,11 +27,11 @@ said-later number it says j later = grind (arith, nat_tests)
 
 -- ---- what follows depends on what is said later alone
 
-if-same : (cause : Option Cause) (p : Progress) (next other : World → Progress) → ((v : World) → next v ≡ other v) → then_if cause p next ≡ then_if cause p other
+if-same : {C : Type 0} (cause : Option C) (p : Course C) (next other : World → Course C) → ((v : World) → next v ≡ other v) → then_if cause p next ≡ then_if cause p other
 if-same None p next other same = ap (behind p.said) (same p.world)
 if-same (Some cause) p next other same = refl
 
-pub then-same : (p : Progress) (next other : World → Progress) → ((v : World) → next v ≡ other v) → then_on p next ≡ then_on p other
+pub then-same : {C : Type 0} (p : Course C) (next other : World → Course C) → ((v : World) → next v ≡ other v) → then_on p next ≡ then_on p other
 then-same p next other same = if-same p.refused p next other same
 
 delivering-same : (says : Outcome) (w : World) (due : Option (ℕ × Party)) (next other : World → Progress) → ((v : World) → next v ≡ other v) → delivering says w due next ≡ delivering says w due other

@@ -4,7 +4,7 @@ use Rattle.ar_run.specs.declared.fault.Fault.{Fault}
 use Rattle.ar_run.specs.declared.fault.Fault.TheVariants as fault
 use Rattle.report_text.specs.declared.happening.Happening.{Happening}
 use Rattle.ar_world.specs.Finding.{Effect}
-use Rattle.ar_world.specs.Run.{Progress, behind, progress_of, then_if, then_on, unmoved}
+use Rattle.ar_world.specs.Run.{Course, Progress, behind, progress_of, then_if, then_on, unmoved}
 use Rattle.ar_world.specs.State.{World}
 use Rattle.ar_world.specs.Step.{StepsBy, StepsBySome}
 use Rattle.ar_world.specs.declared.cause.Cause.{Cause}
@@ -20,7 +20,7 @@ use Rattle.script_play.proofs.Written.{counted-append, done, failing, told-appen
 -- ---- no part
 
 -- a part that does nothing
-pub plays-nothing : {K : Type 0} (faults : K → ℕ) (wrote : K → List ℕ → Type 0) (k : K) (s : Stand) → PlaysPart faults wrote k k s s (unmoved s.world) (Ok None)
+pub plays-nothing : {K C : Type 0} (faults : K → ℕ) (wrote : K → List ℕ → Type 0) (k : K) (s : Stand) → PlaysPart {C = C} faults wrote k k s s (unmoved s.world) (Ok None)
 unfolding counted_from
 plays-nothing faults wrote k s = record { refused = refl; stands = refl; written = wrote-nothing faults wrote k None }
 
@@ -80,7 +80,7 @@ pub ruleset made_laws = (made-taken, made-untold, made-untaken)
 
 -- ---- one part behind another
 
-behind-plays : {K : Type 0} (faults : K → ℕ) (wrote : K → List ℕ → Type 0) (a b c : K) (s t u : Stand) (p q : Progress) (result : Result (Option Cause) Fault)
+behind-plays : {K C : Type 0} (faults : K → ℕ) (wrote : K → List ℕ → Type 0) (a b c : K) (s t u : Stand) (p q : Course C) (result : Result (Option C) Fault)
     → PlaysPart faults wrote a b s t p (Ok None) → PlaysPart faults wrote b c t u q result → PlaysPart faults wrote a c s u (behind p.said q) result
 behind-plays faults wrote a b c s t u p q (Ok refused) first later = record {
   refused = later.refused;
@@ -89,38 +89,38 @@ behind-plays faults wrote a b c s t u p q (Ok refused) first later = record {
   written = subst (λ (bytes : List ℕ). WritesUpTo faults wrote a c bytes (Ok refused)) (sym (told-append p.said q.said))
       (written-both faults wrote a b c (told p.said) (told q.said) None (Ok refused) first.written later.written);
 }
-behind-plays faults wrote a b c s t u p q (Err f) first later = record {
+behind-plays {C = C} faults wrote a b c s t u p q (Err f) first later = record {
   refused = tt;
   stands = tt;
-  written = subst (λ (bytes : List ℕ). WritesUpTo faults wrote a c bytes (failing (Option Cause) f)) (sym (told-append p.said q.said))
-      (written-both faults wrote a b c (told p.said) (told q.said) None (failing (Option Cause) f) first.written later.written);
+  written = subst (λ (bytes : List ℕ). WritesUpTo faults wrote a c bytes (failing (Option C) f)) (sym (told-append p.said q.said))
+      (written-both faults wrote a b c (told p.said) (told q.said) None (failing (Option C) f) first.written later.written);
 }
 
 -- where the first part is not refused, the next follows
-pub then-plays : {K : Type 0} (faults : K → ℕ) (wrote : K → List ℕ → Type 0) (a b c : K) (s t u : Stand) (p : Progress) (next : World → Progress) (result : Result (Option Cause) Fault)
+pub then-plays : {K C : Type 0} (faults : K → ℕ) (wrote : K → List ℕ → Type 0) (a b c : K) (s t u : Stand) (p : Course C) (next : World → Course C) (result : Result (Option C) Fault)
     → PlaysPart faults wrote a b s t p (Ok None) → PlaysPart faults wrote b c t u (next t.world) result → PlaysPart faults wrote a c s u (then_on p next) result
-then-plays faults wrote a b c s t u p next result first later =
-    let taken : then_on p next ≡ then_if None p next = ap (λ (cause : Option Cause). then_if cause p next) (sym first.refused) in
+then-plays {C = C} faults wrote a b c s t u p next result first later =
+    let taken : then_on p next ≡ then_if None p next = ap (λ (cause : Option C). then_if cause p next) (sym first.refused) in
     let there : next t.world ≡ next p.world = ap (λ (v : Stand). next v.world) first.stands in
-    subst (λ (q : Progress). PlaysPart faults wrote a c s u q result) (ap (behind p.said) there ∙ sym taken)
+    subst (λ (q : Course C). PlaysPart faults wrote a c s u q result) (ap (behind p.said) there ∙ sym taken)
     (behind-plays faults wrote a b c s t u p (next t.world) result first later)
 
 -- where it is refused, nothing follows
-pub then-refused : {K : Type 0} (faults : K → ℕ) (wrote : K → List ℕ → Type 0) (a b : K) (s t : Stand) (p : Progress) (next : World → Progress) (cause : Cause)
+pub then-refused : {K C : Type 0} (faults : K → ℕ) (wrote : K → List ℕ → Type 0) (a b : K) (s t : Stand) (p : Course C) (next : World → Course C) (cause : C)
     → PlaysPart faults wrote a b s t p (Ok (Some cause)) → PlaysPart faults wrote a b s t (then_on p next) (Ok (Some cause))
-then-refused faults wrote a b s t p next cause first =
-    let stays : then_on p next ≡ p = ap (λ (why : Option Cause). then_if why p next) (sym first.refused) in
-    subst (λ (q : Progress). PlaysPart faults wrote a b s t q (Ok (Some cause))) (sym stays) first
+then-refused {C = C} faults wrote a b s t p next cause first =
+    let stays : then_on p next ≡ p = ap (λ (why : Option C). then_if why p next) (sym first.refused) in
+    subst (λ (q : Course C). PlaysPart faults wrote a b s t q (Ok (Some cause))) (sym stays) first
 
-broken-so : {K : Type 0} (faults : K → ℕ) (wrote : K → List ℕ → Type 0) (a b : K) (cause : Option Cause) (p : Progress) (next : World → Progress) (f : Fault)
-    → WritesUpTo faults wrote a b (told p.said) (failing (Option Cause) f) → WritesUpTo faults wrote a b (told (then_if cause p next).said) (failing (Option Cause) f)
-broken-so faults wrote a b None p next f written =
-    subst (λ (bytes : List ℕ). WritesUpTo faults wrote a b bytes (failing (Option Cause) f)) (sym (told-append p.said (next p.world).said))
+broken-so : {K C : Type 0} (faults : K → ℕ) (wrote : K → List ℕ → Type 0) (a b : K) (cause : Option C) (p : Course C) (next : World → Course C) (f : Fault)
+    → WritesUpTo faults wrote a b (told p.said) (failing (Option C) f) → WritesUpTo faults wrote a b (told (then_if cause p next).said) (failing (Option C) f)
+broken-so {C = C} faults wrote a b None p next f written =
+    subst (λ (bytes : List ℕ). WritesUpTo faults wrote a b bytes (failing (Option C) f)) (sym (told-append p.said (next p.world).said))
     (written-broken faults wrote a b (told p.said) (told (next p.world).said) f written)
 broken-so faults wrote a b (Some cause) p next f written = written
 
 -- where it breaks off, so does the whole
-pub then-broken : {K : Type 0} (faults : K → ℕ) (wrote : K → List ℕ → Type 0) (a b : K) (s t : Stand) (p : Progress) (next : World → Progress) (f : Fault)
+pub then-broken : {K C : Type 0} (faults : K → ℕ) (wrote : K → List ℕ → Type 0) (a b : K) (s t : Stand) (p : Course C) (next : World → Course C) (f : Fault)
     → PlaysPart faults wrote a b s t p (Err f) → PlaysPart faults wrote a b s t (then_on p next) (Err f)
 then-broken faults wrote a b s t p next f first = record { refused = tt; stands = tt; written = broken-so faults wrote a b p.refused p next f first.written }
 

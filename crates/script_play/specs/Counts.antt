@@ -1,5 +1,5 @@
 -- What is counted of a script that is played.
-use Rattle.std.specs.Prelude.{ℕ, List, [], ◌∷◌}
+use Rattle.std.specs.Prelude.{List, fold}
 use Rattle.ar_base.specs.Faults.{one_more}
 use Rattle.report_text.specs.declared.happening.Happening.{Happening}
 use Rattle.report_text.specs.declared.happening.Happening.TheVariants.{Judged}
@@ -24,5 +24,4 @@ with_happening n _ = n
 
 -- what was counted before, with the judgements among these
 unfoldable pub counted_from : Counts → List Happening → Counts
-counted_from n [] = n
-counted_from n (happening ∷ more) = counted_from (with_happening n happening) more
+counted_from n happenings = fold with_happening n happenings

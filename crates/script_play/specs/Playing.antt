@@ -1,6 +1,6 @@
 -- What it is to play a script: its lines are taken by a world, one after the other, and what happens is written at once.
 use Rattle.std.specs.Prelude.{◌≡◌, ◌≢◌, ◌≤◌, ℕ, List, ◌++◌, map, Option, Some, Result, IfOk, OnErr, OnOk, Ok, Err}
-use Rattle.std.specs.List.{flat_map}
+use Rattle.std.specs.List.{concat}
 use Rattle.ar_base.specs.Faults.{HasRisen}
 use Rattle.ar_io.specs.Wrote.{Appended}
 use Rattle.ar_run.specs.declared.fault.Fault.{Fault}
@@ -8,7 +8,7 @@ use Rattle.ar_run.specs.declared.fault.Fault.TheVariants as fault
 use Rattle.report_text.specs.Lines.{line_of}
 use Rattle.report_text.specs.declared.happening.Happening.{Happening}
 use Rattle.ar_nodes.specs.Parties.{CheckParts}
-use Rattle.ar_world.specs.Run.{Progress, Run, Saying, lines_of_run, refused_lines, run}
+use Rattle.ar_world.specs.Run.{Course, Run, Saying, lines_of_run, refused_lines, run}
 use Rattle.run_safety.specs.Headline.{IsSafeRun}
 use Rattle.ar_world.specs.State.{World}
 use Rattle.ar_world.specs.declared.cause.Cause.{Cause}
@@ -22,11 +22,11 @@ use Rattle.script_play.specs.declared.counts.Counts.{Counts}
 
 -- the bytes that are written of what happens, a line each
 abbrev pub told : List Happening → List ℕ
-told said = flat_map (λ line. line) (map line_of said)
+told said = concat (map line_of said)
 
 -- the bytes that are written of a run
 abbrev pub written_of : Run → List ℕ
-written_of r = flat_map (λ line. line) (lines_of_run r)
+written_of r = concat (lines_of_run r)
 
 -- the sink wrote a front of these bytes, all of them or fewer
 pub record AppendedUpTo {K : Type 0} (wrote : K → List ℕ → Type 0) (old new : K) (bytes : List ℕ) : Type 0 where
@@ -56,14 +56,20 @@ pub record Stand : Type 0 where
   pub counts : Counts
 
 -- A part of a script was played: the world is the one behind it, its judgements are counted, all that happened was written, and
--- the answer is why a line was refused, if one was. Or memory ran out, or a write failed, and a front was written.
-pub record PlaysPart {K : Type 0} (faults : K → ℕ) (wrote : K → List ℕ → Type 0) (old new : K) (before after : Stand) (p : Progress) (result : Result (Option Cause) Fault) : Type 0 where
+-- the answer is why a line was refused, if one was. Or memory ran out, or a write failed, and a front was written. The bytes are
+-- what there is to write of the part.
+pub record PlaysAs {K C : Type 0} (bytes : Course C → List ℕ) (faults : K → ℕ) (wrote : K → List ℕ → Type 0) (old new : K) (before after : Stand) (p : Course C) (result : Result (Option C) Fault) : Type 0 where
   pub refused : IfOk result (λ cause. cause ≡ p.refused)
   pub stands : OnOk result (after ≡ record { world = p.world; counts = counted_from before.counts p.said })
-  pub written : WritesUpTo faults wrote old new (told p.said) result
+  pub written : WritesUpTo faults wrote old new (bytes p) result
 
--- the same of what follows from what checks say that tell nothing of themselves, for some of it
-pub record PlaysSome {K S : Type 0} (faults : K → ℕ) (wrote : K → List ℕ → Type 0) (old new : K) (before after : Stand) (p : S → Progress) (result : Result (Option Cause) Fault) : Type 0 where
+-- the same, where that is what happened
+abbrev pub PlaysPart : {K C : Type 0} → (K → ℕ) → (K → List ℕ → Type 0) → K → K → Stand → Stand → Course C → Result (Option C) Fault → Type 0
+PlaysPart faults wrote old new before after p result = PlaysAs (λ q. told q.said) faults wrote old new before after p result
+
+-- The same of what follows from what checks say that tell nothing of themselves, for some of it: of a line, or of lines up to the
+-- first that is refused.
+pub record PlaysSome {K S C : Type 0} (faults : K → ℕ) (wrote : K → List ℕ → Type 0) (old new : K) (before after : Stand) (p : S → Course C) (result : Result (Option C) Fault) : Type 0 where
   pub says : S
   pub plays : PlaysPart faults wrote old new before after (p says) result
 
@@ -76,23 +82,12 @@ refused_by why = Ok (Some (Untaken why))
 
 -- the bytes that are written of the line that was refused, if one was
 abbrev pub refusal_told : Option (ℕ × Cause) → List ℕ
-refusal_told refusal = flat_map (λ line. line) (refused_lines refusal)
+refusal_told refusal = concat (refused_lines refusal)
 
--- Lines were played: to their end, or to the first that is refused, which is answered, and all that happened was written. Or memory
--- ran out, or a write failed, and a front was written. The run is that of some answers of the checks that tell nothing of
--- themselves.
-pub record PlaysLines {K : Type 0} (faults : K → ℕ) (wrote : K → List ℕ → Type 0) (old new : K) (before after : Stand) (run : Saying → Run) (result : Result (Option (ℕ × Cause)) Fault) : Type 0 where
-  pub saying : Saying
-  pub refused : IfOk result (λ refusal. refusal ≡ (run saying).refused)
-  pub stands : OnOk result (after ≡ record { world = (run saying).world; counts = counted_from before.counts (run saying).said })
-  pub written : WritesUpTo faults wrote old new (told (run saying).said) result
-
--- The same, and the line that was refused was told too.
+-- lines were played, up to the first that is refused, and that was told too
 pub record PlaysAll {K : Type 0} (faults : K → ℕ) (wrote : K → List ℕ → Type 0) (old new : K) (before after : Stand) (run : Saying → Run) (result : Result (Option (ℕ × Cause)) Fault) : Type 0 where
-  pub saying : Saying
-  pub refused : IfOk result (λ refusal. refusal ≡ (run saying).refused)
-  pub stands : OnOk result (after ≡ record { world = (run saying).world; counts = counted_from before.counts (run saying).said })
-  pub written : WritesUpTo faults wrote old new (written_of (run saying)) result
+  pub says : Saying
+  pub plays : PlaysAs written_of faults wrote old new before after (run says) result
 
 -- ---- a script
 

@@ -9,6 +9,7 @@ ghost use Rattle.script_play.specs.Playing.{PlaysSome};
 use crate::stage::Stage;
 use crate::telling::tell_made;
 use ar_io::Sink;
+use ar_nodes::MOST_MESSAGES;
 use ar_run::Fault;
 use ar_statement::Party;
 use ar_world::Cause;
@@ -16,7 +17,7 @@ use owner_check::OwnerCheck;
 use std::alloc::Global;
 
 /// More deliveries than a flush can have: each message goes to at most 16 parties once.
-const MOST_DELIVERIES: u64 = 16 * (65528 + 64);
+const MOST_DELIVERIES: u64 = 16 * (MOST_MESSAGES as u64 + 64);
 
 impl<C: OwnerCheck> Stage<C> {
     /// The delivery that is due next.

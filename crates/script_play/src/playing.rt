@@ -6,7 +6,7 @@ ghost use Rattle.ar_lines.specs.Lines.{lines_of};
 ghost use Rattle.ar_nodes.specs.Parties.{checks_told};
 ghost use Rattle.ar_world.specs.Run.{follows, line_taken, progress_of, run_from, taken};
 ghost use Rattle.ar_world.specs.Step.{step};
-ghost use Rattle.script_play.specs.Playing.{Plays, PlaysAll, PlaysLines, PlaysSome};
+ghost use Rattle.script_play.specs.Playing.{Plays, PlaysAll, PlaysSome};
 
 use crate::counts::Counts;
 use crate::refusing::tell_refusal;
@@ -116,7 +116,7 @@ impl<C: OwnerCheck> Stage<C> {
         sink: &mut K,
         lines: &mut Lines,
     ) -> Result<Option<(u64, Cause)>, Fault>
-        ensures { PlaysLines K.faults K.wrote sink.old sink.new self.old self.new (λ saying. run_from saying lines.old.next self.old.world lines.old.ahead) result }
+        ensures { PlaysSome K.faults K.wrote sink.old sink.new self.old self.new (λ saying. run_from saying lines.old.next self.old.world lines.old.ahead) result }
     {
         loop {
             let Ok(line) = lines.line() else {

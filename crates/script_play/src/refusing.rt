@@ -7,22 +7,14 @@ ghost use Rattle.script_play.specs.Playing.{WritesUpTo, refusal_told};
 use crate::telling::tell_line;
 use ar_io::Sink;
 use ar_run::Fault;
-use ar_world::{Cause, WorldFault};
+use ar_world::Cause;
 use std::alloc::{AllocError, Global};
 
 /// The line that tells that the line with this number is refused, and why, with its newline.
 pub fn refused_line(alloc: Global, number: u64, cause: Cause) -> Result<Vec<u8>, AllocError>
     ensures { IfOk result (λ line. line.items ≡ refused_text (number, cause)) }
 {
-    let line = match cause {
-        Cause::Unread(reason) => format!(in alloc; "line {number}: {reason}\n")?,
-        Cause::Untaken(WorldFault::Order) => format!(in alloc; "line {number}: order\n")?,
-        Cause::Untaken(WorldFault::Absent(word)) => {
-            format!(in alloc; "line {number}: none {word}\n")?
-        }
-        Cause::Untaken(WorldFault::Limit) => format!(in alloc; "line {number}: limit\n")?,
-        Cause::Untaken(WorldFault::Memory) => format!(in alloc; "line {number}: \n")?,
-    };
+    let line = format!(in alloc; "line {number}: {cause}\n")?;
     Ok(line.into_bytes())
 }
 

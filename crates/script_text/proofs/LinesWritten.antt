@@ -9,7 +9,7 @@ use Rattle.std.proofs.lemmas.Slice.Eq.{bytes_eq-Decides}
 use Rattle.ar_base.specs.Chaining.{◌>>=◌}
 use Rattle.ar_base.proofs.Shown.{bind_ok, ok_is}
 use Rattle.ar_lines.specs.Forms.{number_in, number_of}
-use Rattle.ar_lines.specs.Lines.{is_text, words_of}
+use Rattle.ar_lines.specs.Lines.{is_text, parts_of, words_of}
 use Rattle.ar_lines.specs.Written.{Writes}
 use Rattle.ar_lines.specs.declared.refusal.Reason.{Reason}
 use Rattle.ar_lines.specs.declared.refusal.Reason.TheVariants.{Text, Field}
@@ -305,7 +305,7 @@ read_words false true (Err e) line h = absurd cc
 read_words false false r line h = absurd cc
 
 words_joined : (text : List ℕ) → join_with_byte 32 (words_of text) ≡ text
-unfolding words_of
+unfolding parts_of
 words_joined text = join_with_byte-slice_split 32 text
 
 pub line_written : (text : List ℕ) (line : Line) → read_of text ≡ Ok (Some line) → text_of_line line ≡ text

@@ -3,8 +3,10 @@
 use Rattle.std.proofs.Common.{◌≡◌, ℕ, ◌<◌, ◌≤◌, true, leb, List, [], ◌∷◌, ◌++◌, length, Option, Some, None, refl, sym, ap, ◌∙◌, arith, length-append, append-nil, append_assoc}
 use Rattle.std.specs.Prelude.{option_map, nat_le}
 use Rattle.std.proofs.lemmas.Bool.{le-leb, lt-leb}
-use Rattle.ar_lines.specs.Forms.{number_in, passing}
-use Rattle.script_text.specs.Forms.{ascends, each_of, list_of, parts_of}
+use Rattle.std.proofs.lemmas.Map.Entries.{option_filter}
+use Rattle.ar_lines.specs.Forms.{number_in}
+use Rattle.script_text.specs.Forms.{each_of, list_of}
+use Rattle.ar_lines.specs.Lines.{parts_of}
 
 -- the numbers, before others
 abbrev pub before : List ℕ → Option (List ℕ) → Option (List ℕ)
@@ -22,7 +24,7 @@ one_fails most numbers word words h = rw h refl
 
 -- at most so many
 abbrev pub fitting : ℕ → Option (List ℕ) → Option (List ℕ)
-fitting count numbers = passing (λ ns. nat_le (length ns) count) numbers
+fitting count numbers = option_filter (λ ns. nat_le (length ns) count) numbers
 
 longer : (count : ℕ) (numbers more : List ℕ) (n : ℕ) → count ≤ length numbers → count < length ((numbers ++ (n ∷ [])) ++ more)
 longer count numbers more n h = simp length-append (omega arith)
@@ -68,9 +70,3 @@ numbers_end count most word numbers left all here fit =
     list_of-is count most word
     ∙ ap (fitting count) (all ∙ ap (λ (l : List (List ℕ)). before numbers (each_of (number_in 0 most) l)) here)
     ∙ all_read count numbers fit
-
--- fewer than two numbers ascend
-pub ascends_short : (numbers : List ℕ) → length numbers < 2 → ascends numbers ≡ true
-ascends_short [] h = refl
-ascends_short (n ∷ []) h = refl
-ascends_short (n ∷ next ∷ more) h = absurd (omega arith)

@@ -9,18 +9,20 @@ use Rattle.std.proofs.lemmas.List.Splits.{join_with_byte-slice_split}
 use Rattle.std.proofs.lemmas.Option.{same_Some}
 use Rattle.std.proofs.lemmas.Slice.Eq.{bytes_eq-Decides}
 use Rattle.std.proofs.lemmas.List.{take-append-drop}
-use Rattle.ar_lines.specs.Forms.{name_of, number_in, number_of, passing}
+use Rattle.std.proofs.lemmas.Map.Entries.{option_filter}
+use Rattle.ar_lines.specs.Forms.{name_of, number_in, number_of}
+use Rattle.ar_lines.specs.Lines.{parts_of}
 use Rattle.ar_lines.specs.Written.{Writes}
 use Rattle.ar_lines.proofs.LineLaws.{pieces_are_some}
 use Rattle.ar_lines.proofs.PartyWords.{party_writes}
-use Rattle.ar_lines.proofs.Respelled.{name_own, number_in_writes, number_own, passing_some, passing_writes, stepped}
+use Rattle.ar_lines.proofs.Respelled.{name_own, number_in_writes, number_own, filtered_some, filtered_writes, stepped}
 use Rattle.ar_statement.specs.Claims.{role_number}
 use Rattle.ar_statement.specs.declared.party.Party.{Party}
 use Rattle.ar_statement.specs.declared.party.Role.{Role}
 use Rattle.ar_statement.specs.declared.party.Role.TheVariants as role
 use Rattle.ar_statement.proofs.Statements.{same_role}
 use Rattle.ar_lines.specs.Parties.{member_word, party_of, party_word}
-use Rattle.script_text.specs.Forms.{ascending_of, asks_of, behind, binding_in, binding_of, each_of, judged_of, list_of, lms_of, new_owner_of, number_with, ots_of, parts_of, party_count_of, quorum_of, receiver_of, trusted_of, wait_in, wait_of, witness_of}
+use Rattle.script_text.specs.Forms.{ascending_of, asks_of, behind, binding_in, binding_of, each_of, judged_of, list_of, lms_of, new_owner_of, number_with, ots_of, party_count_of, quorum_of, receiver_of, trusted_of, wait_in, wait_of, witness_of}
 use Rattle.script_text.specs.Written.{binding_word, judged_word, list_word, receiver_word, trusted_word, wait_word}
 use Rattle.ar_base.proofs.Shown.{mapped}
 
@@ -28,27 +30,27 @@ use Rattle.ar_base.proofs.Shown.{mapped}
 
 pub party_count_writes : Writes party_count_of decimal
 unfolding party_count_of
-party_count_writes = passing_writes number_of decimal _ number_own
+party_count_writes = filtered_writes number_of decimal _ number_own
 
 pub quorum_writes : (n : ℕ) → Writes (quorum_of n) decimal
 unfolding quorum_of
-quorum_writes n = passing_writes number_of decimal _ number_own
+quorum_writes n = filtered_writes number_of decimal _ number_own
 
 pub lms_writes : Writes lms_of decimal
 unfolding lms_of
-lms_writes = passing_writes number_of decimal _ number_own
+lms_writes = filtered_writes number_of decimal _ number_own
 
 pub ots_writes : (lms : ℕ) → Writes (ots_of lms) decimal
 unfolding ots_of
-ots_writes lms = passing_writes number_of decimal _ number_own
+ots_writes lms = filtered_writes number_of decimal _ number_own
 
 -- ---- parties
 
 pub member_writes : (r : Role) → Writes (number_with r) (member_word r)
 unfolding number_with
 member_writes r word number h =
-    let found = mapped (λ (p : Party). p.number) (passing (λ (p : Party). role_number p.role == role_number r) (party_of word)) number h in
-    let passed = passing_some (λ (p : Party). role_number p.role == role_number r) (party_of word) found.0 found.1 in
+    let found = mapped (λ (p : Party). p.number) (option_filter (λ (p : Party). role_number p.role == role_number r) (party_of word)) number h in
+    let passed = filtered_some (λ (p : Party). role_number p.role == role_number r) (party_of word) found.0 found.1 in
     let same : found.0.role ≡ r = same_role found.0.role r (eqb-true _ _ passed.1) in
     ap (λ s. member_word s number) (sym same)
     ∙ ap (λ n. member_word found.0.role n) (sym found.2)
@@ -56,11 +58,11 @@ member_writes r word number h =
 
 pub witness_writes : Writes witness_of party_word
 unfolding witness_of
-witness_writes = passing_writes party_of party_word _ party_writes
+witness_writes = filtered_writes party_of party_word _ party_writes
 
 pub new_owner_writes : Writes new_owner_of (member_word role.Owner)
 unfolding new_owner_of
-new_owner_writes = passing_writes (number_with role.Owner) (member_word role.Owner) _ (member_writes role.Owner)
+new_owner_writes = filtered_writes (number_with role.Owner) (member_word role.Owner) _ (member_writes role.Owner)
 
 -- ---- a word that stands for a choice, or another
 
@@ -101,11 +103,11 @@ parts_joined mark word = join_with_byte-slice_split mark word
 list_each : (count most : ℕ) (word : List ℕ) (numbers : List ℕ) → list_of count most word ≡ Some numbers → map decimal numbers ≡ parts_of 44 word
 unfolding list_of
 list_each count most word numbers h =
-    each_writes (number_in 0 most) (parts_of 44 word) numbers (number_in_writes 0 most) (passing_some _ (each_of (number_in 0 most) (parts_of 44 word)) numbers h).0
+    each_writes (number_in 0 most) (parts_of 44 word) numbers (number_in_writes 0 most) (filtered_some _ (each_of (number_in 0 most) (parts_of 44 word)) numbers h).0
 
 ascending_each : (count most : ℕ) (word : List ℕ) (numbers : List ℕ) → ascending_of count most word ≡ Some numbers → map decimal numbers ≡ parts_of 44 word
 unfolding ascending_of
-ascending_each count most word numbers h = list_each count most word numbers (passing_some _ (list_of count most word) numbers h).0
+ascending_each count most word numbers h = list_each count most word numbers (filtered_some _ (list_of count most word) numbers h).0
 
 ascending_writes : (count most : ℕ) → Writes (ascending_of count most) list_word
 ascending_writes count most word numbers h = ap (join_with_byte 44) (ascending_each count most word numbers h) ∙ parts_joined 44 word

@@ -1,10 +1,13 @@
 -- The forms of the words of a script, and what a word of each means. The forms of names, of numbers, of hex and of
 -- parties are those of all lines.
 use Rattle.std.specs.Prelude.{ℕ, ◌==◌, nat_le, nat_lt, Bool, true, false, ◌&&◌, if◌then◌else◌, List, [], ◌∷◌, length, take, drop, codes, Option, Some, None, option_and_then, option_map}
-use Rattle.std.specs.List.{list_any, slice_split}
+use Rattle.std.specs.List.{list_any}
 use Rattle.std.specs.Option.{is_some}
 use Rattle.std.specs.Str.{bytes_eq}
-use Rattle.ar_lines.specs.Forms.{is_hex, number_in, number_of, passing}
+use Rattle.std.proofs.lemmas.Map.Entries.{option_filter}
+use Rattle.ar_lines.specs.Forms.{is_hex, number_in, number_of}
+use Rattle.ar_bytes.specs.Ascending.{ascends}
+use Rattle.ar_lines.specs.Lines.{parts_of}
 use Rattle.ar_lines.specs.Parties.{party_of}
 use Rattle.ar_statement.specs.Claims.{role_number}
 use Rattle.ar_statement.specs.Ranges.{is_witness}
@@ -17,11 +20,11 @@ use Rattle.party_keys.specs.Directory.{is_party_count, is_quorum}
 
 -- how many logs, or authorities, a word says that there are
 unfoldable pub party_count_of : List ℕ → Option ℕ
-party_count_of word = passing is_party_count (number_of word)
+party_count_of word = option_filter is_party_count (number_of word)
 
 -- how many of so many logs make a quorum, as a word says
 unfoldable pub quorum_of : ℕ → List ℕ → Option ℕ
-quorum_of logs word = passing (λ q. is_quorum q logs) (number_of word)
+quorum_of logs word = option_filter (λ q. is_quorum q logs) (number_of word)
 
 -- the types of keys that logs and authorities may have: the number of an LMS type with that of an LM-OTS type
 abbrev pub key_types : List (ℕ × ℕ)
@@ -29,25 +32,25 @@ key_types = (5, 3) ∷ (5, 4) ∷ (6, 3) ∷ (6, 4) ∷ (7, 3) ∷ []
 
 -- the number of an LMS type that keys may have
 unfoldable pub lms_of : List ℕ → Option ℕ
-lms_of word = passing (λ lms. list_any (λ types. lms == types.0) key_types) (number_of word)
+lms_of word = option_filter (λ lms. list_any (λ types. lms == types.0) key_types) (number_of word)
 
 -- the number of an LM-OTS type that keys of this LMS type may have
 unfoldable pub ots_of : ℕ → List ℕ → Option ℕ
-ots_of lms word = passing (λ ots. list_any (λ types. lms == types.0 && ots == types.1) key_types) (number_of word)
+ots_of lms word = option_filter (λ ots. list_any (λ types. lms == types.0 && ots == types.1) key_types) (number_of word)
 
 -- ---- parties
 
 -- the number of a party of this role
 unfoldable pub number_with : Role → List ℕ → Option ℕ
-number_with role word = option_map (λ p. p.number) (passing (λ p. role_number p.role == role_number role) (party_of word))
+number_with role word = option_map (λ p. p.number) (option_filter (λ p. role_number p.role == role_number role) (party_of word))
 
 -- a log or an authority
 unfoldable pub witness_of : List ℕ → Option Party
-witness_of word = passing (λ p. is_witness p.role) (party_of word)
+witness_of word = option_filter (λ p. is_witness p.role) (party_of word)
 
 -- the number of an owner that a script may make: there are at most 512
 unfoldable pub new_owner_of : List ℕ → Option ℕ
-new_owner_of word = passing (λ n. nat_lt n 512) (number_with Owner word)
+new_owner_of word = option_filter (λ n. nat_lt n 512) (number_with Owner word)
 
 -- to whom bytes go: to this party, or to `logs`, which is all of them
 unfoldable pub receiver_of : List ℕ → Option (Option Party)
@@ -61,16 +64,6 @@ judged_of word = if bytes_eq word (codes "last") then Some None else option_map 
 
 -- ---- lists of numbers
 
--- the parts of a word, which is cut at each of these bytes
-unfoldable pub parts_of : ℕ → List ℕ → List (List ℕ)
-parts_of mark word = slice_split (λ byte. byte == mark) word
-
--- the numbers ascend strictly
-abbrev pub ascends : List ℕ → Bool
-ascends [] = true
-ascends (n ∷ []) = true
-ascends (n ∷ next ∷ more) = nat_lt n next && ascends (next ∷ more)
-
 -- what each of these words spells, where all of them are of the form
 abbrev pub each_of : {T : Type 0} → (List ℕ → Option T) → List (List ℕ) → Option (List T)
 each_of form [] = Some []
@@ -78,11 +71,11 @@ each_of form (word ∷ words) = option_and_then (λ value. option_map (λ values
 
 -- at most so many numbers that are not above this one, with `,` between each two
 unfoldable pub list_of : ℕ → ℕ → List ℕ → Option (List ℕ)
-list_of count most word = passing (λ numbers. nat_le (length numbers) count) (each_of (number_in 0 most) (parts_of 44 word))
+list_of count most word = option_filter (λ numbers. nat_le (length numbers) count) (each_of (number_in 0 most) (parts_of 44 word))
 
 -- the same, where they ascend strictly
 unfoldable pub ascending_of : ℕ → ℕ → List ℕ → Option (List ℕ)
-ascending_of count most word = passing ascends (list_of count most word)
+ascending_of count most word = option_filter ascends (list_of count most word)
 
 -- the authorities that a policy trusts: `-` for none, or 1 to 16 numbers below 65536
 unfoldable pub trusted_of : List ℕ → Option (List ℕ)
@@ -120,21 +113,21 @@ binding_of word = binding_in (behind (codes "keyed") word) (behind (codes "free"
 -- ---- pieces of composed bytes
 
 -- three numbers
-abbrev pub are_three_numbers : List (List ℕ) → Bool
-are_three_numbers [] = false
-are_three_numbers (message ∷ []) = false
-are_three_numbers (message ∷ from ∷ []) = false
-are_three_numbers (message ∷ from ∷ to ∷ []) = is_some (number_of message) && is_some (number_of from) && is_some (number_of to)
-are_three_numbers (message ∷ from ∷ to ∷ next ∷ more) = false
+abbrev pub three_numbers_of : List (List ℕ) → Option (ℕ × ℕ × ℕ)
+three_numbers_of (message ∷ from ∷ to ∷ []) =
+    option_and_then (λ m. option_and_then (λ a. option_map (λ b. (m, a, b)) (number_of to)) (number_of from))
+    (number_of message)
+three_numbers_of words = None
 
 -- a message, the place of a first byte in it, and the place behind the last, with `:` between each two
-unfoldable pub is_slice : List ℕ → Bool
-is_slice word = are_three_numbers (parts_of 58 word)
+unfoldable pub slice_of : List ℕ → Option (ℕ × ℕ × ℕ)
+slice_of word = three_numbers_of (parts_of 58 word)
 
 -- `x` and the hex of some bytes, or `m` and a slice of a message
 abbrev pub is_piece_in : List ℕ → Bool
 is_piece_in [] = false
-is_piece_in (mark ∷ word) = if mark == 120 then is_hex word else (if mark == 109 then is_slice word else false)
+is_piece_in (mark ∷ word) =
+    if mark == 120 then is_hex word else (if mark == 109 then is_some (slice_of word) else false)
 
 -- whether a word is a piece of bytes that are composed
 unfoldable pub is_piece : List ℕ → Bool

@@ -3,6 +3,7 @@
 use Rattle.std.specs.Prelude.{ℕ, ◌+◌, ◌==◌, Bool, true, if◌then◌else◌, List, [], ◌∷◌, Option, Some, Result, Ok, Err}
 use Rattle.std.specs.Option.{ok_or}
 use Rattle.std.specs.Str.{bytes_eq}
+use Rattle.std.specs.Result.{result_map_both}
 use Rattle.ar_base.specs.Chaining.{◌>>=◌}
 use Rattle.ar_lines.specs.declared.refusal.Reason.{Reason}
 use Rattle.ar_lines.specs.declared.refusal.Reason.TheVariants.{Word, Words, Field}
@@ -183,5 +184,4 @@ is_skipped (byte ∷ more) = byte == 35
 
 -- a line that is not skipped
 abbrev pub some_line : Result Line Reason → Result (Option Line) Reason
-some_line (Ok line) = Ok (Some line)
-some_line (Err reason) = Err reason
+some_line read = result_map_both Some (λ reason. reason) read

@@ -1,5 +1,4 @@
 pub mod Forms
 pub mod Grammar
 pub mod Rows
-pub mod Views
 pub mod Written

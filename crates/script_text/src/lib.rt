@@ -7,9 +7,8 @@
 pub use ar_lines::Reason;
 pub use forms::{party_count_of, quorum_of};
 pub use line::{Line, PolicyWords};
-pub use lists::first_part;
 pub use numbers::Numbers;
-pub use pieces::Pieces;
+pub use pieces::{Pieces, slice_of};
 
 mod binding;
 mod forms;

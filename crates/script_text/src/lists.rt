@@ -1,29 +1,9 @@
-ghost use Rattle.std.specs.Prelude.{◌≡◌, ◌≤◌, ◌==◌, ◌∷◌, position};
-ghost use Rattle.std.specs.Option.{option_copied};
-ghost use Rattle.script_text.specs.Forms.{ascending_of, ascends, asks_of, list_of, parts_of, trusted_of};
-ghost use Rattle.script_text.specs.Views.{parts_behind};
+ghost use Rattle.std.specs.Prelude.{◌≡◌, ◌≤◌};
+ghost use Rattle.script_text.specs.Forms.{ascending_of, asks_of, list_of, trusted_of};
 
 use crate::numbers::Numbers;
-use ar_lines::number_in;
-
-/// Where the first of these bytes stands.
-fn first_mark(word: &[u8], mark: u8) -> Option<usize>
-    ensures { result ≡ position (λ byte. byte == mark) word.now }
-{
-    word.iter().position(|byte| *byte == mark)
-}
-
-/// The first part of a word, which is cut at these bytes, and what stands behind the byte that ends it, where
-/// there is one.
-#[tactic(auto, using(crate::proofs::Parts::first_part_laws))]
-pub fn first_part(word: &[u8], mark: u8) -> (&[u8], Option<&[u8]>)
-    ensures { parts_of mark word.now ≡ result.0.now ∷ parts_behind mark (option_copied result.1) }
-{
-    match first_mark(word, mark) {
-        Some(end) => (&word[..end], Some(&word[end + 1..])),
-        None => (word, None),
-    }
-}
+use ar_bytes::ascends;
+use ar_lines::{first_part, number_in};
 
 /// At most so many numbers that are not above this one.
 fn list_of(count: usize, most: u64, word: &[u8]) -> Option<Numbers>
@@ -42,18 +22,6 @@ fn list_of(count: usize, most: u64, word: &[u8]) -> Option<Numbers>
         rest = behind;
     }
     Some(numbers)
-}
-
-/// Whether numbers ascend strictly.
-#[tactic(auto, using(crate::proofs::NumberLists::ascends_short))]
-fn ascends(numbers: &[u64]) -> bool
-    ensures { result ≡ ascends numbers.now }
-{
-    match numbers {
-        [first, second, ..] => first < second && ascends(&numbers[1..]),
-        [_] => true,
-        [] => true,
-    }
 }
 
 /// At most so many numbers that ascend strictly, none above this one.

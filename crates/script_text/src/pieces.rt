@@ -1,11 +1,10 @@
 ghost use Rattle.std.specs.Prelude.{◌≡◌, IfOk};
 ghost use Rattle.std.specs.Result.{result_map_both};
 ghost use Rattle.ar_lines.specs.Lines.{words_of};
-ghost use Rattle.script_text.specs.Forms.{is_piece, is_slice};
+ghost use Rattle.script_text.specs.Forms.{is_piece, slice_of};
 ghost use Rattle.script_text.specs.Grammar.{are_pieces};
 
-use crate::lists::first_part;
-use ar_lines::{Reason, first_word, is_hex, number_of};
+use ar_lines::{Reason, first_part, first_word, is_hex, number_of};
 use std::marker::Model;
 
 /// The pieces of bytes that a line composes: one or more words, with one space between each two. A piece is
@@ -42,21 +41,22 @@ impl<'a> Pieces<'a> {
     }
 }
 
-/// Whether a word is three numbers with `:` between each two.
-#[tactic(auto, using(crate::proofs::Parts::more_than_three), unfolding(crate::specs::Forms::is_slice))]
-fn is_slice(word: &[u8]) -> bool
-    ensures { result ≡ is_slice word.now }
+/// The slice of a message that a word says: the number of the message, the place of the first byte, and the
+/// place behind the last, with `:` between each two.
+#[tactic(auto, using(crate::proofs::Parts::more_than_three), unfolding(crate::specs::Forms::slice_of))]
+pub fn slice_of(word: &[u8]) -> Option<(u64, u64, u64)>
+    ensures { result ≡ slice_of word.now }
 {
     let (message, Some(places)) = first_part(word, b':') else {
-        return false;
+        return None;
     };
     let (from, Some(to)) = first_part(places, b':') else {
-        return false;
+        return None;
     };
     let (to, None) = first_part(to, b':') else {
-        return false;
+        return None;
     };
-    number_of(message).is_some() && number_of(from).is_some() && number_of(to).is_some()
+    Some((number_of(message)?, number_of(from)?, number_of(to)?))
 }
 
 /// Whether a word is a piece.
@@ -66,7 +66,7 @@ fn is_piece(word: &[u8]) -> bool
 {
     match word {
         [b'x', digits @ ..] => is_hex(digits),
-        [b'm', places @ ..] => is_slice(places),
+        [b'm', places @ ..] => slice_of(places).is_some(),
         _ => false,
     }
 }

@@ -6,11 +6,12 @@ use lib.ListN.{get_elem?}
 use Rattle.ar_base.specs.Shares.{whole}
 use Rattle.ar_base.specs.Counting.{one_if}
 use Rattle.ar_seats.specs.Numbers.{HasEachBelow, times, once_below, merged}
-use Rattle.ar_seats.specs.Prefixes.{BeginsWith}
+use Rattle.ar_base.specs.Prefixes.{BeginsWith}
 use Rattle.ar_seats.proofs.TotalsLemmas.{total-set, total_split, total_join, two-le-total, total_owner}
 use Rattle.ar_seats.proofs.NumbersLemmas.{once_below-le-1}
 use Rattle.ar_seats.proofs.RisingLemmas.{times-merged, rising_merged}
-use Rattle.ar_seats.proofs.PrefixLemmas.{begins_on, longer_is_one}
+use Rattle.ar_base.proofs.Prefixes.{begins_on}
+use Rattle.ar_seats.proofs.PrefixLemmas.{longer_is_one}
 use Rattle.atomic_table.proofs.Lists.{at_set, at_snoc}
 use Rattle.shared_node.specs.History.{IsLegal}
 use Rattle.shared_node.specs.Rule.{Fits, IsHome, Keeps}

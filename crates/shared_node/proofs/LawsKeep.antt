@@ -6,7 +6,8 @@ use mathlib.Core.Logic.{dite}
 use native.Mathlib.Decide.{dec_lt}
 use lib.ListN.{get_elem?}
 use Rattle.ar_seats.specs.Numbers.{times}
-use Rattle.ar_seats.specs.Prefixes.{BeginsWith, longer}
+use Rattle.ar_base.specs.Prefixes.{BeginsWith}
+use Rattle.ar_seats.specs.Prefixes.{longer}
 use Rattle.ar_seats.proofs.TotalsLemmas.{one-le-total, two-le-total, one_of_total}
 use Rattle.ar_seats.proofs.NumbersLemmas.{once_below-lt, once_below-le, once_below-le-1, times_of_place, place_of_times}
 use Rattle.ar_seats.proofs.PrefixLemmas.{longer_begins}

@@ -11,11 +11,11 @@ use lib.ListN.{get_elem?}
 use Rattle.ar_base.specs.Shares.{whole}
 use Rattle.ar_base.specs.Counting.{one_if}
 use Rattle.ar_seats.specs.Numbers.{HasEachBelow, times, once_below}
-use Rattle.ar_seats.specs.Prefixes.{BeginsWith}
+use Rattle.ar_base.specs.Prefixes.{BeginsWith}
 use Rattle.ar_seats.proofs.TotalsLemmas.{one-le-total}
 use Rattle.ar_seats.proofs.NumbersLemmas.{times-append, once_below-suc, once_below-le}
 use Rattle.ar_seats.proofs.RisingLemmas.{rising_snoc}
-use Rattle.ar_seats.proofs.PrefixLemmas.{begins_itself}
+use Rattle.ar_base.proofs.Prefixes.{begins_itself}
 use Rattle.atomic_table.proofs.Lists.{at_snoc}
 use Rattle.atomic_table.specs.Table.{Allows, Final, Seen, opening}
 use Rattle.atomic_table.specs.Table.Act.{keeps, takes, gives}

@@ -8,7 +8,7 @@ use Rattle.ar_base.specs.Shares.{whole}
 use Rattle.ar_seats.specs.Totals.{total}
 use Rattle.ar_base.specs.Counting.{one_if}
 use Rattle.ar_seats.specs.Numbers.{IsRising, times, once_below}
-use Rattle.ar_seats.specs.Prefixes.{BeginsWith}
+use Rattle.ar_base.specs.Prefixes.{BeginsWith}
 use Rattle.atomic_table.specs.Table.{State}
 use Rattle.shared_node.specs.History.{IsLegal, state_after}
 use Rattle.shared_node.specs.declared.held.Held.{Held}

@@ -2,7 +2,8 @@
 use Rattle.std.specs.Prelude.{◌≡◌, ℕ, ◌+◌, Option, Some, List, [], ◌∷◌, ◌++◌, length}
 use Rattle.ar_base.specs.Shares.{given_of, left_of}
 use Rattle.ar_seats.specs.Numbers.{merged}
-use Rattle.ar_seats.specs.Prefixes.{BeginsWith, longer}
+use Rattle.ar_base.specs.Prefixes.{BeginsWith}
+use Rattle.ar_seats.specs.Prefixes.{longer}
 use Rattle.atomic_table.specs.Seated.{TableId}
 use Rattle.shared_node.specs.History.{IsLegal, reply_after}
 

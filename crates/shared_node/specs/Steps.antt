@@ -2,7 +2,8 @@
 use Rattle.std.specs.Prelude.{◌≡◌, ℕ, ◌+◌, ◌≤◌, ◌≢◌, true, false, Option, Some, None, List, [], ◌∷◌, ◌++◌, length}
 use Rattle.ar_base.specs.Shares.{given_of, left_of, whole}
 use Rattle.ar_seats.specs.Numbers.{IsRising, merged}
-use Rattle.ar_seats.specs.Prefixes.{BeginsWith, longer}
+use Rattle.ar_base.specs.Prefixes.{BeginsWith}
+use Rattle.ar_seats.specs.Prefixes.{longer}
 use Rattle.atomic_table.specs.Table.{Me, rest}
 use Rattle.shared_node.specs.History.{Replays}
 use Rattle.shared_node.specs.declared.held.Held.{Held}

@@ -4,7 +4,8 @@ ghost use Rattle.std.specs.Prelude.{◌≡◌, ◌≢◌, ◌<◌, ℕ, List, le
 ghost use mathlib.Core.Option as home;
 ghost use mathlib.Core.Option.{some};
 ghost use lib.ListN.{get_elem?};
-ghost use Rattle.ar_seats.specs.Prefixes.{BeginsWith, longer};
+ghost use Rattle.ar_base.specs.Prefixes.{BeginsWith};
+ghost use Rattle.ar_seats.specs.Prefixes.{longer};
 ghost use Rattle.shared_node.specs.Rule.{Keeps};
 ghost use Rattle.shared_node.specs.declared.held.Held.{Held};
 ghost use Rattle.shared_node.specs.declared.node.Node.{Node};

@@ -1,7 +1,7 @@
 ghost use Rattle.std.specs.Prelude.{◌≡◌, ◌<◌, ◌↔◌, [], ◌∷◌, ◌++◌, true, false, length, Some, None, Err, IsOk, IfOk, IfErr, OnErr};
 ghost use Rattle.ar_base.specs.Shares.{whole};
 ghost use Rattle.ar_seats.specs.Numbers.{HasEachBelow, IsRising};
-ghost use Rattle.ar_seats.specs.Prefixes.{BeginsWith};
+ghost use Rattle.ar_base.specs.Prefixes.{BeginsWith};
 ghost use Rattle.shared_node.specs.History.{Replays};
 ghost use Rattle.shared_node.specs.Seats.{IsSeatOf, Asked, SeesOn, first_seat, left_seat, given_seat, joined_seat};
 ghost use Rattle.ar_base.specs.declared.split_fault.SplitFault.TheVariants.{Narrow};

@@ -1,10 +1,11 @@
 -- What it means to enter a statement into a book.
 use Rattle.std.specs.Prelude.{ℕ, ◌-◌, nat_lt, if◌then◌else◌, List, [], ◌∷◌, ◌++◌, length, Option, Some, None, Result, Ok, Err}
+use Rattle.std.specs.Result.{result_map_both}
 use Rattle.ar_base.specs.Places.{place_of}
 use Rattle.sign_book.specs.Book.{Book}
 use Rattle.sign_book.specs.Due.{DueParts}
-use Rattle.sign_book.specs.declared.fault.BookFault.{BookFault}
-use Rattle.sign_book.specs.declared.fault.BookFault.TheVariants.{Spent}
+use Rattle.ar_statement.specs.declared.fault.BookFault.{BookFault}
+use Rattle.ar_statement.specs.declared.fault.BookFault.TheVariants.{Spent}
 
 -- the next place, where there is a leaf left
 abbrev pub next_leaf : Book → Result ℕ BookFault
@@ -21,8 +22,8 @@ leaf_of book text = leaf_at book (place_of book.texts text)
 
 -- what is due for a text with this leaf in the book
 abbrev pub due_at : Book → List ℕ → Result ℕ BookFault → Result DueParts BookFault
-due_at book text (Ok leaf) = Ok (record { leaf = leaf; text = text; leaves = book.leaves })
-due_at book text (Err fault) = Err fault
+due_at book text given =
+    result_map_both (λ leaf. record { leaf = leaf; text = text; leaves = book.leaves }) (λ fault. fault) given
 
 -- what entering a text gives, where memory lasts
 abbrev pub due_of : Book → List ℕ → Result DueParts BookFault

@@ -4,7 +4,7 @@ ghost use Rattle.ar_statement.specs.Claims.{claim_of, text_of};
 ghost use Rattle.sign_book.specs.Book.{IsSound};
 ghost use Rattle.sign_book.specs.Entry.{after_entry, due_at, due_of, next_leaf, with_text};
 ghost use Rattle.ar_base.specs.Places.{place_of};
-ghost use Rattle.sign_book.specs.declared.fault.BookFault.TheVariants.{Memory, Spent};
+ghost use Rattle.ar_statement.specs.declared.fault.BookFault.TheVariants.{Memory, Spent};
 
 use crate::places::place_of;
 use crate::{BookFault, Due};

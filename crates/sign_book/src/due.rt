@@ -1,6 +1,6 @@
-ghost use Rattle.std.specs.Prelude.{◌≡◌, ◌<◌, ◌^◌, length};
+ghost use Rattle.std.specs.Prelude.{◌≡◌, ◌<◌, length};
 ghost use Rattle.lms_tree.specs.Key.{signature_of};
-ghost use Rattle.lms_tree.specs.LmsKind.{height_of};
+ghost use Rattle.lms_tree.specs.LmsKind.{leaves_of};
 ghost use Rattle.lms_tree.specs.Signature.{lms_signature_len_of};
 
 use ar_statement::Text;
@@ -45,7 +45,7 @@ impl Due {
 /// The key is the one that the book was made for. A key that another book gives leaves of, or that
 /// has signed before the book was made, could sign two texts by one leaf.
 pub fn sign(key: &LmsKey, due: Due, out: &mut [u8])
-    requires leaves { due.leaves ≡ 2 ^ height_of key.now.lms }
+    requires leaves { due.leaves ≡ leaves_of key.now.lms }
     requires room { length out.old ≡ lms_signature_len_of key.now.lms key.now.ots }
     ensures { out.new ≡ signature_of key.now due.leaf due.text }
 {

@@ -5,7 +5,7 @@ ghost use Rattle.ar_statement.specs.Claims.{Claim, text_of};
 ghost use Rattle.ar_statement.specs.Ranges.{IsHeld};
 ghost use Rattle.sign_book.specs.Book.{Book, IsSound};
 ghost use Rattle.sign_book.specs.Entry.{after_entry, leaf_of};
-ghost use Rattle.sign_book.specs.declared.fault.BookFault.TheVariants.{Spent};
+ghost use Rattle.ar_statement.specs.declared.fault.BookFault.TheVariants.{Spent};
 
 use ar_statement::laws::a_text_is_of_one_statement;
 

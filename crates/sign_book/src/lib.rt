@@ -11,12 +11,11 @@
 //! The caller `hand_over` of the crate `worked_examples` has the contract that goes with it.
 #![tactic(auto)]
 
+pub use ar_statement::BookFault;
 pub use book::SignBook;
 pub use due::{Due, sign};
-pub use fault::BookFault;
 
 mod book;
 mod due;
-mod fault;
 pub mod laws;
 mod places;

@@ -1,5 +1,5 @@
-ghost use Rattle.std.specs.Prelude.{◌≡◌, ◌^◌};
-ghost use Rattle.lms_tree.specs.LmsKind.{height_of};
+ghost use Rattle.std.specs.Prelude.{◌≡◌};
+ghost use Rattle.lms_tree.specs.LmsKind.{leaves_of};
 ghost use Rattle.lms_tree.specs.Signature.{lms_signature_len_of};
 
 use leaf_book::{Exhausted, LeafBook, LeafSeat, SplitFault, sign_leaf};
@@ -19,7 +19,7 @@ fn serve(
     seat: &mut LeafSeat,
 ) -> Result<Result<(u32, Verdict), Exhausted>, AllocError>
     requires own { seat.old.book ≡ book.now }
-    requires key { book.now.leaves ≡ 2 ^ height_of key.now.lms }
+    requires key { book.now.leaves ≡ leaves_of key.now.lms }
     ensures { seat.new.book ≡ seat.old.book }
 {
     let mut signature = vec![in alloc; 0u8; key.signature_len()]?;

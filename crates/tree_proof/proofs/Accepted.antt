@@ -9,18 +9,17 @@ use Rattle.hash_tree.specs.Entries.{Entry, Entries, bit, Agree, half, HoldsDiges
 use Rattle.hash_tree.specs.Root.{digest_below, root}
 use Rattle.hash_tree.proofs.Maps.{one_at, agree-half, key-half}
 use Rattle.hash_tree.proofs.ByCount.{string-none, string-one, string-more}
-use Rattle.tree_proof.specs.declared.path.Bottom.TheVariants.{Empty, Other}
+use Rattle.hash_tree.specs.declared.bottom.Bottom.TheVariants.{Empty, Other}
 use Rattle.tree_proof.specs.Fold.{joined}
-use Rattle.hash_tree.specs.Path.{steps_below, steps_of}
-use Rattle.tree_proof.specs.Path.{bottom_below, bottom_of}
+use Rattle.hash_tree.specs.Path.{bottom_below, bottom_of, steps_below, steps_of}
 use Rattle.tree_proof.specs.Membership.{On, Off, LeadsTo, SpeaksOf, bottom_string}
 use Rattle.tree_proof.proofs.Down.{turned, turned-push, value_down, path_value-down}
 use Rattle.hash_tree.proofs.Few.{get-none, get-one, get-one_inverse, few_left}
 use Rattle.tree_proof.proofs.Lands.{Count, none, one, more, count_of}
 use Rattle.tree_proof.proofs.Bind.{digests-half}
-use Rattle.hash_tree.proofs.Paths.{steps-few, steps-end, steps-more}
+use Rattle.hash_tree.proofs.Kept.{bottom-only}
+use Rattle.hash_tree.proofs.Paths.{bottom-more, bottom-none, steps-few, steps-end, steps-more}
 use Rattle.hash_tree.proofs.Changed.{get-here}
-use Rattle.tree_proof.proofs.Walk.{bottom-none, bottom-one, bottom-more}
 
 -- the two halves joined, whichever side the key's is on
 joined-halves : (key : List ℕ) (depth : ℕ) (f : ℕ → List ℕ) → joined key depth (f (bit key depth)) (f (1 - bit key depth)) ≡ node_string (f 0) (f 1)
@@ -38,9 +37,6 @@ steps-of_one left key m e n = steps-few left key m (omega (arith, ap length n))
 
 bottom-of_none : (left : ℕ) (key : List ℕ) (m : Entries) → entries m ≡ [] → bottom_below left key m ≡ Empty
 bottom-of_none left key m n = bottom-none left key m (omega (arith, ap length n))
-
-bottom-of_one : (left : ℕ) (key : List ℕ) (m : Entries) (e : Entry) → entries m ≡ e ∷ [] → bottom_below left key m ≡ Other e.0 e.1
-bottom-of_one left key m e n = bottom-one left key m e (omega (arith, ap length n)) (omega (arith, ap length n)) ∙ rw n
 
 -- a step of the path, at a depth
 steps-at : (left depth : ℕ) (key : List ℕ) (m : Entries) → left + depth ≡ 255 → 2 ≤ length (entries m)
@@ -64,7 +60,7 @@ leads_up : (left depth : ℕ) → left + depth ≡ 256 → (m : Entries) (key : 
 leads_up left depth at m key digests agree (none n) =
     rw (steps-of_none left key m n, bottom-of_none left key m n, string-none left m n)
 leads_up left depth at m key digests agree (one e n) =
-    rw (steps-of_one left key m e n, bottom-of_one left key m e n, string-one left m e n)
+    rw (steps-of_one left key m e n, bottom-only left key m e n, string-one left m e n)
 leads_up zero depth at m key digests agree (more n) = absurd (few_left m digests (subst (λ d. AgreeAmong d m) (omega arith) agree) n)
 leads_up (suc left) depth at m key digests agree (more n) =
     let low : left + depth ≡ 255 = omega arith in
@@ -94,7 +90,7 @@ bottom-present : (left depth : ℕ) → left + depth ≡ 256 → (m : Entries) (
 bottom-present left depth at m key value digests agree there (none n) = let missing = get-none m key n in absurd (cc)
 bottom-present left depth at m key value digests agree there (one e n) =
     let same = get-one_inverse m e key value n there in
-    bottom-of_one left key m e n ∙ (λ i. Other (same.0 i) (same.1 i))
+    bottom-only left key m e n ∙ (λ i. Other (same.0 i) (same.1 i))
 bottom-present zero depth at m key value digests agree there (more n) = absurd (few_left m digests (subst (λ d. AgreeAmong d m) (omega arith) agree) n)
 bottom-present (suc left) depth at m key value digests agree there (more n) =
     let side = bit key depth in
@@ -110,7 +106,7 @@ bottom-absent left depth at m key digests agree prefix missing (none n) = rw (bo
 bottom-absent left depth at m key digests agree prefix missing (one e n) =
     let there = get-one m e n in
     let other : e.0 ≢ key = λ same. let here : get m key ≡ Some e.1 = ap (get m) (sym same) ∙ there in absurd (cc) in
-    rw (bottom-of_one left key m e n, steps-of_one left key m e n) (other, λ i l. prefix e.0 (ap is_some there) i (omega arith))
+    rw (bottom-only left key m e n, steps-of_one left key m e n) (other, λ i l. prefix e.0 (ap is_some there) i (omega arith))
 bottom-absent zero depth at m key digests agree prefix missing (more n) = absurd (few_left m digests (subst (λ d. AgreeAmong d m) (omega arith) agree) n)
 bottom-absent (suc left) depth at m key digests agree prefix missing (more n) =
     let side = bit key depth in

@@ -13,8 +13,8 @@ use Rattle.ar_base.specs.Apart.{none_collide, IsIn, Apart}
 use Rattle.hash_tree.proofs.Maps.{total, exact, one_at, agree-half}
 use Rattle.hash_tree.proofs.ByCount.{string-none, string-one, string-end, string-more, string-several, strings-own}
 use Rattle.ar_base.proofs.Apart.{apart, in_front, in_rest}
-use Rattle.tree_proof.specs.declared.path.Bottom.{Bottom}
-use Rattle.tree_proof.specs.declared.path.Bottom.TheVariants.{Empty, Other}
+use Rattle.hash_tree.specs.declared.bottom.Bottom.{Bottom}
+use Rattle.hash_tree.specs.declared.bottom.Bottom.TheVariants.{Empty, Other}
 use Rattle.tree_proof.specs.Membership.{On, Off, LeadsTo, HasDigestKey, bottom_string, path_strings}
 use Rattle.tree_proof.proofs.Down.{turned, path_value-down, strings_down-above}
 use Rattle.hash_tree.proofs.Few.{get-none, get-one, get-other, few_left}

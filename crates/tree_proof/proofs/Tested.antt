@@ -7,8 +7,8 @@ use Rattle.std.proofs.lemmas.Slice.Eq.{bytes_eq-Decides}
 use Rattle.hash_tree.specs.Entries.{bit, Agree}
 use Rattle.tree_proof.specs.Fold.{digests_in}
 use Rattle.tree_proof.specs.Membership.{OnBytes, OffBytes, LeadsTo, SpeaksOf, leads_to, agrees, speaks_of, is_on, is_off}
-use Rattle.tree_proof.specs.declared.path.Bottom.{Bottom}
-use Rattle.tree_proof.specs.declared.path.Bottom.TheVariants.{Empty, Other}
+use Rattle.hash_tree.specs.declared.bottom.Bottom.{Bottom}
+use Rattle.hash_tree.specs.declared.bottom.Bottom.TheVariants.{Empty, Other}
 
 -- the test of an order
 pub le_decides : (a b : ℕ) → Decides (nat_le a b) (a ≤ b)

@@ -1,26 +1,14 @@
 -- The path of a key, by how many entries there are.
 use Rattle.std.proofs.Common.{◌≡◌, ℕ, suc, ◌+◌, ◌-◌, ◌<◌, ◌≤◌, List, [], ◌∷◌, ◌++◌, length, get_or, sym, ap, ◌∙◌, append_assoc, arith}
 use Rattle.std.specs.FinMap.{entries}
-use Rattle.hash_tree.specs.Entries.{Entry, Entries, entries_of, HasAscendingKeys, bit, of_side}
+use Rattle.hash_tree.specs.Entries.{Entry, entries_of, HasAscendingKeys, bit, of_side}
 use Rattle.hash_tree.specs.Root.{digest_at}
-use Rattle.hash_tree.specs.Path.{same_half, steps_below}
+use Rattle.hash_tree.specs.Path.{bottom_below, steps_below}
 use Rattle.hash_tree.proofs.Maps.{entries-entries_of, half-entries_of}
-use Rattle.hash_tree.proofs.Paths.{steps-few, steps-more}
-use Rattle.hash_tree.proofs.Paths as paths
-use Rattle.tree_proof.specs.declared.path.Bottom.TheVariants.{Empty, Other}
-use Rattle.tree_proof.specs.Path.{foot_of, bottom_below}
+use Rattle.hash_tree.proofs.Paths.{bottom-more, bottom-none, bottom-one, steps-few, steps-more}
+use Rattle.hash_tree.specs.declared.bottom.Bottom.TheVariants.{Empty, Other}
 
-pub bottom-none : (left : ℕ) (key : List ℕ) (m : Entries) → length (entries m) < 1 → bottom_below left key m ≡ Empty
-bottom-none left key m none = ap foot_of (paths.bottom-none left key m none)
-
-pub bottom-one : (left : ℕ) (key : List ℕ) (m : Entries) (d : Entry) → 1 ≤ length (entries m) → length (entries m) < 2
-    → bottom_below left key m ≡ Other (get_or (entries m) 0 d).0 (get_or (entries m) 0 d).1
-bottom-one left key m d some one = ap foot_of (paths.bottom-one left key m d some one)
-
-pub bottom-more : (left : ℕ) (key : List ℕ) (m : Entries) → 2 ≤ length (entries m) → bottom_below (suc left) key m ≡ bottom_below left key (same_half left key m)
-bottom-more left key m several = ap foot_of (paths.bottom-more left key m several)
-
--- the same at a depth, of ascending entries
+-- at a depth, of ascending entries
 pub steps-parted : (es : List Entry) (key : List ℕ) (depth : ℕ) → HasAscendingKeys es → 2 ≤ length es → depth < 256
     → steps_below (256 - depth) key (entries_of es)
     ≡ steps_below (256 - (depth + 1)) key (entries_of (of_side depth (bit key depth) es)) ++ digest_at (depth + 1) (entries_of (of_side depth (1 - bit key depth) es)) ∷ []

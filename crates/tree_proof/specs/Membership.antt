@@ -5,8 +5,8 @@ use Rattle.sha2.specs.Sha256.{sha256}
 use Rattle.hash_tree.specs.Strings.{empty_string, entry_string}
 use Rattle.ar_base.specs.Bytes.{IsDigest}
 use Rattle.hash_tree.specs.Entries.{bit, Agree}
-use Rattle.tree_proof.specs.declared.path.Bottom.{Bottom}
-use Rattle.tree_proof.specs.declared.path.Bottom.TheVariants.{Empty, Other}
+use Rattle.hash_tree.specs.declared.bottom.Bottom.{Bottom}
+use Rattle.hash_tree.specs.declared.bottom.Bottom.TheVariants.{Empty, Other}
 use Rattle.tree_proof.specs.Fold.{digests_in, path_value, strings_above}
 
 -- the string that stands at the foot of a path that shows absence

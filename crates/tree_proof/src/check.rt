@@ -4,8 +4,7 @@ ghost use Rattle.sha2.specs.Sha256.{sha256};
 ghost use Rattle.tree_proof.specs.Fold.{path_value};
 ghost use Rattle.tree_proof.specs.Membership.{OnBytes, OffBytes, SpeaksOf, bottom_string, is_off, is_on};
 
-use crate::Bottom;
-use hash_tree::{empty_digest, entry_digest, key_bit, node_digest};
+use hash_tree::{Bottom, empty_digest, entry_digest, key_bit, node_digest};
 
 /// Whether the steps show that the key has the value under the root.
 ///

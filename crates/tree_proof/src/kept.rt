@@ -1,8 +1,8 @@
 ghost use Rattle.std.specs.Prelude.{◌≡◌, IfOk};
 ghost use Rattle.hash_tree.specs.Path.{steps_of};
-ghost use Rattle.tree_proof.specs.Path.{foot_of, found_of};
+ghost use Rattle.tree_proof.specs.Path.{found_of};
 
-use crate::{Bottom, Found, Path};
+use crate::{Found, Path};
 use hash_tree::Trie;
 use std::alloc::{AllocError, Global};
 
@@ -17,21 +17,8 @@ pub fn path_of(alloc: Global, trie: &Trie, key: &[u8; 32]) -> Result<(Found, Pat
     let found = match trie.get(key) {
         Some(value) => Found::Present { value },
         None => Found::Absent {
-            bottom: foot(&walk.bottom),
+            bottom: walk.bottom,
         },
     };
     Ok((found, Path { steps: walk.steps }))
-}
-
-// The entry at the foot of a path, or none, as a bottom.
-fn foot(bottom: &Option<([u8; 32], [u8; 32])>) -> Bottom
-    ensures { result ≡ foot_of bottom.now }
-{
-    match bottom {
-        Some(entry) => {
-            let (key, value) = *entry;
-            Bottom::Other { key, value }
-        }
-        None => Bottom::Empty,
-    }
 }

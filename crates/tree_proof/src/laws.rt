@@ -10,9 +10,8 @@ ghost use Rattle.ar_base.specs.Bytes.{IsDigest};
 ghost use Rattle.hash_tree.specs.Entries.{Entries, HoldsDigests};
 ghost use Rattle.hash_tree.specs.Root.{root, strings_of};
 ghost use Rattle.hash_tree.specs.Strings.{entry_string};
-ghost use Rattle.hash_tree.specs.Path.{steps_of};
-ghost use Rattle.tree_proof.specs.Path.{bottom_of};
-ghost use Rattle.tree_proof.specs.declared.path.Bottom.{Bottom};
+ghost use Rattle.hash_tree.specs.Path.{bottom_of, steps_of};
+ghost use Rattle.hash_tree.specs.declared.bottom.Bottom.{Bottom};
 ghost use Rattle.tree_proof.specs.Membership.{On, Off, OnBytes, OffBytes, HasDigestKey, bottom_string, is_on, is_off, path_strings};
 
 /// The path of a key that has a value shows that value under the root.

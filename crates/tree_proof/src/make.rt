@@ -1,12 +1,11 @@
 ghost use Rattle.std.specs.Prelude.{◌≡◌, ◌-◌, ◌++◌, ◌<◌, ◌≤◌, None, IfOk, IsSome, length};
 ghost use Rattle.std.specs.FinMap.{get};
 ghost use Rattle.hash_tree.specs.Entries.{entries_of, HasAscendingKeys, AgreeAmong, bit, of_side};
-ghost use Rattle.hash_tree.specs.Path.{steps_of, steps_below};
-ghost use Rattle.tree_proof.specs.Path.{bottom_of, bottom_below};
+ghost use Rattle.hash_tree.specs.Path.{bottom_below, bottom_of, steps_below, steps_of};
 
-use crate::{Bottom, Path};
+use crate::Path;
 use ar_base::Items;
-use hash_tree::{digest_at, halves, key_bit};
+use hash_tree::{Bottom, digest_at, halves, key_bit};
 use std::alloc::{AllocError, Global};
 
 /// The path of a key that is among the entries.

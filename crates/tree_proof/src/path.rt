@@ -1,19 +1,11 @@
 use ar_base::Items;
+use hash_tree::Bottom;
 
 /// The steps of a path: the digests of siblings, the deepest first.
 #[derive(Debug, Drop)]
 pub struct Path {
     /// With k steps, the first belongs to depth k - 1, and the last to depth 0.
     pub steps: Items<[u8; 32]>,
-}
-
-/// What stands at the foot of a path that shows absence.
-#[derive(Clone, Copy, Debug, PartialEq, Eq)]
-pub enum Bottom {
-    /// No entry.
-    Empty,
-    /// The entry of another key.
-    Other { key: [u8; 32], value: [u8; 32] },
 }
 
 /// What the path of a key shows.

@@ -1,5 +1,5 @@
 //! How the libraries are called: each function is a caller, and is proved.
-ghost use Rattle.std.specs.Prelude.{◌≡◌, ◌^◌, ℕ, List, length, IfOk, IfSome, OnOk};
+ghost use Rattle.std.specs.Prelude.{◌≡◌, ℕ, List, length, IfOk, IfSome, OnOk};
 ghost use Rattle.std.specs.Option.{option_map};
 ghost use Rattle.std.specs.Result.{is_ok, result_ok};
 ghost use Rattle.ar_bytes.specs.Reading.{whole};
@@ -8,7 +8,7 @@ ghost use Rattle.ar_statement.specs.Claims.{claim_of, handover, text_of};
 ghost use Rattle.client_rule.specs.Rule.{judgement};
 ghost use Rattle.client_rule.specs.declared.judgement.Judgement.TheVariants.{Accepted};
 ghost use Rattle.lms_tree.specs.Key.{signature_of};
-ghost use Rattle.lms_tree.specs.LmsKind.{height_of};
+ghost use Rattle.lms_tree.specs.LmsKind.{leaves_of};
 ghost use Rattle.lms_tree.specs.Signature.{lms_signature_len_of};
 ghost use Rattle.lms_tree.specs.declared.validity.Verdict.TheVariants as verdicts;
 ghost use Rattle.party_keys.specs.Signatures.{verified};
@@ -74,7 +74,7 @@ pub fn key_to_trust(
     age: u64,
 ) -> Option<LmsPublic>
     ensures { IfSome result (λ key. (certificate : Certificate) × (digest : List ℕ) × (epoch : ℕ) × (root : List ℕ)
-        × (judgement directory.now name.now confirmation.now now age ≡ Accepted certificate digest epoch root) × (key ≡ certificate.subject)) }
+        × (judgement (record { keys = directory.now; name = name.now; epoch = now; age = age }) confirmation.now ≡ Accepted certificate digest epoch root) × (key ≡ certificate.subject)) }
 {
     match judge(directory, name, confirmation, now, age) {
         Judgement::Accepted { certificate, .. } => Some(certificate.subject()),
@@ -101,7 +101,7 @@ pub fn hand_over(
     certificate: &[u8; 32],
     out: &mut [u8],
 ) -> Result<(), BookFault>
-    requires leaves { book.old.leaves ≡ 2 ^ height_of key.now.lms }
+    requires leaves { book.old.leaves ≡ leaves_of key.now.lms }
     requires room { length out.old ≡ lms_signature_len_of key.now.lms key.now.ots }
     ensures { OnOk result (IfOk (due_of book.old (text_of (handover certificate.now))) (λ due. out.new ≡ signature_of key.now due.leaf due.text)) }
 {

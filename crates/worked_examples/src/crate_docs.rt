@@ -1,6 +1,6 @@
 //! The examples of crate docs, word by word: `tools/check-examples` compares them. `callers` has the contracts that go with them.
-ghost use Rattle.std.specs.Prelude.{◌≡◌, ◌^◌, length};
-ghost use Rattle.lms_tree.specs.LmsKind.{height_of};
+ghost use Rattle.std.specs.Prelude.{◌≡◌, length};
+ghost use Rattle.lms_tree.specs.LmsKind.{leaves_of};
 ghost use Rattle.lms_tree.specs.Signature.{lms_signature_len_of};
 
 use ar_cert::CertView;
@@ -76,7 +76,7 @@ pub fn of_sign_book(
     certificate: [u8; 32],
     mut signature: Vec<u8>,
 ) -> Result<Vec<u8>, BookFault>
-    requires leaves { book.old.leaves ≡ 2 ^ height_of key.lms }
+    requires leaves { book.old.leaves ≡ leaves_of key.lms }
     requires room { length signature.items ≡ lms_signature_len_of key.lms key.ots }
 {
     let due = book.enter(alloc, &Statement::Handover { certificate })?;

@@ -1,6 +1,7 @@
 use Rattle.std.proofs.Common.{arith, ◌≡◌, ◌++◌, [], ◌∷◌, ap, length}
 use Rattle.std.specs.Prelude.{Some}
-use Rattle.ar_founding.specs.Founded.{IsLogRing, log_node}
+use Rattle.ar_founding.specs.Founded.{IsLogRing}
+use Rattle.ar_founding.specs.Founding.{log_node}
 use Rattle.ar_founding.proofs.FirstParties.{first-own, log-joined}
 use Rattle.ar_founding.proofs.joined.join_log.Goals as goal
 

@@ -1,6 +1,6 @@
 use Rattle.std.proofs.Common.{[], ◌∷◌, ◌++◌}
 use Rattle.ar_cert.specs.Changes.{change_at}
-use Rattle.ar_message.proofs.ListSteps.{list_goes_on}
+use Rattle.ar_bytes.proofs.Lists.{list_goes_on}
 use Rattle.ar_message.proofs.take_lists.changes.Goals as goal
 
 pub loop-preserved : goal.loop-preserved

@@ -1,5 +1,5 @@
 use Rattle.std.proofs.Common.{◌≡◌, ◌∙◌, List, ap, length, subst, sym}
-use Rattle.party_keys.specs.Seen.{authority_party, log_party}
+use Rattle.ar_statement.specs.Claims.{authority_party, log_party}
 use Rattle.ar_council.specs.Council.{council_of}
 use Rattle.epoch_log.specs.Record.{LogRecord}
 use Rattle.authority_core.specs.Record.{AuthorityRecord}

@@ -1,5 +1,5 @@
 use Rattle.std.proofs.Common.{◌≡◌, ◌++◌, drop, map}
-use Rattle.authority_core.specs.Confirming.{seen_in}
+use Rattle.party_keys.specs.Signers.{seen_in}
 use Rattle.authority_core.proofs.confirming.seen_in.Given as goal
 
 -- what is there and what is left are all

@@ -1,7 +1,6 @@
 use Rattle.std.proofs.Common.{◌≡◌, ℕ, List, Option, Some, None, OnOk, false, sym, subst, ap, ◌∙◌}
 use Rattle.ar_base.specs.Gives.{GivesUnless, with_error}
-use Rattle.ar_council.specs.Values.{confirmation_by}
-use Rattle.ar_statement.specs.Claims.{Claim, confirm, confirm_absent, text_of}
+use Rattle.ar_statement.specs.Claims.{Claim, confirm, confirm_absent, confirmation_by, text_of}
 use Rattle.ar_statement.specs.declared.party.Party.{Party}
 use Rattle.key_roll.specs.Entry.{after_entry, entered}
 use Rattle.key_roll.specs.Rolls.{is_roll}

@@ -1,6 +1,6 @@
 use Rattle.std.proofs.Common.{[], ◌∷◌}
-use Rattle.ar_council.specs.Seen.{seen_of}
-use Rattle.ar_statement.specs.Claims.{roll}
+use Rattle.party_keys.specs.Seen.{seen_of}
+use Rattle.party_keys.specs.Learning.{roll_claim}
 use Rattle.epoch_log.specs.Calls.{endorsements_of, proposal_of}
 use Rattle.epoch_log.proofs.Saw.{ballot-more, decision-more, proposal-more, report-more, seeing-more, skip-more, state-more}
 use Rattle.epoch_log.proofs.laws.what_was_seen_stays_so.Goals as goal
@@ -30,4 +30,4 @@ pub returns-clause-skip : goal.returns-clause-skip
 returns-clause-skip c = skip-more
 
 pub returns-clause-learn : goal.returns-clause-learn
-returns-clause-learn c = λ s party generation key. seeing-more s (seen_of party (roll party generation key) ∷ [])
+returns-clause-learn c = λ s a. seeing-more s (seen_of a.party (roll_claim a) ∷ [])

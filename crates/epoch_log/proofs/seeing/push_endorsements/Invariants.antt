@@ -1,8 +1,7 @@
 use Rattle.std.proofs.Common.{◌≡◌, ◌++◌, drop}
 use Rattle.std.specs.Prelude.{map}
-use Rattle.ar_council.specs.Seen.{seen_of}
-use Rattle.ar_statement.specs.Claims.{endorse}
-use Rattle.party_keys.specs.Seen.{authority_party}
+use Rattle.party_keys.specs.Seen.{seen_of}
+use Rattle.ar_statement.specs.Claims.{authority_party, endorse}
 use Rattle.epoch_log.proofs.seeing.push_endorsements.Given as goal
 
 -- what is appended and what is left are the endorsements

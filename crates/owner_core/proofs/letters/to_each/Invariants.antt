@@ -1,6 +1,6 @@
 use Rattle.std.proofs.Common.{◌≡◌, map, take}
 use Rattle.ar_message.specs.declared.address.Address.TheVariants.{One}
-use Rattle.party_keys.specs.Seen.{authority_party}
+use Rattle.ar_statement.specs.Claims.{authority_party}
 use Rattle.owner_core.proofs.letters.to_each.Given as goal
 
 abbrev pub invariant-loop-authority : goal.invariant-loop-authority

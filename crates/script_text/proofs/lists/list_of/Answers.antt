@@ -2,7 +2,7 @@
 use Rattle.std.proofs.Common.{◌≡◌, ◌∷◌, [], Some, None, refl, sym, ◌∙◌}
 use Rattle.std.specs.Option.{option_copied}
 use Rattle.ar_lines.specs.Forms.{number_in}
-use Rattle.script_text.specs.Views.{parts_behind}
+use Rattle.ar_lines.specs.Views.{parts_behind}
 use Rattle.script_text.proofs.NumberLists.{number_fails, number_over, numbers_end}
 use Rattle.script_text.proofs.lists.list_of.Goals as goal
 

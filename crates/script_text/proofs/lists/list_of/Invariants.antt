@@ -2,8 +2,9 @@
 use Rattle.std.proofs.Common.{◌≡◌, ◌≤◌, length}
 use Rattle.std.specs.Option.{option_copied}
 use Rattle.ar_lines.specs.Forms.{number_in}
-use Rattle.script_text.specs.Forms.{each_of, parts_of}
-use Rattle.script_text.specs.Views.{parts_behind}
+use Rattle.ar_lines.specs.Lines.{parts_of}
+use Rattle.script_text.specs.Forms.{each_of}
+use Rattle.ar_lines.specs.Views.{parts_behind}
 use Rattle.script_text.proofs.NumberLists.{before}
 use Rattle.script_text.proofs.lists.list_of.Given as goal
 

@@ -16,7 +16,7 @@ append_consents-requires-clause-room c =
       arith,
       length-change_text seen,
       ap (λ (r : Change). length (change_text r)) c.self.view_is,
-      c.text_len.ensures,
+      c.len_with.ensures,
       c.in_ok-reserve.ensures.ok,
       ap length c.append_counted.ensures.text,
       length-append c.reserve.new.self.items (size ++ cert),

@@ -1,11 +1,8 @@
 use Rattle.std.proofs.Common.{◌≡◌, ◌<◌, length, Some, Ok, sym, subst}
 use Rattle.std.specs.Prelude.{position}
-use Rattle.owner_core.specs.Rows.{object_row}
-use Rattle.report_text.specs.declared.happening.What.TheVariants.{Object}
-use Rattle.ar_nodes.specs.Acting.{ActsBy, acted, owner_does}
+use Rattle.ar_nodes.specs.Acting.{ActsBy, owner_objected}
 use Rattle.ar_nodes.specs.Finding.{is_owner}
 use Rattle.ar_world.specs.Finding.{room}
-use Rattle.ar_nodes.specs.Owners.{owner_party}
 use Rattle.ar_world.specs.State.{Drafted, World}
 use Rattle.ar_world.proofs.Answered.{objected_there}
 use Rattle.ar_world.proofs.world.World.object_line.Goals as goal
@@ -19,5 +16,5 @@ returns g c =
     let free = subst (λ (w : World). room w ≡ Ok tt) old i.room in
     let me = c.index_mut-owner_there.result.now in
     let acts = subst (λ (d : Drafted). ActsBy c.objected.result me c.objected.new.owner c.self.inside.pool.messages c.objected.new.pool.messages
-    (acted c.self.inside.pool.messages (owner_party c.args.owner) (Object c.args.draft) (owner_does me (object_row me d.cert)))) c.behind-self.view_is c.objected.ensures in
+    (owner_objected c.self.inside.pool.messages c.args.owner c.args.draft d.cert me)) c.behind-self.view_is c.objected.ensures in
     rw (← c.self.view_is) (objected_there _ _ _ _ _ _ me _ c.index.result.now _ here c.index_mut-owner_there.ensures.value i.draft within c.index.ensures free acts)

@@ -2,7 +2,7 @@ use Rattle.std.proofs.Common.{◌≡◌, subst}
 use Rattle.std.specs.Prelude.{IfSome, OnOk}
 use Rattle.ar_base.specs.Gives.{GivesOrWants}
 use Rattle.key_roll.specs.Due.{DueParts}
-use Rattle.key_roll.specs.declared.fault.BookFault.TheVariants as book_fault
+use Rattle.ar_statement.specs.declared.fault.BookFault.TheVariants as book_fault
 use Rattle.epoch_log.specs.Answers.{confirmed}
 use Rattle.epoch_log.specs.Calls.{after_confirm}
 use Rattle.epoch_log.specs.Log.{LogParts, moved, parts_of}

@@ -2,7 +2,7 @@ use Rattle.std.proofs.Common.{◌≡◌, subst, sym}
 use Rattle.std.specs.Prelude.{All, OnOk}
 use Rattle.ar_base.specs.Gives.{GivesOrWants}
 use Rattle.key_roll.specs.Due.{DueParts}
-use Rattle.key_roll.specs.declared.fault.BookFault.TheVariants as book_fault
+use Rattle.ar_statement.specs.declared.fault.BookFault.TheVariants as book_fault
 use Rattle.vote_quorum.specs.declared.value.Value.{Value}
 use Rattle.epoch_log.specs.Answers.{proposed}
 use Rattle.epoch_log.specs.Calls.{after_propose}

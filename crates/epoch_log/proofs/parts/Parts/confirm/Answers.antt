@@ -5,7 +5,7 @@ use Rattle.ar_council.specs.Room.{HasRoom}
 use Rattle.ar_council.specs.Values.{confirm_claim}
 use Rattle.key_roll.specs.Due.{DueParts}
 use Rattle.key_roll.specs.Entry.{entered}
-use Rattle.key_roll.specs.declared.fault.BookFault.TheVariants as book_fault
+use Rattle.ar_statement.specs.declared.fault.BookFault.TheVariants as book_fault
 use Rattle.key_roll.specs.Rolls.{is_roll}
 use Rattle.epoch_log.specs.Told.{confirmation_claim}
 use Rattle.epoch_log.specs.Calls.{confirming}

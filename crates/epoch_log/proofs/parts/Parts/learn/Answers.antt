@@ -3,8 +3,7 @@ use Rattle.epoch_log.proofs.parts.Parts.learn.Goals as goal
 
 pub returns-in-Ok-clause-kept : goal.returns-in-Ok-clause-kept
 returns-in-Ok-clause-kept c =
-    log-learned c.args.self.now c.take_key.new.self
-    (record { party = c.args.party; generation = c.args.generation; key = c.args.key; signature = c.args.signature.now }) c.in-Ok.learned c.in-Ok.ensures.answer
+    log-learned c.args.self.now c.take_key.new.self c.args.announced.now c.in-Ok.learned c.in-Ok.ensures.answer
     c.in-Ok.ensures.ok c.take_key.ensures.table c.requires
 
 pub returns-in-Err-clause-kept : goal.returns-in-Err-clause-kept

@@ -5,14 +5,7 @@ use Rattle.epoch_log.proofs.parts.Parts.propose.Goals as goal
 
 pub propose_with-requires-clause-may : goal.propose_with-requires-clause-may
 propose_with-requires-clause-may c = record {
-  not_voted = c.requires.open.not_voted;
-  not_stated = c.requires.open.not_stated;
-  from_base = c.requires.open.from_base;
-  applies = record {
-    table = c.requires.open.reaches.table;
-    applied = c.requires.open.reaches.applied;
-    is_root = c.requires.open.reaches.is_root;
-    are_changes = All-same IsChange c.args.changes.items c.deref.result.now (sym c.deref.ensures.value) c.changes_told.ensures;
-  };
+  open_to = c.requires.open;
+  are_changes = All-same IsChange c.args.changes.items c.deref.result.now (sym c.deref.ensures.value) c.changes_told.ensures;
   are_digests = c.value_told.ensures;
 }

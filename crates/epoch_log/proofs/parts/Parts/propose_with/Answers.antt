@@ -32,6 +32,6 @@ finish-requires-clause-plan c =
     c.in_ok-plan.ensures in
     let told : IsPlanIn counted c.args.self.now.table c.in_ok-plan.plan =
     subst (λ (o : Option Voted). IsPlan s.council (epoch_of s) c.args.self.now.table o (ballots_of (with_vote s.votes (s.me, c.args.value, None))) (reports_of s.statuses) c.in_ok-plan.plan)
-    (sym (own-told s.past.voted vote c.requires.may.not_voted)) planned in
+    (sym (own-told s.past.voted vote c.requires.may.open_to.not_voted)) planned in
     subst (λ (x : LogState). IsPlanIn x c.take_ballot.new.self.table c.in_ok-plan.plan) (sym (ap (λ (l : LogParts). l.state) there))
     (subst (λ (t : Table). IsPlanIn counted t c.in_ok-plan.plan) (sym (c.take_ballot.ensures.table ∙ c.take_proposal-due.ensures.table ∙ c.in_ok-reserve.ensures.table)) told)

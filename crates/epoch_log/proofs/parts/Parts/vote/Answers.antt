@@ -10,15 +10,8 @@ use Rattle.epoch_log.proofs.parts.Parts.vote.Goals as goal
 pub returns-in-Ok-clause-kept : goal.returns-in-Ok-clause-kept
 returns-in-Ok-clause-kept c =
     let may : MayVote (state_in c.args.self.now) c.args.value c.args.changes.items = record {
-      not_voted = c.requires.open.not_voted;
-      not_stated = c.requires.open.not_stated;
-      from_base = c.requires.open.from_base;
-      applies = record {
-        table = c.requires.open.reaches.table;
-        applied = c.requires.open.reaches.applied;
-        is_root = c.requires.open.reaches.is_root;
-        are_changes = All-same IsChange c.args.changes.items c.deref.result.now (cc) c.changes_told.ensures;
-      };
+      open_to = c.requires.open;
+      are_changes = All-same IsChange c.args.changes.items c.deref.result.now (cc) c.changes_told.ensures;
       are_digests = c.value_told.ensures;
     } in
     log-moved c.args.self.now c.cast.new.self (after_vote (state_in c.args.self.now) c.args.proposer c.args.value c.args.changes.items) c.in-Ok.ensures.ok c.cast.ensures.table

@@ -5,7 +5,7 @@ use Rattle.ar_base.specs.Places.{place_of}
 use Rattle.ar_base.proofs.Places.{contained, not-contained}
 use Rattle.ar_statement.specs.Claims.{claim_of, text_of}
 use Rattle.key_roll.specs.declared.signed.Signed.{Signed}
-use Rattle.key_roll.specs.declared.fault.BookFault.TheVariants as book_fault
+use Rattle.ar_statement.specs.declared.fault.BookFault.TheVariants as book_fault
 use Rattle.key_roll.specs.Book.{IsRollBook, texts_of}
 use Rattle.key_roll.specs.Entry.{entered_new}
 use Rattle.key_roll.specs.Rolls.{is_roll}

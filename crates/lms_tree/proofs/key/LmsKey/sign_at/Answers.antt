@@ -1,8 +1,8 @@
-use Rattle.std.proofs.Common.{◌≡◌, ◌∙◌, ap, sym, arith, ◌+◌, ◌++◌, List, ℕ, take}
+use Rattle.std.proofs.Common.{◌≡◌, ◌∙◌, ap, sym, arith, ◌+◌, ◌++◌, take}
 use Rattle.std.specs.List.{flat_map, range_with_len}
 use Rattle.std.specs.Int.{w32, to_be_bytes}
 use Rattle.std.proofs.lemmas.List.{append_assoc}
-use Rattle.std.proofs.lemmas.List.Folds.{flat_map-map}
+use Rattle.ar_base.proofs.Joined.{concat_map}
 use Rattle.ar_bytes.specs.RoundTrip.{number_text}
 use Rattle.lm_ots.specs.declared.secret.OtsSecret.{OtsSecret}
 use Rattle.lm_ots.specs.OtsKind.{signature_len_of}
@@ -22,7 +22,9 @@ returns c =
     let secret = secret_of key leaf in
     let signed = one_time.signature_of secret message in
     let kind = to_be_bytes w32 (number_of key.lms) in
-    let path = flat_map (path_element key leaf) (range_with_len 0 (height_of key.lms)) in
+    let element = path_element key leaf in
+    let heights = range_with_len 0 (height_of key.lms) in
+    let path = flat_map element heights in
     let begun = c.write_u32-type_place.ensures in
     let first : take 4 c.write_u32-type_place.new.out ≡ number = ap (λ n. take n c.write_u32-type_place.new.out) (sym begun.place) ∙ begun.front in
     let second : take (4 + signature_len_of key.ots) c.put_one_time.new.out ≡ number ++ signed =
@@ -43,5 +45,5 @@ returns c =
     ∙ ap (λ l. (number ++ signed) ++ l) kind_is in
     c.put_path.ensures ∙ ap (λ l. l ++ path) third
     ∙ append_assoc (number ++ signed) kind path ∙ append_assoc number signed (kind ++ path)
-    ∙ ap (λ l. number ++ (signed ++ (kind ++ l))) (sym (flat_map-map (λ (node : List ℕ). node) (path_element key leaf) (range_with_len 0 (height_of key.lms))))
+    ∙ ap (λ l. number ++ (signed ++ (kind ++ l))) (sym (concat_map element heights))
     ∙ ap (λ k. signature_of k leaf message) c.self.view_is

@@ -6,8 +6,7 @@ use Rattle.ar_council.specs.Values.{roots_of}
 use Rattle.ar_message.specs.declared.address.Address.TheVariants.{One}
 use Rattle.ar_message.specs.declared.message.Message.TheVariants.{StatusNote}
 use Rattle.ar_message.specs.Filling.{zeros}
-use Rattle.ar_statement.specs.Claims.{claim_of, text_of}
-use Rattle.party_keys.specs.Seen.{log_party}
+use Rattle.ar_statement.specs.Claims.{claim_of, log_party, text_of}
 use Rattle.epoch_log.specs.Calls.{own_status_text, own_value}
 use Rattle.epoch_log.specs.State.{epoch_of}
 use Rattle.log_core.specs.Passing.{status_draft}

@@ -6,9 +6,8 @@ use Rattle.ar_council.specs.Values.{vote_claim}
 use Rattle.ar_message.specs.declared.address.Address.TheVariants.{One}
 use Rattle.ar_message.specs.declared.message.Message.TheVariants.{Ballot}
 use Rattle.ar_message.specs.Filling.{zeros}
-use Rattle.ar_statement.specs.Claims.{text_of}
+use Rattle.ar_statement.specs.Claims.{log_party, text_of}
 use Rattle.ar_statement.specs.declared.party.Party.{Party}
-use Rattle.party_keys.specs.Seen.{log_party}
 use Rattle.vote_quorum.specs.declared.value.Value.{Value}
 use Rattle.epoch_log.specs.State.{epoch_of}
 use Rattle.log_core.specs.Proposed.{ballot_draft}

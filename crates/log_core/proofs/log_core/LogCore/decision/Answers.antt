@@ -6,7 +6,7 @@ use Rattle.ar_message.specs.declared.lists.Vote.{Vote}
 use Rattle.ar_message.specs.Filling.{only_ended}
 use Rattle.epoch_log.specs.Ending.{may_end}
 use Rattle.epoch_log.specs.Telling.{votes_in}
-use Rattle.log_sending.specs.Checks.{first_refusal}
+use Rattle.ar_base.specs.FirstFailing.{first_error}
 use Rattle.log_core.specs.Decided.{Decision, decision_checks}
 use Rattle.log_core.specs.State.{CoreState}
 use Rattle.log_sending.specs.declared.refusal.LogRefusal.TheVariants as refusals
@@ -16,11 +16,11 @@ use Rattle.log_core.proofs.log_core.LogCore.decision.Goals as goal
 pub returns-in-Err : goal.returns-in-Err
 returns-in-Err c =
     let d : Decision = record { epoch = c.args.epoch; value = c.args.value; changes = c.args.changes.items; votes = c.args.votes } in
-    let refused : (c.in-Err.refusal ≡ refusals.Memory) ⊎ (first_refusal (decision_checks c.args.self.now d) ≡ Err c.in-Err.refusal) =
+    let refused : (c.in-Err.refusal ≡ refusals.Memory) ⊎ (first_error (decision_checks c.args.self.now d) ≡ Err c.in-Err.refusal) =
     subst (λ (vs : List Vote). (c.in-Err.refusal ≡ refusals.Memory)
-    ⊎ (first_refusal (decision_checks c.args.self.now (record { epoch = c.args.epoch; value = c.args.value; changes = c.args.changes.items; votes = vs })) ≡ Err c.in-Err.refusal)) c.as_slice.ensures
+    ⊎ (first_error (decision_checks c.args.self.now (record { epoch = c.args.epoch; value = c.args.value; changes = c.args.changes.items; votes = vs })) ≡ Err c.in-Err.refusal)) c.as_slice.ensures
     (subst (λ (l : List Change). (c.in-Err.refusal ≡ refusals.Memory)
-    ⊎ (first_refusal (decision_checks c.args.self.now (record { epoch = c.args.epoch; value = c.args.value; changes = l; votes = c.as_slice.result.now })) ≡ Err c.in-Err.refusal))
+    ⊎ (first_error (decision_checks c.args.self.now (record { epoch = c.args.epoch; value = c.args.value; changes = l; votes = c.as_slice.result.now })) ≡ Err c.in-Err.refusal))
     c.deref.ensures.value c.in-Err.ensures) in
     decision-refused c.args.self.now d c.in-Err.refusal refused
 
@@ -28,10 +28,10 @@ pub decide-requires : goal.decide-requires
 decide-requires c =
     let was : CoreState = record { log = c.self.inside.log.state; keys = c.self.inside.log.keys; queue = c.self.inside.queue.items; signature_len = c.self.inside.signature_len } in
     let d : Decision = record { epoch = c.args.epoch; value = c.args.value; changes = c.args.changes.items; votes = c.args.votes } in
-    let checked : first_refusal (decision_checks was d) ≡ Ok tt =
-    subst (λ (s : CoreState). first_refusal (decision_checks s d) ≡ Ok tt) (sym c.self.view_is)
-    (subst (λ (vs : List Vote). first_refusal (decision_checks c.args.self.now (record { epoch = c.args.epoch; value = c.args.value; changes = c.args.changes.items; votes = vs })) ≡ Ok tt) c.as_slice.ensures
-    (subst (λ (l : List Change). first_refusal (decision_checks c.args.self.now (record { epoch = c.args.epoch; value = c.args.value; changes = l; votes = c.as_slice.result.now })) ≡ Ok tt)
+    let checked : first_error (decision_checks was d) ≡ Ok tt =
+    subst (λ (s : CoreState). first_error (decision_checks s d) ≡ Ok tt) (sym c.self.view_is)
+    (subst (λ (vs : List Vote). first_error (decision_checks c.args.self.now (record { epoch = c.args.epoch; value = c.args.value; changes = c.args.changes.items; votes = vs })) ≡ Ok tt) c.as_slice.ensures
+    (subst (λ (l : List Change). first_error (decision_checks c.args.self.now (record { epoch = c.args.epoch; value = c.args.value; changes = l; votes = c.as_slice.result.now })) ≡ Ok tt)
     c.deref.ensures.value c.in-Ok.ensures)) in
     let are : All IsChange d.changes = All-from_recursion IsChange d.changes c.requires.changes.1 in
     can-decide was d (votes_in c.in_ok-votes.votes.items) c.self.invariant c.value_told.ensures are c.requires.votes checked c.in_ok-votes.ensures
@@ -40,10 +40,10 @@ pub invariant_of-self-2 : goal.invariant_of-self-2
 invariant_of-self-2 c =
     let was : CoreState = record { log = c.self.inside.log.state; keys = c.self.inside.log.keys; queue = c.self.inside.queue.items; signature_len = c.self.inside.signature_len } in
     let d : Decision = record { epoch = c.args.epoch; value = c.args.value; changes = c.args.changes.items; votes = c.args.votes } in
-    let checked : first_refusal (decision_checks was d) ≡ Ok tt =
-    subst (λ (s : CoreState). first_refusal (decision_checks s d) ≡ Ok tt) (sym c.self.view_is)
-    (subst (λ (vs : List Vote). first_refusal (decision_checks c.args.self.now (record { epoch = c.args.epoch; value = c.args.value; changes = c.args.changes.items; votes = vs })) ≡ Ok tt) c.as_slice.ensures
-    (subst (λ (l : List Change). first_refusal (decision_checks c.args.self.now (record { epoch = c.args.epoch; value = c.args.value; changes = l; votes = c.as_slice.result.now })) ≡ Ok tt)
+    let checked : first_error (decision_checks was d) ≡ Ok tt =
+    subst (λ (s : CoreState). first_error (decision_checks s d) ≡ Ok tt) (sym c.self.view_is)
+    (subst (λ (vs : List Vote). first_error (decision_checks c.args.self.now (record { epoch = c.args.epoch; value = c.args.value; changes = c.args.changes.items; votes = vs })) ≡ Ok tt) c.as_slice.ensures
+    (subst (λ (l : List Change). first_error (decision_checks c.args.self.now (record { epoch = c.args.epoch; value = c.args.value; changes = l; votes = c.as_slice.result.now })) ≡ Ok tt)
     c.deref.ensures.value c.in-Ok.ensures)) in
     let are : All IsChange d.changes = All-from_recursion IsChange d.changes c.requires.changes.1 in
     let news : c.decide.new.self ≡ log-decided was d =
@@ -56,10 +56,10 @@ pub returns : goal.returns
 returns c =
     let was : CoreState = record { log = c.self.inside.log.state; keys = c.self.inside.log.keys; queue = c.self.inside.queue.items; signature_len = c.self.inside.signature_len } in
     let d : Decision = record { epoch = c.args.epoch; value = c.args.value; changes = c.args.changes.items; votes = c.args.votes } in
-    let checked : first_refusal (decision_checks was d) ≡ Ok tt =
-    subst (λ (s : CoreState). first_refusal (decision_checks s d) ≡ Ok tt) (sym c.self.view_is)
-    (subst (λ (vs : List Vote). first_refusal (decision_checks c.args.self.now (record { epoch = c.args.epoch; value = c.args.value; changes = c.args.changes.items; votes = vs })) ≡ Ok tt) c.as_slice.ensures
-    (subst (λ (l : List Change). first_refusal (decision_checks c.args.self.now (record { epoch = c.args.epoch; value = c.args.value; changes = l; votes = c.as_slice.result.now })) ≡ Ok tt)
+    let checked : first_error (decision_checks was d) ≡ Ok tt =
+    subst (λ (s : CoreState). first_error (decision_checks s d) ≡ Ok tt) (sym c.self.view_is)
+    (subst (λ (vs : List Vote). first_error (decision_checks c.args.self.now (record { epoch = c.args.epoch; value = c.args.value; changes = c.args.changes.items; votes = vs })) ≡ Ok tt) c.as_slice.ensures
+    (subst (λ (l : List Change). first_error (decision_checks c.args.self.now (record { epoch = c.args.epoch; value = c.args.value; changes = l; votes = c.as_slice.result.now })) ≡ Ok tt)
     c.deref.ensures.value c.in-Ok.ensures)) in
     let are : All IsChange d.changes = All-from_recursion IsChange d.changes c.requires.changes.1 in
     let news : c.decide.new.self ≡ log-decided was d =

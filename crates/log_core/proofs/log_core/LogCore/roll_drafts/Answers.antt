@@ -3,10 +3,9 @@ use Rattle.std.specs.Prelude.{IfOk}
 use Rattle.ar_message.specs.declared.address.Address.TheVariants.{Logs}
 use Rattle.ar_message.specs.declared.message.Message.TheVariants.{RollNote}
 use Rattle.ar_message.specs.Filling.{zeros}
-use Rattle.ar_statement.specs.Claims.{roll, text_of}
+use Rattle.ar_statement.specs.Claims.{log_party, roll, text_of}
 use Rattle.lms_tree.specs.PublicKey.{key_text}
 use Rattle.lms_tree.specs.declared.public_key.LmsPublic.{LmsPublic}
-use Rattle.party_keys.specs.Seen.{log_party}
 use Rattle.epoch_log.specs.Record.{LogRecord}
 use Rattle.log_core.specs.Rolling.{roll_draft}
 use Rattle.log_core.specs.State.{CoreState}

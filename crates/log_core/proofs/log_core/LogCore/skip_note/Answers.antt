@@ -1,7 +1,8 @@
 use Rattle.std.proofs.Common.{◌≡◌, Ok, List, ap, ◌∙◌, subst, sym}
 use Rattle.ar_message.specs.Lists as lists
 use Rattle.ar_message.specs.declared.lists.LogStatus.{LogStatus}
-use Rattle.epoch_log.specs.Telling.{CanSkip, statuses_in}
+use Rattle.epoch_log.specs.Telling.{statuses_in}
+use Rattle.epoch_log.specs.Calls.{CanSkip}
 use Rattle.log_core.specs.Skipped.{signed_statuses, skip_judged}
 use Rattle.log_core.specs.State.{CoreState}
 use Rattle.log_core.proofs.Skips.{can-skip, skip-done, skip-keeps, skip-refused}

@@ -6,10 +6,10 @@ pub returns-then-len-self : goal.returns-then-len-self
 returns-then-len-self c =
     over-long c.args.self.now
     (record { epoch = c.args.self.now.epoch; table = c.args.self.now.table; taken = c.args.self.now.taken; many = 0; left = c.args.self.now.left })
-    c.args.change.now c.requires.sound c.requires.many (omega (arith, c.if-len-self.true, c.in_ok-len.ensures)) c.requires.judged refl refl refl refl
+    c.args.change.now c.requires.sound c.requires.many (omega (arith, c.if-len-self.true, c.text_len-len.ensures)) c.requires.judged refl refl refl refl
 
 pub returns : goal.returns
 returns c =
-    over-taken-ok c.args.self.now c.take.new.self c.args.change.now c.in_ok-len.len c.take.result c.take.ensures.low c.requires.sound c.requires.is_change
-    c.in_ok-len.ensures c.requires.many (omega (arith, c.if-len-self.false)) c.requires.judged
+    over-taken-ok c.args.self.now c.take.new.self c.args.change.now c.text_len-len.result c.take.result c.take.ensures.low c.requires.sound c.requires.is_change
+    c.text_len-len.ensures c.requires.many (omega (arith, c.if-len-self.false)) c.requires.judged
     c.take.ensures.epoch c.take.ensures.table c.take.ensures.taken c.take.ensures.many c.take.ensures.left

@@ -1,7 +1,7 @@
 -- Lines that break off, or the line that tells which was refused.
 use Rattle.std.proofs.Common.{rules, Err, Ok, subst}
 use Rattle.ar_lines.specs.Readings.{LineCursor}
-use Rattle.script_play.proofs.Runs.{Lines, all-broken, all-untold}
+use Rattle.script_play.proofs.Runs.{Lines, all-broken, all-told, all-untold}
 use Rattle.script_play.proofs.stage.Stage.take_all.Goals as goal
 
 pub returns-in_err-refusal : goal.returns-in_err-refusal
@@ -17,3 +17,9 @@ returns-in_err-tell_refusal g c =
     let Played = λ (at : LineCursor). Lines g.K.Sink.faults g.K.Sink.wrote c.args.sink.now c.take_lines.new.sink c.args.self.now c.take_lines.new.self at.next at.ahead (Ok refusal) in
     let so = all-untold g.K.Sink.faults g.K.Sink.wrote c.args.sink.now c.take_lines.new.sink c.tell_refusal.new.sink c.args.self.now c.take_lines.new.self c.args.input.now refusal _ (subst Played c.new.ensures c.in_ok-refusal.ensures) c.in_err-tell_refusal.ensures in
     search (rules, so)
+
+pub returns : goal.returns
+returns g c =
+    let refusal = c.in_ok-refusal.refusal in
+    let Played = λ (at : LineCursor). Lines g.K.Sink.faults g.K.Sink.wrote c.args.sink.now c.take_lines.new.sink c.args.self.now c.take_lines.new.self at.next at.ahead (Ok refusal) in
+    all-told g.K.Sink.faults g.K.Sink.wrote c.args.sink.now c.take_lines.new.sink c.tell_refusal.new.sink c.args.self.now c.take_lines.new.self c.args.input.now refusal (subst Played c.new.ensures c.in_ok-refusal.ensures) c.in_ok-tell_refusal.ensures

@@ -1,13 +1,13 @@
 ghost use Rattle.std.specs.Prelude.{◌≡◌};
-ghost use Rattle.sign_book.specs.declared.fault.BookFault.TheVariants.{Memory};
+ghost use Rattle.ar_statement.specs.declared.fault.BookFault.TheVariants.{Memory};
 
 use std::alloc::AllocError;
 use thiserror::Error;
 
-/// Why a statement got no leaf.
+/// Why a statement got no leaf, of the book of a key or of keys that roll.
 #[derive(Clone, Copy, Debug, Error, PartialEq, Eq)]
 pub enum BookFault {
-    /// Each leaf serves another statement.
+    /// No leaf is left for it: each serves another statement, or is kept for the Roll of its key.
     #[error("no leaf is left")]
     Spent,
     /// Memory ran out.

@@ -1,5 +1,5 @@
 use Rattle.std.proofs.Common.{length}
-use Rattle.script_text.proofs.lists.+ascends.Given as goal
+use Rattle.ar_bytes.proofs.order.+ascends.Given as goal
 
 abbrev pub decreases-ascends : goal.decreases-ascends
 decreases-ascends l = length l.numbers.now
