@@ -119,8 +119,9 @@ impl Directory {
         let _logs = &self.logs;
     }
 
-    /// The key of a generation of a party.
-    pub(crate) fn key(&self, party: Party, generation: usize) -> Option<&LmsPublic>
+    /// The key of a generation of a log or an authority, of which the first is 0; `None` where it is not known, or the party is
+    /// not in the directory.
+    pub fn key(&self, party: Party, generation: usize) -> Option<&LmsPublic>
         ensures { option_copied result ≡ slice_get (keys_of self.now party) generation }
     {
         let number = party.number as usize;
