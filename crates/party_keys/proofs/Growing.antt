@@ -21,7 +21,7 @@ use Rattle.ar_base.proofs.Prefixes.{begins_itself, begins_on}
 
 -- ---- lists that grow
 
-past : (keys : List LmsPublic) (n : ℕ) → slice_get keys n ≡ None → length keys ≤ n
+pub past : (keys : List LmsPublic) (n : ℕ) → slice_get keys n ≡ None → length keys ≤ n
 past [] n e = omega arith
 past (key ∷ keys) zero e = absurd cc
 past (key ∷ keys) (suc n) e = let le = past keys n e in omega (arith, le)
@@ -68,7 +68,7 @@ new_if : (answer : Result (Unit {0}) VerifyFault) (known : Option LmsPublic) (ke
 new_if (Ok u) known key e = new_as known key e
 new_if (Err fault) known key e = absurd cc
 
-new_has_none : (keys : Directory) (a : Announced) → learned keys a ≡ Ok New → slice_get (keys_of keys a.party) (a.generation + 1) ≡ None
+pub new_has_none : (keys : Directory) (a : Announced) → learned keys a ≡ Ok New → slice_get (keys_of keys a.party) (a.generation + 1) ≡ None
 unfolding learned
 new_has_none keys a e = new_if (verified keys a.party (text_of (roll_claim a)) a.signature) (slice_get (keys_of keys a.party) (a.generation + 1)) a.key e
 
