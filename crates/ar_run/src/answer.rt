@@ -37,6 +37,14 @@ impl Answer {
         Ok(Answer { lines, status })
     }
 
+    /// The answer of these lines, each of which is given with its newline. It takes no memory.
+    pub fn of(lines: Vec<Vec<u8>>, status: u8) -> Answer
+        requires { status < 4 }
+        ensures { result ≡ record { lines = map bytes_of lines.items; status = status } }
+    {
+        Answer { lines, status }
+    }
+
     /// The lines that are written, each with its newline.
     pub fn lines(&self) -> &[Vec<u8>]
         ensures { map bytes_of result.now ≡ self.now.lines }
