@@ -124,7 +124,7 @@ impl<'a> CertView<'a> {
     ghost use Rattle.ar_bytes.specs.Reading.{Tells, whole};
     ghost use Rattle.ar_bytes.specs.Ascending.{numbers_text};
     ghost use Rattle.ar_cert.specs.Views.{filling_at};
-    ghost use Rattle.ar_cert.specs.Certificate.{IsCertificate, certificate_at, counted_certificate_at, digest_of};
+    ghost use Rattle.ar_cert.specs.Certificate.{IsCertificate, certificate_at, certificate_text, counted_certificate_at, digest_of};
 
     /// The certificate with this text, or `None` exactly where no certificate has it.
     pub fn read(bytes: &'a [u8]) -> Option<CertView<'a>>
@@ -176,6 +176,13 @@ impl<'a> CertView<'a> {
             text: self.text,
             fields: self.fields,
         }
+    }
+
+    /// The text of the certificate, as it stands in the bytes that it was read from.
+    pub fn text(&self) -> &'a [u8]
+        ensures { result.now ≡ certificate_text self.now }
+    {
+        self.text
     }
 
     /// The name of the domain.

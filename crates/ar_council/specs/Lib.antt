@@ -1,4 +1,5 @@
 pub mod Council
+pub mod Endorsements
 pub mod Room
 pub mod Seen
 pub mod Values

@@ -5,6 +5,7 @@
 //!
 //! `specs/Council.antt` has the sizes of a directory, without its keys, `specs/Seen.antt` the lists of what was seen,
 //! `specs/Values.antt` values and the statements on them, and `specs/Room.antt` the room in a book.
+//! `specs/Endorsements.antt` has what an authority says that endorses a certificate.
 //! `specs/Votes.antt` says of which value a quorum of votes was seen.
 #![tactic(auto)]
 
