@@ -1,3 +1,4 @@
 pub mod Meanings
 pub mod Aging
 pub mod Learning
+pub mod Claiming

@@ -1,10 +1,20 @@
 //! Laws on judgements, over the definitions alone: each is the contract of a function without a body.
 
-ghost use Rattle.std.specs.Prelude.{◌≡◌, ◌↔◌, ◌≤◌, List, ℕ};
+ghost use Rattle.std.specs.Prelude.{◌≡◌, ◌↔◌, ◌≤◌, List, ℕ, Some, Ok};
+ghost use Rattle.ar_base.specs.Bytes.{AreBytes};
 ghost use Rattle.ar_cert.specs.Certificate.{Certificate};
-ghost use Rattle.party_keys.specs.Learning.{Announced};
-ghost use Rattle.client_rule.specs.Meaning.{Accepts, AcceptsNone, Refuses, earlier, learnt};
-ghost use Rattle.client_rule.specs.Rule.{Asked, judgement};
+ghost use Rattle.ar_claims.specs.Claimed.{claimed_in_bytes};
+ghost use Rattle.ar_claims.specs.Verified.{IsVerifiedIn};
+ghost use Rattle.ar_message.specs.Confirmation.{Confirmation};
+ghost use Rattle.ar_message.specs.Messages.{message_in};
+ghost use Rattle.ar_statement.specs.Claims.{authority_party, log_party};
+ghost use Rattle.party_keys.specs.Directory.{Directory};
+ghost use Rattle.party_keys.specs.Learning.{Announced, learned, roll_claim};
+ghost use Rattle.party_keys.specs.Seen.{seen_of};
+ghost use Rattle.party_keys.specs.declared.learning.Learned.{Learned};
+ghost use Rattle.client_rule.specs.Meaning.{Accepts, AcceptsNone, Passes, Refuses, earlier, learnt};
+ghost use Rattle.client_rule.specs.Notes.{note_of};
+ghost use Rattle.client_rule.specs.Rule.{Asked, claim_on, judgement};
 ghost use Rattle.client_rule.specs.declared.judgement.Judgement.TheVariants.{Absent, Accepted, Refused};
 
 /// Bytes are accepted, with a certificate or with none, exactly where they are a confirmation of which
@@ -44,4 +54,18 @@ pub fn what_is_accepted_stays_so()
     ensures absent { (asked : Asked) (announced : List Announced) (bytes : List ℕ) (epoch : ℕ) (root : List ℕ)
         → judgement asked bytes ≡ Absent epoch root
         → judgement (learnt asked announced) bytes ≡ Absent epoch root }
+{}
+
+/// What a client takes stands in the bytes that it took, with a signature that it verified under its directory: of a
+/// confirmation that it accepts, the statements of the log and of the two authorities; and of the note of a Roll, from
+/// which its directory learns a key or has learnt it before, the Roll.
+pub fn what_is_taken_was_claimed()
+    ensures log { (asked : Asked) (bytes : List ℕ) (c : Confirmation) → AreBytes bytes → Passes asked bytes c
+        → IsVerifiedIn asked.keys (claimed_in_bytes bytes) (seen_of (log_party c.log.number) (claim_on c.about c.body (log_party c.log.number))) }
+    ensures first { (asked : Asked) (bytes : List ℕ) (c : Confirmation) → AreBytes bytes → Passes asked bytes c
+        → IsVerifiedIn asked.keys (claimed_in_bytes bytes) (seen_of (authority_party c.first.number) (claim_on c.about c.body (authority_party c.first.number))) }
+    ensures second { (asked : Asked) (bytes : List ℕ) (c : Confirmation) → AreBytes bytes → Passes asked bytes c
+        → IsVerifiedIn asked.keys (claimed_in_bytes bytes) (seen_of (authority_party c.second.number) (claim_on c.about c.body (authority_party c.second.number))) }
+    ensures note { (keys : Directory) (bytes : List ℕ) (a : Announced) (how : Learned) → note_of (message_in bytes) ≡ Some a → learned keys a ≡ Ok how
+        → IsVerifiedIn keys (claimed_in_bytes bytes) (seen_of a.party (roll_claim a)) }
 {}

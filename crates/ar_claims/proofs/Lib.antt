@@ -1,0 +1,4 @@
+pub mod Each
+pub mod Read
+pub mod Shown
+pub mod Verified
