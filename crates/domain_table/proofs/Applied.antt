@@ -63,7 +63,7 @@ ripens P t e name sound holds true is_ripe =
       waits_fit P name (chain_of t name) there.0 waits (holds.waiting name there.0 there.1),
     )
 
-still_waits : (t : Table) (e : ℕ) (name : List ℕ) (p : Pending) → get (ripen t e).waiting name ≡ Some p → (b : Bool) → is_ripe t e name ≡ b → Stayed t (ripen t e) name p
+pub still_waits : (t : Table) (e : ℕ) (name : List ℕ) (p : Pending) → get (ripen t e).waiting name ≡ Some p → (b : Bool) → is_ripe t e name ≡ b → Stayed t (ripen t e) name p
 still_waits t e name p there true is =
     let gone : None ≡ Some p = sym (ap (λ b. cond b None (get t.waiting name)) is) ∙ sym (waiting-ripen t e name) ∙ there in
     absurd (cc)
@@ -84,7 +84,7 @@ ripe_steps P t e sound holds = record {
 -- ---- a change that is taken
 
 -- what waits where the pair of another name is taken out
-left_waiting : (P : List ℕ → Change → Type 0) (t u : Table) (c : Change) (name : List ℕ) (p : Pending) → u.waiting ≡ remove t.waiting c.cert.name → get u.waiting name ≡ Some p
+pub left_waiting : (P : List ℕ → Change → Type 0) (t u : Table) (c : Change) (name : List ℕ) (p : Pending) → u.waiting ≡ remove t.waiting c.cert.name → get u.waiting name ≡ Some p
     → (eq_by_cmp key_cmp name c.cert.name ≡ false → get u.chains name ≡ get t.chains name) → Stayed t u name p
 left_waiting P t u c name p is there behind = at (eq_by_cmp key_cmp name c.cert.name) refl where
   found : get (remove t.waiting c.cert.name) name ≡ Some p

@@ -82,3 +82,26 @@ roomy kept (Ok n) m e =
 pub judged : (t : Table) (c : Change) (m : Manner) → judge_ripe t c ≡ Ok m → IsJudged (newest (chain_of t c.cert.name)) c m
 unfolding judge_ripe
 judged t c m e = judged_behind (newest (chain_of t c.cert.name)) (get t.waiting c.cert.name) c m (roomy (size t) _ m e)
+
+-- ---- a full update
+
+not_full : (answer : Result (Unit {0}) PolicyRefusal) → in_manner Objected answer ≡ Ok Full → ⊥
+not_full (Ok u) e = absurd cc
+not_full (Err refusal) e = absurd cc
+
+full_behind : (old : Certificate) (pending : Option Pending) (c : Change) → manner_of (Some old) pending c ≡ Ok Full → IsTaken Full old false c
+full_behind old pending c e =
+    elim (is_some c.objection) as (λ b. is_some c.objection ≡ b → IsTaken Full old false c) [
+      | true ↦ λ objects.
+          absurd (not_full (first_failing (objection_clauses old (option_map waiting_digest pending) c))
+          (subst (λ b. cond {A = Result Manner PolicyRefusal} b (in_manner Objected (first_failing (objection_clauses old (option_map waiting_digest pending) c)))
+          (update_answer (cert_terms_of old) (cert_terms_of c.cert) (endorsers_of c) (is_handed_over old c) (is_some (option_map waiting_digest pending))) ≡ Ok Full) objects e))
+      | false ↦ λ plain. followed old _ c ((plain_facts Full old (option_map waiting_digest pending) c (none_from c.objection plain)).0 e)
+    ] refl
+
+-- what is taken fully behind a certificate is a full update of it
+pub judged_full : (t : Table) (c : Change) (old : Certificate) → judge_ripe t c ≡ Ok Full → newest (chain_of t c.cert.name) ≡ Some old → IsTaken Full old false c
+unfolding judge_ripe
+judged_full t c old e is_newest =
+    full_behind old (get t.waiting c.cert.name) c
+    (subst (λ o. manner_of o (get t.waiting c.cert.name) c ≡ Ok Full) is_newest (roomy (size t) _ Full e))

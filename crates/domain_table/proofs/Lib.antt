@@ -19,3 +19,4 @@ pub mod Taking
 pub mod Ripening
 pub mod Copies
 pub mod ByKeys
+pub mod Waiting

@@ -12,14 +12,19 @@ use Rattle.domain_table.proofs.Maps.{get-ripen, waiting-ripen}
 use Rattle.domain_table.proofs.Applied.{chain_there}
 use Rattle.domain_table.proofs.Once.{not_ripened}
 
+-- the chain behind which what is ripe waits, with it behind
+pub ripe_chain : (t : Table) (e : ℕ) (name : List ℕ) (p : Pending) (old : Certificate) → newest (chain_of t name) ≡ Some old → get t.waiting name ≡ Some p → is_ripe t e name ≡ true
+    → chain_of (ripen t e) name ≡ chain_of t name ++ p.change ∷ []
+ripe_chain t e name p old is_newest there ripe =
+    ap (λ o. unwrap_or o []) (get-ripen t e name ∙ ap (option_map (ripened t e name)) (chain_there (get t.chains name) old is_newest)
+    ∙ ap (λ b. Some (cond b (chain_of t name ++ change_list (get t.waiting name)) (chain_of t name))) ripe
+    ∙ ap (λ o. Some (chain_of t name ++ change_list o)) there)
+
 pub ripe_appended : (t : Table) (e : ℕ) (name : List ℕ) (p : Pending) → IsSound t → get t.waiting name ≡ Some p → is_ripe t e name ≡ true
     → (chain_of (ripen t e) name ≡ chain_of t name ++ p.change ∷ []) × (get (ripen t e).waiting name ≡ None)
 ripe_appended t e name p sound there ripe =
-    let waits : Waits name (chain_of t name) p = sound.waits name p there in
-    let before : get t.chains name ≡ Some (chain_of t name) = chain_there (get t.chains name) waits.old waits.is_newest in (
-      ap (λ o. unwrap_or o []) (get-ripen t e name ∙ ap (option_map (ripened t e name)) before
-          ∙ ap (λ b. Some (cond b (chain_of t name ++ change_list (get t.waiting name)) (chain_of t name))) ripe
-          ∙ ap (λ o. Some (chain_of t name ++ change_list o)) there),
+    let waits : Waits name (chain_of t name) p = sound.waits name p there in (
+      ripe_chain t e name p waits.old waits.is_newest there ripe,
       waiting-ripen t e name ∙ ap (λ b. cond b None (get t.waiting name)) ripe,
     )
 

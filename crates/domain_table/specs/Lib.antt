@@ -3,3 +3,4 @@ pub mod Applying
 pub mod Tree
 pub mod Sound
 pub mod Rows
+pub mod Waiting

@@ -3,7 +3,7 @@
 //! The premises `IsEpochOf` and `IsChange` say that each number and each change has a text, as in the
 //! program each has by its type.
 
-ghost use Rattle.std.specs.Prelude.{◌≡◌, ◌<◌, ◌^◌, ◌++◌, ◌∷◌, [], ◌↔◌, List, ℕ, All, Some, None, true, false, IsTrue, option_and_then};
+ghost use Rattle.std.specs.Prelude.{◌≡◌, ◌<◌, ◌^◌, ◌+◌, ◌++◌, ◌∷◌, [], ◌↔◌, List, ℕ, All, Some, None, true, false, IsTrue, option_and_then};
 ghost use Rattle.std.specs.FinMap.{get};
 ghost use Rattle.std.specs.Option.{option_map};
 ghost use Rattle.ar_base.specs.Prefixes.{BeginsWith};
@@ -16,6 +16,7 @@ ghost use Rattle.ar_cert.specs.Judging.{IsChain};
 ghost use Rattle.domain_table.specs.Tables.{Pending, SameTable, Table, chain_of, no_table};
 ghost use Rattle.domain_table.specs.Applying.{Epoch, after_epochs, apply, changes_of, is_ripe, ripen, IsRipe};
 ghost use Rattle.domain_table.specs.Sound.{AllCameBy, IsEpochOf, IsSound};
+ghost use Rattle.domain_table.specs.Waiting.{EachWaited, Leads};
 ghost use Rattle.domain_table.specs.Tree.{pending_value, root_of, table_strings, tree_entries, value_of};
 
 /// The table without names is sound, and stays so by ripening and by each list of changes that is applied.
@@ -81,4 +82,13 @@ pub fn equal_roots_are_of_equal_tables()
 pub fn changes_are_applied_one_by_one()
     ensures { (table : Table) (epoch : ℕ) (change : Change) (changes : List Change) → IsSound table
         → apply table epoch (change ∷ changes) ≡ option_and_then (λ t. apply t epoch changes) (apply table epoch (change ∷ [])) }
+{}
+
+/// Of tables one behind another, the first without names, where each epoch applied changes or left the table as it is: each
+/// change of a chain that stands behind another is a full update of that one's certificate, or waited, in the tables behind
+/// the epochs, as long as the policy of that certificate says. An epoch that left the table as it is counts for the wait.
+pub fn recoveries_have_waited()
+    ensures { (behind : ℕ → Table) (last : ℕ) → behind 0 ≡ no_table
+        → ((e : ℕ) → e < last → Leads (λ epoch table. table ≡ behind epoch) (e + 1) (behind e) (behind (e + 1)))
+        → (name : List ℕ) → EachWaited (λ epoch table. table ≡ behind epoch) last name (chain_of (behind last) name) }
 {}

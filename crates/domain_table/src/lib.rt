@@ -3,7 +3,8 @@
 //!
 //! `specs/Tables.antt` says what a table is, `specs/Applying.antt` what ripens in an epoch, how a change is
 //! judged and what a list of changes makes of a table, `specs/Tree.antt` which entries of the integrity tree
-//! and which root a table has, and `specs/Sound.antt` what a table keeps that comes from the one without names.
+//! and which root a table has, `specs/Sound.antt` what a table keeps that comes from the one without names, and
+//! `specs/Waiting.antt` what it is that a recovery waited in the tables of epochs.
 //!
 //! A `Table` keeps rows in the order of their names, and the tree of their entries: `specs/Rows.antt` says which
 //! table rows are, and what the tree has of them. A row is found and a change judged among them (`rows`); a row
