@@ -1,16 +1,20 @@
 -- What was seen grows.
-use Rattle.std.proofs.Common.{◌≡◌, ◌⊎◌, inl, inr, List, [], ◌∷◌, true, eqb}
+use Rattle.std.proofs.Common.{◌≡◌, ◌⊎◌, inl, inr, ⊎_elim, List, [], ◌∷◌, true, eqb}
 use Rattle.std.specs.Prelude.{◌↔◌, All, Contains, bytes_eq}
+use Rattle.std.specs.List.{AllByRecursion}
 use Rattle.std.proofs.lemmas.Bool.{and_parts, eqb-true}
 use Rattle.std.proofs.lemmas.Slice.Eq.{bytes_eq-Decides}
-use Rattle.std.proofs.lemmas.List.Elements.{All-cons, All-contains, All-contains_itself, All-weaker, All-head, All-nil, All-tail}
+use Rattle.std.proofs.lemmas.List.Elements.{All-cons, All-contains, All-contains_itself, All-from_recursion, All-weaker, All-head, All-nil, All-tail}
+use Rattle.ar_base.specs.Prefixes.{BeginsWith}
 use Rattle.ar_base.proofs.Adding.{one-all, one-has, one-keeps}
+use Rattle.ar_base.proofs.Prefixes.{begins_itself, begins_on}
 use Rattle.ar_statement.specs.declared.party.Party.{Party}
 use Rattle.ar_statement.specs.declared.text.SeenText.{SeenText}
 use Rattle.ar_statement.specs.Claims.{is_party, role_number}
 use Rattle.ar_statement.proofs.Statements.{same_role}
+use Rattle.party_keys.specs.Seen.{SeesOnly}
 use Rattle.ar_council.specs.Seen.{is_same_seen, seen_after, with_seen}
-use Rattle.ar_council.proofs.Lists.{Within}
+use Rattle.ar_council.proofs.Lists.{Within, one-begins}
 
 pub one_party : (p r : Party) → is_party p r ≡ true → p ≡ r
 one_party p r e =
@@ -56,3 +60,16 @@ seen-exactly seen more t = (
     | inr new ↦ All-contains (Contains (seen_after seen more)) more t (seen-has more seen) new
   ],
 )
+
+-- and each in its place
+pub seen-begins : (more seen : List SeenText) → BeginsWith (seen_after seen more) seen
+seen-begins [] seen = begins_itself seen
+seen-begins (t ∷ more) seen =
+    begins_on seen (with_seen seen t) (seen_after (with_seen seen t) more) (seen-begins more (with_seen seen t)) (one-begins is_same_seen seen t)
+
+-- where each of the new ones may be seen, what is seen newly may
+pub sees-only : (May : SeenText → Type 0) (seen more : List SeenText) → AllByRecursion May more → SeesOnly May seen (seen_after seen more)
+sees-only May seen more all t there =
+    ⊎_elim (λ (old : Contains seen t). inl old)
+    (λ (new : Contains more t). inr (All-contains May more t (All-from_recursion May more all) new))
+    ((seen-exactly seen more t).0 there)

@@ -1,5 +1,6 @@
 pub mod Book
 pub mod Due
+pub mod Later
 pub mod Entry
 pub mod Rolls
 pub mod Ring

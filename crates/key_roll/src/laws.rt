@@ -1,12 +1,14 @@
 //! Laws on books, over the definitions alone: each is the contract of a function that does nothing.
 
-ghost use Rattle.std.specs.Prelude.{◌≡◌, ◌++◌, ◌<◌, ◌^◌, ◌==◌, ◌⊎◌, ℕ, List, None, false, true, Contains};
+ghost use Rattle.std.specs.Prelude.{◌≡◌, ◌++◌, ◌<◌, ◌^◌, ◌==◌, ◌⊎◌, ℕ, List, None, Some, Ok, false, true, Contains};
 ghost use Rattle.ar_statement.specs.Claims.{Claim, kind_of, roll, text_of};
 ghost use Rattle.ar_statement.specs.Ranges.{IsHeld};
 ghost use Rattle.ar_statement.specs.declared.party.Party.{Party};
 ghost use Rattle.ar_base.specs.Places.{place_of};
 ghost use Rattle.key_roll.specs.Book.{RollBook, IsRollBook, last_generation, texts_of};
-ghost use Rattle.key_roll.specs.Entry.{Serves, after_entry, with_roll};
+ghost use Rattle.key_roll.specs.Due.{DueParts};
+ghost use Rattle.key_roll.specs.Entry.{Serves, after_entry, due_of, entered, rolled, with_roll};
+ghost use Rattle.key_roll.specs.Later.{IsLaterBook, IsServed};
 ghost use Rattle.key_roll.specs.Rolls.{is_roll, named_generation};
 ghost use Rattle.key_roll.specs.declared.signed.Signed.{Signed};
 
@@ -53,4 +55,24 @@ pub fn rolls_keep_a_book_sound()
         → named_generation text ≡ book.newest → place_of (texts_of book) text ≡ None }
     ensures sound { (book : RollBook) (text : List ℕ) → IsRollBook book → is_roll text ≡ true
         → named_generation text ≡ book.newest → book.newest < last_generation → IsRollBook (with_roll book text) }
+{}
+
+/// A book only grows, by entries and rolls; so what a leaf serves it serves in each later book.
+pub fn books_only_grow()
+    ensures entry { (book : RollBook) (text : List ℕ) → IsLaterBook book (after_entry book text) }
+    ensures roll { (book : RollBook) (text : List ℕ) → IsLaterBook book (with_roll book text) }
+    ensures on { (book later last : RollBook) → IsLaterBook book later → IsLaterBook later last → IsLaterBook book last }
+    ensures serves { (book later : RollBook) (generation leaf : ℕ) (text : List ℕ) → IsLaterBook book later
+        → Serves book generation leaf text → Serves later generation leaf text }
+{}
+
+/// What is due for a text is the leaf that serves it: in the book behind an entry or a Roll, in a book that holds the text,
+/// and in each later book.
+pub fn what_is_due_is_served()
+    ensures entry { (book : RollBook) (text : List ℕ) (due : DueParts) → entered book text ≡ Ok due → IsServed (after_entry book text) due }
+    ensures roll { (book : RollBook) (text : List ℕ) (due : DueParts) → is_roll text ≡ true → rolled book text ≡ Ok due
+        → IsServed (with_roll book text) due }
+    ensures held { (book : RollBook) (text : List ℕ) (due : DueParts) → due_of book text ≡ Some due
+        → IsServed book due × (due.text ≡ text) }
+    ensures later { (book later : RollBook) (due : DueParts) → IsLaterBook book later → IsServed book due → IsServed later due }
 {}
