@@ -2,7 +2,7 @@ use Rattle.std.proofs.Common.{rules, [], ◌∷◌, ap, inr, length-append, arit
 use Rattle.ar_base.specs.Gives.{with_error}
 use Rattle.ar_lines.specs.declared.refusal.LineFault.TheVariants.{Refused}
 use Rattle.arpki_ask.proofs.KeyLines.{key_more, key_gives_up, keys_all}
-use Rattle.arpki_ask.proofs.inquiry.keys.Goals as goal
+use Rattle.arpki_ask.proofs.readers.keys.Goals as goal
 
 pub loop-preserved : goal.loop-preserved
 loop-preserved c = record {

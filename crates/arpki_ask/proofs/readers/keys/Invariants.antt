@@ -1,7 +1,7 @@
 use Rattle.std.proofs.Common.{◌≡◌, ◌-◌, length}
 use Rattle.arpki_ask.specs.Inquiries.{keys_at}
 use Rattle.arpki_ask.proofs.KeyLines.{with_front}
-use Rattle.arpki_ask.proofs.inquiry.keys.Given as goal
+use Rattle.arpki_ask.proofs.readers.keys.Given as goal
 
 -- the keys that were read, and those that are read from here on, are those that are read from the start
 abbrev pub invariant-loop : goal.invariant-loop
