@@ -45,19 +45,19 @@ follows : (seen : List SeenText) (t u : Table) (epoch : ℕ) (changes : List Cha
 follows seen t u epoch changes less is are endorsed sound holds = applied (Endorsed seen) changes epoch t u less is sound holds are endorsed
 
 -- the base behind a decided epoch
-base-decided : (ended : List Ended) (e : ℕ) (changes : List Change) (to : List ℕ) (t : Table) → ending ended e ≡ Some (Decided changes to) → apply (base_of ended e) e changes ≡ Some t → base_of ended (suc e) ≡ t
+pub base-decided : (ended : List Ended) (e : ℕ) (changes : List Change) (to : List ℕ) (t : Table) → ending ended e ≡ Some (Decided changes to) → apply (base_of ended e) e changes ≡ Some t → base_of ended (suc e) ≡ t
 unfolding base_of
 base-decided ended e changes to t is leads = ap (λ o. after_ending e o (base_of ended e)) is ∙ ap (λ o. unwrap_or o (base_of ended e)) leads
 
-base-skipped : (ended : List Ended) (e : ℕ) (statuses : List Status) → ending ended e ≡ Some (Skipped statuses) → base_of ended (suc e) ≡ base_of ended e
+pub base-skipped : (ended : List Ended) (e : ℕ) (statuses : List Status) → ending ended e ≡ Some (Skipped statuses) → base_of ended (suc e) ≡ base_of ended e
 unfolding base_of
 base-skipped ended e statuses is = ap (λ o. after_ending e o (base_of ended e)) is
 
-base-open : (ended : List Ended) (e : ℕ) → ending ended e ≡ None → base_of ended (suc e) ≡ base_of ended e
+pub base-open : (ended : List Ended) (e : ℕ) → ending ended e ≡ None → base_of ended (suc e) ≡ base_of ended e
 unfolding base_of
 base-open ended e is = ap (λ o. after_ending e o (base_of ended e)) is
 
-base-first : (ended : List Ended) → base_of ended 0 ≡ no_table
+pub base-first : (ended : List Ended) → base_of ended 0 ≡ no_table
 unfolding base_of
 base-first ended = refl
 
@@ -120,7 +120,7 @@ pub record Fine (r : Records) (table : Table) : Type 0 where
 one-of-root : (r : Records) → NoCollision r → (one other : Table) → Fine r one → Fine r other → root_of one ≡ root_of other → SameTable one other
 one-of-root r clean one other a b same = same_tables (hashed r) clean.strings one other a.sound b.sound a.listed b.listed same
 
-agreed-range : (r : Records) → AreHonest r → (e : ℕ) (t : Table) (a : Agreed r e t) → (1 ≤ e) × (e ≤ current (r.logs a.log).ended)
+pub agreed-range : (r : Records) → AreHonest r → (e : ℕ) (t : Table) (a : Agreed r e t) → (1 ≤ e) × (e ≤ current (r.logs a.log).ended)
 agreed-range r honest e t a =
     let h : HonestLog r.council a.log (r.logs a.log) = honest.logs a.log a.honest in
     let up = All-contains (λ (v : Voted). (1 ≤ v.epoch) × (v.epoch ≤ current (r.logs a.log).ended)) (r.logs a.log).voted a.ballot h.votes_once.up_to_now a.is_cast in

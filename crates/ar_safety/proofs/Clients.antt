@@ -7,6 +7,7 @@ use Rattle.std.specs.List.{list_any, flat_map}
 use Rattle.std.specs.Option.{option_map}
 use Rattle.std.specs.Cmp.Derive.{both_true}
 use Rattle.std.proofs.lemmas.List.Elements.{All-contains}
+use Rattle.authority_core.proofs.Growing.{map-has}
 use Rattle.authority_core.proofs.Keeping.{epoch-test}
 use Rattle.ar_base.specs.Apart.{Apart, IsIn, none_collide}
 use Rattle.ar_base.specs.Bytes.{IsDigest}
@@ -41,12 +42,12 @@ use Rattle.domain_table.proofs.Trees.{chain_listed, entry_at, good_chain, holds_
 use Rattle.client_rule.specs.Meaning.{HasParties, IsShown, IsTimely}
 use Rattle.client_rule.specs.Rule.{claim_on}
 use Rattle.ar_council.specs.Council.{Council, IsMember}
-use Rattle.ar_safety.specs.Agreed.{Backed, Confirms, HasNewest, HasNone}
+use Rattle.ar_safety.specs.Agreed.{Backed, Confirms, HasHonestSigner, HasNewest, HasNone}
 use Rattle.ar_safety.specs.Hashed.{body_strings, hashed, judged_strings, listed_tables}
-use Rattle.ar_safety.specs.Records.{AreSigned, IsHonest, IsJudged, Judged, Records, carried, carried_by}
+use Rattle.ar_safety.specs.Records.{AreSigned, IsHonest, IsJudged, Judged, Records, carried, carried_by, signed_by, signers}
 use Rattle.ar_safety.specs.Theorem.{AreHonest, Few, NoCollision, NoForgery}
 use Rattle.ar_safety.proofs.Agreement.{Fine, agreed-fine}
-use Rattle.ar_safety.proofs.Confirming.{IsAgreed, backed-agreed, confirms-backed, one-of-three}
+use Rattle.ar_safety.proofs.Confirming.{IsAgreed, backed-agreed, confirms-backed, confirms-saw, one-of-three}
 
 -- ---- what is accepted is backed
 
@@ -75,9 +76,17 @@ confirmed r c p is small witness honest signed there =
       signed = signed p (text_of (claim_on c.about c.body p)) honest there;
     }
 
--- the root of what a client accepted is backed
-pub judged-backed : (r : Records) → AreHonest r → Few r → NoForgery r → (j : Judged) → Contains r.judged j → Backed r j.confirmation.about.epoch j.confirmation.about.root
-judged-backed r honest few forged j there = elim (one-of-three r.dishonest log first second few (λ e. log-not c.first.number e) (λ e. log-not c.second.number e) (λ e. two-not e)) [
+-- an honest one of the three, which confirmed it
+record Confirmer (r : Records) (c : Confirmation) : Type 0 where
+  party : Party
+  one_of : Contains (signers c) party
+  honest : IsHonest r party
+  confirms : Confirms r party c.about.epoch c.about.root
+  signed : Contains (signed_by r party) (text_of (claim_on c.about c.body party))
+
+-- of what a client accepted there is one
+confirmer : (r : Records) → AreHonest r → Few r → NoForgery r → (j : Judged) → Contains r.judged j → Confirmer r j.confirmation
+confirmer r honest few forged j there = elim (one-of-three r.dishonest log first second few (λ e. log-not c.first.number e) (λ e. log-not c.second.number e) (λ e. two-not e)) [
   | inl good ↦ back log (omega (arith, log-in, honest.quorums.few)) refl log-in good (0, omega arith, refl)
   | inr rest ↦ elim rest [
     | inl good ↦ back first (omega (arith, first-in, honest.quorums.few_authorities)) refl first-in good (1, omega arith, refl)
@@ -121,11 +130,36 @@ judged-backed r honest few forged j there = elim (one-of-three r.dishonest log f
     two-not : first ≡ second → ⊥
     two-not e = parties.two (ap (λ (p : Party). p.number) e)
 
-    back : (p : Party) → p.number < 2 ^ 16 → is_witness p.role ≡ true → IsMember r.council p → list_any (is_party p) r.dishonest ≡ false → Contains (carried c) (carried_by c p) → Backed r c.about.epoch c.about.root
-    back p small witness known good in-carried =
+    back : (p : Party) → p.number < 2 ^ 16 → is_witness p.role ≡ true → IsMember r.council p → list_any (is_party p) r.dishonest ≡ false → Contains (signers c) p → Confirmer r c
+    back p small witness known good one =
         let honest-p : IsHonest r p = record { known = known; honest = good } in
-        confirms-backed r honest forged p honest-p c.about.epoch c.about.root
-        (confirmed r c p read small witness honest-p (All-contains (λ (x : Judged). AreSigned r (carried x.confirmation)) r.judged j forged.judged there) in-carried)
+        let signed : AreSigned r (carried c) = All-contains (λ (x : Judged). AreSigned r (carried x.confirmation)) r.judged j forged.judged there in
+        let carries : Contains (carried c) (carried_by c p) = All-contains (λ q. Contains (carried c) (carried_by c q)) (signers c) p (map-has (carried_by c) (signers c)) one in
+        record {
+          party = p;
+          one_of = one;
+          honest = honest-p;
+          confirms = confirmed r c p read small witness honest-p signed carries;
+          signed = signed p (text_of (claim_on c.about c.body p)) honest-p carries;
+        }
+
+-- the root of what a client accepted is backed
+pub judged-backed : (r : Records) → AreHonest r → Few r → NoForgery r → (j : Judged) → Contains r.judged j → Backed r j.confirmation.about.epoch j.confirmation.about.root
+judged-backed r honest few forged j there =
+    let p = confirmer r honest few forged j there in
+    confirms-backed r honest forged p.party p.honest j.confirmation.about.epoch j.confirmation.about.root p.confirms
+
+-- and an honest one of the three saw votes for it
+pub judged-voted : (r : Records) → AreHonest r → Few r → NoForgery r → (j : Judged) → Contains r.judged j → HasHonestSigner r j.confirmation
+judged-voted r honest few forged j there =
+    let p = confirmer r honest few forged j there in
+    record {
+      party = p.party;
+      one_of = p.one_of;
+      honest = p.honest;
+      signed = p.signed;
+      saw = confirms-saw r honest p.party p.honest j.confirmation.about.epoch j.confirmation.about.root p.confirms;
+    }
 
 -- ---- strings
 

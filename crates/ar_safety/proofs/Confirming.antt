@@ -1,4 +1,4 @@
--- What an honest party confirms is backed by a quorum, and so is what a client accepts.
+-- What an honest party confirms is backed by a quorum, whose votes it saw; and so is what a client accepts.
 use Rattle.std.proofs.Common.{◌≡◌, ◌≢◌, ℕ, zero, suc, ◌+◌, ◌<◌, ◌≤◌, ◌^◌, ◌⊎◌, inl, inr, List, length, get_or, refl, sym, ap, ◌∙◌, subst, arith, Bool, true, false, nat_le, Option, Some, None}
 use Rattle.std.specs.Prelude.{Contains}
 use Rattle.std.specs.List.{list_any}
@@ -16,6 +16,7 @@ use Rattle.vote_quorum.specs.declared.value.Value.{Value}
 use Rattle.domain_table.specs.Applying.{apply}
 use Rattle.domain_table.specs.Tables.{Table}
 use Rattle.domain_table.specs.Tree.{root_of}
+use Rattle.domain_table.proofs.Trees.{root-digest}
 use Rattle.epoch_log.specs.Honest.{HonestLog}
 use Rattle.epoch_log.specs.Record.{base_of}
 use Rattle.ar_council.proofs.Lists.{found}
@@ -30,7 +31,7 @@ use Rattle.epoch_log.proofs.Read.{confirmations-signed}
 use Rattle.authority_core.specs.Honest.{HasKept, HonestAuthority}
 use Rattle.authority_core.specs.Record.{AuthorityRecord}
 use Rattle.authority_core.proofs.Read.{confirmed-kept}
-use Rattle.ar_safety.specs.Agreed.{Agreed, Backed, Backs, Confirms}
+use Rattle.ar_safety.specs.Agreed.{Agreed, Backed, Backs, Confirms, SawQuorum}
 use Rattle.ar_safety.specs.Records.{IsHonest, IsHonestLog, Records}
 use Rattle.ar_safety.specs.Theorem.{AreHonest, Few, NoForgery}
 use Rattle.ar_safety.proofs.Votes.{backs-voted, decided-backed, one-root, votes-back, witness}
@@ -79,13 +80,19 @@ root-of-claim : (p : Party) (e : ℕ) (name : List ℕ) (certificate : Option (L
 root-of-claim p e name None to valid = valid.held.fields.1.1
 root-of-claim p e name (Some certificate) to valid = valid.held.fields.1.1.1
 
-log-backed : (r : Records) → AreHonest r → NoForgery r → (log : ℕ) → IsHonestLog r log → (e : ℕ) (to : List ℕ) → Confirms r (log_party log) e to → Backed r e to
-log-backed r honest forged log is e to c =
+-- a log decided what it confirms
+log-decided : (r : Records) → AreHonest r → (log : ℕ) → IsHonestLog r log → (e : ℕ) (to : List ℕ) (c : Confirms r (log_party log) e to)
+    → IsRightConfirmation (r.logs log).ended (record { epoch = e; name = c.name; certificate = c.certificate; root = to })
+log-decided r honest log is e to c =
     let h : HonestLog r.council log (r.logs log) = honest.logs log is in
     let has : HasConfirmed (r.logs log).confirmed e c.name c.certificate to =
     (confirmations-signed r.council log (r.logs log) e c.name c.certificate to h c.valid).0 c.signed in
     let entry : Confirmed = record { epoch = e; name = c.name; certificate = c.certificate; root = to } in
-    let right : IsRightConfirmation (r.logs log).ended entry = All-contains (IsRightConfirmation (r.logs log).ended) (r.logs log).confirmed entry h.confirms_rightly has in
+    All-contains (IsRightConfirmation (r.logs log).ended) (r.logs log).confirmed entry h.confirms_rightly has
+
+log-backed : (r : Records) → AreHonest r → NoForgery r → (log : ℕ) → IsHonestLog r log → (e : ℕ) (to : List ℕ) → Confirms r (log_party log) e to → Backed r e to
+log-backed r honest forged log is e to c =
+    let right = log-decided r honest log is e to c in
     decided-backed r honest forged log is e right.changes to right.decided
 
 before : (e : ℕ) → is_epoch e ≡ true → (n : ℕ) × ((e ≡ n + 1) × (n < 2 ^ 63))
@@ -111,6 +118,32 @@ role-backed r honest forged Client number is e to c = absurd (omega (arith, is.k
 
 pub confirms-backed : (r : Records) → AreHonest r → NoForgery r → (p : Party) → IsHonest r p → (e : ℕ) (to : List ℕ) → Confirms r p e to → Backed r e to
 confirms-backed r honest forged p is e to c = role-backed r honest forged p.role p.number is e to c
+
+-- ---- and saw votes
+
+-- a log that confirms decided the epoch, by votes that it saw
+log-saw : (r : Records) → AreHonest r → (log : ℕ) → IsHonestLog r log → (e : ℕ) (to : List ℕ) → Confirms r (log_party log) e to → SawQuorum r (log_party log) e to
+log-saw r honest log is e to c =
+    let right = log-decided r honest log is e to c in
+    let decision = (honest.logs log is).decides_rightly e right.changes to right.decided in
+    let base : Table = base_of (r.logs log).ended e in
+    record { base = root_of base; is_digest = root-digest base; saw = decision.votes }
+
+-- an authority that confirms keeps what it saw votes for
+authority-saw : (r : Records) → AreHonest r → (a : ℕ) → IsHonest r (authority_party a) → (e : ℕ) (to : List ℕ) → Confirms r (authority_party a) e to → SawQuorum r (authority_party a) e to
+authority-saw r honest a is e to c =
+    let own : AuthorityRecord = r.authorities a in
+    let kept : HasKept r.council own.seen own.kept e c.name c.certificate to = confirmed-kept r.council a own e c.name c.certificate to (honest.authorities a is) c.valid c.signed in
+    record { base = kept.0.base; is_digest = kept.1.5; saw = kept.1.6 }
+
+role-saw : (r : Records) → AreHonest r → (role : Role) (number : ℕ) → IsHonest r (party role number) → (e : ℕ) (to : List ℕ) → Confirms r (party role number) e to → SawQuorum r (party role number) e to
+role-saw r honest LogServer number is e to c = log-saw r honest number is e to c
+role-saw r honest Authority number is e to c = authority-saw r honest number is e to c
+role-saw r honest Owner number is e to c = absurd (omega (arith, is.known))
+role-saw r honest Client number is e to c = absurd (omega (arith, is.known))
+
+pub confirms-saw : (r : Records) → AreHonest r → (p : Party) → IsHonest r p → (e : ℕ) (to : List ℕ) → Confirms r p e to → SawQuorum r p e to
+confirms-saw r honest p is e to c = role-saw r honest p.role p.number is e to c
 
 pub one-confirmed : (r : Records) → AreHonest r → Few r → NoForgery r → (p q : Party) → IsHonest r p → IsHonest r q → (e : ℕ) (one other : List ℕ) → Confirms r p e one → Confirms r q e other → one ≡ other
 one-confirmed r honest few forged p q is_p is_q e one other a b =

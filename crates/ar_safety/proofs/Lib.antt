@@ -11,10 +11,12 @@ pub mod Held
 pub mod Listed
 pub mod OneName
 pub mod RegisteredRun
+pub mod RegisteredTable
 pub mod Rings
 pub mod Rows
 pub mod Spelled
 pub mod Verifying
 pub mod Votes
 pub mod Vouched
+pub mod Waiting
 pub mod Whole

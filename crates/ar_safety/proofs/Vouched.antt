@@ -1,11 +1,12 @@
--- An honest authority vouches for each certificate of an agreed table: of at least three endorsers, whose endorsements were
--- seen, one is honest.
+-- Each honest endorser of a change of an agreed table vouches for it: its endorsement was seen. And of at least three endorsers
+-- one is honest.
 use Rattle.std.proofs.Common.{◌≡◌, ℕ, zero, suc, ◌+◌, ◌<◌, ◌≤◌, inl, inr, List, [], ◌∷◌, length, get_or, refl, sym, ap, ◌∙◌, subst, arith, Bool, not, ◌&&◌, ◌||◌, Option, Some, None}
 use Rattle.std.specs.Prelude.{All, Contains, unwrap_or}
 use Rattle.std.specs.FinMap.{get}
 use Rattle.std.specs.Option.{option_map}
 use Rattle.std.proofs.lemmas.List.Elements.{All-contains, recursion_from_All}
 use Rattle.std.proofs.lemmas.Bool.{and_parts, not-true}
+use Rattle.std.proofs.lemmas.List.{get_or-map, length-map}
 use Rattle.ar_cert.specs.Certificate.{Certificate, digest_of}
 use Rattle.ar_cert.specs.Changes.{Change}
 use Rattle.ar_cert.specs.Judging.{IsAccepted, endorsers_of}
@@ -27,7 +28,7 @@ use Rattle.epoch_log.specs.Honest.{HonestLog}
 use Rattle.epoch_log.specs.Right.{SawEndorsements}
 use Rattle.authority_core.specs.Honest.{HasAsked}
 use Rattle.authority_core.proofs.Read.{endorsed-asked}
-use Rattle.ar_safety.specs.Agreed.{Agreed, IsVouchedFor}
+use Rattle.ar_safety.specs.Agreed.{Agreed, HasChange, IsVouchedBy, IsVouchedFor}
 use Rattle.ar_safety.specs.Hashed.{StandsIn}
 use Rattle.ar_safety.specs.Records.{IsHonest, Records, is_dishonest}
 use Rattle.ar_safety.specs.Theorem.{AreHonest, Few, NoCollision, NoForgery}
@@ -103,18 +104,15 @@ was-asked r honest a is certificate there =
     let valid : IsValid (endorse a (digest_of certificate)) = record { held = record { signer = omega (arith, is.known, honest.quorums.few_authorities); fields = digest-fits certificate }; ranges = refl } in
     endorsed-asked r.council a (r.authorities a) (digest_of certificate) (honest.authorities a is) valid there
 
--- a change that stands in an agreed table, with its endorsements seen, is vouched for
-change-vouched : (r : Records) → AreHonest r → Few r → NoForgery r → NoCollision r → (e : ℕ) (t : Table) (a : Agreed r e t) (name : List ℕ) (change : Change)
-    → StandsIn t name change.cert → change.cert.name ≡ name → SawEndorsements (r.logs a.log).seen change → 3 ≤ distinct_count (endorsers_of change) → IsVouchedFor r name change.cert
-change-vouched r honest few forged clean e t a name change stands named saw three =
-    let h : HonestLog r.council a.log (r.logs a.log) = honest.logs a.log a.honest in
-    let v = honest-endorser r few (r.logs a.log).seen h.sees_members change saw three in
-    let signed = forged.logs a.log a.honest (authority_party v.number) (text_of (endorse v.number (digest_of change.cert))) v.honest v.saw in
-    let asked = was-asked r honest v.number v.honest change.cert signed in
-    let same = clean.asked v.number v.honest asked.0 asked.1.0 t (agreed-listed r e t a) name change.cert stands (sym asked.1.1) in
+-- an honest authority whose endorsement of a certificate of an agreed table was seen vouches for it
+endorser-vouches : (r : Records) → AreHonest r → NoForgery r → NoCollision r → (e : ℕ) (t : Table) (a : Agreed r e t) (name : List ℕ) (certificate : Certificate)
+    → StandsIn t name certificate → certificate.name ≡ name → (v : ℕ) → IsHonest r (authority_party v)
+    → Saw (r.logs a.log).seen (authority_party v) (endorse v (digest_of certificate)) → IsVouchedBy r name certificate v
+endorser-vouches r honest forged clean e t a name certificate stands named v good saw =
+    let signed = forged.logs a.log a.honest (authority_party v) (text_of (endorse v (digest_of certificate))) good saw in
+    let asked = was-asked r honest v good certificate signed in
+    let same = clean.asked v good asked.0 asked.1.0 t (agreed-listed r e t a) name certificate stands (sym asked.1.1) in
     record {
-      authority = v.number;
-      honest = v.honest;
       signed = signed;
       asked = asked.0;
       was_asked = asked.1.0;
@@ -123,33 +121,79 @@ change-vouched r honest few forged clean e t a name change stands named saw thre
       is_key = sym same.1;
     }
 
--- what waits, with its certificate
-waiting-of : (o : Option Pending) (certificate : Certificate) (since : ℕ) → option_map pair_of o ≡ Some (certificate, since) → (p : Pending) × ((o ≡ Some p) × (p.change.cert ≡ certificate))
-waiting-of None certificate since e = absurd cc
-waiting-of (Some p) certificate since e =
-    let same : ◌≡◌ {A = Certificate × ℕ} (pair_of p) (certificate, since) = cc in
-    (p, (refl, ap (λ (x : Certificate × ℕ). x.0) same))
+-- ---- a change of an agreed table
 
 chain-there : (o : Option (List Change)) (change : Change) → Contains (unwrap_or o []) change → o ≡ Some (unwrap_or o [])
 chain-there None change there = absurd (omega (arith, there.1))
 chain-there (Some chain) change there = refl
 
+-- what is known of a change of an agreed table: it stands there, under its name, with at least three endorsers, and the log
+-- that voted for the table saw their endorsements
+record IsKnown (seen : List SeenText) (t : Table) (name : List ℕ) (change : Change) : Type 0 where
+  stands : StandsIn t name change.cert
+  named : change.cert.name ≡ name
+  saw : SawEndorsements seen change
+  many : 3 ≤ distinct_count (endorsers_of change)
+
+-- a certificate of a chain is that of one of its changes
+cert-of : (chain : List Change) (change : Change) → Contains chain change → Contains (certificates_of chain) change.cert
+cert-of chain change there =
+    let f : Change → Certificate = λ c. c.cert in
+    (there.0, omega (arith, there.1, length-map chain f), get_or-map f chain there.0 change change.cert there.1 ∙ ap f there.2)
+
+known : (r : Records) → AreHonest r → (e : ℕ) (t : Table) (a : Agreed r e t) (name : List ℕ) (change : Change) → HasChange t name change → IsKnown (r.logs a.log).seen t name change
+known r honest e t a name change (inl there) =
+    let f = agreed-follows r honest e t a in
+    let chain : List Change = chain_of t name in
+    let has = chain-there (get t.chains name) change there in
+    let is : IsChainOf name chain = f.sound.chains name chain has in
+    record {
+      stands = inl (cert-of chain change there);
+      named = All-contains (λ (x : Change). x.cert.name ≡ name) chain change is.named there;
+      saw = All-contains (Endorsed (r.logs a.log).seen name) chain change (f.holds.chains name chain has) there;
+      many = in-chain name chain change is there;
+    }
+known r honest e t a name change (inr there) =
+    let f = agreed-follows r honest e t a in
+    let p : Pending = record { change = change; since = there.0 } in
+    let waits : Waits name (chain_of t name) p = f.sound.waits name p there.1 in
+    record {
+      stands = inr (there.0, ap (option_map pair_of) there.1);
+      named = waits.named;
+      saw = f.holds.waiting name p there.1;
+      many = waits.recovers.updates.succeeds.endorsed;
+    }
+
+-- each honest endorser vouches
+pub each-vouches : (r : Records) → AreHonest r → NoForgery r → NoCollision r → (e : ℕ) (t : Table) → Agreed r e t → (name : List ℕ) (change : Change) → HasChange t name change
+    → (v : ℕ) → Contains (endorsers_of change) v → IsHonest r (authority_party v) → IsVouchedBy r name change.cert v
+each-vouches r honest forged clean e t a name change has v among good =
+    let k = known r honest e t a name change has in
+    endorser-vouches r honest forged clean e t a name change.cert k.stands k.named v good
+    (All-contains (λ x. Saw (r.logs a.log).seen (authority_party x) (endorse x (digest_of change.cert))) (endorsers_of change) v k.saw among)
+
+-- and of each change there is one
+change-vouched : (r : Records) → AreHonest r → Few r → NoForgery r → NoCollision r → (e : ℕ) (t : Table) → Agreed r e t → (name : List ℕ) (change : Change) → HasChange t name change → IsVouchedFor r name change.cert
+change-vouched r honest few forged clean e t a name change has =
+    let k = known r honest e t a name change has in
+    let h : HonestLog r.council a.log (r.logs a.log) = honest.logs a.log a.honest in
+    let v = honest-endorser r few (r.logs a.log).seen h.sees_members change k.saw k.many in
+    record { authority = v.number; honest = v.honest; vouches = endorser-vouches r honest forged clean e t a name change.cert k.stands k.named v.number v.honest v.saw }
+
+-- what waits, with its certificate
+waiting-of : (o : Option Pending) (certificate : Certificate) (since : ℕ) → option_map pair_of o ≡ Some (certificate, since)
+    → (change : Change) × ((o ≡ Some (record { change = change; since = since })) × (change.cert ≡ certificate))
+waiting-of None certificate since e = absurd cc
+waiting-of (Some p) certificate since e =
+    let same : ◌≡◌ {A = Certificate × ℕ} (pair_of p) (certificate, since) = cc in
+    (p.change, (ap (λ n. Some (record { change = p.change; since = n })) (ap (λ (x : Certificate × ℕ). x.1) same), ap (λ (x : Certificate × ℕ). x.0) same))
+
+-- each certificate of an agreed table is that of one of its changes
 pub vouched-for : (r : Records) → AreHonest r → Few r → NoForgery r → NoCollision r → (e : ℕ) (t : Table) → Agreed r e t → (name : List ℕ) (certificate : Certificate) → StandsIn t name certificate
     → IsVouchedFor r name certificate
 vouched-for r honest few forged clean e t a name certificate (inl stands) =
-    let f = agreed-follows r honest e t a in
     let c = change-of (chain_of t name) certificate stands in
-    let there = chain-there (get t.chains name) c.0 c.1.0 in
-    let is : IsChainOf name (chain_of t name) = f.sound.chains name (chain_of t name) there in
-    let named : c.0.cert.name ≡ name = All-contains (λ (x : Change). x.cert.name ≡ name) (chain_of t name) c.0 is.named c.1.0 in
-    let saw : SawEndorsements (r.logs a.log).seen c.0 = All-contains (Endorsed (r.logs a.log).seen name) (chain_of t name) c.0 (f.holds.chains name (chain_of t name) there) c.1.0 in
-    subst (IsVouchedFor r name) c.1.1
-    (change-vouched r honest few forged clean e t a name c.0 (inl (subst (Contains (certificates_of (chain_of t name))) (sym c.1.1) stands)) named saw (in-chain name (chain_of t name) c.0 is c.1.0))
+    subst (IsVouchedFor r name) c.1.1 (change-vouched r honest few forged clean e t a name c.0 (inl c.1.0))
 vouched-for r honest few forged clean e t a name certificate (inr stands) =
-    let f = agreed-follows r honest e t a in
-    let w = waiting-of (get t.waiting name) certificate stands.0 stands.1 in
-    let waits : Waits name (chain_of t name) w.0 = f.sound.waits name w.0 w.1.0 in
-    let saw : SawEndorsements (r.logs a.log).seen w.0.change = f.holds.waiting name w.0 w.1.0 in
-    let here : StandsIn t name w.0.change.cert = subst (StandsIn t name) (sym w.1.1) (inr stands) in
-    subst (IsVouchedFor r name) w.1.1
-    (change-vouched r honest few forged clean e t a name w.0.change here waits.named saw waits.recovers.updates.succeeds.endorsed)
+    let c = waiting-of (get t.waiting name) certificate stands.0 stands.1 in
+    subst (IsVouchedFor r name) c.1.1 (change-vouched r honest few forged clean e t a name c.0 (inr (stands.0, c.1.0)))

@@ -4,10 +4,11 @@ use Rattle.epoch_log.proofs.Endings.{ending-within}
 use Rattle.ar_safety.specs.Records.{Records}
 use Rattle.ar_safety.specs.Theorem.{AreHonest, Few, NoCollision, NoForgery, Safe}
 use Rattle.ar_safety.proofs.Agreement.{agreed-stays, one-agreed, same-bases, same-ending}
-use Rattle.ar_safety.proofs.Clients.{accepted-absence, accepted-newest, judged-timely}
+use Rattle.ar_safety.proofs.Clients.{accepted-absence, accepted-newest, judged-timely, judged-voted}
 use Rattle.ar_safety.proofs.Confirming.{one-confirmed}
 use Rattle.ar_safety.proofs.Votes.{one-root}
-use Rattle.ar_safety.proofs.Vouched.{vouched-for}
+use Rattle.ar_safety.proofs.Vouched.{each-vouches, vouched-for}
+use Rattle.ar_safety.proofs.Waiting.{recoveries-waited}
 
 pub agree : (r : Records) → AreHonest r → Few r → NoForgery r → NoCollision r → Safe r
 agree r honest few forged clean = record {
@@ -26,4 +27,7 @@ agree r honest few forged clean = record {
   grow = agreed-stays r honest few forged clean;
   vouched = vouched-for r honest few forged clean;
   absence = λ j bottom there shown. (accepted-absence r honest few forged clean j bottom there shown, judged-timely r honest j there);
+  endorsers = each-vouches r honest forged clean;
+  voted = judged-voted r honest few forged;
+  waited = recoveries-waited r honest few forged clean;
 }

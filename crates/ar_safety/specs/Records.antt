@@ -1,6 +1,6 @@
 -- The records of a run: who is dishonest, what each honest log and authority remembers, and what clients accepted and
 -- learnt; and the words for who is honest and who signed what.
-use Rattle.std.specs.Prelude.{◌≡◌, ℕ, ◌+◌, ◌*◌, ◌<◌, ◌≤◌, Bool, false, List, [], ◌∷◌, Contains}
+use Rattle.std.specs.Prelude.{◌≡◌, ℕ, ◌+◌, ◌*◌, ◌<◌, ◌≤◌, Bool, false, List, [], ◌∷◌, map, Contains}
 use Rattle.ar_base.specs.Bytes.{AreBytes}
 use Rattle.ar_statement.specs.declared.party.Role.{Role}
 use Rattle.ar_statement.specs.declared.party.Role.TheVariants.{LogServer, Authority, Owner, Client}
@@ -71,21 +71,31 @@ signed_in r Client number = []
 abbrev pub signed_by : Records → Party → List (List ℕ)
 signed_by r party = signed_in r party.role party.number
 
+-- the statements that a log or an authority saw, each with its party
+abbrev pub seen_in : Records → Role → ℕ → List SeenText
+seen_in r LogServer number = (r.logs number).seen
+seen_in r Authority number = (r.authorities number).seen
+seen_in r Owner number = []
+seen_in r Client number = []
+
+abbrev pub seen_by : Records → Party → List SeenText
+seen_by r party = seen_in r party.role party.number
+
 -- of each honest party whose statement was seen, the statement stands in its book
 abbrev pub AreSigned : Records → List SeenText → Type 0
 AreSigned r seen =
     (party : Party) (text : List ℕ) → IsHonest r party → Contains seen (record { party = party; text = text }) → Contains (signed_by r party) text
 
--- the statements that a confirmation carries: of the log, and of the two authorities
+-- the three that signed a confirmation: the log, and the two authorities
+abbrev pub signers : Confirmation → List Party
+signers c = log_party c.log.number ∷ (authority_party c.first.number ∷ (authority_party c.second.number ∷ []))
+
+-- the statements that it carries, one of each of them
 abbrev pub carried_by : Confirmation → Party → SeenText
 carried_by c party = seen_of party (claim_on c.about c.body party)
 
 abbrev pub carried : Confirmation → List SeenText
-carried c =
-    carried_by c (log_party c.log.number)
-    ∷ (carried_by c (authority_party c.first.number)
-    ∷ (carried_by c (authority_party c.second.number)
-    ∷ []))
+carried c = map (carried_by c) (signers c)
 
 -- ---- the beginning
 

@@ -9,14 +9,17 @@ use Rattle.ar_message.specs.Confirmation.{present, absent}
 use Rattle.ar_statement.specs.declared.party.Party.{Party}
 use Rattle.hash_tree.specs.declared.bottom.Bottom.{Bottom}
 use Rattle.ar_statement.specs.Claims.{authority_party}
-use Rattle.domain_table.specs.Tables.{SameTable, Table, certificates}
+use Rattle.ar_cert.specs.Changes.{Change}
+use Rattle.ar_cert.specs.Judging.{endorsers_of}
+use Rattle.domain_table.specs.Tables.{SameTable, Table, certificates, chain_of}
+use Rattle.domain_table.specs.Waiting.{EachWaited}
 use Rattle.epoch_log.specs.Honest.{HonestLog}
 use Rattle.epoch_log.specs.Record.{base_of, ending}
 use Rattle.epoch_log.specs.declared.entries.How.{How}
 use Rattle.authority_core.specs.Honest.{HonestAuthority}
 use Rattle.authority_core.specs.declared.entries.Asked.{Asked}
 use Rattle.client_rule.specs.Meaning.{IsTimely}
-use Rattle.ar_safety.specs.Agreed.{Agreed, Backed, Confirms, HasNewest, HasNone, IsVouchedFor, SameEnding}
+use Rattle.ar_safety.specs.Agreed.{Agreed, Backed, Confirms, HasChange, HasHonestSigner, HasNewest, HasNone, IsVouchedBy, IsVouchedFor, SameEnding}
 use Rattle.ar_safety.specs.Hashed.{StandsIn, hashed, listed_tables}
 use Rattle.ar_safety.specs.Records.{AreQuorums, AreSigned, IsHonest, IsHonestLog, IsJudged, Judged, Records, carried}
 
@@ -88,10 +91,30 @@ abbrev pub AbsentHaveNone : Records → Type 0
 AbsentHaveNone r = (j : Judged) (bottom : Bottom) → Contains r.judged j → j.confirmation.body ≡ absent bottom
     → HasNone r j.asked.name j.confirmation.about.epoch j.confirmation.about.root × IsTimely j.asked j.confirmation.about.epoch j.confirmation.body
 
--- All five.
+-- 6. Each honest endorser vouches: of each change of an agreed table, in a chain or waiting, each honest authority among its
+-- endorsers signed the endorsement, and its check had said yes to the name and the key.
+abbrev pub EachEndorserVouches : Records → Type 0
+EachEndorserVouches r = (epoch : ℕ) (table : Table) → Agreed r epoch table → (name : List ℕ) (change : Change) → HasChange table name change
+    → (authority : ℕ) → Contains (endorsers_of change) authority → IsHonest r (authority_party authority)
+    → IsVouchedBy r name change.cert authority
+
+-- 7. What a client accepted was voted: an honest one of the three that signed it saw a quorum's votes for its root.
+abbrev pub AcceptedWereVoted : Records → Type 0
+AcceptedWereVoted r = (j : Judged) → Contains r.judged j → HasHonestSigner r j.confirmation
+
+-- 8. A recovery waited: in a chain of an agreed table each change behind another is a full update of that one's certificate,
+-- or its certificate waited in the agreed tables, as long as the policy of that one says.
+abbrev pub RecoveriesWaited : Records → Type 0
+RecoveriesWaited r = (epoch : ℕ) (table : Table) → Agreed r epoch table → (name : List ℕ)
+    → EachWaited (Agreed r) epoch name (chain_of table name)
+
+-- All eight.
 pub record Safe (r : Records) : Type 0 where
   pub agree : AgreeOnEpochs r
   pub newest : AcceptedAreNewest r
   pub grow : ChainsOnlyGrow r
   pub vouched : AreVouchedFor r
   pub absence : AbsentHaveNone r
+  pub endorsers : EachEndorserVouches r
+  pub voted : AcceptedWereVoted r
+  pub waited : RecoveriesWaited r

@@ -28,21 +28,23 @@ ghost use Rattle.authority_core.specs.State.{AuthorityState};
 ghost use Rattle.client_rule.specs.Rule.{judgement, Asked};
 ghost use Rattle.client_rule.specs.declared.judgement.Judgement.TheVariants.{Absent, Accepted};
 ghost use Rattle.ar_safety.specs.Accepting.{IsHalfConfirmed, IsInTime, IsWithRing, KnowsRing, KnowsSigners, bytes_to_client, confirmer_of};
-ghost use Rattle.ar_safety.specs.Agreed.{Agreed, Backed, backing};
+ghost use Rattle.ar_safety.specs.Agreed.{Agreed, Backed, HasChange, backing};
 ghost use Rattle.ar_safety.specs.Examples.{decided_run, forged_run, split_run};
 ghost use Rattle.epoch_log.specs.State.{LogState};
 ghost use Rattle.authority_core.specs.Record.{AuthorityRecord};
 ghost use Rattle.ar_safety.specs.Held.{AreKept, AreSafe, Held, IsTaken, Taken, asked_by, honest_below, honest_records, records_of, verdict_on};
 ghost use Rattle.ar_safety.specs.Records.{AreQuorums, IsHonest, IsHonestLog, Judged, Records, fresh_records};
-ghost use Rattle.ar_safety.specs.RegisteredRun.{a_name, confirmation, directory_of_five, first_certificate, one_table, registered_run};
+ghost use Rattle.ar_safety.specs.RegisteredRun.{a_name, confirmation, directory_of_five, first_certificate, one_table, registered_run, registration};
 ghost use Rattle.ar_safety.specs.Theorem.{AreHonest, Few, NoCollision, NoForgery, Safe};
 
 /// With at most two dishonest logs and authorities, and where no signature of an honest one was forged and no two of the
 /// listed strings collide, whatever messages came: one root alone is backed in an epoch and one table alone agreed; where
 /// two honest logs ended an epoch, they ended it alike and begin the next with equal tables; the chains of an agreed table
 /// begin those of each later one; an honest authority vouches for each certificate of an agreed table, in a chain or
-/// waiting; what honest parties confirm of an epoch is under one root; and what a client accepted is, within its ages, the
-/// newest certificate of the name's one chain in the table that is agreed, or that it has none there.
+/// waiting, and so does each honest endorser of a change; what honest parties confirm of an epoch is under one root; what a
+/// client accepted is, within its ages, the newest certificate of the name's one chain in the table that is agreed, or that
+/// it has none there, and an honest one of the three that signed it saw a quorum's votes for the root; and each change of a
+/// chain of an agreed table that is no full update of the one before it waited, in the agreed tables, as that one's policy says.
 pub fn records_are_safe()
     ensures { (r : Records) → AreHonest r → Few r → NoForgery r → NoCollision r → Safe r }
 {}
@@ -100,12 +102,14 @@ pub fn a_decided_epoch_meets_the_premises()
 {}
 
 /// The premises can be met where a client accepts a certificate: three authorities endorsed it, five logs decided the first
-/// epoch with its registration, a client accepts what one log and two authorities signed of it, and all is met.
+/// epoch with its registration, a client accepts what one log and two authorities signed of it, and all is met. The table with
+/// the registration, which names its endorsers, is agreed.
 pub fn an_accepting_run_meets_the_premises()
     ensures honest { AreHonest registered_run }
     ensures premises { Few registered_run × (NoForgery registered_run × NoCollision registered_run) }
     ensures accepted { judgement (record { keys = directory_of_five; name = a_name; epoch = 1; age = 0 }) (confirmation_text confirmation)
         ≡ Accepted first_certificate (digest_of first_certificate) 1 (root_of one_table) }
+    ensures registered { Agreed registered_run 1 one_table × HasChange one_table a_name registration }
 {}
 
 /// With three dishonest logs of five, one more than may be, what honest logs agree on can fail: all else is met, and of the
