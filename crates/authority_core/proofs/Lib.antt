@@ -1,3 +1,4 @@
+pub mod Claiming
 pub mod Faults
 pub mod Few
 pub mod Growing

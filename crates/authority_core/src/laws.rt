@@ -5,6 +5,8 @@ ghost use Rattle.ar_statement.specs.declared.party.Party.{Party};
 ghost use Rattle.ar_statement.specs.Claims.{authority_party, confirmation_by, endorse, text_of};
 ghost use Rattle.ar_statement.specs.Ranges.{IsKeyText, IsValid};
 ghost use Rattle.ar_cert.specs.Certificate.{Certificate, digest_of};
+ghost use Rattle.ar_claims.specs.Claimed.{claimed_by};
+ghost use Rattle.ar_claims.specs.Verified.{SeesClaimed};
 ghost use Rattle.ar_message.specs.Messages.{IsMessage};
 ghost use Rattle.ar_message.specs.declared.message.Confirming.{Confirming};
 ghost use Rattle.ar_message.specs.declared.message.Message.{Message};
@@ -117,4 +119,14 @@ pub fn each_step_keeps_number_and_council()
         → row s retired m said ≡ Ok (later, sent) → (later.me ≡ s.me) × (council_of later.keys ≡ council_of s.keys) }
     ensures roll { (s : AuthorityState) (next : LmsPublic) (later : AuthorityState) (sent : Unsigned) → roll_row s next ≡ Ok (later, sent)
         → (later.me ≡ s.me) × (council_of later.keys ≡ council_of s.keys) }
+{}
+
+/// Whatever an authority newly sees stands in what it takes, with a signature that it verified under the keys that it
+/// knew; the order to roll shows it nothing.
+pub fn what_is_newly_seen_was_claimed()
+    ensures step { (s : AuthorityState) (retired : Bool) (m : Result Message ℕ) (said : Outcome)
+        (later : AuthorityState) (sent : Unsigned) → row s retired m said ≡ Ok (later, sent)
+        → SeesClaimed s.keys (claimed_by m) s.past.seen later.past.seen }
+    ensures roll { (s : AuthorityState) (next : LmsPublic) (later : AuthorityState) (sent : Unsigned)
+        → roll_row s next ≡ Ok (later, sent) → later.past.seen ≡ s.past.seen }
 {}
