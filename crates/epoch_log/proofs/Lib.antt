@@ -9,6 +9,7 @@ pub mod Foretold
 pub mod Growing
 pub mod Heard
 pub mod Kept
+pub mod Later
 pub mod Leaves
 pub mod Loops
 pub mod Moved

@@ -3,6 +3,7 @@ pub mod Calls
 pub mod Ending
 pub mod Foreseeing
 pub mod Honest
+pub mod Later
 pub mod Log
 pub mod Plans
 pub mod Record

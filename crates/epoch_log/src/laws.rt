@@ -18,6 +18,7 @@ ghost use Rattle.ar_council.specs.Values.{IsValue, confirm_claim, status_claim, 
 ghost use Rattle.epoch_log.specs.Calls.{AreEndorsers, IsProposed, IsTurn, MayConfirm, MayDecide, MaySkip, MayState, MayVote, SignedStatus, after_ballot, after_confirm, after_decide, after_endorsed, after_learn, after_propose, after_roll, after_skip, after_state, after_status_seen, after_vote, confirmation_text, fresh, own_status_text, own_vote_text, proposal_texts, with_status, with_vote};
 ghost use Rattle.epoch_log.specs.Ending.{closed, decided, excludes_all, may_end, own_vote, skipped};
 ghost use Rattle.epoch_log.specs.Honest.{EndsInOrder, HonestLog};
+ghost use Rattle.epoch_log.specs.Later.{LogGrows};
 ghost use Rattle.epoch_log.specs.Record.{LogRecord};
 ghost use Rattle.epoch_log.specs.Right.{SawEndorsements};
 ghost use Rattle.epoch_log.specs.State.{CountedStatus, CountedVote, IsKept, LogState, SeesMore, ballots_of, epoch_of, reports_of, table_of};
@@ -49,6 +50,27 @@ pub fn what_was_seen_stays_so()
     ensures decision { (s : LogState) (value : Value) (changes : List Change) (votes : List (ℕ × List ℕ)) → SeesMore s (after_decide s value changes votes) }
     ensures skip { (s : LogState) (statuses : List SignedStatus) → SeesMore s (after_skip s statuses) }
     ensures learn { (s : LogState) (a : Announced) → SeesMore s (after_learn s a) }
+{}
+
+/// Whatever a log does, its record only grows: what it saw, signed, voted, stated, ended and confirmed stays as it was, and
+/// what is new stands behind it.
+pub fn a_record_only_grows()
+    ensures change { (s : LogState) (change : Change) → LogGrows s.past (after_endorsed s change).past }
+    ensures vote { (s : LogState) (proposer : ℕ) (value : Value) (changes : List Change)
+        → LogGrows s.past (after_vote s proposer value changes).past }
+    ensures proposal { (s : LogState) (value : Value) (changes : List Change) → LogGrows s.past (after_propose s value changes).0.past }
+    ensures ballot { (s : LogState) (log : ℕ) (value : Value) (signature : List ℕ)
+        → LogGrows s.past (after_ballot s log value signature).0.past }
+    ensures own { (s : LogState) → LogGrows s.past (after_state s).0.past }
+    ensures status { (s : LogState) (log : ℕ) (value : Option Value) (signature : Option (List ℕ))
+        → LogGrows s.past (after_status_seen s log value signature).0.past }
+    ensures decision { (s : LogState) (value : Value) (changes : List Change) (votes : List (ℕ × List ℕ))
+        → LogGrows s.past (after_decide s value changes votes).past }
+    ensures skip { (s : LogState) (statuses : List SignedStatus) → LogGrows s.past (after_skip s statuses).past }
+    ensures confirmation { (s : LogState) (w : Newest) (name : List ℕ) → LogGrows s.past (after_confirm s w name).past }
+    ensures learn { (s : LogState) (a : Announced) → LogGrows s.past (after_learn s a).past }
+    ensures roll { (s : LogState) (key : List ℕ) → LogGrows s.past (after_roll s key).past }
+    ensures on { (r later last : LogRecord) → LogGrows r later → LogGrows later last → LogGrows r last }
 {}
 
 /// A log is kept where it votes for a proposal as it may, and has a leaf for its vote.
