@@ -1,0 +1,5 @@
+pub mod Book
+pub mod Links
+pub mod Answers
+pub mod Meaning
+pub mod Calls
