@@ -1,3 +1,4 @@
+pub mod Claiming
 pub mod Closed
 pub mod Composed
 pub mod Confirmations

@@ -1,4 +1,5 @@
 pub mod Balloted
+pub mod Claimed
 pub mod Confirming
 pub mod Decided
 pub mod Inputs

@@ -17,6 +17,7 @@ ghost use Rattle.log_core.specs.Steps.{given};
 ghost use Rattle.log_core.specs.Kept.{IsKeptCore};
 ghost use Rattle.log_core.specs.Rolling.{rolling_row};
 ghost use Rattle.log_core.specs.Row.{IsInput, row};
+ghost use Rattle.log_core.specs.Claimed.{SeesClaims, claims_of};
 ghost use Rattle.log_core.specs.Sees.{SeesVerified};
 ghost use Rattle.log_sending.specs.Signers.{endorsements_in, signers};
 ghost use Rattle.log_core.specs.Skipped.{skip_row};
@@ -62,6 +63,14 @@ pub fn each_row_keeps_a_log()
 pub fn what_is_newly_seen_was_verified()
     ensures { (s : CoreState) (input : Input) (reply : Reply) → row s input ≡ Ok reply
         → SeesVerified s.keys s.log.me s.log.past.seen reply.after.log.past.seen }
+{}
+
+/// Whatever a log newly sees stands in the bytes that it takes, with a signature that it verified under the keys that it
+/// knew; or it is the log's own, which it counts at once, and stands in the log's book.
+pub fn what_is_newly_seen_was_claimed()
+    ensures { (s : CoreState) (input : Input) (reply : Reply) → row s input ≡ Ok reply
+        → SeesClaims s.keys s.log.me reply.after.log.past.signed (claims_of input)
+        s.log.past.seen reply.after.log.past.seen }
 {}
 
 /// The endorsements of queued changes were verified when these were queued, and stay valid: a message's signers are accepted,
