@@ -1,9 +1,8 @@
 //! Evidence from signed statements: who contradicts himself.
 //!
-//! A log or an authority that keeps the rules never signs two statements that contradict each other, so two such
-//! statements with valid signatures show that somebody signed twice, or that a key is not its party's alone, or that the
-//! directory has wrong keys. `audit` finds them. In `specs/`, `Items` says which of the items are evidence, `Rules` when two
-//! statements of one party contradict each other, and `Reports` what is reported.
+//! Two statements of one party with valid signatures that contradict each other show that somebody signed twice, or that a key is
+//! not its party's alone, or that the directory has wrong keys. `audit` finds them. In `specs/`, `Items` says which of the items
+//! are evidence, `Rules` when two statements of one party contradict each other, and `Reports` what is reported.
 #![tactic(auto)]
 
 pub use auditing::audit;
