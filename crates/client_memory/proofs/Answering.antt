@@ -1,6 +1,5 @@
 -- What holds where a certificate is pinned, and where links are taken.
-use Rattle.std.proofs.Common.{◌≡◌, ◌≢◌, ℕ, ◌==◌, nat_lt, Bool, true, false, if◌then◌else◌, List, [], ◌∷◌, ◌++◌, length, Option, Some, None, is_some, Result, Ok, Err, refl, sym, ap, ◌∙◌, arith, subst}
-use Rattle.std.specs.Str.{bytes_eq}
+use Rattle.std.proofs.Common.{◌≡◌, ◌≢◌, ℕ, ◌==◌, nat_lt, Bool, true, false, if◌then◌else◌, List, [], ◌∷◌, length, Option, Some, None, is_some, Result, Ok, Err, refl, sym, ap, ◌∙◌, subst}
 use Rattle.std.proofs.lemmas.Slice.Eq.{bytes_eq-Decides}
 use Rattle.ar_cert.specs.Certificate.{Certificate, certificate_text}
 use Rattle.ar_cert.specs.Changes.{Change}
@@ -13,7 +12,7 @@ use Rattle.party_keys.specs.Directory.{Directory}
 use Rattle.client_memory.specs.declared.answers.LinkFault.{LinkFault}
 use Rattle.client_memory.specs.declared.answers.Pinned.{Pinned}
 use Rattle.client_memory.specs.declared.answers.Pinned.TheVariants as pinned
-use Rattle.client_memory.specs.Answers.{answer_by, answer_to, ends_in, first_change, is_this, kept_with, moved_to, pinned_by, pinned_on}
+use Rattle.client_memory.specs.Answers.{answer_to, ends_in, first_change, is_this, kept_with, moved_to, pinned_by, pinned_on}
 use Rattle.client_memory.specs.Book.{Pin, has_room, last_behind, newest_pinned, pinned_chain, with_links, with_pin}
 use Rattle.client_memory.specs.Links.{AllLinked, linked}
 use Rattle.client_memory.specs.Meaning.{Moves, PinsFirst, Vouched}

@@ -1,6 +1,6 @@
 -- What is kept behind calls, one after the other.
-use Rattle.std.proofs.Common.{◌≡◌, ◌≢◌, ℕ, ◌==◌, nat_lt, Bool, true, false, cond, not, if◌then◌else◌, List, [], ◌∷◌, ◌++◌, length, Option, Some, None, is_some, Result, Ok, Err, refl, sym, ap, ◌∙◌, arith, subst}
-use Rattle.std.specs.Prelude.{All, find, filter, fold}
+use Rattle.std.proofs.Common.{◌≡◌, ℕ, Bool, true, false, cond, not, if◌then◌else◌, List, [], ◌∷◌, ◌++◌, length, Some, is_some, Result, Ok, Err, refl, sym, ap, ◌∙◌, subst}
+use Rattle.std.specs.Prelude.{All, find}
 use Rattle.std.specs.Option.{option_map}
 use Rattle.std.specs.List.{AllByRecursion}
 use Rattle.std.specs.Str.{bytes_eq}
@@ -20,7 +20,7 @@ use Rattle.client_memory.specs.declared.answers.AddFault.{AddFault}
 use Rattle.client_memory.specs.declared.answers.AddFault.TheVariants as add_fault
 use Rattle.client_memory.specs.declared.answers.Pinned.{Pinned}
 use Rattle.client_memory.specs.declared.answers.Pinned.TheVariants as pinned
-use Rattle.client_memory.specs.Answers.{added, answer_to, chained, first_change, kept_with, pinned_by, pinned_on}
+use Rattle.client_memory.specs.Answers.{added, answer_to, chained, first_change, kept_with, pinned_on}
 use Rattle.client_memory.specs.Book.{Pin, has_room, is_of, last_behind, newest_of, newest_pinned, pinned_chain, with_links, with_pin, without}
 use Rattle.client_memory.specs.Calls.{Call, IsKeptChain, Spares, adds, after_call, after_calls, changes_of, forgets, judges, kept_of, unless_refused}
 use Rattle.client_memory.specs.Links.{AllFollow, followed}

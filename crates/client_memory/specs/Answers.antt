@@ -1,7 +1,7 @@
 -- What a client answers to a confirmation of a name and to the links that lead to it, and what it keeps then.
-use Rattle.std.specs.Prelude.{ℕ, nat_lt, ◌==◌, Bool, if◌then◌else◌, List, [], ◌∷◌, ◌++◌, length, Option, Some, None, is_some, Result, Ok, Err}
+use Rattle.std.specs.Prelude.{ℕ, nat_lt, ◌==◌, Bool, if◌then◌else◌, List, [], ◌∷◌, length, Option, Some, None, is_some, Result, Ok, Err}
 use Rattle.std.specs.Str.{bytes_eq}
-use Rattle.ar_base.specs.Chaining.{◌>>=◌, need}
+use Rattle.ar_base.specs.Chaining.{◌>>=◌}
 use Rattle.ar_base.specs.Gives.{with_error}
 use Rattle.ar_cert.specs.Certificate.{Certificate, certificate_text}
 use Rattle.ar_cert.specs.Changes.{Change}

@@ -1,5 +1,5 @@
 -- Calls of one client, one behind the other, and what is kept behind them.
-use Rattle.std.specs.Prelude.{◌≡◌, ◌≢◌, ℕ, List, [], ◌∷◌, fold, Option, Some, None, Result, Ok, Err}
+use Rattle.std.specs.Prelude.{◌≢◌, ℕ, List, [], ◌∷◌, fold, Option, Some, None, Result, Ok, Err}
 use Rattle.ar_cert.specs.Changes.{Change}
 use Rattle.client_rule.specs.Rule.{Asked}
 use Rattle.client_memory.specs.declared.answers.AddFault.{AddFault}

@@ -1,5 +1,5 @@
 -- When one change stands behind another: its endorsements are verified, and the policy rule takes it as a full update.
-use Rattle.std.specs.Prelude.{◌≡◌, ℕ, ◌+◌, Bool, List, [], ◌∷◌, All, Some, Result, Ok, Err}
+use Rattle.std.specs.Prelude.{◌≡◌, ℕ, ◌+◌, Bool, List, [], ◌∷◌, All, Some, Result, Ok}
 use Rattle.std.specs.Result.{is_ok}
 use Rattle.ar_base.specs.Chaining.{◌>>=◌}
 use Rattle.ar_base.specs.FirstFailing.{first_failing, tests_of}

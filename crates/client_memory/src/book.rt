@@ -130,7 +130,8 @@ impl PinBook {
         certificate: &CertView,
         links: &[Change],
     ) -> Result<Pinned, AllocError>
-        ensures { IfOk result (λ answer. answer ≡ answer_to directory.now self.now (Some newest.now) certificate.now links.now) }
+        ensures { IfOk result (λ answer. answer
+            ≡ answer_to directory.now self.now (Some newest.now) certificate.now links.now) }
     {
         if is_this(alloc, newest, certificate)? {
             return Ok(Pinned::Same);
@@ -159,7 +160,8 @@ impl PinBook {
         certificate: &CertView,
         links: &[Change],
     ) -> Result<Pinned, AllocError>
-        ensures { IfOk result (λ answer. answer ≡ answer_to directory.now self.now (newest_pinned self.now name.now) certificate.now links.now) }
+        ensures { IfOk result (λ answer. answer
+            ≡ answer_to directory.now self.now (newest_pinned self.now name.now) certificate.now links.now) }
     {
         match self.newest(name) {
             Some(newest) => self.answer_behind(alloc, directory, newest, certificate, links),
@@ -170,7 +172,8 @@ impl PinBook {
 
     // Pins the name of a certificate with it.
     fn pin(&mut self, alloc: Global, certificate: &CertView) -> Result<(), AllocError>
-        ensures ok { OnOk result (self.new ≡ with_pin self.old certificate.now.name (first_change certificate.now ∷ [])) }
+        ensures ok { OnOk result (self.new
+            ≡ with_pin self.old certificate.now.name (first_change certificate.now ∷ [])) }
         ensures err { OnErr result (self.new ≡ self.old) }
     {
         let mut chain = Vec::new(alloc);
@@ -189,8 +192,10 @@ impl PinBook {
         certificate: &CertView,
         links: &[Change],
     ) -> Result<Pinned, AllocError>
-        ensures answer { IfOk result (λ answer. answer ≡ answer_to directory.now self.old (newest_pinned self.old name.now) certificate.now links.now) }
-        ensures kept { IfOk result (λ answer. self.new ≡ kept_with certificate.now self.old name.now links.now answer) }
+        ensures answer { IfOk result (λ answer. answer
+            ≡ answer_to directory.now self.old (newest_pinned self.old name.now) certificate.now links.now) }
+        ensures kept { IfOk result (λ answer. self.new
+            ≡ kept_with certificate.now self.old name.now links.now answer) }
         ensures err { OnErr result (self.new ≡ self.old) }
     {
         let answer = self.answer(alloc, directory, name, certificate, links)?;
@@ -229,7 +234,9 @@ impl PinBook {
         now: u64,
         age: u64,
     ) -> Result<Pinned, AllocError>
-        ensures answer { IfOk result (λ answer. pinned_by self.old (record { keys = directory.now; name = name.now; epoch = now; age = age }) bytes.now links.now ≡ (answer, self.new)) }
+        ensures answer { IfOk result (λ answer.
+            pinned_by self.old (record { keys = directory.now; name = name.now; epoch = now; age = age })
+            bytes.now links.now ≡ (answer, self.new)) }
         ensures err { OnErr result (self.new ≡ self.old) }
     {
         match judge(directory, name, bytes, now, age) {
@@ -257,7 +264,8 @@ impl PinBook {
     /// The changes are judged by the policy rule alone, each behind the one before it: what vouched for them was verified
     /// when they were pinned, and for the rest they are the caller's word. An error changes nothing.
     pub fn add(&mut self, _alloc: Global, name: Name, chain: Vec<Change>) -> Result<(), AddFault>
-        ensures { StepsUnless add_fault.Memory (λ book u. book) result self.old self.new (added self.old name chain.items) }
+        ensures { StepsUnless add_fault.Memory (λ book u. book) result self.old self.new
+            (added self.old name chain.items) }
     {
         if self.chain(name.text()).is_some() {
             return Err(AddFault::Pinned);
