@@ -3,6 +3,7 @@ pub mod Faults
 pub mod Few
 pub mod Growing
 pub mod Keeping
+pub mod Later
 pub mod Read
 pub mod Rows
 pub mod Sending

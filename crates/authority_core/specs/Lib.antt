@@ -4,6 +4,7 @@ pub mod Confirming
 pub mod EndorseRow
 pub mod Honest
 pub mod Keyed
+pub mod Later
 pub mod Record
 pub mod Refusals
 pub mod RollRows

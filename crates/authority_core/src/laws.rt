@@ -1,5 +1,5 @@
 //! Laws on the definitions of `specs/`: each is the contract of a function with an empty body.
-ghost use Rattle.std.specs.Prelude.{◌≡◌, ℕ, ◌<◌, ◌≤◌, ◌^◌, Bool, true, false, [], ◌∷◌, List, Option, Contains, Result, Ok, Err, length};
+ghost use Rattle.std.specs.Prelude.{◌≡◌, ℕ, ◌<◌, ◌≤◌, ◌^◌, Bool, true, false, [], ◌∷◌, List, Option, All, Contains, Result, Ok, Err, length};
 ghost use Rattle.ar_base.specs.Bytes.{IsDigest};
 ghost use Rattle.ar_statement.specs.declared.party.Party.{Party};
 ghost use Rattle.ar_statement.specs.Claims.{authority_party, confirmation_by, endorse, text_of};
@@ -17,6 +17,7 @@ ghost use Rattle.owner_check.specs.declared.answer.Outcome.{Outcome};
 ghost use Rattle.owner_check.specs.declared.answer.Outcome.TheVariants.{Yes};
 ghost use Rattle.key_roll.specs.Book.{texts_of};
 ghost use Rattle.key_roll.specs.Entry.{MayRoll};
+ghost use Rattle.key_roll.specs.Later.{IsServed};
 ghost use Rattle.ar_council.specs.Council.{Council, IsMember, council_of};
 ghost use Rattle.ar_council.specs.Room.{HasRoom};
 ghost use Rattle.authority_core.specs.Calls.{MayConfirm, after_endorse, after_half_confirmed, after_learn, after_log_confirmed, after_roll, fresh_authority, kept_claim};
@@ -25,6 +26,7 @@ ghost use Rattle.ar_message.specs.Shown.{shows};
 ghost use Rattle.authority_core.specs.Confirming.{vote_count};
 ghost use Rattle.authority_core.specs.EndorseRow.{endorse_row};
 ghost use Rattle.authority_core.specs.Honest.{HasAsked, HasKept, HonestAuthority};
+ghost use Rattle.authority_core.specs.Later.{AuthorityGrows};
 ghost use Rattle.authority_core.specs.Record.{AuthorityRecord};
 ghost use Rattle.authority_core.specs.RollRows.{roll_row};
 ghost use Rattle.authority_core.specs.Row.{message_row, row};
@@ -129,4 +131,34 @@ pub fn what_is_newly_seen_was_claimed()
         → SeesClaimed s.keys (claimed_by m) s.past.seen later.past.seen }
     ensures roll { (s : AuthorityState) (next : LmsPublic) (later : AuthorityState) (sent : Unsigned)
         → roll_row s next ≡ Ok (later, sent) → later.past.seen ≡ s.past.seen }
+{}
+
+/// Whatever an authority does, its record only grows: what it saw, signed, what its check said yes to, and what it keeps
+/// stays as it was, and what is new stands behind it.
+pub fn a_record_only_grows()
+    ensures endorse { (me : ℕ) (r : AuthorityRecord) (a : Asked) → AuthorityGrows r (after_endorse me r a) }
+    ensures first { (me : ℕ) (r : AuthorityRecord) (log : ℕ) (voters : List ℕ) (k : Kept)
+        → AuthorityGrows r (after_log_confirmed me r log voters k) }
+    ensures second { (me : ℕ) (r : AuthorityRecord) (log : ℕ) (voters : List ℕ) (first : ℕ) (k : Kept)
+        → AuthorityGrows r (after_half_confirmed me r log voters first k) }
+    ensures learn { (r : AuthorityRecord) (a : Announced) → AuthorityGrows r (after_learn r a) }
+    ensures roll { (me : ℕ) (r : AuthorityRecord) (key : List ℕ) → AuthorityGrows r (after_roll me r key) }
+    ensures on { (r later last : AuthorityRecord) → AuthorityGrows r later → AuthorityGrows later last → AuthorityGrows r last }
+{}
+
+/// Whatever an authority is asked, its record only grows.
+pub fn each_step_only_adds()
+    ensures step { (s : AuthorityState) (retired : Bool) (m : Result Message ℕ) (said : Outcome) (later : AuthorityState) (sent : Unsigned)
+        → row s retired m said ≡ Ok (later, sent) → AuthorityGrows s.past later.past }
+    ensures roll { (s : AuthorityState) (next : LmsPublic) (later : AuthorityState) (sent : Unsigned) → roll_row s next ≡ Ok (later, sent)
+        → AuthorityGrows s.past later.past }
+{}
+
+/// Each signature of its own that an authority sends is that of a generation and a leaf that serve its text in the book behind
+/// the step.
+pub fn each_own_signature_is_of_the_book()
+    ensures step { (s : AuthorityState) (retired : Bool) (m : Result Message ℕ) (said : Outcome) (later : AuthorityState) (sent : Unsigned)
+        → row s retired m said ≡ Ok (later, sent) → All (λ blank. IsServed later.past.signed blank.due) sent.blanks }
+    ensures roll { (s : AuthorityState) (next : LmsPublic) (later : AuthorityState) (sent : Unsigned) → roll_row s next ≡ Ok (later, sent)
+        → All (λ blank. IsServed later.past.signed blank.due) sent.blanks }
 {}
