@@ -11,6 +11,7 @@ pub mod KeptCore
 pub mod KeptEndings
 pub mod KeptRows
 pub mod Keyed
+pub mod Later
 pub mod OwnProposal
 pub mod Passed
 pub mod Proposals

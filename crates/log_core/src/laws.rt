@@ -1,6 +1,9 @@
 //! Laws on the rows, over the definitions alone: each is the contract of a function with an empty body.
 ghost use Rattle.std.specs.Prelude.{◌≡◌, ◌≤◌, ◌++◌, ◌∷◌, List, ℕ, All, Some, Ok, Err, length, filter, flat_map, not};
+ghost use Rattle.key_roll.specs.Entry.{due_of};
+ghost use Rattle.key_roll.specs.Later.{IsServed};
 ghost use Rattle.key_roll.specs.Ring.{AreKeysOf};
+ghost use Rattle.epoch_log.specs.Later.{LogGrows};
 ghost use Rattle.ar_cert.specs.Changes.{Change, IsChange};
 ghost use Rattle.party_keys.specs.Signers.{Claimed};
 ghost use Rattle.ar_message.specs.Filling.{CanFill};
@@ -56,6 +59,23 @@ pub fn a_skip_leaves_table_and_queue()
 /// endorsements of each queued change were seen and are valid.
 pub fn each_row_keeps_a_log()
     ensures { (s : CoreState) (input : Input) (reply : Reply) → IsKeptCore s → IsInput input → row s input ≡ Ok reply → IsKeptCore reply.after }
+{}
+
+/// Whatever a log is asked, its record only grows: what it saw, signed, voted, stated, ended and confirmed
+/// stays as it was, and what is new stands behind it.
+pub fn each_row_only_adds()
+    ensures { (s : CoreState) (input : Input) (reply : Reply) → row s input ≡ Ok reply
+        → LogGrows s.log.past reply.after.log.past }
+{}
+
+/// Each signature of its own that a log sends is that of a generation and a leaf that serve its text in the
+/// book behind the step, and is what that book has due for the text.
+pub fn each_own_signature_is_of_the_book()
+    ensures served { (s : CoreState) (input : Input) (reply : Reply) → row s input ≡ Ok reply
+        → All (λ blank. IsServed reply.after.log.past.signed blank.due) reply.unsigned.blanks }
+    ensures due { (s : CoreState) (input : Input) (reply : Reply) → row s input ≡ Ok reply
+        → All (λ blank. due_of reply.after.log.past.signed blank.due.text ≡ Some blank.due)
+        reply.unsigned.blanks }
 {}
 
 /// Whatever a log newly sees it has verified under its directory: there is a signature by the party that the step accepted;

@@ -116,7 +116,7 @@ zero-blanks len book all done (draft ∷ rest) number is many each =
     (zero-blanks len book all (done ++ draft ∷ []) rest (number + 1) next more each.1)
 
 -- a blank is due for a text that the book holds
-abbrev IsDueIn : RollBook → Blank → Type 0
+abbrev pub IsDueIn : RollBook → Blank → Type 0
 IsDueIn book blank = (text : List ℕ) × (due_of book text ≡ Some blank.due)
 
 due-places : (book : RollBook) (number : ℕ) (own : List Place) → AllByRecursion (IsDueIn book) (flat_map (λ place. blanks_by (due_of book place.text) number place) own)
@@ -202,3 +202,7 @@ composed-fill book len keys unsigned sound are made =
     subst (CanFill keys) made.is
     (All-from_recursion (IsBlank keys (lengths (map letter_of from))) (blanks_from book 0 from)
     (all-fit book len keys (map letter_of from) sound are (blanks_from book 0 from) (zero-blanks len book from [] from 0 refl refl made.each) (due-blanks book 0 from)))
+
+-- each blank is due for a text that the book holds
+pub composed-due : (book : RollBook) (len : ℕ) (unsigned : Unsigned) → IsComposed book len unsigned → AllByRecursion (IsDueIn book) unsigned.blanks
+composed-due book len unsigned made = subst (λ (u : Unsigned). AllByRecursion (IsDueIn book) u.blanks) made.is (due-blanks book 0 made.drafts)
