@@ -1,0 +1,247 @@
+/*
+ * arpki.h: what a client may believe about a domain's key, for programs in C and C++.
+ *
+ * A client trusts the keys of logs and authorities (struct arpki_keys). It is given a confirmation: a message in which
+ * one log and two authorities say which certificate a name has, or that it has none. arpki_judge tells what the client
+ * makes of it. arpki_connect also tells whether a server has the key of that certificate, arpki_learn takes the next key
+ * of a party that went on to one, and arpki_verify judges one signature (LMS, RFC 8554).
+ *
+ * The functions have no state, no handle and no initialisation. What a client knows is plain data of the caller's. They
+ * open no file, read no clock, use no network, write to no stream, start no thread and take no lock.
+ *
+ * OWNERSHIP. All memory that is passed stays the caller's. It is read, or written, during the call alone, and no pointer
+ * to it is kept. Memory that a call takes is given back before it returns, by malloc, realloc and free of the process.
+ *
+ * THREADS. Any number of threads may call at once, also with one struct arpki_keys, with one name and one confirmation,
+ * as long as nobody writes to them meanwhile. Each call needs an answer or a lesson of its own to write to.
+ *
+ * ANSWERS. An answer (or a lesson) is written whole, in each outcome: what the outcome does not speak of is zero, so
+ * nothing of an earlier call stays in it. It need not be initialised. The function returns its `outcome` too. 0 is
+ * the one outcome that lets a client go on with the certificate; treat any number that you do not know as a refusal.
+ *
+ * WHAT A CALLER HAS TO KEEP. The functions test all that they are told (how many keys, what keys and messages say, any
+ * bytes of any length), but they cannot test pointers. Behaviour is undefined where one of these does not hold:
+ *   - No pointer is null, also where the length beside it is 0 (pass the address of anything then, as "" or an array).
+ *   - Behind a pointer lie as many elements as the length beside it says, initialised, and not written meanwhile.
+ *   - No length times the size of its element is more than PTRDIFF_MAX.
+ *   - What a call writes (the answer, the lesson) overlaps nothing that it reads.
+ *   - malloc, realloc and free are of one allocator, and align a block as the C standard says.
+ *   - No call is made from a signal handler, or in the child of a fork of a process that has threads.
+ *   - The thread has 64 KiB of stack for the call. (The calls that tools/c-library measures use less than 16 KiB.)
+ * Whether keys and entries are the right ones is the caller's to know: who can write to them decides what is believed.
+ *
+ * A program that is linked with the shared object can compare arpki_abi() with ARPKI_ABI. The library is built for Linux
+ * on x86-64.
+ */
+#ifndef ARPKI_H
+#define ARPKI_H
+
+#include <stddef.h>
+#include <stdint.h>
+
+#if defined(__GNUC__)
+#define ARPKI_CHECKED __attribute__((nonnull, warn_unused_result))
+#else
+#define ARPKI_CHECKED
+#endif
+
+#ifdef __cplusplus
+extern "C" {
+#endif
+
+/* The number of this header's functions and layouts. It rises when one of them changes. */
+#define ARPKI_ABI 1
+
+/* Sizes in bytes. */
+enum {
+    ARPKI_KEY_SIZE = 56,       /* a public key */
+    ARPKI_DIGEST_SIZE = 32,    /* a digest of SHA-256 */
+    ARPKI_CHALLENGE_SIZE = 32  /* a challenge */
+};
+
+/* The role of a party in an entry. */
+enum {
+    ARPKI_LOG = 1,
+    ARPKI_AUTHORITY = 2
+};
+
+/* The outcomes of arpki_judge and arpki_connect. */
+enum {
+    /* Of arpki_judge: the certificate is the name's. Of arpki_connect: and the server has its key. */
+    ARPKI_ACCEPTED = 0,
+    /* The name has no certificate. No key is the name's. */
+    ARPKI_ABSENT = 1,
+    /* The confirmation is refused. `check` is the number of the first check that fails (ARPKI_CHECK_...). */
+    ARPKI_REFUSED = 2,
+    /* malloc or realloc gave no memory. Nothing is told of the confirmation, the server or the note; try again later. */
+    ARPKI_NO_MEMORY = 3,
+    /* The keys are none that a client can trust together. `check` says what is wrong (ARPKI_KEYS_...). */
+    ARPKI_BAD_KEYS = 4,
+    /* Of arpki_connect: the confirmation is accepted, and the server's response to the challenge is not valid. `check` is
+     * the number of the first condition of a signature that fails, 1 to 5, as for arpki_verify. */
+    ARPKI_NO_POSSESSION = 5
+};
+
+/* The outcomes of arpki_learn, beside ARPKI_NO_MEMORY and ARPKI_BAD_KEYS. */
+enum {
+    /* The key is new. Put `entry` behind the others, and keep it. */
+    ARPKI_LEARNT = 0,
+    /* The key is known already: there is nothing to add. */
+    ARPKI_KNOWN = 1,
+    /* The bytes are no RollNote. */
+    ARPKI_NO_NOTE = 2,
+    /* The party is none of the logs and authorities in the keys. */
+    ARPKI_UNKNOWN_PARTY = 5,
+    /* The party's signature is not valid. `check` is the number of the test that fails: 1 to 5 as for arpki_verify, 6 the
+     * key of the generation that signed is not known (learn the notes before this one first), 7 the signature stands at
+     * a leaf that is not for it. */
+    ARPKI_BAD_SIGNATURE = 6,
+    /* Another key is known as the next. The party signed two: trust it no longer. */
+    ARPKI_OTHER_KEY = 7
+};
+
+/* `check` of ARPKI_REFUSED: the first of eleven checks that fails. All before it hold. */
+enum {
+    ARPKI_CHECK_FORM = 1,              /* the bytes are no confirmation */
+    ARPKI_CHECK_NAME = 2,              /* it is of another name */
+    ARPKI_CHECK_PARTIES = 3,           /* a log or authority is not in the keys, or the two authorities are one */
+    ARPKI_CHECK_LOG_SIGNATURE = 4,     /* the log's signature is not valid, or by a key that is not known */
+    ARPKI_CHECK_FIRST_SIGNATURE = 5,   /* the same of the first authority */
+    ARPKI_CHECK_SECOND_SIGNATURE = 6,  /* the same of the second authority */
+    ARPKI_CHECK_PATH = 7,              /* the certificate has another name, or its path does not lead to the root */
+    ARPKI_CHECK_FUTURE = 8,            /* its epoch is later than `now` */
+    ARPKI_CHECK_AGE = 9,               /* it is older than `age`, or than the certificate allows */
+    ARPKI_CHECK_REVOKED = 10,          /* the certificate is revoked */
+    ARPKI_CHECK_EXPIRED = 11           /* the certificate has expired */
+};
+
+/* `check` of ARPKI_BAD_KEYS: the first thing that is wrong with the keys. */
+enum {
+    ARPKI_KEYS_LOGS = 1,           /* there are not 3 to 16 logs */
+    ARPKI_KEYS_AUTHORITIES = 2,    /* there are not 3 to 16 authorities */
+    ARPKI_KEYS_QUORUM = 3,         /* twice the quorum is not more than logs_len + 2, or it is more than logs_len */
+    ARPKI_KEYS_LOG_KEY = 4,        /* the key of a log is no public key */
+    ARPKI_KEYS_AUTHORITY_KEY = 5,  /* the key of an authority is no public key */
+    ARPKI_KEYS_ENTRY = 6           /* the role of an entry is neither 1 nor 2, or its key is no public key */
+};
+
+/* A public key of LMS (RFC 8554, section 5.3): u32 LMS type, u32 LM-OTS type, I (16 bytes), T[1] (32 bytes), the
+ * numbers with the most significant byte first. Known are the LMS types 5 to 9 and the LM-OTS types 1 to 4. */
+typedef struct arpki_key {
+    uint8_t bytes[ARPKI_KEY_SIZE];
+} arpki_key;
+
+/* The next key of a party, as arpki_learn wrote it. It has no padding: on one machine its 64 bytes can be stored as they
+ * stand. Who can write entries can replace a party's key, so store them as safely as the keys themselves. */
+typedef struct arpki_entry {
+    uint32_t generation; /* of the key that announced it, from 0; its own generation is the next */
+    uint16_t number;     /* the party's place in `logs` or `authorities`, from 0 */
+    uint16_t role;       /* ARPKI_LOG or ARPKI_AUTHORITY */
+    arpki_key key;
+} arpki_entry;
+
+/* What a client trusts. The arrays are the caller's. */
+typedef struct arpki_keys {
+    /* The key of each log, of generation 0, by its number; 3 to 16 of them. */
+    const arpki_key *logs;
+    size_t logs_len;
+    /* The same of the authorities. */
+    const arpki_key *authorities;
+    size_t authorities_len;
+    /* What was learnt: each entry once, in the order in which arpki_learn wrote them. An entry whose party or whose
+     * generation is not known by what stands before it is passed over; one that stands a second time takes back the keys
+     * of its party that were learnt behind it. */
+    const arpki_entry *learnt;
+    size_t learnt_len;
+    /* How many logs make a quorum. */
+    size_t quorum;
+} arpki_keys;
+
+/* What is told of a confirmation or of a server. */
+typedef struct arpki_answer {
+    /* ARPKI_ACCEPTED and ARPKI_ABSENT: the epoch at whose end the name has the certificate, or none. */
+    uint64_t epoch;
+    /* ARPKI_ACCEPTED: the serial number of the certificate, from 0. */
+    uint64_t serial;
+    /* ARPKI_ACCEPTED: its subject key. Go on with this key, and with no other. */
+    arpki_key subject;
+    /* ARPKI_ACCEPTED: the digest of the certificate. */
+    uint8_t certificate[ARPKI_DIGEST_SIZE];
+    /* ARPKI_ACCEPTED and ARPKI_ABSENT: the root of the table on which the logs agreed for the epoch. */
+    uint8_t root[ARPKI_DIGEST_SIZE];
+    /* ARPKI_ACCEPTED, ARPKI_ABSENT, ARPKI_REFUSED, ARPKI_NO_MEMORY, ARPKI_BAD_KEYS or ARPKI_NO_POSSESSION. */
+    uint32_t outcome;
+    /* ARPKI_REFUSED, ARPKI_BAD_KEYS and ARPKI_NO_POSSESSION: the number of what fails. */
+    uint32_t check;
+} arpki_answer;
+
+/* What is learnt of a RollNote. */
+typedef struct arpki_lesson {
+    /* ARPKI_LEARNT: the entry to keep. */
+    arpki_entry entry;
+    /* ARPKI_LEARNT, ARPKI_KNOWN, ARPKI_NO_NOTE, ARPKI_NO_MEMORY, ARPKI_BAD_KEYS, ARPKI_UNKNOWN_PARTY,
+     * ARPKI_BAD_SIGNATURE or ARPKI_OTHER_KEY. */
+    uint32_t outcome;
+    /* ARPKI_BAD_KEYS and ARPKI_BAD_SIGNATURE: the number of what fails. */
+    uint32_t check;
+} arpki_lesson;
+
+/* Judges a confirmation of a name.
+ *
+ * Reads `keys` with its three arrays; name_len bytes of `name`, without a zero byte at their end, in lower case
+ * ("a.example" is 9 bytes); and confirmation_len bytes of `confirmation`. Writes `answer`, and returns its outcome.
+ *   now   the current epoch, by a clock that the caller trusts
+ *   age   how many epochs old a confirmation may be, at most
+ * Outcomes: ARPKI_ACCEPTED, ARPKI_ABSENT, ARPKI_REFUSED, ARPKI_NO_MEMORY, ARPKI_BAD_KEYS.
+ */
+ARPKI_CHECKED uint32_t arpki_judge(const arpki_keys *keys,
+                                   const uint8_t *name, size_t name_len,
+                                   uint64_t now, uint64_t age,
+                                   const uint8_t *confirmation, size_t confirmation_len,
+                                   arpki_answer *answer);
+
+/* Judges a server that claims to serve a name: its confirmation as arpki_judge does, and then its response to a
+ * challenge, as a signature by the subject key of the certificate that is accepted.
+ *
+ * Reads what arpki_judge reads; the 32 bytes of `challenge`, which the caller drew at random for this connection alone;
+ * and response_len bytes of `response`, the server's. Writes `answer`, and returns its outcome.
+ * Outcomes: ARPKI_ACCEPTED (the connection is open), ARPKI_NO_POSSESSION, and those of arpki_judge.
+ */
+ARPKI_CHECKED uint32_t arpki_connect(const arpki_keys *keys,
+                                     const uint8_t *name, size_t name_len,
+                                     uint64_t now, uint64_t age,
+                                     const uint8_t *confirmation, size_t confirmation_len,
+                                     const uint8_t challenge[ARPKI_CHALLENGE_SIZE],
+                                     const uint8_t *response, size_t response_len,
+                                     arpki_answer *answer);
+
+/* Learns the next key of a log or an authority from a RollNote, which the party signed with the key before it. Nothing
+ * is changed in `keys`: where the outcome is ARPKI_LEARNT, put lesson->entry behind the entries of `keys`, and the keys
+ * are those that learnt from the note. From whom a note comes does not matter.
+ *
+ * Reads `keys` with its three arrays, and note_len bytes of `note`. Writes `lesson`, and returns its outcome.
+ * Outcomes: ARPKI_LEARNT, ARPKI_KNOWN, ARPKI_NO_NOTE, ARPKI_NO_MEMORY, ARPKI_BAD_KEYS, ARPKI_UNKNOWN_PARTY,
+ * ARPKI_BAD_SIGNATURE, ARPKI_OTHER_KEY.
+ */
+ARPKI_CHECKED uint32_t arpki_learn(const arpki_keys *keys,
+                                   const uint8_t *note, size_t note_len,
+                                   arpki_lesson *lesson);
+
+/* Judges the signature of a message under a public key (RFC 8554, section 5.4.2). It takes no memory.
+ *
+ * Reads `key`, message_len bytes of `message`, and signature_len bytes of `signature`. Returns 0 where the signature is
+ * valid; else the first condition that fails: 1 its length, 2 its LM-OTS type, 3 its LMS type, 4 its leaf's number, 5 the
+ * root that it leads to; and 6 where `key` is no public key.
+ */
+ARPKI_CHECKED uint32_t arpki_verify(const arpki_key *key,
+                                    const uint8_t *message, size_t message_len,
+                                    const uint8_t *signature, size_t signature_len);
+
+/* The ARPKI_ABI of the library. */
+uint32_t arpki_abi(void);
+
+#ifdef __cplusplus
+}
+#endif
+
+#endif

@@ -1,0 +1,87 @@
+-- What a caller is told of a confirmation, and of a server.
+use Rattle.std.specs.Prelude.{◌≡◌, ◌⊎◌, ℕ, List, replicate, Result, Ok, Err}
+use Rattle.ar_cert.specs.Certificate.{Certificate}
+use Rattle.client_rule.specs.Rule.{judgement as judgement_of}
+use Rattle.client_rule.specs.declared.judgement.Judgement.{Judgement}
+use Rattle.client_rule.specs.declared.judgement.Judgement.TheVariants as judgement
+use Rattle.lms_tree.specs.PublicKey.{key_text}
+use Rattle.party_keys.specs.Directory.{Directory}
+use Rattle.possession.specs.Connections.{connection_of}
+use Rattle.possession.specs.declared.connection.Connection.{Connection}
+use Rattle.possession.specs.declared.connection.Connection.TheVariants as connection
+use Rattle.arpki_c.specs.Given.{fault_number}
+use Rattle.arpki_c.specs.declared.answers.Answer.{Answer}
+use Rattle.arpki_c.specs.declared.keys.KeysFault.{KeysFault}
+use Rattle.arpki_c.specs.declared.keys.KeysFault.TheVariants as fault
+
+-- ---- the outcomes: 0 accepted, 1 absent, 2 refused, 3 no memory, 4 bad keys, 5 no possession
+
+-- an outcome with a number, and nothing else
+abbrev pub said : ℕ → ℕ → Answer
+said outcome check = record {
+  epoch = 0;
+  serial = 0;
+  subject = replicate 56 0;
+  certificate = replicate 32 0;
+  root = replicate 32 0;
+  outcome = outcome;
+  check = check;
+}
+
+abbrev pub no_memory : Answer
+no_memory = said 3 0
+
+-- a certificate that is accepted
+abbrev pub accepted_answer : Certificate → List ℕ → ℕ → List ℕ → Answer
+accepted_answer certificate digest epoch root = record {
+  epoch = epoch;
+  serial = certificate.serial;
+  subject = key_text certificate.subject;
+  certificate = digest;
+  root = root;
+  outcome = 0;
+  check = 0;
+}
+
+-- that the name has none
+abbrev pub absent_answer : ℕ → List ℕ → Answer
+absent_answer epoch root = record (said 1 0) { epoch = epoch; root = root }
+
+-- keys that make no directory
+abbrev pub fault_answer : KeysFault → Answer
+fault_answer fault.Memory = no_memory
+fault_answer fault.Logs = said 4 1
+fault_answer fault.Authorities = said 4 2
+fault_answer fault.Quorum = said 4 3
+fault_answer fault.LogKey = said 4 4
+fault_answer fault.AuthorityKey = said 4 5
+fault_answer fault.Entry = said 4 6
+
+-- ---- what is told
+
+abbrev pub judgement_answer : Judgement → Answer
+judgement_answer (judgement.Accepted certificate digest epoch root) = accepted_answer certificate digest epoch root
+judgement_answer (judgement.Absent epoch root) = absent_answer epoch root
+judgement_answer (judgement.Refused check) = said 2 check
+
+abbrev pub connection_answer : Connection → Answer
+connection_answer (connection.Open certificate digest epoch root) = accepted_answer certificate digest epoch root
+connection_answer (connection.Absent epoch root) = absent_answer epoch root
+connection_answer (connection.Refused check) = said 2 check
+connection_answer (connection.NoPossession condition) = said 5 condition
+
+-- of a confirmation, to who trusts the directory, or whose keys make none
+abbrev pub judgement_told : Result Directory KeysFault → List ℕ → ℕ → ℕ → List ℕ → Answer
+judgement_told (Err wrong) name now age confirmation = fault_answer wrong
+judgement_told (Ok keys) name now age confirmation =
+    judgement_answer (judgement_of (record { keys = keys; name = name; epoch = now; age = age }) confirmation)
+
+-- of a server, by the confirmation that it shows, and its response to a challenge
+abbrev pub connection_told : Result Directory KeysFault → List ℕ → ℕ → ℕ → List ℕ → List ℕ → List ℕ → Answer
+connection_told (Err wrong) name now age confirmation challenge response = fault_answer wrong
+connection_told (Ok keys) name now age confirmation challenge response =
+    connection_answer (connection_of (record { keys = keys; name = name; epoch = now; age = age }) confirmation challenge response)
+
+-- the answer is this one, or that memory ran out
+abbrev pub IsUnlessMemory : Answer → Answer → Type 0
+IsUnlessMemory answer told = (answer ≡ no_memory) ⊎ (answer ≡ told)

@@ -1,0 +1,102 @@
+ghost use Rattle.std.specs.Prelude.{◌≡◌, ◌⊎◌};
+ghost use Rattle.arpki_c.specs.Given.{directory_given};
+ghost use Rattle.arpki_c.specs.Told.{IsUnlessMemory, connection_told, judgement_told};
+
+use crate::answers::Answer;
+use crate::keys::{Keys, directory_of};
+use client_rule::judge;
+use possession::connect;
+use std::alloc::Global;
+
+/// What is told of a confirmation.
+fn judged(
+    alloc: Global,
+    keys: &Keys,
+    name: &[u8],
+    now: u64,
+    age: u64,
+    confirmation: &[u8],
+) -> Answer
+    ensures { IsUnlessMemory result (judgement_told (directory_given keys.now) name.now now age confirmation.now) }
+{
+    match directory_of(alloc, keys) {
+        Ok(directory) => Answer::of_judgement(&judge(&directory, name, confirmation, now, age)),
+        Err(fault) => Answer::of_fault(fault),
+    }
+}
+
+/// Judges the bytes of a confirmation of a name, in epoch `now`, for a client that accepts what is at most `age`
+/// epochs old: writes the answer, all of it, and returns its outcome.
+#[unsafe(no_mangle)]
+pub extern "C" fn arpki_judge(
+    alloc: Global,
+    keys: &Keys,
+    name: &[u8],
+    now: u64,
+    age: u64,
+    confirmation: &[u8],
+    answer: &mut Answer,
+) -> u32
+    ensures told { IsUnlessMemory answer.new (judgement_told (directory_given keys.now) name.now now age confirmation.now) }
+    ensures outcome { result ≡ answer.new.outcome }
+{
+    *answer = judged(alloc, keys, name, now, age, confirmation);
+    answer.outcome
+}
+
+/// What is told of a server.
+fn connected(
+    alloc: Global,
+    keys: &Keys,
+    name: &[u8],
+    now: u64,
+    age: u64,
+    confirmation: &[u8],
+    challenge: &[u8; 32],
+    response: &[u8],
+) -> Answer
+    ensures { IsUnlessMemory result (connection_told (directory_given keys.now) name.now now age confirmation.now challenge.now response.now) }
+{
+    match directory_of(alloc, keys) {
+        Ok(directory) => Answer::of_connection(&connect(
+            &directory,
+            name,
+            confirmation,
+            now,
+            age,
+            challenge,
+            response,
+        )),
+        Err(fault) => Answer::of_fault(fault),
+    }
+}
+
+/// Judges a server that claims to serve a name: the confirmation that it shows, as `arpki_judge` does, and then its
+/// response to the challenge. It writes the answer, all of it, and returns its outcome.
+#[unsafe(no_mangle)]
+pub extern "C" fn arpki_connect(
+    alloc: Global,
+    keys: &Keys,
+    name: &[u8],
+    now: u64,
+    age: u64,
+    confirmation: &[u8],
+    challenge: &[u8; 32],
+    response: &[u8],
+    answer: &mut Answer,
+) -> u32
+    ensures told { IsUnlessMemory answer.new (connection_told (directory_given keys.now) name.now now age confirmation.now challenge.now response.now) }
+    ensures outcome { result ≡ answer.new.outcome }
+{
+    *answer = connected(
+        alloc,
+        keys,
+        name,
+        now,
+        age,
+        confirmation,
+        challenge,
+        response,
+    );
+    answer.outcome
+}

@@ -1,0 +1,334 @@
+ghost use Rattle.std.specs.Prelude.{◌≤◌};
+
+use crate::{
+    Answer, Entry, Keys, Lesson, arpki_abi, arpki_connect, arpki_judge, arpki_learn, arpki_verify,
+};
+use std::alloc::Global;
+use std::test::Fail;
+
+// A key of the types 5 and 4 whose I is filled with one byte, and which has this root.
+fn filled(fill: u8, root: [u8; 32]) -> [u8; 56] {
+    let mut key = [fill; 56];
+    key[..8].copy_from_slice(&[0, 0, 0, 5, 0, 0, 0, 4]);
+    key[24..].copy_from_slice(&root);
+    key
+}
+
+// The roots of keys that another implementation made to fit: each has a signature of one text in which all bytes that
+// are free are the byte of its I.
+
+// Log 1, for that at the end of epoch 5 a.example has the certificate below, at leaf 3.
+fn log_root() -> [u8; 32] {
+    [
+        0xb9, 0x0a, 0xc8, 0x66, 0x33, 0x22, 0x4f, 0x06, 0x69, 0x05, 0x10, 0xa9, 0x11, 0xb5, 0xc8,
+        0x71, 0x42, 0xda, 0xaf, 0xfb, 0x01, 0xcc, 0x8b, 0xd7, 0x44, 0x38, 0xcc, 0x39, 0x3a, 0x43,
+        0xe2, 0x8c,
+    ]
+}
+
+// Authority 0, for the same.
+fn first_root() -> [u8; 32] {
+    [
+        0x3b, 0xda, 0xe2, 0x6a, 0x4d, 0x26, 0xca, 0x49, 0x3a, 0xd0, 0xf8, 0xb0, 0xc6, 0x69, 0x3a,
+        0x1f, 0xef, 0xc0, 0x17, 0xb1, 0x50, 0xbc, 0xe9, 0x62, 0xd6, 0x87, 0xed, 0x7d, 0x29, 0x6d,
+        0xd7, 0x46,
+    ]
+}
+
+// Authority 2, for the same.
+fn second_root() -> [u8; 32] {
+    [
+        0x66, 0xc8, 0x3e, 0x78, 0x4c, 0x8c, 0x8d, 0x06, 0x67, 0xd6, 0x53, 0xa6, 0x64, 0x1b, 0x57,
+        0xd1, 0xdf, 0xf4, 0xc3, 0x82, 0x3f, 0xda, 0xb7, 0x64, 0x70, 0xb4, 0xb1, 0x71, 0x29, 0x60,
+        0x94, 0x79,
+    ]
+}
+
+// Abc at leaf 3.
+fn abc_root() -> [u8; 32] {
+    [
+        0x36, 0xb8, 0x02, 0xef, 0xba, 0xcd, 0x3a, 0x71, 0x44, 0x9a, 0x0e, 0x7a, 0x30, 0xc0, 0xa0,
+        0xee, 0xff, 0x15, 0xcc, 0x57, 0x44, 0xce, 0xd8, 0x5e, 0x6b, 0x49, 0x19, 0x59, 0xb0, 0x60,
+        0x9b, 0x03,
+    ]
+}
+
+// The Roll of log 0 from generation 0 to the key of abc, at the last leaf.
+fn roll_root() -> [u8; 32] {
+    [
+        0xc1, 0x90, 0x59, 0xe1, 0xac, 0x84, 0x72, 0x3b, 0x4f, 0x43, 0x4c, 0x0b, 0xaa, 0xc0, 0x4c,
+        0xdd, 0x98, 0xf7, 0xca, 0x9f, 0x62, 0xdf, 0xb5, 0x25, 0x6f, 0x46, 0xa5, 0xf3, 0x91, 0x05,
+        0x49, 0x04,
+    ]
+}
+
+// The root of the table of epoch 5.
+fn table_root() -> [u8; 32] {
+    [
+        0xae, 0x4d, 0xff, 0x0d, 0x51, 0x28, 0x97, 0xa3, 0x51, 0x9d, 0xa0, 0xbd, 0xf5, 0xef, 0x62,
+        0xac, 0x7e, 0xa5, 0x27, 0x98, 0xee, 0xef, 0x77, 0x66, 0x5b, 0xb5, 0xf7, 0xea, 0xd9, 0x28,
+        0x6f, 0x00,
+    ]
+}
+
+// The digest of the certificate.
+fn certificate_digest() -> [u8; 32] {
+    [
+        0xac, 0xd2, 0xcf, 0xbe, 0xbb, 0xb4, 0x2a, 0x16, 0x61, 0xc2, 0x59, 0xc2, 0xf7, 0x78, 0xd9,
+        0xfa, 0xca, 0xf5, 0xed, 0xe7, 0x83, 0xe6, 0xb1, 0x69, 0x86, 0xef, 0xb2, 0x17, 0x66, 0x02,
+        0x58, 0x4e,
+    ]
+}
+
+// The signature that fits, with this byte in all places that are free, of the generation 0 at a leaf.
+fn fitting(fill: u8, leaf: u8) -> [u8; 1296] {
+    let mut bytes = [fill; 1296];
+    bytes[..12].copy_from_slice(&[0, 0, 0, 0, 0, 0, 0, leaf, 0, 0, 0, 4]);
+    bytes[1132..1136].copy_from_slice(&[0, 0, 0, 5]);
+    bytes
+}
+
+// The certificate of a.example, behind its length: no serial number before it, a subject key whose I is filled with 11
+// and whose root with 22, and a policy for 1,000 epochs at an age of at most 10.
+fn certificate() -> [u8; 132] {
+    let mut bytes = [0u8; 132];
+    bytes[..13].copy_from_slice(b"\x00\x82\x01\x09a.example");
+    bytes[53..109].copy_from_slice(&filled(0x11, [0x22; 32]));
+    bytes[109..].copy_from_slice(
+        b"\x01\x02\x01\x00\x00\x00\x0a\x00\x00\x00\x00\x00\x00\x03\xe8\x03\x00\x00\x00\x01\x00\x02\x00",
+    );
+    bytes
+}
+
+// With the signature of the party of a role that has this number, behind its length, at a place.
+fn with_signature(bytes: [u8; 4088], at: usize, number: u8, fill: u8) -> [u8; 4088]
+    requires { at ≤ 2788 }
+{
+    let mut bytes = bytes;
+    bytes[at..at + 4].copy_from_slice(&[0, number, 5, 16]);
+    bytes[at + 4..at + 1300].copy_from_slice(&fitting(fill, 3));
+    bytes
+}
+
+// The confirmation of log 1 and the authorities 0 and 2 that at the end of epoch 5 a.example has it.
+fn confirmation() -> [u8; 4088] {
+    let mut bytes = [0u8; 4088];
+    bytes[..4].copy_from_slice(b"\x0c\x01\x00\x09");
+    bytes[11..22].copy_from_slice(b"\x05\x09a.example");
+    bytes[22..54].copy_from_slice(&table_root());
+    bytes[54..186].copy_from_slice(&certificate());
+    let log = with_signature(bytes, 188, 1, 0xa7);
+    let first = with_signature(log, 1488, 0, 0xb8);
+    with_signature(first, 2788, 2, 0xc9)
+}
+
+// The keys of the logs, of which log 0 is to roll.
+fn logs() -> [[u8; 56]; 3] {
+    [
+        filled(0xa7, roll_root()),
+        filled(0xa7, log_root()),
+        filled(0xa7, abc_root()),
+    ]
+}
+
+// The keys of the authorities.
+fn authorities() -> [[u8; 56]; 3] {
+    [
+        filled(0xb8, first_root()),
+        filled(0xa7, abc_root()),
+        filled(0xc9, second_root()),
+    ]
+}
+
+// The front of a RollNote of log 0 to the key of abc.
+fn front_of_note() -> [u8; 1362] {
+    let mut bytes = [0u8; 1362];
+    bytes[..4].copy_from_slice(b"\x0d\x01\x00\x00");
+    bytes[8..64].copy_from_slice(&filled(0xa7, abc_root()));
+    bytes[64..66].copy_from_slice(b"\x05\x10");
+    bytes
+}
+
+// The RollNote.
+fn note() -> [u8; 1362] {
+    let mut bytes = front_of_note();
+    bytes[66..].copy_from_slice(&fitting(0xa7, 31));
+    bytes
+}
+
+// An answer that nothing writes.
+fn stale() -> Answer {
+    Answer {
+        epoch: 77,
+        serial: 77,
+        subject: [77; 56],
+        certificate: [77; 32],
+        root: [77; 32],
+        outcome: 77,
+        check: 77,
+    }
+}
+
+// An outcome with a number, and nothing else.
+fn alone(outcome: u32, check: u32) -> Answer {
+    Answer {
+        epoch: 0,
+        serial: 0,
+        subject: [0; 56],
+        certificate: [0; 32],
+        root: [0; 32],
+        outcome,
+        check,
+    }
+}
+
+// What is judged of a confirmation of a name, in an epoch, at an age of 4, with a quorum.
+fn judged(alloc: Global, quorum: usize, name: &[u8], now: u64, bytes: &[u8]) -> Answer {
+    let (logs, authorities) = (logs(), authorities());
+    let keys = Keys {
+        logs: &logs,
+        authorities: &authorities,
+        learnt: &[],
+        quorum,
+    };
+    let mut answer = stale();
+    arpki_judge(alloc, &keys, name, now, 4, bytes, &mut answer);
+    answer
+}
+
+// What is made of a server that responds so to a challenge.
+fn connected(alloc: Global, name: &[u8], response: &[u8]) -> Answer {
+    let (logs, authorities) = (logs(), authorities());
+    let keys = Keys {
+        logs: &logs,
+        authorities: &authorities,
+        learnt: &[],
+        quorum: 3,
+    };
+    let mut answer = stale();
+    arpki_connect(
+        alloc,
+        &keys,
+        name,
+        9,
+        4,
+        &confirmation(),
+        &[1; 32],
+        response,
+        &mut answer,
+    );
+    answer
+}
+
+// What is learnt of bytes behind these entries.
+fn learnt(alloc: Global, entries: &[Entry], bytes: &[u8]) -> Lesson {
+    let (logs, authorities) = (logs(), authorities());
+    let keys = Keys {
+        logs: &logs,
+        authorities: &authorities,
+        learnt: entries,
+        quorum: 3,
+    };
+    let mut lesson = Lesson {
+        entry: Entry {
+            generation: 77,
+            number: 77,
+            role: 77,
+            key: [77; 56],
+        },
+        outcome: 77,
+        check: 77,
+    };
+    arpki_learn(alloc, &keys, bytes, &mut lesson);
+    lesson
+}
+
+// An entry of log 0.
+fn entry(role: u16, key: [u8; 56]) -> Entry {
+    Entry {
+        generation: 0,
+        number: 0,
+        role,
+        key,
+    }
+}
+
+#[test]
+fn a_confirmation_is_judged(rt: HostRuntime) {
+    let accepted = judged(rt.alloc(), 3, b"a.example", 9, &confirmation());
+    let expected = Answer {
+        epoch: 5,
+        serial: 0,
+        subject: filled(0x11, [0x22; 32]),
+        certificate: certificate_digest(),
+        root: table_root(),
+        outcome: 0,
+        check: 0,
+    };
+    assert!(rt; accepted == expected);
+    for (quorum, name, now, len, outcome, check) in [
+        (3usize, b"a.example", 9u64, 4087usize, 2u32, 1u32),
+        (3, b"b.example", 9, 4088, 2, 2),
+        (3, b"a.example", 4, 4088, 2, 8),
+        (3, b"a.example", 10, 4088, 2, 9),
+        (2, b"a.example", 9, 4088, 4, 3),
+    ] {
+        assert!(rt; len <= 4088);
+        let told = judged(rt.alloc(), quorum, name, now, &confirmation()[..len]);
+        assert!(rt; told == alone(outcome, check), "{outcome} {check}");
+    }
+}
+
+#[test]
+fn a_server_has_to_respond(rt: HostRuntime) {
+    let short = connected(rt.alloc(), b"a.example", &[]);
+    assert!(rt; short == alone(5, 1));
+    let other = connected(rt.alloc(), b"a.example", &fitting(0xa7, 3)[4..]);
+    assert!(rt; other == alone(5, 5));
+    let refused = connected(rt.alloc(), b"b.example", &[]);
+    assert!(rt; refused == alone(2, 2));
+}
+
+#[test]
+fn a_key_is_learnt_once(rt: HostRuntime) {
+    let first = learnt(rt.alloc(), &[], &note());
+    assert!(rt; first.entry == entry(1, filled(0xa7, abc_root())));
+    assert_eq!(rt; (first.outcome, first.check), (0, 0));
+    let again = learnt(rt.alloc(), &[first.entry], &note());
+    assert!(rt; again.entry == entry(0, [0; 56]));
+    assert_eq!(rt; (again.outcome, again.check), (1, 0));
+}
+
+#[test]
+fn what_is_no_lesson_has_no_entry(rt: HostRuntime) {
+    let other = entry(1, filled(0xa7, roll_root()));
+    let wrong = entry(3, filled(0xa7, roll_root()));
+    for (behind, len, number, outcome, check) in [
+        (None, 1361usize, 0u8, 2u32, 0u32),
+        (None, 1362, 3, 5, 0),
+        (None, 1362, 1, 6, 5),
+        (Some(other), 1362, 0, 7, 0),
+        (Some(wrong), 1362, 0, 4, 6),
+    ] {
+        assert!(rt; len <= 1362);
+        let mut bytes = note();
+        bytes[3] = number;
+        let lesson = match behind {
+            Some(entry) => learnt(rt.alloc(), &[entry], &bytes[..len]),
+            None => learnt(rt.alloc(), &[], &bytes[..len]),
+        };
+        assert!(rt; lesson.entry == entry(0, [0; 56]));
+        assert_eq!(rt; (lesson.outcome, lesson.check), (outcome, check));
+    }
+}
+
+#[test]
+fn a_signature_has_a_number(rt: HostRuntime) {
+    assert_eq!(rt; arpki_abi(), 1);
+    let key = filled(0xa7, abc_root());
+    let signature = fitting(0xa7, 3);
+    assert_eq!(rt; arpki_verify(&key, b"abc", &signature[4..]), 0);
+    assert_eq!(rt; arpki_verify(&key, b"abd", &signature[4..]), 5);
+    assert_eq!(rt; arpki_verify(&key, b"abc", &signature), 1);
+    assert_eq!(rt; arpki_verify(&[0; 56], b"abc", &signature), 6);
+}
