@@ -1,1 +1,10 @@
+mod Authorities
+mod Exact
+mod Least
+mod Logs
 mod Loops
+mod Named
+mod Pairs
+mod Shown
+mod Stood
+mod Turned

@@ -1,5 +1,5 @@
 -- What an audit reports: the items that are no evidence, and who contradicts himself.
-use Rattle.std.specs.Prelude.{ℕ, if◌then◌else◌, List, [], ◌∷◌, ◌++◌, length, map, Option, None}
+use Rattle.std.specs.Prelude.{◌≡◌, Contains, ℕ, if◌then◌else◌, List, [], ◌∷◌, ◌++◌, length, map, Option, None}
 use Rattle.std.specs.Option.{option_map, option_or}
 use Rattle.std.specs.List.{filter_map, range_with_len}
 use Rattle.ar_statement.specs.Claims.{is_party, party, signer_of}
@@ -58,3 +58,7 @@ report_of keys items =
       conflicts = conflicts_of LogServer (length keys.logs) sworn ++ conflicts_of Authority (length keys.authorities) sworn;
       valid = length sworn;
     }
+
+-- the report names a party
+abbrev pub Names : Report → Party → Type 0
+Names report party = (c : Conflict) × Contains report.conflicts c × (c.party ≡ party)
