@@ -1,5 +1,5 @@
 -- An honest authority votes for nothing and states nothing, and its confirmations are of no log.
-use Rattle.std.proofs.Common.{◌≡◌, ℕ, ◌==◌, sym, ap, ◌∙◌, subst, Bool, true, false, not, ◌&&◌, Option}
+use Rattle.std.proofs.Common.{◌≡◌, ℕ, ◌==◌, ap, subst, true, false, not, ◌&&◌, Option}
 use Rattle.std.proofs.lemmas.Bool.{and_parts}
 use Rattle.ar_statement.specs.Claims.{Claim, Roots, authority_party, role_number, signer_of, status, vote}
 use Rattle.ar_statement.specs.declared.party.Party.{Party}

@@ -1,15 +1,13 @@
 -- Two statements of an honest log contradict each other by none of the rules.
-use Rattle.std.proofs.Common.{◌≡◌, ℕ, ◌+◌, ◌==◌, List, refl, sym, ap, ◌∙◌, subst, Bool, true, false, not, ◌&&◌, ◌||◌, eqb, Option, Some, None}
-use Rattle.std.specs.Prelude.{All, Contains}
+use Rattle.std.proofs.Common.{◌≡◌, ℕ, ◌+◌, ◌==◌, List, refl, sym, ap, ◌∙◌, subst, Bool, true, false, not, ◌&&◌, ◌||◌, Option, Some, None}
 use Rattle.std.specs.Option.{option_map}
 use Rattle.std.specs.Str.{bytes_eq}
 use Rattle.std.proofs.lemmas.Bool.{and_parts, eqb-true}
 use Rattle.std.proofs.lemmas.List.Elements.{All-contains}
 use Rattle.std.proofs.lemmas.Option.{same_Some}
 use Rattle.std.proofs.lemmas.Slice.Eq.{bytes_eq-Decides}
-use Rattle.ar_cert.specs.Changes.{Change}
 use Rattle.ar_statement.specs.declared.party.Party.{Party}
-use Rattle.ar_statement.specs.Claims.{Claim, Roots, confirmation_by, log_party, status, text_of, vote}
+use Rattle.ar_statement.specs.Claims.{Claim, Roots, confirmation_by, log_party, status, vote}
 use Rattle.vote_quorum.specs.declared.value.Value.{Value}
 use Rattle.ar_council.specs.Council.{Council}
 use Rattle.ar_council.specs.Values.{value_of_roots}
@@ -17,8 +15,6 @@ use Rattle.epoch_log.specs.Honest.{HonestLog}
 use Rattle.epoch_log.specs.Record.{LogRecord, base_of, ending}
 use Rattle.epoch_log.specs.Right.{IsRightConfirmation, newest_digest}
 use Rattle.epoch_log.specs.Told.{HasConfirmed, HasStated, HasVoted, Told}
-use Rattle.epoch_log.specs.declared.entries.Confirmed.{Confirmed}
-use Rattle.epoch_log.specs.declared.entries.Ended.{Ended}
 use Rattle.epoch_log.specs.declared.entries.How.{How}
 use Rattle.epoch_log.specs.declared.entries.How.TheVariants.{Decided}
 use Rattle.epoch_log.specs.declared.entries.Stated.{Stated}

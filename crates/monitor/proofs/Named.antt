@@ -1,10 +1,9 @@
 -- No honest party is named.
-use Rattle.std.proofs.Common.{◌≡◌, ℕ, List, refl, sym, ap, ◌∙◌, subst, true, false, Some, Ok}
+use Rattle.std.proofs.Common.{◌≡◌, ℕ, List, sym, ap, ◌∙◌, true, false}
 use Rattle.std.specs.Str.{bytes_eq}
 use Rattle.std.proofs.lemmas.Slice.Eq.{bytes_eq-Decides}
 use Rattle.ar_statement.specs.Claims.{Claim, authority_party, log_party, signer_of, text_of}
 use Rattle.ar_statement.specs.Ranges.{IsValid}
-use Rattle.ar_statement.specs.declared.party.Party.{Party}
 use Rattle.ar_council.specs.Council.{Council}
 use Rattle.party_keys.specs.Directory.{Directory}
 use Rattle.key_roll.specs.Book.{RollBook}
@@ -14,7 +13,7 @@ use Rattle.epoch_log.specs.Told.{Told}
 use Rattle.authority_core.specs.Honest.{HonestAuthority, ToldBy}
 use Rattle.authority_core.specs.Record.{AuthorityRecord}
 use Rattle.monitor.specs.declared.item.Item.{Item}
-use Rattle.monitor.specs.Items.{Sworn, sworn_in}
+use Rattle.monitor.specs.Items.{Sworn}
 use Rattle.monitor.specs.Standing.{IsShown, StandIn, StandsAt}
 use Rattle.monitor.specs.Reports.{Names, report_of}
 use Rattle.monitor.proofs.Authorities.{no-answer, no-ballot, no-status, no-status-pair}

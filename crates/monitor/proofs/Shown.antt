@@ -1,11 +1,11 @@
 -- What the tests of two statements show of what they say.
-use Rattle.std.proofs.Common.{◌≡◌, ℕ, ◌⊎◌, inl, inr, List, refl, sym, ap, ◌∙◌, Bool, true, false, cond, not, ◌&&◌, ◌||◌, ◌==◌, Option, Some, None}
+use Rattle.std.proofs.Common.{◌≡◌, ℕ, List, refl, ap, Bool, true, false, cond, not, ◌||◌, Option, Some, None}
 use Rattle.std.specs.Str.{bytes_eq}
 use Rattle.std.proofs.lemmas.Bool.{and_parts}
 use Rattle.std.proofs.lemmas.Option.{same_Some}
 use Rattle.std.proofs.lemmas.Slice.Eq.{bytes_eq-Decides}
 use Rattle.ar_statement.specs.declared.party.Party.{Party}
-use Rattle.ar_statement.specs.Claims.{Claim, Roots, endorse, handover, propose, vote, confirm, confirm_absent, answer, status, roll, object, confirmation_by, signer_of}
+use Rattle.ar_statement.specs.Claims.{Claim, Roots, endorse, handover, propose, vote, confirm, confirm_absent, answer, status, roll, object, confirmation_by}
 use Rattle.party_keys.specs.Signatures.{rolls_from}
 use Rattle.monitor.specs.Items.{Sworn}
 use Rattle.monitor.specs.Rules.{are_confirmations, are_rolls, are_statuses, are_two_of_one, are_votes, confirmation_in, have_one_leaf, holds_of_both, is_denied, rule_fitting, rule_of, status_in, vote_in}

@@ -1,20 +1,20 @@
 -- What an item shows that stands in a book where its signature says.
-use Rattle.std.proofs.Common.{◌≡◌, ℕ, ◌<◌, ◌-◌, ◌==◌, List, length, refl, sym, ap, ◌∙◌, subst, true, eqb, Option, Some, None, Result, Ok, Err}
-use Rattle.std.specs.Prelude.{All, Contains, map, slice_get}
-use Rattle.std.proofs.lemmas.Bool.{and_parts, eq-eqb, eqb-true}
+use Rattle.std.proofs.Common.{◌≡◌, ℕ, ◌<◌, ◌-◌, ◌==◌, List, length, refl, sym, ap, ◌∙◌, subst, true, Option, Some, None, Result, Ok, Err}
+use Rattle.std.specs.Prelude.{All, Contains, slice_get}
+use Rattle.std.proofs.lemmas.Bool.{and_parts, eqb-true}
 use Rattle.std.proofs.lemmas.List.{length-map, get_or-map}
 use Rattle.std.proofs.lemmas.List.Elements.{All-contains}
 use Rattle.std.proofs.lemmas.Option.{get_or_from_slice_get, same_Some, slice_get_within}
 use Rattle.ar_base.proofs.Shown.{ok_is}
 use Rattle.ar_statement.specs.declared.party.Party.{Party}
-use Rattle.ar_statement.specs.Claims.{Claim, kind_of, roll, signer_of, text_of}
+use Rattle.ar_statement.specs.Claims.{Claim, roll, signer_of, text_of}
 use Rattle.ar_statement.specs.Ranges.{IsTextOf, IsValid}
 use Rattle.party_keys.specs.Directory.{Directory}
 use Rattle.party_keys.specs.Signatures.{claim_in, verified}
 use Rattle.party_keys.specs.declared.fault.VerifyFault.{VerifyFault}
 use Rattle.party_keys.proofs.Claims.{one_claim}
 use Rattle.key_roll.specs.Book.{IsRollBook, RollBook, texts_of}
-use Rattle.key_roll.specs.Entry.{Serves, leaf_of}
+use Rattle.key_roll.specs.Entry.{Serves}
 use Rattle.key_roll.specs.Rolls.{is_roll, named_generation}
 use Rattle.key_roll.specs.declared.signed.Signed.{Signed}
 use Rattle.key_roll.proofs.Books.{is_roll-kind, leaf-roll, named-roll, one_text}
