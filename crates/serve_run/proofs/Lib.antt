@@ -1,1 +1,10 @@
+pub mod Bringing
 pub mod ChallengeLines
+pub mod Dealing
+pub mod Leaves
+pub mod Printed
+pub mod Rows
+pub mod Served
+pub mod Turns
+pub mod Words
+pub mod Working

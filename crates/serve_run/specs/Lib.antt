@@ -1,1 +1,4 @@
+pub mod Answers
 pub mod Reading
+pub mod Serving
+pub mod Workers

@@ -1,0 +1,14 @@
+/// What a worker passes before it answers a challenge. It changes nothing of what is answered: a test can let the workers wait for
+/// one another here.
+pub trait Gate: Sync {
+    /// A worker is about to answer the challenge of this number, from 0.
+    fn before(&self, number: u64);
+}
+
+/// A gate that is always open: it does nothing.
+#[derive(Clone, Copy, Debug, PartialEq, Eq)]
+pub struct OpenGate;
+
+impl Gate for OpenGate {
+    fn before(&self, _number: u64) {}
+}
