@@ -1,3 +1,4 @@
+pub mod Bytes
 pub mod Forgers
 pub mod Found
 pub mod Nodes

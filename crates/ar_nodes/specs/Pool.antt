@@ -1,5 +1,5 @@
 -- The pool: all messages of a world, numbered from 1 in the order in which they came.
-use Rattle.std.specs.Prelude.{ℕ, zero, suc, ◌+◌, ◌==◌, if◌then◌else◌, List, [], ◌∷◌, length, slice_get, slice_index, slice_set, sum_by, Option, Some, None, ◌++◌}
+use Rattle.std.specs.Prelude.{ℕ, zero, suc, ◌+◌, ◌%◌, ◌==◌, if◌then◌else◌, List, map, [], ◌∷◌, length, slice_get, slice_index, slice_set, sum_by, Option, Some, None, ◌++◌}
 use Rattle.ar_message.specs.Sending.{Letter}
 use Rattle.ar_message.specs.declared.address.Address.{Address}
 use Rattle.ar_message.specs.declared.address.Address.TheVariants as address
@@ -33,6 +33,13 @@ abbrev pub set_numbered : {X : Type 0} → List X → ℕ → X → List X
 set_numbered xs zero x = xs
 set_numbered xs (suc place) x = slice_set xs place x
 
+-- ---- bytes
+
+-- Numbers as the bytes of a message: each below 256. Those that are bytes stay as they are, and so all that the program puts
+-- into the pool does; a definition speaks of lists of numbers, and so of a message each is a byte.
+unfoldable pub in_bytes : List ℕ → List ℕ
+in_bytes numbers = map (λ n. n % 256) numbers
+
 -- ---- what parties send
 
 -- to whom a message goes that a party sends
@@ -64,13 +71,13 @@ pooled_from sender letter = record {
   kind = kind_with (slice_index letter.bytes 0);
   from = Some sender;
   to = target_of letter.to;
-  bytes = letter.bytes;
+  bytes = in_bytes letter.bytes;
   delivered = [];
 }
 
 -- bytes that a script composed
 abbrev pub raw : Option Party → Target → List ℕ → Pooled
-raw sender to bytes = record { kind = kind.Raw; from = sender; to = to; bytes = bytes; delivered = [] }
+raw sender to bytes = record { kind = kind.Raw; from = sender; to = to; bytes = in_bytes bytes; delivered = [] }
 
 -- ---- what is printed
 

@@ -18,7 +18,7 @@ use crate::parties::Forger;
 use crate::pool::{Pool, Pooled};
 use crate::sending::{enter, reserve, say};
 use ar_base::Items;
-use ar_bytes::write_u32;
+use ar_bytes::{are_bytes, write_u32};
 use ar_statement::Party;
 use lms_tree::LmsKey;
 use report_text::{Happening, Kind, Target};
@@ -55,9 +55,11 @@ fn forged(alloc: Global, forger: &Forger, text: &[u8]) -> Result<Vec<u8>, AllocE
 }
 
 /// Bytes that a script composed, before they are delivered to anyone.
+#[tactic(auto, using(crate::proofs::Bytes::byte_laws))]
 fn raw(alloc: Global, from: Option<Party>, to: Target, bytes: Vec<u8>) -> Pooled
     ensures { result ≡ raw from to bytes.items }
 {
+    are_bytes(&bytes);
     Pooled {
         kind: Kind::Raw,
         from,

@@ -8,6 +8,7 @@ ghost use Rattle.ar_nodes.specs.Sending.{ending_of};
 use crate::kinds::{kind_of, target_of};
 use crate::pool::{Pool, Pooled};
 use ar_base::Items;
+use ar_bytes::are_bytes;
 use ar_message::{Outgoing, Sent};
 use ar_statement::Party;
 use report_text::{Code, Happening, What};
@@ -80,11 +81,13 @@ pub fn enter(pool: &mut Pool, said: &mut Vec<Happening>, message: Pooled)
 }
 
 /// A message that a party sends, before it is delivered to anyone.
+#[tactic(auto, using(crate::proofs::Bytes::byte_laws))]
 pub fn pooled_from(alloc: Global, sender: Party, outgoing: Outgoing) -> Pooled
     ensures { result ≡ pooled_from sender outgoing }
 {
     let to = target_of(outgoing.to());
     let bytes = outgoing.into_bytes();
+    are_bytes(&bytes);
     Pooled {
         kind: kind_of(&bytes),
         from: Some(sender),

@@ -1,11 +1,11 @@
 //! What the honest parties and the clients of a world hold: all of which the safety theorem speaks.
 //!
 //! `Records::of` gathers it, and leaves nothing out: the record of each honest log and authority, as it stands, and all that
-//! clients accepted and learnt. `each_told` tells a proof that the records are those of honest ones.
+//! clients accepted and learnt. That the records are those of honest ones `run_safety` says, of each run.
 #![tactic(auto)]
 
 mod judged;
 mod records;
 
 pub use judged::Judged;
-pub use records::{Records, each_told};
+pub use records::Records;

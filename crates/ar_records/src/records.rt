@@ -1,14 +1,12 @@
 //! What honest parties and clients hold, of which the theorem speaks.
 
-ghost use Rattle.std.specs.Prelude.{◌≡◌, ◌++◌, ◌∷◌, [], All, IfOk, IfSome, OnOk, map};
+ghost use Rattle.std.specs.Prelude.{◌≡◌, ◌++◌, ◌∷◌, [], IfOk, OnOk, map};
 ghost use Rattle.std.specs.List.{filter_map};
 ghost use Rattle.std.specs.Option.{option_map};
-ghost use Rattle.ar_base.specs.Bytes.{AreBytes};
 ghost use Rattle.epoch_log.specs.Log.{record_of};
-ghost use Rattle.ar_records.specs.Records.{AuthorityKeepsRecord, LogKeepsRecord, held_by};
+ghost use Rattle.ar_records.specs.Records.{held_by};
 
 use crate::judged::Judged;
-use ar_bytes::are_bytes;
 use ar_nodes::{Forger, HonestAuthority, HonestLog};
 use ar_statement::{Party, SeenText};
 use authority_core::AuthorityRecord;
@@ -116,76 +114,6 @@ fn authority_records<C: OwnerCheck>(
         put_authority(&mut records, node)?;
     }
     Ok(records)
-}
-
-// ---- what each party keeps of itself
-
-/// Tells a proof that the record is an honest log's. It does nothing.
-fn log_told(node: &Option<HonestLog>)
-    ensures { IfSome node.now LogKeepsRecord }
-{
-    if let Some(node) = node {
-        let _record = node.log.record();
-    }
-}
-
-/// The same of all logs.
-fn logs_told(nodes: &[Option<HonestLog>])
-    ensures { All (λ node. IfSome node LogKeepsRecord) nodes.now }
-{
-    for node in nodes {
-        log_told(node);
-    }
-}
-
-/// Tells a proof that the record is an honest authority's. It does nothing.
-fn authority_told<C: OwnerCheck>(node: &Option<HonestAuthority<C>>)
-    ensures { IfSome node.now AuthorityKeepsRecord }
-{
-    if let Some(node) = node {
-        let _record = node.authority.record();
-    }
-}
-
-/// The same of all authorities.
-fn authorities_told<C: OwnerCheck>(nodes: &[Option<HonestAuthority<C>>])
-    ensures { All (λ node. IfSome node AuthorityKeepsRecord) nodes.now }
-{
-    for node in nodes {
-        authority_told(node);
-    }
-}
-
-/// Tells a proof that what a client accepted are bytes. It does nothing.
-fn taken_told(taken: &Judged)
-    ensures { AreBytes taken.entry.now.bytes }
-{
-    are_bytes(&taken.bytes);
-}
-
-/// The same of all that clients accepted.
-fn judged_told(judged: &[Judged])
-    ensures { All (λ taken. AreBytes taken.bytes) judged.now }
-{
-    for taken in judged {
-        taken_told(taken);
-    }
-}
-
-/// Tells a proof what each party keeps of itself: that the record of each honest log and authority is an honest one's, and
-/// that what clients accepted are bytes. It does nothing.
-pub fn each_told<C: OwnerCheck>(
-    logs: &[Option<HonestLog>],
-    authorities: &[Option<HonestAuthority<C>>],
-    judged: &[Judged],
-)
-    ensures logs { All (λ node. IfSome node LogKeepsRecord) logs.now }
-    ensures authorities { All (λ node. IfSome node AuthorityKeepsRecord) authorities.now }
-    ensures bytes { All (λ taken. AreBytes taken.bytes) judged.now }
-{
-    logs_told(logs);
-    authorities_told(authorities);
-    judged_told(judged);
 }
 
 impl<'a> Records<'a> {

@@ -24,8 +24,6 @@ kept-at {X = X} P nodes number node all is =
     in subst (λ (slot : Option X). IfSome slot P) (get_or_from_slice_get nodes number (Some node) (Some node) at)
     (All-get_or (λ (slot : Option X). IfSome slot P) nodes number (Some node) (slice_get_within nodes number (Some node) at) all)
 
-pub ruleset kept_laws = (kept-at)
-
 -- ---- all of it
 
 pub held-so : (v w : World) (clients : Directory) (forgers : List Forger) (logs : List (Option LogNode)) (authorities : List (Option AuthorityNode)) (judged : List Taken) (learned : List SeenText)

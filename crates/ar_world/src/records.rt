@@ -2,11 +2,11 @@
 
 ghost use Rattle.std.specs.Prelude.{◌≡◌, IfOk, nat_le};
 ghost use Rattle.ar_world.specs.Founding.{place_of};
-ghost use Rattle.ar_world.specs.Records.{HasParties, KeepsRecords, held_of};
+ghost use Rattle.ar_world.specs.Records.{HasParties, held_of};
 
 use crate::order::place_of;
 use crate::world::World;
-use ar_records::{Judged, Records, each_told};
+use ar_records::{Judged, Records};
 use owner_check::OwnerCheck;
 use std::alloc::{AllocError, Global};
 
@@ -43,16 +43,5 @@ impl<C: OwnerCheck> World<C> {
             &self.judged,
             &self.learned,
         )
-    }
-
-    /// Tells a proof what each party keeps of itself, where the logs and authorities are there. It does nothing.
-    #[tactic(auto, using(crate::proofs::Remembered::kept_laws))]
-    pub fn told(&self)
-        ensures { HasParties self.now → KeepsRecords self.now }
-    {
-        each_told(&self.logs, &self.authorities, &self.judged);
-        if let Some(known) = &self.directories {
-            known.clients.told();
-        }
     }
 }

@@ -2,7 +2,6 @@
 use Rattle.std.proofs.Common.{◌≡◌, ℕ, ◌+◌, ◌≤◌, ◌<◌, inr, length, List, [], ◌∷◌, append-nil, refl, sym, ap, ◌∙◌, subst, arith, Bool, true, false, nat_lt, if◌then◌else◌, Option, Some, Result, Ok, Err, IfOk, Vec}
 use Rattle.std.specs.declared.alloc.AllocError.{AllocError}
 use Rattle.std.specs.declared.alloc.Global.{Global}
-use Rattle.std.specs.Prelude.{OnOk}
 use Rattle.sha2.specs.Sha256.{sha256}
 use Rattle.script_make.specs.Script.{script}
 use Rattle.std.proofs.lemmas.Bool.Decides.{nat_tests}
@@ -16,13 +15,13 @@ use Rattle.ar_run.specs.declared.fault.Fault.TheVariants as fault
 use Rattle.owner_check.specs.declared.answer.Outcome.TheVariants.{Failed}
 use Rattle.ar_nodes.specs.Parties.{CheckParts}
 use Rattle.ar_world.specs.Run.{Saying, run}
-use Rattle.run_safety.specs.Headline.{IsSafeRun}
+use Rattle.run_safety.proofs.Safe.{safe-run}
 use Rattle.script_play.specs.Playing as playing
 use Rattle.script_play.specs.Playing.{Played, Plays, WritesUpTo}
 use Rattle.script_play.proofs.Written.{failing, line-written, wrote-no_more, written-answered, written-failed}
 use Rattle.arpki_ask.specs.Answers.{refused_line, too_long}
-use Rattle.arpki_play.specs.Plays.{made_answer, play_answer, run_answer, run_status, summed}
-use Rattle.arpki_play.specs.Program.{Answers, IsPlayed, PlaysFront, RunsWhole, Stops, Sums}
+use Rattle.arpki_play.specs.Plays.{play_answer, run_answer, run_status, summed}
+use Rattle.arpki_play.specs.Program.{Answers, IsPlayed, PlaysFront, RunsFront, RunsWhole, Stops, Sums}
 use Rattle.arpki_play.specs.declared.request.Request.TheVariants.{Play}
 
 -- ---- the answer
@@ -47,7 +46,6 @@ short-done faults wrote a b checks input p status plays few is =
     record {
       saying = plays.saying;
       status = is ∙ ap (λ (q : Played). run_status q.refused) plays.played ∙ ap (λ (x : Answer). x.status) whole;
-      safe = λ _. plays.safe;
       written = subst (λ (x : Answer). WritesUpTo faults wrote a b (written_of x) (Ok status)) whole (written-answered faults wrote a b bytes p status plays.written);
     }
 
@@ -59,7 +57,6 @@ short-broken faults wrote a b checks input f plays few =
     record {
       saying = plays.saying;
       status = tt;
-      safe = tt;
       written = subst (λ (x : Answer). WritesUpTo faults wrote a b (written_of x) (failing ℕ f)) whole (written-failed faults wrote a b bytes f plays.written);
     }
 
@@ -70,11 +67,6 @@ pub ruleset short_laws = (short-done, short-broken)
 abbrev refused_bytes : List ℕ
 refused_bytes = written_of (refused_line too_long)
 
--- of an input that is too long nothing is said
-too-long : (X : Type 0) (result : Result ℕ Fault) (input : List ℕ) → most_bytes < length input → OnOk result (length input ≤ most_bytes → X)
-too-long X (Ok status) input many = λ few. absurd (grind arith)
-too-long X (Err f) input many = tt
-
 long-by : {K : Type 0} (faults : K → ℕ) (wrote : K → List ℕ → Type 0) (a b : K) (checks : List CheckParts) (input : List ℕ) (result : Result ℕ Fault)
     → most_bytes < length input → IfOk result (λ status. status ≡ 3) → WritesUpTo faults wrote a b refused_bytes result → IsPlayed faults wrote a b checks input result
 long-by faults wrote a b checks input result many status written =
@@ -83,7 +75,6 @@ long-by faults wrote a b checks input result many status written =
     record {
       saying = saying;
       status = subst (λ (x : Answer). IfOk result (λ s. s ≡ x.status)) whole status;
-      safe = too-long (IsSafeRun (run saying checks input)) result input many;
       written = subst (λ (x : Answer). WritesUpTo faults wrote a b (written_of x) result) whole written;
     }
 
@@ -124,14 +115,14 @@ pub ruleset script_laws = (script-same)
 pub input-whole : {K : Type 0} (faults : K → ℕ) (wrote : K → List ℕ → Type 0) (a b : K) (checks : List CheckParts) (input : List ℕ) (old new : Option (List ℕ)) (result : Result ℕ Fault)
     → TakesAll old new input → IsPlayed faults wrote a b checks input result → IfOk result (λ status. Answers checks (Some Play) old new wrote a b status)
 input-whole faults wrote a b checks input old new (Ok status) takes plays =
-    record { saying = plays.saying; input = input; taken = takes; answered = (plays.status, plays.written.whole); safe = plays.safe }
+    record { saying = plays.saying; input = input; taken = takes; answered = (plays.status, plays.written.whole); safe = λ few. safe-run plays.saying checks input }
 input-whole faults wrote a b checks input old new (Err f) takes plays = tt
 
 pub input-front : {K : Type 0} (faults : K → ℕ) (wrote : K → List ℕ → Type 0) (a b : K) (checks : List CheckParts) (input : List ℕ) (old new : Option (List ℕ)) (result : Result ℕ Fault) (f : Fault)
     → TakesAll old new input → IsPlayed faults wrote a b checks input result → result ≡ Err f → PlaysFront checks old new wrote a b
 input-front faults wrote a b checks input old new (Ok status) f takes plays is = absurd (cc)
 input-front faults wrote a b checks input old new (Err g) f takes plays is =
-    record { saying = plays.saying; input = input; taken = takes; front = plays.written.broken }
+    record { saying = plays.saying; input = input; taken = takes; front = plays.written.broken; safe = λ few. safe-run plays.saying checks input }
 
 pub input-sink : {K : Type 0} (faults : K → ℕ) (wrote : K → List ℕ → Type 0) (a b : K) (checks : List CheckParts) (input : List ℕ) (old new : Option (List ℕ)) (result : Result ℕ Fault)
     → TakesAll old new input → IsPlayed faults wrote a b checks input result → result ≡ Err fault.Sink → HasRisen (faults a) (faults b) × PlaysFront checks old new wrote a b
@@ -161,7 +152,6 @@ quiet-sums faults wrote a b checks domains text output p (Ok told) none plays di
     record {
       saying = plays.saying;
       is = ap (λ (q : Played). summed domains q (sha256 bytes) q.refused) (sym plays.played) ∙ ap (λ (o : List ℕ). summed domains p o p.refused) (sym is) ∙ sums;
-      safe = plays.safe;
     }
 quiet-sums faults wrote a b checks domains text output p (Err e) none plays digest sums = tt
 
@@ -176,14 +166,18 @@ made-done wrote a b checks domains line status sums written =
     record {
       saying = sums.saying;
       answered = subst Whole (sym sums.is) (refl, subst (λ (bytes : List ℕ). Appended wrote a b bytes) (sym (append-nil line.items)) written);
-      safe = sums.safe;
+      safe = safe-run sums.saying checks (script domains);
     }
 
 pub made-front : {K : Type 0} (wrote : K → List ℕ → Type 0) (a b : K) (checks : List CheckParts) (domains : ℕ) (line : Vec ℕ Global) (status : ℕ)
     → Sums checks domains (script domains) (line, status) → AppendedFront wrote a b line.items
-    → (saying : Saying) × AppendedFront wrote a b (written_of (made_answer saying checks domains))
+    → RunsFront checks domains wrote a b
 made-front wrote a b checks domains line status sums written =
     let Front = λ (x : Answer). AppendedFront wrote a b (written_of x) in
-    (sums.saying, subst Front (sym sums.is) (subst (λ (bytes : List ℕ). AppendedFront wrote a b bytes) (sym (append-nil line.items)) written))
+    record {
+      saying = sums.saying;
+      front = subst Front (sym sums.is) (subst (λ (bytes : List ℕ). AppendedFront wrote a b bytes) (sym (append-nil line.items)) written);
+      safe = safe-run sums.saying checks (script domains);
+    }
 
 pub ruleset made_laws = (made-done, made-front)

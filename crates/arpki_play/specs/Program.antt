@@ -1,5 +1,5 @@
 -- What a run of the program takes of its source, and what it writes to its sink.
-use Rattle.std.specs.Prelude.{◌≡◌, ◌≤◌, ◌⊎◌, ℕ, List, [], ◌∷◌, length, Option, Some, None, Result, IfOk, OnOk, Vec}
+use Rattle.std.specs.Prelude.{◌≡◌, ◌≤◌, ◌⊎◌, ℕ, List, [], ◌∷◌, length, Option, Some, None, Result, IfOk, Vec}
 use Rattle.std.specs.declared.alloc.Global.{Global}
 use Rattle.ar_io.specs.Wrote.{Appended, AppendedFront, Unchanged}
 use Rattle.ar_run.specs.Answers.{Answer, written_of}
@@ -21,7 +21,7 @@ abbrev pub IsAnswered : {K : Type 0} → Answer → (K → List ℕ → Type 0) 
 IsAnswered answer wrote sink written status = (status ≡ answer.status) × Appended wrote sink written (written_of answer)
 
 -- `play` took its input, and its answer to it was written whole, by some answers of the checks that tell nothing of themselves;
--- the status is the answer's, and the run that was played is safe.
+-- the status is the answer's, and the run is safe.
 pub record PlaysWhole {K : Type 0} (checks : List CheckParts) (old new : Option (List ℕ)) (wrote : K → List ℕ → Type 0) (sink written : K) (status : ℕ) : Type 0 where
   pub saying : Saying
   pub input : List ℕ
@@ -29,18 +29,16 @@ pub record PlaysWhole {K : Type 0} (checks : List CheckParts) (old new : Option 
   pub answered : IsAnswered (play_answer saying checks input) wrote sink written status
   pub safe : length input ≤ runs.most_bytes → IsSafeRun (run saying checks input)
 
--- The script for so many domains was played, and its summary was written whole; the run that was played is safe.
+-- The script for so many domains was played, and its summary was written whole; its run is safe.
 pub record RunsWhole {K : Type 0} (checks : List CheckParts) (domains : ℕ) (wrote : K → List ℕ → Type 0) (sink written : K) (status : ℕ) : Type 0 where
   pub saying : Saying
   pub answered : IsAnswered (made_answer saying checks domains) wrote sink written status
   pub safe : IsSafeRun (run saying checks (script domains))
 
--- A script for so many domains was played, and its run is safe: the line and the status are those of its summary, or of the line
--- that is refused.
+-- A script for so many domains was played: the line and the status are those of its summary, or of the line that is refused.
 pub record Sums (checks : List CheckParts) (domains : ℕ) (text : List ℕ) (told : Vec ℕ Global × ℕ) : Type 0 where
   pub saying : Saying
   pub is : made_of saying checks domains text ≡ record { lines = told.0.items ∷ []; status = told.1 }
-  pub safe : IsSafeRun (run saying checks text)
 
 -- A command took its input, its answer to it was written whole, and the status is the answer's; so did `play`. A script, its summary
 -- and the usage line take no input: the script was written whole, with status 0, and the usage line where the words are of no
@@ -52,20 +50,26 @@ Answers checks (Some requests.Play) old new wrote sink written status = PlaysWho
 Answers checks (Some (requests.Run domains)) old new wrote sink written status = RunsWhole checks domains wrote sink written status
 Answers checks None old new wrote sink written status = IsAnswered usage wrote sink written status
 
--- An input was played: its answer was written whole, by some answers of the checks that tell nothing of themselves, the status is
--- the answer's, and the run is safe. Or memory ran out, or a write failed, and a front of the answer was written.
+-- An input was played: its answer was written whole, by some answers of the checks that tell nothing of themselves, and the status
+-- is the answer's. Or memory ran out, or a write failed, and a front of the answer was written.
 pub record IsPlayed {K : Type 0} (faults : K → ℕ) (wrote : K → List ℕ → Type 0) (old new : K) (checks : List CheckParts) (input : List ℕ) (result : Result ℕ Fault) : Type 0 where
   pub saying : Saying
   pub status : IfOk result (λ status. status ≡ (play_answer saying checks input).status)
-  pub safe : OnOk result (length input ≤ runs.most_bytes → IsSafeRun (run saying checks input))
   pub written : WritesUpTo faults wrote old new (written_of (play_answer saying checks input)) result
 
--- `play` took its input, and of its answer to it a front was written.
+-- `play` took its input, and of its answer to it a front was written; the run of which it is a front is safe.
 pub record PlaysFront {K : Type 0} (checks : List CheckParts) (old new : Option (List ℕ)) (wrote : K → List ℕ → Type 0) (sink written : K) : Type 0 where
   pub saying : Saying
   pub input : List ℕ
   pub taken : runs.TakesAll old new input
   pub front : AppendedUpTo wrote sink written (written_of (play_answer saying checks input))
+  pub safe : length input ≤ runs.most_bytes → IsSafeRun (run saying checks input)
+
+-- The script for so many domains was played, and of its summary a front was written, and not all; its run is safe.
+pub record RunsFront {K : Type 0} (checks : List CheckParts) (domains : ℕ) (wrote : K → List ℕ → Type 0) (sink written : K) : Type 0 where
+  pub saying : Saying
+  pub front : AppendedFront wrote sink written (written_of (made_answer saying checks domains))
+  pub safe : IsSafeRun (run saying checks (script domains))
 
 -- A command took its input, and of its answer to it, of the script, its summary or the usage line a front was written, and not
 -- all. Of what `play` answers a front was written, or all.
@@ -73,8 +77,7 @@ abbrev pub BreaksOff : {K : Type 0} → List CheckParts → Option Request → O
 BreaksOff checks (Some (requests.Answer command)) old new wrote sink written = runs.BreaksOff (answer_to command) old new wrote sink written
 BreaksOff checks (Some (requests.Make domains)) old new wrote sink written = AppendedFront wrote sink written (script domains)
 BreaksOff checks (Some requests.Play) old new wrote sink written = PlaysFront checks old new wrote sink written
-BreaksOff checks (Some (requests.Run domains)) old new wrote sink written =
-    (saying : Saying) × AppendedFront wrote sink written (written_of (made_answer saying checks domains))
+BreaksOff checks (Some (requests.Run domains)) old new wrote sink written = RunsFront checks domains wrote sink written
 BreaksOff checks None old new wrote sink written = AppendedFront wrote sink written (written_of usage)
 
 -- Memory ran out: nothing was written, but of what `play` answers a front.

@@ -2,14 +2,12 @@
 
 ghost use Rattle.std.specs.Prelude.{◌≡◌, ◌≢◌, ◌<◌, ◌≤◌, ◌+◌, [], ◌∷◌, ℕ, List, Err, Some, IfOk, length};
 ghost use Rattle.ar_base.specs.Faults.{HasRisen};
-ghost use Rattle.ar_io.specs.Wrote.{AppendedFront, Unchanged};
-ghost use Rattle.ar_run.specs.Answers.{written_of};
+ghost use Rattle.ar_io.specs.Wrote.{Unchanged};
 ghost use Rattle.ar_run.specs.Runs.{IsInput, TakesAtMost, most_bytes};
 ghost use Rattle.ar_nodes.specs.Parties.{CheckParts, checks_told};
-ghost use Rattle.ar_world.specs.Run.{Saying};
 ghost use Rattle.script_make.specs.Script.{script};
-ghost use Rattle.arpki_play.specs.Plays.{made_answer, run_status, summary_line, summed};
-ghost use Rattle.arpki_play.specs.Program.{Answers, IsPlayed, PlaysFront, RunsWhole, Stops, Sums};
+ghost use Rattle.arpki_play.specs.Plays.{run_status, summary_line, summed};
+ghost use Rattle.arpki_play.specs.Program.{Answers, IsPlayed, PlaysFront, RunsFront, RunsWhole, Stops, Sums};
 ghost use Rattle.arpki_play.specs.declared.request.Request.TheVariants.{Play};
 
 use crate::request::Domains;
@@ -209,7 +207,7 @@ pub(crate) fn run_made<C: OwnerCheck, K: Sink>(
     ensures ok { IfOk result (λ status. RunsWhole (checks_told C.told C.answers checks.items) domains.now K.wrote sink.old sink.new status) }
     ensures bound { IfOk result (λ status. status < 4) }
     ensures sink { result ≡ Err Fault.Sink → HasRisen (K.faults sink.old) (K.faults sink.new)
-        × ((saying : Saying) × AppendedFront K.wrote sink.old sink.new (written_of (made_answer saying (checks_told C.told C.answers checks.items) domains.now))) }
+        × RunsFront (checks_told C.told C.answers checks.items) domains.now K.wrote sink.old sink.new }
     ensures memory { result ≡ Err Fault.Memory → Unchanged K.wrote sink.old sink.new }
     ensures no_source { result ≢ Err Fault.Source }
     ensures uncounted { result ≢ Err Fault.Sink → K.faults sink.new ≡ K.faults sink.old }

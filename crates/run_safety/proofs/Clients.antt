@@ -83,6 +83,7 @@ learning-makes w message note = record {
       founded = s.founded;
     };
     told = λ s. append-nil (told_in (part_of w)) ∙ (all-same w.clients note w.judged s.seated.taken).told;
+    named = append-nil (part_of w).dishonest;
   };
 }
 
@@ -131,5 +132,6 @@ judging-makes w message t late = record {
       founded = s.founded;
     };
     told = λ s. (held-by w.clients w.judged t (verdict_on w.clients t) refl).told message;
+    named = append-nil (part_of w).dishonest;
   };
 }

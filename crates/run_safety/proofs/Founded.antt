@@ -1,5 +1,5 @@
 -- The line `authorities`: all logs and authorities sit in their places, and all begin with one directory.
-use Rattle.std.proofs.Common.{◌≡◌, ◌∙◌, ℕ, zero, suc, ◌+◌, ◌<◌, ◌≤◌, List, [], ◌∷◌, ◌++◌, All, refl, sym, ap, subst, arith, Bool, true, false, Some, Ok, Err, is_none, IfOk}
+use Rattle.std.proofs.Common.{◌≡◌, ◌∙◌, ℕ, zero, suc, ◌+◌, ◌<◌, ◌≤◌, List, [], ◌∷◌, ◌++◌, All, append-nil, refl, sym, ap, subst, arith, Bool, true, false, Some, Ok, Err, is_none, IfOk}
 use Rattle.std.specs.Prelude.{if◌then◌else◌, length, map, slice_get}
 use Rattle.std.specs.List.{filter_map, list_any, range_with_len}
 use Rattle.std.specs.Result.{result_ok}
@@ -24,7 +24,7 @@ use Rattle.lms_tree.specs.declared.public_key.LmsPublic.{LmsPublic}
 use Rattle.party_keys.specs.Directory.{Directory, directory_of, directory_with, first_keys, is_party_count, is_quorum, keys_at, keys_of}
 use Rattle.party_keys.specs.declared.fault.DirectoryFault.{DirectoryFault}
 use Rattle.party_keys.specs.declared.fault.DirectoryFault.TheVariants.{Authorities, Logs, Quorum}
-use Rattle.run_safety.specs.Headline.{accepted_in}
+use Rattle.run_safety.proofs.Quiet.{marked_in, quiet}
 use Rattle.run_safety.specs.Seats.{AreSeated, IsAuthorityOf, IsLogOf, honest_count}
 use Rattle.run_safety.proofs.Places.{honest-below}
 use Rattle.run_safety.proofs.Parts.{Bare, Makes, SeatedIn, Stands, part_of, told_by, told_in}
@@ -33,7 +33,7 @@ use Rattle.ar_base.proofs.Shown.{if-chained, needed}
 -- ---- the first directory
 
 -- a directory that is made has these keys
-made-of : (logs authorities : List LmsPublic) (q : ℕ) (keys : Directory) → result_ok (directory_of logs authorities q) ≡ Some keys → directory_with logs authorities q ≡ keys
+pub made-of : (logs authorities : List LmsPublic) (q : ℕ) (keys : Directory) → result_ok (directory_of logs authorities q) ≡ Some keys → directory_with logs authorities q ≡ keys
 made-of logs authorities q keys h = by (is_party_count (length logs)) (is_party_count (length authorities)) (is_quorum q (length logs)) h
   where
     by : (many some bound : Bool)
@@ -58,11 +58,11 @@ known-from f a (suc n) (suc m) less =
     let e : a + 1 + m ≡ a + suc m = omega arith in
     known-from f (a + 1) n m (omega (arith, less)) ∙ ap (λ k. public_of (f k) ∷ []) e
 
-known-there : (setup : Setup) (r : Role) (count n : ℕ) → n < count → keys_at (first_keys (map public_of (keys_for setup r count))) n ≡ public_of (key_for setup r n) ∷ []
+pub known-there : (setup : Setup) (r : Role) (count n : ℕ) → n < count → keys_at (first_keys (map public_of (keys_for setup r count))) n ≡ public_of (key_for setup r n) ∷ []
 known-there setup r count n less = let e : 0 + n ≡ n = omega arith in known-from (key_for setup r) 0 count n less ∙ ap (λ k. public_of (key_for setup r k) ∷ []) e
 
 -- so many logs and authorities as the setup and the line say
-genesis-long : (setup : Setup) (count : ℕ) (genesis : Directory) → genesis_of setup count ≡ Some genesis
+pub genesis-long : (setup : Setup) (count : ℕ) (genesis : Directory) → genesis_of setup count ≡ Some genesis
     → (length genesis.logs ≡ setup.logs) × (length genesis.authorities ≡ count)
 genesis-long setup count genesis h =
     let is = made-of (map public_of (keys_for setup role.LogServer setup.logs)) (map public_of (keys_for setup role.Authority count)) setup.quorum genesis h
@@ -105,11 +105,11 @@ made-seated party dishonest count sits f none each = record {
 -- ---- `authorities`
 
 made-quiet : (setup : Setup) (r : Role) (numbers : List ℕ)
-    → filter_map accepted_in (map (λ number. key_made (record { role = r; number = number }) (key_for setup r number)) numbers) ≡ []
+    → filter_map marked_in (map (λ number. key_made (record { role = r; number = number }) (key_for setup r number)) numbers) ≡ []
 made-quiet setup r [] = refl
 made-quiet setup r (number ∷ numbers) = made-quiet setup r numbers
 
-pub keys-quiet : (setup : Setup) (r : Role) (count : ℕ) → filter_map accepted_in (keys_made setup r count) ≡ []
+pub keys-quiet : (setup : Setup) (r : Role) (count : ℕ) → filter_map marked_in (keys_made setup r count) ≡ []
 keys-quiet setup r count = made-quiet setup r (range_with_len 0 count)
 
 -- nothing is held
@@ -177,7 +177,9 @@ authorities-makes w count bare =
           counted = s.counted;
           founded = subst (λ n. n ≤ 16) (sym (genesis-long w.setup count genesis made).0) s.counted;
         };
-        told = λ s. ap (λ xs. told_in (part_of w) ++ xs) (keys-quiet w.setup role.Authority count)
+        told = λ s. ap (λ xs. told_in (part_of w) ++ xs) (quiet (keys_made w.setup role.Authority count) (keys-quiet w.setup role.Authority count)).0
             ∙ ap (λ xs. xs ++ []) (none-told w.clients w.judged (bare s).judged) ∙ sym (none-told genesis w.judged (bare s).judged);
+        named = ap (λ xs. (part_of w).dishonest ++ xs) (quiet (keys_made w.setup role.Authority count) (keys-quiet w.setup role.Authority count)).1
+            ∙ append-nil (part_of w).dishonest;
       };
     })

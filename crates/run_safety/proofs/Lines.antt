@@ -62,7 +62,7 @@ use Rattle.report_text.specs.declared.happening.Target.TheVariants.{Nobody}
 use Rattle.report_text.specs.declared.happening.What.{What}
 use Rattle.report_text.specs.declared.happening.What.TheVariants.{Handover, Object, Submit}
 use Rattle.script_text.specs.declared.line.PolicyWords.{PolicyWords}
-use Rattle.run_safety.specs.Headline.{accepted_in}
+use Rattle.run_safety.proofs.Quiet.{marked_in}
 use Rattle.run_safety.specs.Seats.{IsAuthorityOf, IsLogOf, honest_count}
 use Rattle.ar_world.proofs.OwnerReplies.{attached-by-alone}
 use Rattle.run_safety.proofs.Chains.{need-holds}
@@ -169,6 +169,7 @@ turns w who key logs authorities late sits =
       keeps = record {
         stands = λ s. record { seated = sits s.seated; bare = λ early. let e : true ≡ false = sym late ∙ early in absurd cc; counted = s.counted; founded = s.founded };
         told = λ s. append-nil (told_in (part_of w));
+        named = refl;
       };
     })
 
@@ -219,14 +220,14 @@ dishonest-makes w who late =
 -- ---- what authorities know
 
 -- who has a check is there
-checking-there : (w : World) (number : ℕ) (found : AuthorityNode × CheckParts) → checking_at w number ≡ Some found → authority_at w number ≡ Some found.0
+pub checking-there : (w : World) (number : ℕ) (found : AuthorityNode × CheckParts) → checking_at w number ≡ Some found → authority_at w number ≡ Some found.0
 checking-there w number found h = option_and_then_some with_check (authority_at w number) found h (λ node is has. is ∙ ap Some (by node.check has))
   where
     by : {node : AuthorityNode} (check : Option CheckParts) → option_map (λ c. (node, c)) check ≡ Some found → node ≡ found.0
     by None e = absurd cc
     by {node} (Some c) e = ap (λ (o : Option (AuthorityNode × CheckParts)). (unwrap_or o (node, c)).0) e
 
-pub check-line-makes : (w : World) (number owner : ℕ) (tells : List ℕ → Told → Told) (said : Happening) → filter_map accepted_in (said ∷ []) ≡ []
+pub check-line-makes : (w : World) (number owner : ℕ) (tells : List ℕ → Told → Told) (said : Happening) → filter_map marked_in (said ∷ []) ≡ []
     → IfOk (check_line w number owner tells said) (Makes w)
 check-line-makes w number owner tells said none =
     if-chained (named 1 (checking_at w number)) _ (Makes w) (λ found same.

@@ -16,7 +16,8 @@ use Rattle.party_keys.specs.Directory.{Directory, keys_of}
 use Rattle.ar_statement.specs.Claims.{authority_party, log_party}
 use Rattle.report_text.specs.declared.happening.Happening.{Happening}
 use Rattle.report_text.specs.declared.happening.Said.{Said}
-use Rattle.run_safety.specs.Headline.{accepted_in}
+use Rattle.run_safety.specs.Headline.{accepted_in, dishonest_in}
+use Rattle.run_safety.proofs.Quiet.{marked_in, quiet}
 use Rattle.run_safety.specs.Seats.{AreSeated, IsAuthorityOf, IsLogOf, IsSeated, honest_count}
 
 -- ---- what is told of a world
@@ -77,10 +78,12 @@ told_in p = map (told_by p.clients) p.judged
 
 -- ---- from one world to a later one
 
--- All that stood stands; and what clients hold, as it is written, is what they held, and what is printed as accepted.
+-- All that stood stands; and what clients hold, as it is written, is what they held, and what is printed as accepted. So it is
+-- of who is dishonest.
 pub record Keeps (p q : Part) (said : List Happening) : Type 0 where
   pub stands : Stands p → Stands q
   pub told : Stands p → told_in p ++ filter_map accepted_in said ≡ told_in q
+  pub named : p.dishonest ++ filter_map dishonest_in said ≡ q.dishonest
 
 -- the same without another phase
 pub record Goes (p q : Part) (said : List Happening) : Type 0 where
@@ -91,13 +94,14 @@ pub record Goes (p q : Part) (said : List Happening) : Type 0 where
 abbrev pub Makes : World → Moved → Type 0
 Makes w made = Goes (part_of w) (part_of made.0) made.1
 
--- nothing that is told changes, and nothing is printed as accepted
-pub still : (p q : Part) (said : List Happening) → q ≡ p → filter_map accepted_in said ≡ [] → Goes p q said
+-- nothing that is told changes, and nothing is printed as accepted or of who is dishonest
+pub still : (p q : Part) (said : List Happening) → q ≡ p → filter_map marked_in said ≡ [] → Goes p q said
 still p q said same none = record {
   phase = ap (λ (r : Part). r.phase) same;
   keeps = record {
     stands = λ s. subst Stands (sym same) s;
-    told = λ s. ap (λ xs. told_in p ++ xs) none ∙ append-nil (told_in p) ∙ ap told_in (sym same);
+    told = λ s. ap (λ xs. told_in p ++ xs) (quiet said none).0 ∙ append-nil (told_in p) ∙ ap told_in (sym same);
+    named = ap (λ xs. p.dishonest ++ xs) (quiet said none).1 ∙ append-nil p.dishonest ∙ ap (λ (r : Part). r.dishonest) (sym same);
   };
 }
 
@@ -108,26 +112,30 @@ both p m q said later first second = record {
   told = λ s. ap (λ xs. told_in p ++ xs) (filter_map-append accepted_in said later)
       ∙ sym (append_assoc (told_in p) (filter_map accepted_in said) (filter_map accepted_in later))
       ∙ ap (λ xs. xs ++ filter_map accepted_in later) (first.told s) ∙ second.told (first.stands s);
+  named = ap (λ xs. p.dishonest ++ xs) (filter_map-append dishonest_in said later)
+      ∙ sym (append_assoc p.dishonest (filter_map dishonest_in said) (filter_map dishonest_in later))
+      ∙ ap (λ xs. xs ++ filter_map dishonest_in later) first.named ∙ second.named;
 }
 
 -- what is printed before tells of nothing accepted
-pub behind : (p q : Part) (front said : List Happening) → filter_map accepted_in front ≡ [] → Goes p q said → Goes p q (front ++ said)
+pub behind : (p q : Part) (front said : List Happening) → filter_map marked_in front ≡ [] → Goes p q said → Goes p q (front ++ said)
 behind p q front said none goes = record { phase = goes.phase; keeps = both p p q front said (still p p front refl none).keeps goes.keeps }
 
 -- Parties change, who are seated there too; who is dishonest, and what clients know and hold, stays.
 pub moves : (p : Part) (logs : List (Option LogNode)) (authorities : List (Option AuthorityNode)) (said : List Happening)
-    → (SeatedIn p → SeatedIn (record p { logs = logs; authorities = authorities })) → filter_map accepted_in said ≡ []
+    → (SeatedIn p → SeatedIn (record p { logs = logs; authorities = authorities })) → filter_map marked_in said ≡ []
     → Goes p (record p { logs = logs; authorities = authorities }) said
 moves p logs authorities said sits none = record {
   phase = refl;
   keeps = record {
     stands = λ s. record { seated = sits s.seated; bare = λ early. record { dishonest = (s.bare early).dishonest; judged = (s.bare early).judged }; counted = s.counted; founded = s.founded };
-    told = λ s. ap (λ xs. told_in p ++ xs) none ∙ append-nil (told_in p);
+    told = λ s. ap (λ xs. told_in p ++ xs) (quiet said none).0 ∙ append-nil (told_in p);
+    named = ap (λ xs. p.dishonest ++ xs) (quiet said none).1 ∙ append-nil p.dishonest;
   };
 }
 
 -- So many logs are to be made; all else stays.
-pub counts : (p : Part) (count : ℕ) (said : List Happening) → count ≤ 16 → filter_map accepted_in said ≡ [] → Goes p (record p { count = count }) said
+pub counts : (p : Part) (count : ℕ) (said : List Happening) → count ≤ 16 → filter_map marked_in said ≡ [] → Goes p (record p { count = count }) said
 counts p count said few none = record {
   phase = refl;
   keeps = record {
@@ -144,6 +152,7 @@ counts p count said few none = record {
       counted = few;
       founded = s.founded;
     };
-    told = λ s. ap (λ xs. told_in p ++ xs) none ∙ append-nil (told_in p);
+    told = λ s. ap (λ xs. told_in p ++ xs) (quiet said none).0 ∙ append-nil (told_in p);
+    named = ap (λ xs. p.dishonest ++ xs) (quiet said none).1 ∙ append-nil p.dishonest;
   };
 }

@@ -28,7 +28,7 @@ use Rattle.report_text.specs.declared.happening.Happening.TheVariants.{Forgot, T
 use Rattle.report_text.specs.declared.happening.What.TheVariants as whats
 use Rattle.script_text.specs.declared.line.Line.{Line}
 use Rattle.script_text.specs.declared.line.Line.TheVariants as line
-use Rattle.run_safety.specs.Headline.{accepted_in, said_by}
+use Rattle.run_safety.specs.Headline.{accepted_in, dishonest_in, said_by}
 use Rattle.run_safety.specs.Seats.{IsSeated}
 use Rattle.run_safety.proofs.Chains.{need-holds}
 use Rattle.run_safety.proofs.Founded.{authorities-makes}
@@ -39,7 +39,7 @@ use Rattle.ar_base.proofs.Shown.{if-chained}
 -- ---- a step
 
 -- the line may come where it leads
-abbrev Comes : World → Option Phase → Type 0
+abbrev pub Comes : World → Option Phase → Type 0
 Comes w o = (next : Phase) → o ≡ Some next → may_come w.phase next ≡ true
 
 -- before the line `authorities` all is bare
@@ -113,6 +113,7 @@ led-keeps w next made comes makes = record {
         founded = was.founded;
       };
   told = makes.keeps.told;
+  named = makes.keeps.named;
 }
 
 stepped-keeps : (w : World) (o : Option Phase) (made : Effect) → (Comes w o → IfOk made (Makes w)) → IfOk (stepped w o made) (KeptBy w)
@@ -170,6 +171,11 @@ run-seated saying checks input =
 pub run-told : (saying : Saying) (checks : List CheckParts) (input : List ℕ)
     → filter_map accepted_in (run saying checks input).said ≡ map (said_by (held_of (run saying checks input).world)) (held_of (run saying checks input).world).judged
 run-told saying checks input = (run-keeps saying checks input).told (first-stands checks)
+
+-- who is dishonest was written to be so, and nobody else, in order
+pub run-named : (saying : Saying) (checks : List CheckParts) (input : List ℕ)
+    → filter_map dishonest_in (run saying checks input).said ≡ (held_of (run saying checks input).world).dishonest
+run-named saying checks input = (run-keeps saying checks input).named
 
 -- there are no more logs than the line `logs` may say
 pub run-few : (saying : Saying) (checks : List CheckParts) (input : List ℕ) → length (run saying checks input).world.logs ≤ 16

@@ -1,11 +1,13 @@
 -- What is promised of a run.
-use Rattle.std.specs.Prelude.{◌≡◌, map}
+use Rattle.std.specs.Prelude.{◌≡◌, ◌++◌, List, map}
 use Rattle.std.specs.List.{filter_map}
 use Rattle.std.specs.Prelude.{Option, Some, None}
 use Rattle.report_text.specs.declared.happening.Happening.{Happening}
-use Rattle.report_text.specs.declared.happening.Happening.TheVariants.{Judged}
+use Rattle.report_text.specs.declared.happening.Happening.TheVariants.{Dishonest, Judged}
 use Rattle.report_text.specs.declared.happening.Said.{Said}
 use Rattle.report_text.specs.declared.happening.Said.TheVariants.{Absent, Accepted, Refused}
+use Rattle.ar_base.specs.Prefixes.{BeginsWith}
+use Rattle.ar_statement.specs.declared.party.Party.{Party}
 use Rattle.ar_safety.specs.Held.{AreKept, AreSafe, Held, Taken, records_of, verdict_on}
 use Rattle.ar_safety.specs.Theorem.{Few, NoCollision, NoForgery}
 use Rattle.report_text.specs.Verdicts.{said_of}
@@ -26,6 +28,11 @@ abbrev pub accepted_in : Happening → Option Said
 accepted_in (Judged message said) = said_accepted said
 accepted_in _ = None
 
+-- whom a line tells to be dishonest
+abbrev pub dishonest_in : Happening → Option Party
+dishonest_in (Dishonest who) = Some who
+dishonest_in _ = None
+
 -- what is written of a judgement that is held
 abbrev pub said_by : Held → Taken → Said
 said_by h t = said_of t.name (verdict_on h.directory t)
@@ -38,9 +45,12 @@ abbrev pub IsSafeWorld : World → Type 0
 IsSafeWorld w = Few (records_of (held_of w)) → NoForgery (records_of (held_of w)) → NoCollision (records_of (held_of w)) → AreSafe (held_of w)
 
 -- Of a run: from the line `authorities` on, what its parties hold are the records of all honest ones, each an honest one's, and
--- its parties are safe so; and what is written as accepted, a certificate or that there is none, is what clients hold, each by its
--- verdict, in order.
+-- its parties are safe so. What is written as accepted, a certificate or that there is none, is what clients hold, each by its
+-- verdict, in order; and in a front of the lines, where it was broken off, it begins that. And the lines `dishonest` that are
+-- written tell who is dishonest, each once, in order.
 pub record IsSafeRun (r : Run) : Type 0 where
   pub kept : HasParties r.world → AreKept (held_of r.world)
   pub safe : HasParties r.world → IsSafeWorld r.world
   pub written : filter_map accepted_in r.said ≡ map (said_by (held_of r.world)) (held_of r.world).judged
+  pub fronts : (front rest : List Happening) → r.said ≡ front ++ rest → BeginsWith (map (said_by (held_of r.world)) (held_of r.world).judged) (filter_map accepted_in front)
+  pub dishonest : filter_map dishonest_in r.said ≡ (held_of r.world).dishonest

@@ -11,11 +11,9 @@ use Rattle.owner_check.specs.declared.answer.Outcome.{Outcome}
 use Rattle.owner_check.specs.declared.answer.Outcome.TheVariants.{Failed}
 use Rattle.report_text.specs.Lines.{line_of}
 use Rattle.ar_nodes.specs.Parties.{CheckParts}
-use Rattle.ar_world.specs.Records.{HasParties, KeepsRecords}
 use Rattle.ar_world.specs.Run.{Progress, Run, Saying, at_line, line_taken, refused_lines, run, run_from, then_on}
 use Rattle.ar_world.specs.State.{World, first_world}
 use Rattle.ar_world.specs.declared.cause.Cause.{Cause}
-use Rattle.run_safety.proofs.Safe.{safe-run}
 use Rattle.script_play.specs.Counts.{counted_from, no_counts}
 use Rattle.script_play.specs.Playing.{Plays, PlaysAll, PlaysPart, PlaysSome, Stand, WritesUpTo, refusal_told, told, written_of}
 use Rattle.script_play.specs.declared.counts.Counts.{Counts}
@@ -231,28 +229,27 @@ abbrev begun : List CheckParts → Stand
 begun checks = record { world = first_world checks; counts = no_counts }
 
 pub play-done : {K : Type 0} (faults : K → ℕ) (wrote : K → List ℕ → Type 0) (a b : K) (checks : List CheckParts) (t : Stand) (input : List ℕ) (refused : Option (ℕ × Cause))
-    → All faults wrote a b (begun checks) t input (Ok refused) → (HasParties t.world → KeepsRecords t.world)
+    → All faults wrote a b (begun checks) t input (Ok refused)
     → Plays faults wrote a b checks input (Ok (record { world = t.world; counts = t.counts; refused = refused }))
-play-done faults wrote a b checks t input refused all keeps =
+play-done faults wrote a b checks t input refused all =
     let r = run all.says checks input in
     record {
       saying = all.says;
       played = ap (λ (v : Stand). record { world = v.world; counts = v.counts; refused = refused }) all.plays.stands
           ∙ ap (λ (b : Option (ℕ × Cause)). record { world = r.world; counts = counted_from no_counts r.said; refused = b }) all.plays.refused;
-      safe = safe-run all.says checks input (subst (λ (v : Stand). HasParties v.world → KeepsRecords v.world) all.plays.stands keeps);
       written = written-answered faults wrote a b (written_of r) refused (record { world = t.world; counts = t.counts; refused = refused }) all.plays.written;
     }
 
 -- the same of the stage that was played on
 pub play-so : {K : Type 0} (faults : K → ℕ) (wrote : K → List ℕ → Type 0) (a b : K) (checks : List CheckParts) (w : World) (n : Counts) (s t : Stand) (input : List ℕ) (refused : Option (ℕ × Cause))
-    → w ≡ first_world checks → n ≡ no_counts → s ≡ t → All faults wrote a b (record { world = w; counts = n }) t input (Ok refused) → (HasParties s.world → KeepsRecords s.world)
+    → w ≡ first_world checks → n ≡ no_counts → s ≡ t → All faults wrote a b (record { world = w; counts = n }) t input (Ok refused)
     → Plays faults wrote a b checks input (Ok (record { world = s.world; counts = s.counts; refused = refused }))
-play-so faults wrote a b checks w n s t input refused first none same all keeps =
+play-so faults wrote a b checks w n s t input refused first none same all =
     let ok : Result (Option (ℕ × Cause)) Fault = Ok refused in
     let Begun = λ (v : World). All faults wrote a b (record { world = v; counts = n }) t input ok in
     let Counted = λ (m : Counts). All faults wrote a b (record { world = first_world checks; counts = m }) t input ok in
     let Ended = λ (v : Stand). All faults wrote a b (begun checks) v input ok in
-    play-done faults wrote a b checks s input refused (subst Ended (sym same) (subst Counted none (subst Begun first all))) keeps
+    play-done faults wrote a b checks s input refused (subst Ended (sym same) (subst Counted none (subst Begun first all)))
 
 pub play-broken : {K : Type 0} (faults : K → ℕ) (wrote : K → List ℕ → Type 0) (a b : K) (checks : List CheckParts) (w : World) (n : Counts) (t : Stand) (input : List ℕ) (f : Fault)
     → w ≡ first_world checks → All faults wrote a b (record { world = w; counts = n }) t input (Err f) → Plays faults wrote a b checks input (Err f)
@@ -262,7 +259,6 @@ play-broken faults wrote a b checks w n t input f first all =
     record {
       saying = so.says;
       played = tt;
-      safe = tt;
       written = written-failed faults wrote a b (written_of (run so.says checks input)) f so.plays.written;
     }
 

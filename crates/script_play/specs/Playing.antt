@@ -9,7 +9,6 @@ use Rattle.report_text.specs.Lines.{line_of}
 use Rattle.report_text.specs.declared.happening.Happening.{Happening}
 use Rattle.ar_nodes.specs.Parties.{CheckParts}
 use Rattle.ar_world.specs.Run.{Course, Run, Saying, lines_of_run, refused_lines, run}
-use Rattle.run_safety.specs.Headline.{IsSafeRun}
 use Rattle.ar_world.specs.State.{World}
 use Rattle.ar_world.specs.declared.cause.Cause.{Cause}
 use Rattle.ar_world.specs.declared.cause.Cause.TheVariants.{Untaken}
@@ -101,11 +100,10 @@ pub record Played : Type 0 where
 abbrev pub played_of : Run → Played
 played_of r = record { world = r.world; counts = counted_from no_counts r.said; refused = r.refused }
 
--- A script was played to its end, or to the first line that is refused, and all of its run was written, which is safe; or memory
--- ran out, or a write failed, and a front of that was written. The run is that of some answers of the checks that tell nothing
+-- A script was played to its end, or to the first line that is refused, and all of its run was written; or memory ran out, or a
+-- write failed, and a front of that was written. The run is that of some answers of the checks that tell nothing
 -- of themselves.
 pub record Plays {K : Type 0} (faults : K → ℕ) (wrote : K → List ℕ → Type 0) (old new : K) (checks : List CheckParts) (input : List ℕ) (result : Result Played Fault) : Type 0 where
   pub saying : Saying
   pub played : IfOk result (λ p. p ≡ played_of (run saying checks input))
-  pub safe : OnOk result (IsSafeRun (run saying checks input))
   pub written : WritesUpTo faults wrote old new (written_of (run saying checks input)) result

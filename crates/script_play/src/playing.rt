@@ -166,7 +166,6 @@ pub fn play<C: OwnerCheck, K: Sink>(
     match stage.take_all(alloc, sink, input) {
         Ok(refused) => {
             let Stage { world, counts } = stage;
-            world.told();
             Ok(Played {
                 world,
                 counts,

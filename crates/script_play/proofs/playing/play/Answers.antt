@@ -9,4 +9,4 @@ returns-in-Err g c =
 pub returns-in-Ok : goal.returns-in-Ok
 returns-in-Ok g c =
     play-so g.K.Sink.faults g.K.Sink.wrote c.args.sink.now c.take_all.new.sink _ c.new.result c.none.result _ c.take_all.new.self c.args.input.now c.in-Ok.refused
-    c.new.ensures c.none.ensures c.stage.view_is c.in-Ok.ensures c.told.ensures
+    c.new.ensures c.none.ensures c.stage.view_is c.in-Ok.ensures

@@ -1,0 +1,202 @@
+-- Each way in which an honest log or authority changes keeps it.
+use Rattle.std.proofs.Common.{◌≡◌, ◌∙◌, ℕ, zero, suc, ◌+◌, ◌-◌, ◌^◌, ◌<◌, ◌≤◌, List, [], ◌∷◌, ◌++◌, All, length, refl, sym, ap, subst, arith, Bool, Option, Some, None, Result, Ok, Err, is_none}
+use Rattle.std.specs.Prelude.{slice_get}
+use Rattle.std.proofs.lemmas.List.Elements.{All-cons, All-nil}
+use Rattle.std.proofs.lemmas.Nat.{pow_pos}
+use Rattle.ar_base.specs.Bytes.{AreBytes}
+use Rattle.ar_council.specs.Council.{council_of}
+use Rattle.ar_founding.specs.Founding.{fresh_log, new_authority}
+use Rattle.ar_message.proofs.MessageLaws.{only_messages}
+use Rattle.ar_message.specs.Messages.{message_in}
+use Rattle.ar_message.specs.declared.message.Message.{Message}
+use Rattle.ar_message.specs.declared.unsigned.Unsigned.{Unsigned}
+use Rattle.ar_nodes.proofs.Nodes.{next_is}
+use Rattle.ar_nodes.specs.Acting.{authority_does, authority_took, authority_turned, log_does}
+use Rattle.ar_nodes.specs.Authorities.{authority_reply, node_behind, says_to}
+use Rattle.ar_nodes.specs.Parties.{AuthorityNode, CheckParts, LogNode, next_of}
+use Rattle.ar_nodes.specs.declared.event.LogEvent.{LogEvent}
+use Rattle.ar_nodes.specs.declared.event.LogEvent.TheVariants as events
+use Rattle.ar_safety.proofs.Rings.{first-known, learnt-known, rolled-known}
+use Rattle.ar_safety.specs.Accepting.{KnowsRing}
+use Rattle.ar_statement.specs.Claims.{authority_party}
+use Rattle.authority_core.proofs.Growing.{honest-fresh}
+use Rattle.authority_core.proofs.Rows.{message-keeps, roll-row-keeps}
+use Rattle.authority_core.proofs.Signing as authority
+use Rattle.authority_core.proofs.Standing.{row-stays}
+use Rattle.authority_core.specs.RollRows.{roll_row, rolling}
+use Rattle.authority_core.specs.Row as rows
+use Rattle.authority_core.specs.State as authority_state
+use Rattle.epoch_log.proofs.Called.{kept-fresh}
+use Rattle.key_roll.specs.Book.{empty_book}
+use Rattle.key_roll.specs.Ring.{AreKeysOf, IsNext, ring_signature_len}
+use Rattle.lms_tree.specs.Key.{public_of}
+use Rattle.lms_tree.specs.KeyParts.{KeyParts}
+use Rattle.lms_tree.specs.LmsKind.{height_of, leaves_of}
+use Rattle.lms_tree.specs.declared.public_key.LmsPublic.{LmsPublic}
+use Rattle.log_core.proofs.KeptEndings.{kept-row}
+use Rattle.log_core.proofs.Keyed as log
+use Rattle.log_core.specs.Keyed.{IsPlain}
+use Rattle.log_core.specs.Rolling.{rolling_row}
+use Rattle.log_core.specs.Row.{IsInput, row}
+use Rattle.log_core.specs.State as log_state
+use Rattle.owner_check.specs.declared.answer.Outcome.{Outcome}
+use Rattle.owner_core.proofs.Texts.{signature_fits}
+use Rattle.party_keys.specs.Directory.{Directory, IsDirectory, keys_of}
+use Rattle.party_keys.specs.Learning.{after_adopting, after_all}
+use Rattle.run_safety.specs.Kept.{KeepsAuthority, KeepsLog}
+use Rattle.run_safety.proofs.Learns.{row-learns}
+use Rattle.run_safety.proofs.Rings.{public-text, public-widths, ring-first, ring-more}
+
+-- ---- the first key
+
+-- a ring of one key is that of a new book
+book-first : (key : KeyParts) → AreKeysOf (empty_book (leaves_of key.lms)) (ring_signature_len key) (key ∷ [])
+book-first key = record {
+  many = refl;
+  leaves = All-cons (λ (k : KeyParts). leaves_of key.lms ≡ leaves_of k.lms) key [] refl (All-nil (λ (k : KeyParts). leaves_of key.lms ≡ leaves_of k.lms));
+  bytes = All-cons (λ (k : KeyParts). ring_signature_len key ≡ ring_signature_len k) key [] refl (All-nil (λ (k : KeyParts). ring_signature_len key ≡ ring_signature_len k));
+}
+
+pub fresh-log-kept : (genesis : Directory) (number : ℕ) (key : KeyParts) → IsDirectory genesis → number < 2 ^ 16 → KeepsLog (fresh_log genesis number key)
+fresh-log-kept genesis number key d small = record {
+  core = record {
+    log = kept-fresh number (council_of genesis) (leaves_of key.lms) small (pow_pos (height_of key.lms));
+    sendable = record { logs = d.logs_most; votes = tt; statuses = tt; newest = tt; voted = λ k d less. absurd (omega (arith, less)) };
+    council = refl;
+    logs = let least = d.logs_least in omega (arith, least);
+    endorsed = λ k d less. absurd (omega (arith, less));
+    queued = λ k d less. absurd (omega (arith, less));
+    few = omega arith;
+    len = signature_fits key.lms key.ots;
+  };
+  book = book-first key;
+  ring = ring-first key;
+}
+
+pub new-authority-kept : (genesis : Directory) (number : ℕ) (key : KeyParts) (check : Option CheckParts) → number < 2 ^ 16
+    → slice_get (keys_of genesis (authority_party number)) 0 ≡ Some (public_of key) → KeepsAuthority (new_authority genesis number key check)
+new-authority-kept genesis number key check small known = record {
+  state = record {
+    number = small;
+    bytes = signature_fits key.lms key.ots;
+    honest = honest-fresh (council_of genesis) number (leaves_of key.lms) (pow_pos (height_of key.lms));
+  };
+  book = book-first key;
+  ring = ring-first key;
+  known = first-known genesis (authority_party number) (leaves_of key.lms) key known refl;
+}
+
+-- ---- logs
+
+pub log-does-kept : (node : LogNode) (event : LogEvent) (input : log_state.Input) → KeepsLog node → IsInput input → IsPlain input
+    → KeepsLog (log_does node node.keys event (row node.core input)).0
+log-does-kept node event input kept is plain = by (row node.core input) refl
+  where
+    by : (a : log_state.Answer) → row node.core input ≡ a → KeepsLog (log_does node node.keys event a).0
+    by (Ok reply) at = record {
+      core = kept-row node.core input reply kept.core is at;
+      book = (log.plain-signs node.core input node.keys reply.after reply.unsigned kept.core is plain kept.book at).stays;
+      ring = kept.ring;
+    }
+    by (Err refusal) at = kept
+
+-- the order to roll is that row
+roll-is : (s : log_state.CoreState) (key : LmsPublic) → row s (log_state.rolls key) ≡ rolling_row s key
+unfolding row
+roll-is s key = refl
+
+pub log-rolls-kept : (node : LogNode) (next : KeyParts) → KeepsLog node → next_of node.keys ≡ Some next
+    → KeepsLog (log_does node (node.keys ++ next ∷ []) events.Roll (row node.core (log_state.rolls (public_of next)))).0
+log-rolls-kept node next kept there = by (row node.core (log_state.rolls (public_of next))) refl
+  where
+    behind : IsNext node.keys next
+    behind = next_is node.keys next there
+
+    is : IsInput (log_state.rolls (public_of next))
+    is = log.next_is_input (public_of next) (public-text next) (public-widths next)
+
+    by : (a : log_state.Answer) → row node.core (log_state.rolls (public_of next)) ≡ a → KeepsLog (log_does node (node.keys ++ next ∷ []) events.Roll a).0
+    by (Ok reply) at = record {
+      core = kept-row node.core (log_state.rolls (public_of next)) reply kept.core is at;
+      book = (log.rolled-signs node.core node.keys (node.keys ++ next ∷ []) next reply.after reply.unsigned kept.core is kept.book behind refl
+          (sym (roll-is node.core (public_of next)) ∙ at)).stays;
+      ring = ring-more node.keys next kept.ring behind;
+    }
+    by (Err refusal) at = kept
+
+-- ---- authorities
+
+-- whatever its check tells
+pub check-kept : (node : AuthorityNode) (check : Option CheckParts) → KeepsAuthority node → KeepsAuthority (record node { check = check })
+check-kept node check kept = record { state = kept.state; book = kept.book; ring = kept.ring; known = kept.known }
+
+-- bytes that are read are a message
+read-keeps : (s : authority_state.AuthorityState) (retired : Bool) (bytes : List ℕ) (read : Result Message ℕ) (said : Outcome) → message_in bytes ≡ read → AreBytes bytes
+    → authority_state.IsAuthority s → (later : authority_state.AuthorityState) (sent : Unsigned) → rows.row s retired read said ≡ Ok (later, sent) → authority_state.IsAuthority later
+read-keeps s retired bytes (Ok m) said was are is later sent at = message-keeps s retired m said is ((only_messages bytes m are).0 was).0 later sent at
+read-keeps s retired bytes (Err place) said was are is later sent at = absurd cc
+
+-- the directory behind a step knows the ring
+row-knows : (s : authority_state.AuthorityState) (ring : List KeyParts) (retired : Bool) (read : Result Message ℕ) (said : Outcome) (later : authority_state.AuthorityState) (sent : Unsigned)
+    → rows.row s retired read said ≡ Ok (later, sent) → authority.IsSameKeys s later
+    → KnowsRing s.keys (authority_party s.me) s.past.signed.leaves ring → KnowsRing later.keys (authority_party later.me) later.past.signed.leaves ring
+row-knows s ring retired read said later sent at same known =
+    let learns = row-learns s retired read said later sent at in
+    let stays = row-stays s retired read said later sent at in
+    subst (λ (keys : Directory). KnowsRing keys (authority_party later.me) later.past.signed.leaves ring) (sym learns.1)
+    (subst (λ n. KnowsRing (after_all s.keys learns.0) (authority_party n) later.past.signed.leaves ring) (sym stays.0)
+    (subst (λ n. KnowsRing (after_all s.keys learns.0) (authority_party s.me) n ring) (sym same.book.leaves)
+    (learnt-known s.keys learns.0 (authority_party s.me) s.past.signed.leaves ring known)))
+
+pub authority-took-kept : (says : Outcome) (node : AuthorityNode) (bytes : List ℕ) → KeepsAuthority node → AreBytes bytes → KeepsAuthority (authority_took says node bytes).0
+authority-took-kept says node bytes kept are = by (authority_reply says node (message_in bytes)) refl
+  where
+    said : Outcome
+    said = says_to says node.check (rows.asked_in (message_in bytes))
+
+    by : (a : authority_state.Answer) → authority_reply says node (message_in bytes) ≡ a → KeepsAuthority (authority_does (node_behind node (message_in bytes) a) a).0
+    by (Ok answer) at =
+        let signs = authority.row-signs node.state node.keys (is_none node.check) (message_in bytes) said kept.book kept.state.honest.sound answer.0 answer.1 at in
+        record {
+          state = read-keeps node.state (is_none node.check) bytes (message_in bytes) said refl are kept.state answer.0 answer.1 at;
+          book = authority.keys-stay node.state answer.0 node.keys kept.book signs.stays;
+          ring = kept.ring;
+          known = row-knows node.state node.keys (is_none node.check) (message_in bytes) said answer.0 answer.1 at signs.stays kept.known;
+        }
+    by (Err refusal) at = record { state = kept.state; book = kept.book; ring = kept.ring; known = kept.known }
+
+-- the directory behind a roll knows the ring with the next key
+rolls-known : (s : authority_state.AuthorityState) (ring : List KeyParts) (next : KeyParts) → AreKeysOf s.past.signed s.signature_len ring → IsNext ring next
+    → KnowsRing s.keys (authority_party s.me) s.past.signed.leaves ring
+    → KnowsRing (rolling s (public_of next)).keys (authority_party s.me) s.past.signed.leaves (ring ++ next ∷ [])
+rolls-known s ring next book behind known =
+    let newest : length ring - 1 ≡ s.past.signed.newest = let many = book.many in omega (arith, many) in
+    subst (λ g. KnowsRing (after_adopting s.keys (authority_party s.me) g (public_of next)) (authority_party s.me) s.past.signed.leaves (ring ++ next ∷ [])) newest
+    (rolled-known s.keys (authority_party s.me) s.past.signed.leaves ring next known behind)
+
+pub authority-rolls-kept : (node : AuthorityNode) (next : KeyParts) → KeepsAuthority node → next_of node.keys ≡ Some next
+    → KeepsAuthority (authority_turned node next (roll_row node.state (public_of next))).0
+authority-rolls-kept node next kept there = by (roll_row node.state (public_of next)) refl
+  where
+    s : authority_state.AuthorityState
+    s = node.state
+
+    more : List KeyParts
+    more = node.keys ++ next ∷ []
+
+    behind : IsNext node.keys next
+    behind = next_is node.keys next there
+
+    Knows : authority_state.AuthorityState → Type 0
+    Knows later = KnowsRing later.keys (authority_party later.me) later.past.signed.leaves more
+
+    by : (a : authority_state.Answer) → roll_row node.state (public_of next) ≡ a → KeepsAuthority (authority_turned node next a).0
+    by (Ok answer) at =
+        let rolled = authority.roll-signs s more (public_of next) answer.0 answer.1 (authority.rolled-ring s node.keys next kept.book behind) at in
+        record {
+          state = roll-row-keeps s (public_of next) kept.state (public-text next) (public-widths next) answer.0 answer.1 at;
+          book = (authority.rolled-signs s node.keys more next answer.0 answer.1 kept.book behind refl at).1;
+          ring = ring-more node.keys next kept.ring behind;
+          known = subst Knows (sym rolled.is) (rolls-known s node.keys next kept.book behind kept.known);
+        }
+    by (Err refusal) at = kept

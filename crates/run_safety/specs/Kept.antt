@@ -1,0 +1,41 @@
+-- What a run keeps of its nodes, its messages and its clients' directory.
+use Rattle.std.specs.Prelude.{◌≡◌, Bool, true, List, All, nat_le, IfSome, Option}
+use Rattle.ar_base.specs.Bytes.{AreBytes}
+use Rattle.ar_nodes.specs.Parties.{AuthorityNode, LogNode}
+use Rattle.ar_nodes.specs.Pool.{Pooled}
+use Rattle.ar_safety.specs.Accepting.{KnowsRing}
+use Rattle.ar_safety.specs.Held.{Taken}
+use Rattle.ar_statement.specs.Claims.{authority_party}
+use Rattle.ar_world.specs.Founding.{place_of}
+use Rattle.ar_world.specs.State.{World}
+use Rattle.authority_core.specs.State.{IsAuthority}
+use Rattle.key_roll.specs.Ring.{AreKeysOf, IsRing}
+use Rattle.log_core.specs.Kept.{IsKeptCore}
+use Rattle.party_keys.specs.Directory.{Directory, IsDirectory}
+
+-- An honest log is kept: its record is an honest log's, and what it counts was seen. Its ring is its own: there is a key for
+-- each generation of its book, and behind the first each is the next of the one before it.
+pub record KeepsLog (node : LogNode) : Type 0 where
+  pub core : IsKeptCore node.core
+  pub book : AreKeysOf node.core.log.past.signed node.core.signature_len node.keys
+  pub ring : IsRing node.keys
+
+-- The same of an honest authority; and its own directory knows its keys.
+pub record KeepsAuthority (node : AuthorityNode) : Type 0 where
+  pub state : IsAuthority node.state
+  pub book : AreKeysOf node.state.past.signed node.state.signature_len node.keys
+  pub ring : IsRing node.keys
+  pub known : KnowsRing node.state.keys (authority_party node.state.me) node.state.past.signed.leaves node.keys
+
+-- From the line `authorities` on the clients' directory is one; each honest log and authority is kept; each message is bytes,
+-- and so is each that a client accepted.
+pub record KeepsAll (late : Bool) (clients : Directory) (logs : List (Option LogNode)) (authorities : List (Option AuthorityNode)) (pool : List Pooled) (judged : List Taken) : Type 0 where
+  pub directory : late ≡ true → IsDirectory clients
+  pub each_log : All (λ slot. IfSome slot KeepsLog) logs
+  pub each_authority : All (λ slot. IfSome slot KeepsAuthority) authorities
+  pub each_message : All (λ p. AreBytes p.bytes) pool
+  pub each_judged : All (λ t. AreBytes t.bytes) judged
+
+-- all of it in a world
+abbrev pub KeepsWorld : World → Type 0
+KeepsWorld w = KeepsAll (nat_le 4 (place_of w.phase)) w.clients w.logs w.authorities w.pool w.judged
