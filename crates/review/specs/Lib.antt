@@ -1,0 +1,4 @@
+pub mod Answers
+pub mod Audits
+pub mod Reviews
+pub mod Telling
