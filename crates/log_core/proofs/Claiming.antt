@@ -59,10 +59,12 @@ use Rattle.log_core.specs.Skipped.{signed_statuses, skip_checks, skip_reply, ski
 use Rattle.log_core.specs.State.{CoreState, Input, Reply, passes, proposes, rolls, takes}
 use Rattle.log_core.specs.Stated.{status_checks, status_reply, status_row}
 use Rattle.log_core.specs.Submit.{queueing, submit_checks, submit_reply, submit_row}
+use Rattle.log_core.proofs.KeptCore.{closed-same}
 use Rattle.log_core.proofs.Passed.{passed}
 use Rattle.log_sending.specs.Checks.{leaves_left}
 use Rattle.log_sending.specs.Queued.{is_queued}
-use Rattle.log_sending.specs.Signers.{endorsements_in, of_signers, signers, statuses_in, votes_in}
+use Rattle.ar_claims.specs.Lists.{endorsements_in, statuses_in, votes_in}
+use Rattle.log_sending.specs.Signers.{of_signers, signers}
 use Rattle.log_sending.specs.declared.refusal.LogRefusal.TheVariants as refusals
 use Rattle.log_sending.proofs.Checked.{holds, same-epoch}
 
@@ -126,34 +128,6 @@ statuses-new keys me signed claims epoch [] all = tt
 statuses-new keys me signed claims epoch (x ∷ statuses) all =
     (one-new keys me signed claims (signed_by (log_party x.log) (status_claim x.log epoch (option_map value_of_roots x.value)) x.signature) all.0, statuses-new keys me signed claims epoch statuses all.1)
 
--- ---- the closing rule leaves what was seen, and the book
-
-abbrev Same : LogState → LogState × Closing → Type 0
-Same s x = (x.0.past.seen ≡ s.past.seen) × (x.0.past.signed ≡ s.past.signed)
-
-same-statuses : (s : LogState) → Same s (closed_by_statuses s)
-same-statuses s = by (excludes_all s.council (reports_of s.statuses))
-  where
-    by : (b : Bool) → Same s (cond {A = LogState × Closing} b (skipped s (reports_of s.statuses), closings.Skipped s.statuses) (s, closings.Open))
-    by true = (refl, refl)
-    by false = (refl, refl)
-
-same-by : (s : LogState) (own : Option Voted) → Same s (closed_by s own)
-same-by s None = same-statuses s
-same-by s (Some v) = by (has_quorum s v)
-  where
-    by : (b : Bool) → Same s (cond {A = LogState × Closing} b (decided s v.changes (value_of v) (votes_for s.votes (value_of v)), closings.Decided) (closed_by_statuses s))
-    by true = (refl, refl)
-    by false = same-statuses s
-
-closed-same : (s : LogState) → Same s (closed s)
-unfolding closed
-closed-same s = by (may_end s.past)
-  where
-    by : (b : Bool) → Same s (cond {A = LogState × Closing} b (closed_by s (own_vote s.past.voted (epoch_of s))) (s, closings.Open))
-    by true = same-by s (own_vote s.past.voted (epoch_of s))
-    by false = (refl, refl)
-
 -- ---- each row
 
 abbrev Sees : CoreState → List Claimed → Reply → Type 0
@@ -164,7 +138,7 @@ closed-sees : (s : CoreState) (claims : List Claimed) (counted : LogState) (more
     → AllByRecursion (New s.keys s.log.me (closed counted).0.past.signed claims) more
     → SeesClaims s.keys s.log.me (closed counted).0.past.signed claims s.log.past.seen (closed counted).0.past.seen
 closed-sees s claims counted more is all =
-    subst (SeesClaims s.keys s.log.me (closed counted).0.past.signed claims s.log.past.seen) (sym ((closed-same counted).0 ∙ is))
+    subst (SeesClaims s.keys s.log.me (closed counted).0.past.signed claims s.log.past.seen) (sym ((closed-same counted).1 ∙ is))
     (these-new s.keys s.log.me (closed counted).0.past.signed claims s.log.past.seen more all)
 
 submit-sees : (s : CoreState) (change : Change) (reply : Reply) → submit_row s change ≡ Ok reply → Sees s (endorsements_in change) reply
@@ -343,7 +317,7 @@ room-left book texts is =
 
 own-new : (s : CoreState) (counted : LogState) (t : SeenText) → t.party ≡ log_party s.log.me → Contains (texts_of counted.past.signed) t.text
     → New s.keys s.log.me (closed counted).0.past.signed [] t
-own-new s counted t own there = inl (own, subst (λ (book : RollBook). Contains (texts_of book) t.text) (sym (closed-same counted).1) there)
+own-new s counted t own there = inl (own, subst (λ (book : RollBook). Contains (texts_of book) t.text) (sym (closed-same counted).2) there)
 
 proposing-sees : (s : CoreState) (reply : Reply) → proposing_row s ≡ Ok reply → Sees s [] reply
 unfolding proposing_row

@@ -39,34 +39,34 @@ saw-more seen later within changes all =
     All-weaker (SawEndorsements seen) (SawEndorsements later)
     (λ (change : Change) saw. All-weaker (Endorsed seen change) (Endorsed later change) (λ (a : ℕ) there. within _ there) (endorsers_of change) saw) changes all
 
--- ---- the closing rule leaves the council, and what was seen
+-- ---- the closing rule leaves the council, what was seen, and the book
 
--- the log behind has the same council, and saw the same
+-- the log behind has the same council, saw the same, and signed the same
 abbrev Same : LogState → LogState × Closing → Type 0
-Same s x = (x.0.council ≡ s.council) × (x.0.past.seen ≡ s.past.seen)
+Same s x = (x.0.council ≡ s.council) × (x.0.past.seen ≡ s.past.seen) × (x.0.past.signed ≡ s.past.signed)
 
 same-statuses : (s : LogState) → Same s (closed_by_statuses s)
 same-statuses s = by (excludes_all s.council (reports_of s.statuses))
   where
     by : (b : Bool) → Same s (cond {A = LogState × Closing} b (skipped s (reports_of s.statuses), closings.Skipped s.statuses) (s, closings.Open))
-    by true = (refl, refl)
-    by false = (refl, refl)
+    by true = (refl, refl, refl)
+    by false = (refl, refl, refl)
 
 same-by : (s : LogState) (own : Option Voted) → Same s (closed_by s own)
 same-by s None = same-statuses s
 same-by s (Some v) = by (has_quorum s v)
   where
     by : (b : Bool) → Same s (cond {A = LogState × Closing} b (decided s v.changes (value_of v) (votes_for s.votes (value_of v)), closings.Decided) (closed_by_statuses s))
-    by true = (refl, refl)
+    by true = (refl, refl, refl)
     by false = same-statuses s
 
-pub closed-same : (s : LogState) → ((closed s).0.council ≡ s.council) × ((closed s).0.past.seen ≡ s.past.seen)
+pub closed-same : (s : LogState) → ((closed s).0.council ≡ s.council) × ((closed s).0.past.seen ≡ s.past.seen) × ((closed s).0.past.signed ≡ s.past.signed)
 unfolding closed
 closed-same s = by (may_end s.past)
   where
     by : (b : Bool) → Same s (cond {A = LogState × Closing} b (closed_by s (own_vote s.past.voted (epoch_of s))) (s, closings.Open))
     by true = same-by s (own_vote s.past.voted (epoch_of s))
-    by false = (refl, refl)
+    by false = (refl, refl, refl)
 
 -- ---- the queue
 

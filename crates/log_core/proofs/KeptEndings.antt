@@ -62,7 +62,7 @@ use Rattle.log_core.specs.Decided.{Decision, decision_checks, decision_reply, de
 use Rattle.log_core.specs.Learning.{is_learned, roll_note_checks, roll_note_reply, roll_note_row}
 use Rattle.log_core.specs.Row.{IsInput, message_row, read_row, row}
 use Rattle.log_core.specs.Rolling.{rolling_checks, rolling_reply, rolling_row}
-use Rattle.log_sending.specs.Signers.{endorsements_in, votes_in}
+use Rattle.ar_claims.specs.Lists.{endorsements_in, votes_in}
 use Rattle.log_core.specs.Skipped.{signed_statuses, skip_checks, skip_reply, skip_row}
 use Rattle.log_core.specs.Kept.{IsKeptCore, WasQueued}
 use Rattle.log_core.specs.State.{CoreState, Input, Reply, passes, proposes, rolls, takes}

@@ -34,7 +34,7 @@ use Rattle.log_sending.specs.Checks.{has_place, turn_of}
 use Rattle.log_core.specs.Passing.{passing_checks, passing_reply, passing_row, status_drafts}
 use Rattle.log_core.specs.Proposed.{Proposal, ballot_draft, proposal_signers, proposed_checks, proposed_reply, proposed_row}
 use Rattle.log_core.specs.Proposing.{proposal, proposal_draft, proposed_value, proposing_checks, proposing_reply, proposing_row}
-use Rattle.log_sending.specs.Signers.{endorsements_in}
+use Rattle.ar_claims.specs.Lists.{endorsements_in}
 use Rattle.log_core.specs.Stated.{status_checks, status_reply, status_row}
 use Rattle.log_core.specs.Kept.{IsKeptCore, WasQueued}
 use Rattle.log_core.specs.State.{CoreState, Reply}

@@ -10,7 +10,8 @@ use Rattle.ar_message.specs.declared.lists.LogStatus.{LogStatus}
 use Rattle.party_keys.specs.Directory.{Directory}
 use Rattle.vote_quorum.specs.Statuses.{AreStatuses, Status, logs_of}
 use Rattle.epoch_log.specs.State.{reports_of}
-use Rattle.log_sending.specs.Signers.{signers, statuses_in}
+use Rattle.ar_claims.specs.Lists.{statuses_in}
+use Rattle.log_sending.specs.Signers.{signers}
 use Rattle.log_core.specs.Skipped.{signed_statuses}
 use Rattle.log_sending.proofs.Ascending.{rises}
 use Rattle.log_sending.proofs.SignerLaws.{each-known, staters}

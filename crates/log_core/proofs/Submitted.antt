@@ -11,7 +11,7 @@ use Rattle.log_sending.specs.Checks.{Check}
 use Rattle.ar_base.specs.FirstFailing.{first_error}
 use Rattle.log_core.specs.Steps.{IsStep}
 use Rattle.log_core.specs.Kept.{IsKeptCore}
-use Rattle.log_sending.specs.Signers.{endorsements_in}
+use Rattle.ar_claims.specs.Lists.{endorsements_in}
 use Rattle.log_core.specs.State.{Answer, CoreState, Reply}
 use Rattle.log_sending.specs.Queued.{is_queued}
 use Rattle.log_core.specs.Submit.{queueing, submit_checks, submit_judged, submit_reply, submit_row}

@@ -6,7 +6,8 @@ use Rattle.ar_base.specs.Gives.{GivesUnless}
 use Rattle.party_keys.specs.Signers.{Claimed}
 use Rattle.log_sending.specs.Checks.{Check}
 use Rattle.log_core.specs.Kept.{IsKeptCore}
-use Rattle.log_sending.specs.Signers.{endorsements_in, signers}
+use Rattle.ar_claims.specs.Lists.{endorsements_in}
+use Rattle.log_sending.specs.Signers.{signers}
 use Rattle.log_core.specs.State.{CoreState}
 use Rattle.log_sending.specs.Queued.{unqueued}
 use Rattle.log_sending.specs.declared.refusal.LogRefusal.TheVariants as refusals

@@ -23,7 +23,8 @@ use Rattle.party_keys.specs.declared.fault.SignerFault.TheVariants as signer_fau
 use Rattle.party_keys.proofs.Growing.{lasts}
 use Rattle.ar_council.proofs.Lists.{found}
 use Rattle.log_core.specs.Kept.{IsKeptCore, WasQueued}
-use Rattle.log_sending.specs.Signers.{endorsements_in, of_signers, signers}
+use Rattle.ar_claims.specs.Lists.{endorsements_in}
+use Rattle.log_sending.specs.Signers.{of_signers, signers}
 use Rattle.log_core.specs.State.{CoreState}
 use Rattle.log_sending.specs.Queued.{is_queued}
 

@@ -13,7 +13,8 @@ use Rattle.log_core.specs.Steps.{ended_epoch, given}
 use Rattle.log_core.specs.Replies.{core_after}
 use Rattle.log_sending.specs.Closings.{still_wanted}
 use Rattle.log_sending.specs.Sending.{unsigned_of}
-use Rattle.log_sending.specs.Signers.{endorsements_in, signers, votes_in}
+use Rattle.ar_claims.specs.Lists.{endorsements_in, votes_in}
+use Rattle.log_sending.specs.Signers.{signers}
 use Rattle.log_core.specs.State.{Answer, CoreState, Reply}
 
 -- a decision of an epoch

@@ -7,7 +7,8 @@ use Rattle.epoch_log.specs.Right.{SawEndorsements}
 use Rattle.epoch_log.specs.State.{IsKept}
 use Rattle.log_sending.specs.Checks.{most_queued}
 use Rattle.log_sending.specs.Sendable.{CanBeSent}
-use Rattle.log_sending.specs.Signers.{endorsements_in, signers}
+use Rattle.ar_claims.specs.Lists.{endorsements_in}
+use Rattle.log_sending.specs.Signers.{signers}
 use Rattle.log_core.specs.State.{CoreState}
 
 -- a change that was queued: it has a text, and its endorsements are valid under the keys that the log knows

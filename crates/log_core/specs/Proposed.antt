@@ -14,7 +14,8 @@ use Rattle.log_sending.specs.Leading.{leading_checks}
 use Rattle.log_core.specs.Steps.{given}
 use Rattle.log_core.specs.Replies.{open_reply}
 use Rattle.log_sending.specs.Sending.{Composed, Draft, draft_with, none_composed, with_draft}
-use Rattle.log_sending.specs.Signers.{endorsements_in, signers}
+use Rattle.ar_claims.specs.Lists.{endorsements_in}
+use Rattle.log_sending.specs.Signers.{signers}
 use Rattle.log_core.specs.State.{Answer, CoreState, Reply}
 use Rattle.log_sending.specs.declared.refusal.LogRefusal.{LogRefusal}
 

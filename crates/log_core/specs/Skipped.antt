@@ -8,7 +8,8 @@ use Rattle.ar_base.specs.FirstFailing.{first_error}
 use Rattle.log_core.specs.Steps.{ended_epoch, given}
 use Rattle.log_core.specs.Replies.{core_after}
 use Rattle.log_sending.specs.Sending.{unsigned_of}
-use Rattle.log_sending.specs.Signers.{signers, status_value, statuses_in}
+use Rattle.ar_claims.specs.Lists.{status_value, statuses_in}
+use Rattle.log_sending.specs.Signers.{signers}
 use Rattle.log_core.specs.State.{Answer, CoreState, Reply}
 
 -- the statuses of a message, as the log keeps them

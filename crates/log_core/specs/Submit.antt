@@ -8,7 +8,8 @@ use Rattle.epoch_log.specs.Calls.{after_endorsed}
 use Rattle.epoch_log.specs.State.{epoch_of, table_of}
 use Rattle.log_sending.specs.Checks.{Check, has_place}
 use Rattle.log_core.specs.Steps.{given}
-use Rattle.log_sending.specs.Signers.{endorsements_in, signers}
+use Rattle.ar_claims.specs.Lists.{endorsements_in}
+use Rattle.log_sending.specs.Signers.{signers}
 use Rattle.log_core.specs.State.{Answer, CoreState, Reply}
 use Rattle.log_sending.specs.Queued.{is_queued}
 use Rattle.log_core.specs.Replies.{core_after}

@@ -3,7 +3,8 @@
 ghost use Rattle.std.specs.Prelude.{◌≡◌, Ok, Result, OnOk, OnErr, false};
 ghost use Rattle.ar_base.specs.Gives.{GivesUnless, with_error};
 ghost use Rattle.log_sending.specs.Checks.{has_place};
-ghost use Rattle.log_sending.specs.Signers.{endorsements_in, signers};
+ghost use Rattle.ar_claims.specs.Lists.{endorsements_in};
+ghost use Rattle.log_sending.specs.Signers.{signers};
 ghost use Rattle.log_core.specs.Steps.{IsStep};
 ghost use Rattle.log_core.specs.Submit.{queueing, submit_judged, submit_row};
 ghost use Rattle.log_sending.specs.declared.refusal.LogRefusal.TheVariants as refusals;

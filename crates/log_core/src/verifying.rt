@@ -4,7 +4,8 @@ ghost use Rattle.std.specs.Prelude.{◌++◌, ◌∷◌, [], All, flat_map};
 ghost use Rattle.ar_base.specs.Gives.{GivesUnless};
 ghost use Rattle.ar_cert.specs.Changes.{IsChange};
 ghost use Rattle.ar_statement.specs.Claims.{claim_of, signer_of};
-ghost use Rattle.log_sending.specs.Signers.{endorsements_in, signers};
+ghost use Rattle.ar_claims.specs.Lists.{endorsements_in};
+ghost use Rattle.log_sending.specs.Signers.{signers};
 ghost use Rattle.party_keys.specs.Signers.{signed_by};
 ghost use Rattle.log_sending.specs.declared.refusal.LogRefusal.TheVariants as refusals;
 

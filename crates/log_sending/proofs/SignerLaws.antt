@@ -17,7 +17,8 @@ use Rattle.vote_quorum.specs.declared.value.Value.{Value}
 use Rattle.ar_council.proofs.Members.{member}
 use Rattle.ar_council.specs.Council.{council_of}
 use Rattle.epoch_log.specs.Calls.{AreEndorsers}
-use Rattle.log_sending.specs.Signers.{endorsements_in, of_signers, signers, statuses_in, votes_in}
+use Rattle.ar_claims.specs.Lists.{endorsements_in, statuses_in, votes_in}
+use Rattle.log_sending.specs.Signers.{of_signers, signers}
 use Rattle.ar_base.proofs.Lists.{of-both-lists}
 use Rattle.ar_base.proofs.Giving.{no-error, order-first}
 

@@ -4,7 +4,8 @@ ghost use Rattle.std.specs.Prelude.{◌≡◌, ◌++◌, ◌∷◌, [], Err, map
 ghost use Rattle.std.specs.Option.{option_map};
 ghost use Rattle.ar_council.specs.Values.{value_of_roots};
 ghost use Rattle.ar_statement.specs.Claims.{authority_party, claim_of, endorse, signer_of};
-ghost use Rattle.log_sending.specs.Signers.{endorsements_in, known, of_signers, signers, statuses_in, votes_in};
+ghost use Rattle.ar_claims.specs.Lists.{endorsements_in, statuses_in, votes_in};
+ghost use Rattle.log_sending.specs.Signers.{known, of_signers, signers};
 ghost use Rattle.party_keys.specs.Signers.{signed_by};
 ghost use Rattle.log_sending.specs.Queued.{unqueued};
 

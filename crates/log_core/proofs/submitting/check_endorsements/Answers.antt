@@ -1,6 +1,7 @@
 use Rattle.std.proofs.Common.{◌≡◌, ◌∙◌, ◌++◌, List, Ok, Err, Result, ap, sym, inr}
 use Rattle.ar_base.specs.Gives.{GivesUnless}
-use Rattle.log_sending.specs.Signers.{endorsements_in, signers}
+use Rattle.ar_claims.specs.Lists.{endorsements_in}
+use Rattle.log_sending.specs.Signers.{signers}
 use Rattle.log_sending.specs.declared.refusal.LogRefusal.{LogRefusal}
 use Rattle.log_sending.specs.declared.refusal.LogRefusal.TheVariants as refusals
 use Rattle.party_keys.specs.Signers.{Claimed}

@@ -3,7 +3,8 @@ use Rattle.std.specs.Prelude.{flat_map}
 use Rattle.ar_cert.specs.Changes.{Change}
 use Rattle.party_keys.specs.Directory.{Directory}
 use Rattle.party_keys.specs.Signers.{Claimed}
-use Rattle.log_sending.specs.Signers.{endorsements_in, signers}
+use Rattle.ar_claims.specs.Lists.{endorsements_in}
+use Rattle.log_sending.specs.Signers.{signers}
 use Rattle.log_core.specs.State.{CoreState}
 use Rattle.log_sending.specs.Queued.{unqueued}
 use Rattle.log_core.proofs.Unqueued.{once_signed}

@@ -1,7 +1,8 @@
 use Rattle.std.proofs.Common.{◌∙◌, ◌++◌, List, ap, subst}
 use Rattle.std.specs.Prelude.{flat_map}
 use Rattle.ar_base.specs.Gives.{GivesUnless}
-use Rattle.log_sending.specs.Signers.{endorsements_in, signers, votes_in}
+use Rattle.ar_claims.specs.Lists.{endorsements_in, votes_in}
+use Rattle.log_sending.specs.Signers.{signers}
 use Rattle.log_sending.specs.declared.refusal.LogRefusal.TheVariants as refusals
 use Rattle.party_keys.specs.Signers.{Claimed}
 use Rattle.log_core.proofs.log_core.LogCore.have_signed_decision.Goals as goal
