@@ -1,5 +1,5 @@
 -- What an honest authority of a run confirms is accepted.
-use Rattle.std.proofs.Common.{◌≡◌, ℕ, List, Ok, Some, sym}
+use Rattle.std.proofs.Common.{◌≡◌, ℕ, List, Some, sym}
 use Rattle.ar_cert.specs.Certificate.{Certificate, digest_of}
 use Rattle.ar_message.proofs.MessageLaws.{only_messages}
 use Rattle.ar_message.specs.Confirmation.{absent, present}

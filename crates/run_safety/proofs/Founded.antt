@@ -74,7 +74,7 @@ genesis-long setup count genesis h =
 -- ---- places
 
 -- what is made for each number stands there
-made-there : {X : Type 0} (f : ℕ → X) (a n m : ℕ) (x : X) → honest_in (map (λ k. Some (f k)) (range_with_len a n)) m ≡ Some x → x ≡ f (a + m)
+pub made-there : {X : Type 0} (f : ℕ → X) (a n m : ℕ) (x : X) → honest_in (map (λ k. Some (f k)) (range_with_len a n)) m ≡ Some x → x ≡ f (a + m)
 made-there f a zero m x h = absurd cc
 made-there f a (suc n) zero x h = let e : a ≡ a + 0 = omega arith in let is : f a ≡ x = cc in sym is ∙ ap f e
 made-there f a (suc n) (suc m) x h = let e : a + 1 + m ≡ a + suc m = omega arith in made-there f (a + 1) n m x h ∙ ap f e

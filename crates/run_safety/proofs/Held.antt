@@ -26,7 +26,7 @@ use Rattle.run_safety.specs.Seats.{AreSeated, IsAuthorityOf, IsLogOf, IsSeated}
 -- ---- the records of those who sit
 
 -- the record of whoever sits there, or none's
-abbrev record_or : {X Y : Type 0} → (X → Y) → Y → Option X → Y
+abbrev pub record_or : {X Y : Type 0} → (X → Y) → Y → Option X → Y
 record_or record_of none (Some node) = record_of node
 record_or record_of none None = none
 
@@ -65,7 +65,7 @@ all-records party dishonest count sits record_of none parties seated =
     ∙ first-records party dishonest record_of none parties count most (λ k less. seated.empty k (let e = seated.all in omega (arith, e, less)))
 
 -- who is not dishonest sits in its place
-sits-there : {X : Type 0} (party : ℕ → Party) (dishonest : List Party) (count : ℕ) (sits : ℕ → X → Type 0) (parties : List (Option X)) (n : ℕ)
+pub sits-there : {X : Type 0} (party : ℕ → Party) (dishonest : List Party) (count : ℕ) (sits : ℕ → X → Type 0) (parties : List (Option X)) (n : ℕ)
     → AreSeated party dishonest count sits parties → n < count → list_any (is_party (party n)) dishonest ≡ false → (node : X) × (honest_in parties n ≡ Some node)
 sits-there {X} party dishonest count sits parties n seated less honest = by (honest_in parties n) refl (seated.empty n less ∙ honest)
   where
@@ -76,14 +76,14 @@ sits-there {X} party dishonest count sits parties n seated less honest = by (hon
 -- ---- logs
 
 -- the record of the log in a place
-abbrev log_past : World → ℕ → LogRecord
+abbrev pub log_past : World → ℕ → LogRecord
 log_past w n = record_or (λ (node : LogNode). node.core.log.past) (fresh 0 (council_of w.clients) 1).past (honest_in w.logs n)
 
 -- so many logs as the clients know
-logs-known : (w : World) → IsSeated w → length w.genesis.logs ≡ length w.clients.logs
+pub logs-known : (w : World) → IsSeated w → length w.genesis.logs ≡ length w.clients.logs
 logs-known w seated = ap (λ (c : Council). c.logs) (sym seated.council)
 
-log-records : (w : World) → IsSeated w → (held_of w).logs ≡ honest_records log_party (held_of w).dishonest (log_past w) (length w.clients.logs)
+pub log-records : (w : World) → IsSeated w → (held_of w).logs ≡ honest_records log_party (held_of w).dishonest (log_past w) (length w.clients.logs)
 log-records w seated =
     all-records log_party (held_of w).dishonest (length w.genesis.logs) (IsLogOf w.genesis) (λ (node : LogNode). node.core.log.past)
     (fresh 0 (council_of w.clients) 1).past w.logs seated.logs
@@ -109,13 +109,13 @@ honest-log w seated keeps n is =
 
 -- ---- authorities
 
-abbrev authority_past : World → ℕ → AuthorityRecord
+abbrev pub authority_past : World → ℕ → AuthorityRecord
 authority_past w n = record_or (λ (node : AuthorityNode). node.state.past) (fresh_authority 1) (honest_in w.authorities n)
 
-authorities-known : (w : World) → IsSeated w → length w.genesis.authorities ≡ length w.clients.authorities
+pub authorities-known : (w : World) → IsSeated w → length w.genesis.authorities ≡ length w.clients.authorities
 authorities-known w seated = ap (λ (c : Council). c.authorities) (sym seated.council)
 
-authority-records : (w : World) → IsSeated w
+pub authority-records : (w : World) → IsSeated w
     → (held_of w).authorities ≡ honest_records authority_party (held_of w).dishonest (authority_past w) (length w.clients.authorities)
 authority-records w seated =
     all-records authority_party (held_of w).dishonest (length w.genesis.authorities) (IsAuthorityOf w.genesis) (λ (node : AuthorityNode). node.state.past)

@@ -1,8 +1,7 @@
 -- Each line, and each delivery of a `flush`, keeps all nodes, messages and the clients' directory.
-use Rattle.std.proofs.Common.{◌≡◌, ◌∙◌, ℕ, zero, suc, ◌+◌, ◌^◌, ◌<◌, ◌≤◌, List, [], ◌∷◌, ◌++◌, All, length, refl, sym, ap, subst, arith, Bool, true, false, Option, Some, None, Result, Ok, Err, IfOk, IfSome, is_none}
+use Rattle.std.proofs.Common.{◌≡◌, ◌∙◌, ℕ, zero, suc, ◌+◌, ◌<◌, ◌≤◌, List, [], ◌∷◌, ◌++◌, All, refl, sym, ap, subst, arith, Bool, true, false, Option, Some, None, Ok, Err, IfOk, IfSome, is_none}
 use Rattle.std.specs.Prelude.{if◌then◌else◌, map, nat_le, nat_lt, slice_get, slice_set}
 use Rattle.std.specs.List.{range_with_len}
-use Rattle.std.specs.Result.{result_ok}
 use Rattle.std.proofs.lemmas.List.Elements.{All-cons, All-nil, All-push, All-set}
 use Rattle.std.proofs.lemmas.Option.{same_Some}
 use Rattle.ar_base.proofs.Shown.{gave, if-chained, needed}
@@ -36,19 +35,19 @@ use Rattle.ar_world.proofs.Remembered.{kept-at}
 use Rattle.ar_world.proofs.Runs.{HoldsOfSteps, run-holds}
 use Rattle.ar_world.specs.Asking.{ask_line, question}
 use Rattle.ar_world.specs.Delivering.{Taker, a_log, an_authority, an_owner, can_deliver, deliver_line, delivery, taker_at, taker_in}
-use Rattle.ar_world.specs.Drafting.{begun, draft_if, draft_room, drafted, first_certificate, next_certificate, policy_of, register_line, revoke_line, update_line}
+use Rattle.ar_world.specs.Drafting.{begun, draft_if, draft_room, first_certificate, next_certificate, policy_of, register_line, revoke_line, update_line}
 use Rattle.ar_world.specs.Finding.{Effect, authority_at, checking_at, draft_at, existing, forger_at, known_asks, log_at, message_at, owner_at, room, with_owner}
 use Rattle.ar_world.specs.Forging.{composed_in, inject_line, receiver_in, sign_line, signing_if}
-use Rattle.ar_world.specs.Founding.{authorities_line, dishonest_line, honest_key, keys_line, led_to, logs_line, may_come, peopled, place_of, turned, without}
-use Rattle.ar_world.specs.Judging.{accepted_with, is_accepted, judge_line, judged_by_rule, judged_number}
+use Rattle.ar_world.specs.Founding.{authorities_line, dishonest_line, honest_key, keys_line, led_to, logs_line, may_come, peopled, place_of, without}
+use Rattle.ar_world.specs.Judging.{accepted_with, is_accepted, judge_line, judged_number}
 use Rattle.ar_world.specs.Learning.{learn_line}
-use Rattle.ar_world.specs.Ordering.{log_order, roll_line, roll_of}
+use Rattle.ar_world.specs.Ordering.{log_order, roll_of}
 use Rattle.ar_world.specs.Owning.{check_line, owner_line, retire_line}
 use Rattle.ar_world.specs.Records.{HasParties, KeepsRecords}
 use Rattle.ar_world.specs.Run.{Saying, run}
 use Rattle.ar_world.specs.Sending.{authority_made, log_made, owner_made, posted}
-use Rattle.ar_world.specs.State.{Drafted, Moved, World, first_world, with_authority, with_log}
-use Rattle.ar_world.specs.Step.{effect, leads_to, step, stepped}
+use Rattle.ar_world.specs.State.{Drafted, Moved, World, first_world}
+use Rattle.ar_world.specs.Step.{effect, leads_to, stepped}
 use Rattle.ar_world.specs.Submitting.{handed, handover_line, object_line, submit_line}
 use Rattle.ar_world.specs.declared.phase.Phase.{Phase}
 use Rattle.ar_world.specs.declared.phase.Phase.TheVariants as phase
@@ -497,14 +496,14 @@ delivered-kept : (w : World) (made : Effect) → ((late : Bool) → Keeps late w
 delivered-kept w (Ok m) keeps same = λ kept. subst (λ (p : Phase). Keeps (is-late p) m.0) (sym same) (keeps (is-late w.phase) kept)
 delivered-kept w (Err why) keeps same = tt
 
-same-phase : (says : Outcome) (w : World) (message : ℕ) (who : Party) → IfOk (deliver_line says w message who) (λ m. m.0.phase ≡ w.phase)
+pub same-phase : (says : Outcome) (w : World) (message : ℕ) (who : Party) → IfOk (deliver_line says w message who) (λ m. m.0.phase ≡ w.phase)
 same-phase says w message who = by (deliver_line says w message who) (deliver-makes says w message who)
   where
     by : (made : Effect) → IfOk made (Makes w) → IfOk made (λ m. m.0.phase ≡ w.phase)
     by (Ok m) makes = makes.phase
     by (Err why) makes = tt
 
-kept-of-steps : HoldsOfSteps (λ w v said. KeepsWorld w → KeepsWorld v)
+pub kept-of-steps : HoldsOfSteps (λ w v said. KeepsWorld w → KeepsWorld v)
 kept-of-steps = record {
   still = λ w kept. kept;
   both = λ u v w said later first second kept. second (first kept);
@@ -512,7 +511,7 @@ kept-of-steps = record {
   delivers = λ says w message who. delivered-kept w (deliver_line says w message who) (λ late kept. deliver-kept says w message who kept) (same-phase says w message who);
 }
 
-first-kept : (checks : List CheckParts) → KeepsWorld (first_world checks)
+pub first-kept : (checks : List CheckParts) → KeepsWorld (first_world checks)
 first-kept checks = record {
   directory = λ late. absurd cc;
   each_log = All-nil (λ slot. IfSome slot KeepsLog);

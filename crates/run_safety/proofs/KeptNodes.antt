@@ -1,5 +1,5 @@
 -- Each way in which an honest log or authority changes keeps it.
-use Rattle.std.proofs.Common.{◌≡◌, ◌∙◌, ℕ, zero, suc, ◌+◌, ◌-◌, ◌^◌, ◌<◌, ◌≤◌, List, [], ◌∷◌, ◌++◌, All, length, refl, sym, ap, subst, arith, Bool, Option, Some, None, Result, Ok, Err, is_none}
+use Rattle.std.proofs.Common.{◌≡◌, ◌∙◌, ℕ, ◌-◌, ◌^◌, ◌<◌, List, [], ◌∷◌, ◌++◌, length, refl, sym, subst, arith, Bool, Option, Some, Result, Ok, Err, is_none}
 use Rattle.std.specs.Prelude.{slice_get}
 use Rattle.std.proofs.lemmas.List.Elements.{All-cons, All-nil}
 use Rattle.std.proofs.lemmas.Nat.{pow_pos}
@@ -18,8 +18,9 @@ use Rattle.ar_nodes.specs.declared.event.LogEvent.{LogEvent}
 use Rattle.ar_nodes.specs.declared.event.LogEvent.TheVariants as events
 use Rattle.ar_safety.proofs.Rings.{first-known, learnt-known, rolled-known}
 use Rattle.ar_safety.specs.Accepting.{KnowsRing}
-use Rattle.ar_statement.specs.Claims.{authority_party}
+use Rattle.ar_statement.specs.Claims.{authority_party, log_party}
 use Rattle.authority_core.proofs.Growing.{honest-fresh}
+use Rattle.authority_core.proofs.Later.{row_step}
 use Rattle.authority_core.proofs.Rows.{message-keeps, roll-row-keeps}
 use Rattle.authority_core.proofs.Signing as authority
 use Rattle.authority_core.proofs.Standing.{row-stays}
@@ -27,7 +28,7 @@ use Rattle.authority_core.specs.RollRows.{roll_row, rolling}
 use Rattle.authority_core.specs.Row as rows
 use Rattle.authority_core.specs.State as authority_state
 use Rattle.epoch_log.proofs.Called.{kept-fresh}
-use Rattle.key_roll.specs.Book.{empty_book}
+use Rattle.key_roll.specs.Book.{RollBook, empty_book}
 use Rattle.key_roll.specs.Ring.{AreKeysOf, IsNext, ring_signature_len}
 use Rattle.lms_tree.specs.Key.{public_of}
 use Rattle.lms_tree.specs.KeyParts.{KeyParts}
@@ -35,6 +36,8 @@ use Rattle.lms_tree.specs.LmsKind.{height_of, leaves_of}
 use Rattle.lms_tree.specs.declared.public_key.LmsPublic.{LmsPublic}
 use Rattle.log_core.proofs.KeptEndings.{kept-row}
 use Rattle.log_core.proofs.Keyed as log
+use Rattle.log_core.proofs.Later.{row-adds}
+use Rattle.log_core.proofs.Standing as log_standing
 use Rattle.log_core.specs.Keyed.{IsPlain}
 use Rattle.log_core.specs.Rolling.{rolling_row}
 use Rattle.log_core.specs.Row.{IsInput, row}
@@ -45,6 +48,9 @@ use Rattle.party_keys.specs.Directory.{Directory, IsDirectory, keys_of}
 use Rattle.party_keys.specs.Learning.{after_adopting, after_all}
 use Rattle.run_safety.specs.Kept.{KeepsAuthority, KeepsLog}
 use Rattle.run_safety.proofs.Learns.{row-learns}
+use Rattle.run_safety.specs.Own.{HasRolls}
+use Rattle.run_safety.proofs.LogSteps.{rolling-book}
+use Rattle.run_safety.proofs.RollTexts.{rolls-first, rolls-later, rolls-next}
 use Rattle.run_safety.proofs.Rings.{public-text, public-widths, ring-first, ring-more}
 
 -- ---- the first key
@@ -71,6 +77,7 @@ fresh-log-kept genesis number key d small = record {
   };
   book = book-first key;
   ring = ring-first key;
+  rolls = rolls-first (log_party number) (empty_book (leaves_of key.lms)) key;
 }
 
 pub new-authority-kept : (genesis : Directory) (number : ℕ) (key : KeyParts) (check : Option CheckParts) → number < 2 ^ 16
@@ -83,6 +90,7 @@ new-authority-kept genesis number key check small known = record {
   };
   book = book-first key;
   ring = ring-first key;
+  rolls = rolls-first (authority_party number) (empty_book (leaves_of key.lms)) key;
   known = first-known genesis (authority_party number) (leaves_of key.lms) key known refl;
 }
 
@@ -97,6 +105,8 @@ log-does-kept node event input kept is plain = by (row node.core input) refl
       core = kept-row node.core input reply kept.core is at;
       book = (log.plain-signs node.core input node.keys reply.after reply.unsigned kept.core is plain kept.book at).stays;
       ring = kept.ring;
+      rolls = subst (λ n. HasRolls (log_party n) reply.after.log.past.signed node.keys) (sym (log_standing.row-stays node.core input reply at).0)
+          (rolls-later (log_party node.core.log.me) node.core.log.past.signed reply.after.log.past.signed node.keys (row-adds node.core input reply at).signed kept.rolls);
     }
     by (Err refusal) at = kept
 
@@ -121,6 +131,9 @@ log-rolls-kept node next kept there = by (row node.core (log_state.rolls (public
       book = (log.rolled-signs node.core node.keys (node.keys ++ next ∷ []) next reply.after reply.unsigned kept.core is kept.book behind refl
           (sym (roll-is node.core (public_of next)) ∙ at)).stays;
       ring = ring-more node.keys next kept.ring behind;
+      rolls = subst (λ n. HasRolls (log_party n) reply.after.log.past.signed (node.keys ++ next ∷ [])) (sym (log_standing.row-stays node.core (log_state.rolls (public_of next)) reply at).0)
+          (subst (λ (book : RollBook). HasRolls (log_party node.core.log.me) book (node.keys ++ next ∷ [])) (sym (rolling-book node.core (public_of next) reply at))
+          (rolls-next (log_party node.core.log.me) node.core.log.past.signed node.keys next kept.book.many kept.rolls));
     }
     by (Err refusal) at = kept
 
@@ -128,7 +141,7 @@ log-rolls-kept node next kept there = by (row node.core (log_state.rolls (public
 
 -- whatever its check tells
 pub check-kept : (node : AuthorityNode) (check : Option CheckParts) → KeepsAuthority node → KeepsAuthority (record node { check = check })
-check-kept node check kept = record { state = kept.state; book = kept.book; ring = kept.ring; known = kept.known }
+check-kept node check kept = record { state = kept.state; book = kept.book; ring = kept.ring; rolls = kept.rolls; known = kept.known }
 
 -- bytes that are read are a message
 read-keeps : (s : authority_state.AuthorityState) (retired : Bool) (bytes : List ℕ) (read : Result Message ℕ) (said : Outcome) → message_in bytes ≡ read → AreBytes bytes
@@ -161,9 +174,13 @@ authority-took-kept says node bytes kept are = by (authority_reply says node (me
           state = read-keeps node.state (is_none node.check) bytes (message_in bytes) said refl are kept.state answer.0 answer.1 at;
           book = authority.keys-stay node.state answer.0 node.keys kept.book signs.stays;
           ring = kept.ring;
+          rolls = subst (λ n. HasRolls (authority_party n) answer.0.past.signed node.keys)
+              (sym (row-stays node.state (is_none node.check) (message_in bytes) said answer.0 answer.1 at).0)
+              (rolls-later (authority_party node.state.me) node.state.past.signed answer.0.past.signed node.keys
+              (row_step node.state (is_none node.check) (message_in bytes) said answer.0 answer.1 at).grows.signed kept.rolls);
           known = row-knows node.state node.keys (is_none node.check) (message_in bytes) said answer.0 answer.1 at signs.stays kept.known;
         }
-    by (Err refusal) at = record { state = kept.state; book = kept.book; ring = kept.ring; known = kept.known }
+    by (Err refusal) at = record { state = kept.state; book = kept.book; ring = kept.ring; rolls = kept.rolls; known = kept.known }
 
 -- the directory behind a roll knows the ring with the next key
 rolls-known : (s : authority_state.AuthorityState) (ring : List KeyParts) (next : KeyParts) → AreKeysOf s.past.signed s.signature_len ring → IsNext ring next
@@ -197,6 +214,8 @@ authority-rolls-kept node next kept there = by (roll_row node.state (public_of n
           state = roll-row-keeps s (public_of next) kept.state (public-text next) (public-widths next) answer.0 answer.1 at;
           book = (authority.rolled-signs s node.keys more next answer.0 answer.1 kept.book behind refl at).1;
           ring = ring-more node.keys next kept.ring behind;
+          rolls = subst (λ (x : authority_state.AuthorityState). HasRolls (authority_party x.me) x.past.signed more) (sym rolled.is)
+              (rolls-next (authority_party s.me) s.past.signed node.keys next kept.book.many kept.rolls);
           known = subst Knows (sym rolled.is) (rolls-known s node.keys next kept.book behind kept.known);
         }
     by (Err refusal) at = kept

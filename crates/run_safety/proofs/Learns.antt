@@ -1,6 +1,6 @@
 -- What an authority's directory learns in a step, and that a directory which learns stays one.
-use Rattle.std.proofs.Common.{◌≡◌, ◌∙◌, ℕ, ◌+◌, ◌<◌, ◌≤◌, ◌*◌, List, [], ◌∷◌, ◌++◌, length, take, Bool, true, false, Some, None, Result, Ok, Err, refl, sym, ap, subst, arith, Option}
-use Rattle.std.specs.Prelude.{All, map, slice_set}
+use Rattle.std.proofs.Common.{◌≡◌, ℕ, ◌+◌, ◌<◌, ◌≤◌, ◌*◌, List, [], ◌∷◌, ◌++◌, length, take, Bool, true, false, Some, None, Result, Ok, Err, refl, sym, subst, arith, Option}
+use Rattle.std.specs.Prelude.{map, slice_set}
 use Rattle.std.specs.Result.{result_and}
 use Rattle.std.proofs.lemmas.List.{length-append, length-set}
 use Rattle.std.proofs.lemmas.List.Elements.{All-set}
@@ -13,7 +13,6 @@ use Rattle.ar_message.specs.declared.message.Message.{Message}
 use Rattle.ar_message.specs.declared.message.Message.TheVariants.{Ballot, ConfirmAsk, Confirmation, Decision, EndorseAsk, Endorsed, HalfConfirmed, LogConfirmed, Propose, RollNote, SkipNote, StatusNote, Submit}
 use Rattle.ar_message.specs.declared.unsigned.Unsigned.{Unsigned}
 use Rattle.ar_statement.specs.Claims.{authority_party, client_party}
-use Rattle.ar_statement.specs.declared.party.Party.{Party}
 use Rattle.ar_statement.specs.declared.party.Role.{Role}
 use Rattle.ar_statement.specs.declared.party.Role.TheVariants.{Authority, Client, LogServer, Owner}
 use Rattle.ar_statement.specs.declared.text.SeenText.{SeenText}

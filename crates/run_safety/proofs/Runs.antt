@@ -43,7 +43,7 @@ abbrev pub Comes : World → Option Phase → Type 0
 Comes w o = (next : Phase) → o ≡ Some next → may_come w.phase next ≡ true
 
 -- before the line `authorities` all is bare
-early : (p : Phase) → (place_of p == 3) ≡ true → nat_le 4 (place_of p) ≡ false
+pub early : (p : Phase) → (place_of p == 3) ≡ true → nat_le 4 (place_of p) ≡ false
 early phase.Beginning h = absurd cc
 early phase.SecretTold h = absurd cc
 early phase.KeysTold h = absurd cc
@@ -91,7 +91,7 @@ below : (n k : ℕ) → nat_lt n k ≡ true → k ≤ 3 → nat_le 4 n ≡ false
 below n k less most = false_from_ne_true (nat_le 4 n) (λ e. let one = leb-true 4 n e in let other = ltb-true n k less in omega (arith, one, other, most))
 
 -- a line that leads to an early phase came in an early one
-stays-early : (now next : Phase) → may_come now next ≡ true → nat_le 4 (place_of next) ≡ false → nat_le 4 (place_of now) ≡ false
+pub stays-early : (now next : Phase) → may_come now next ≡ true → nat_le 4 (place_of next) ≡ false → nat_le 4 (place_of now) ≡ false
 stays-early now phase.Beginning comes before = below (place_of now) 0 comes (omega arith)
 stays-early now phase.SecretTold comes before = below (place_of now) 1 comes (omega arith)
 stays-early now phase.KeysTold comes before = below (place_of now) 2 comes (omega arith)
@@ -136,7 +136,7 @@ delivered-keeps w (Ok m) makes = makes.keeps
 delivered-keeps w (Err why) makes = tt
 
 -- what was done since keeps all
-keeps-of-steps : HoldsOfSteps (λ w v said. Keeps (part_of w) (part_of v) said)
+pub keeps-of-steps : HoldsOfSteps (λ w v said. Keeps (part_of w) (part_of v) said)
 keeps-of-steps = record {
   still = λ w. (still (part_of w) (part_of w) [] refl refl).keeps;
   both = λ u v w said later. both (part_of u) (part_of v) (part_of w) said later;
@@ -149,7 +149,7 @@ run-keeps : (saying : Saying) (checks : List CheckParts) (input : List ℕ)
 run-keeps saying checks input = run-holds (λ w v said. Keeps (part_of w) (part_of v) said) keeps-of-steps saying checks input
 
 -- before the first line nobody is there
-first-stands : (checks : List CheckParts) → Stands (part_of (first_world checks))
+pub first-stands : (checks : List CheckParts) → Stands (part_of (first_world checks))
 first-stands checks = record {
   seated = record {
     council = refl;

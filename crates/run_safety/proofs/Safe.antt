@@ -7,6 +7,7 @@ use Rattle.ar_nodes.specs.Parties.{CheckParts}
 use Rattle.ar_world.specs.Records.{HasParties, KeepsRecords, held_of}
 use Rattle.ar_world.specs.Run.{Saying, run}
 use Rattle.run_safety.specs.Headline.{IsSafeRun, accepted_in}
+use Rattle.run_safety.proofs.Forged.{all-real, run-shown, run-unforged}
 use Rattle.run_safety.proofs.Held.{seated-kept}
 use Rattle.run_safety.proofs.KeptLines.{kept-records, run-kept}
 use Rattle.run_safety.proofs.Runs.{run-named, run-seated, run-told}
@@ -17,7 +18,11 @@ safe-run saying checks input =
     let keeps : HasParties w → KeepsRecords w = kept-records w (run-kept saying checks input) in
     record {
       kept = λ there. seated-kept w (run-seated saying checks input) (keeps there);
-      safe = λ there. run-safe (held_of w) (seated-kept w (run-seated saying checks input) (keeps there));
+      safe = λ there few unforged clean.
+          run-safe (held_of w) (seated-kept w (run-seated saying checks input) (keeps there)) few (run-unforged saying checks input unforged) clean;
+      taken = run-shown saying checks input;
+      real = all-real saying checks input;
+      unforged = run-unforged saying checks input;
       written = run-told saying checks input;
       fronts = λ front rest is.
           (filter_map accepted_in rest, sym (run-told saying checks input) ∙ ap (filter_map accepted_in) is ∙ filter_map-append accepted_in front rest);

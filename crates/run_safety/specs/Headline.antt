@@ -14,6 +14,7 @@ use Rattle.report_text.specs.Verdicts.{said_of}
 use Rattle.ar_world.specs.Records.{HasParties, held_of}
 use Rattle.ar_world.specs.Run.{Run}
 use Rattle.ar_world.specs.State.{World}
+use Rattle.run_safety.specs.Unforged.{AllReal, AllShown, Unforged}
 
 -- ---- what is written of clients
 
@@ -39,18 +40,23 @@ said_by h t = said_of t.name (verdict_on h.directory t)
 
 -- ---- the promise
 
--- With at most two dishonest parties, where no honest signature was forged and no hashes collide, all that the theorem says is true
--- of what the parties hold.
+-- With at most two dishonest parties, where no signature that is valid under an honest party's own key stands in a message but on
+-- what that party signed, and no hashes collide, all that the theorem says is true of what the parties hold.
 abbrev pub IsSafeWorld : World → Type 0
-IsSafeWorld w = Few (records_of (held_of w)) → NoForgery (records_of (held_of w)) → NoCollision (records_of (held_of w)) → AreSafe (held_of w)
+IsSafeWorld w = Few (records_of (held_of w)) → Unforged w → NoCollision (records_of (held_of w)) → AreSafe (held_of w)
 
 -- Of a run: from the line `authorities` on, what its parties hold are the records of all honest ones, each an honest one's, and
--- its parties are safe so. What is written as accepted, a certificate or that there is none, is what clients hold, each by its
--- verdict, in order; and in a front of the lines, where it was broken off, it begins that. And the lines `dishonest` that are
--- written tell who is dishonest, each once, in order.
+-- its parties are safe so. Whatever was taken from others stands in messages, with a signature that was verified. Where none was
+-- forged, all that is known of honest parties is real, and the theorem's own premise on forgery, which speaks of the records
+-- alone, holds. What is written as accepted, a certificate or that there is none, is what clients hold, each by its verdict, in
+-- order; and in a front of the lines, where it was broken off, it begins that. And the lines `dishonest` that are written tell
+-- who is dishonest, each once, in order.
 pub record IsSafeRun (r : Run) : Type 0 where
   pub kept : HasParties r.world → AreKept (held_of r.world)
   pub safe : HasParties r.world → IsSafeWorld r.world
+  pub taken : AllShown r.world
+  pub real : Unforged r.world → AllReal r.world
+  pub unforged : Unforged r.world → NoForgery (records_of (held_of r.world))
   pub written : filter_map accepted_in r.said ≡ map (said_by (held_of r.world)) (held_of r.world).judged
   pub fronts : (front rest : List Happening) → r.said ≡ front ++ rest → BeginsWith (map (said_by (held_of r.world)) (held_of r.world).judged) (filter_map accepted_in front)
   pub dishonest : filter_map dishonest_in r.said ≡ (held_of r.world).dishonest

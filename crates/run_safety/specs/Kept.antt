@@ -5,26 +5,29 @@ use Rattle.ar_nodes.specs.Parties.{AuthorityNode, LogNode}
 use Rattle.ar_nodes.specs.Pool.{Pooled}
 use Rattle.ar_safety.specs.Accepting.{KnowsRing}
 use Rattle.ar_safety.specs.Held.{Taken}
-use Rattle.ar_statement.specs.Claims.{authority_party}
+use Rattle.ar_statement.specs.Claims.{authority_party, log_party}
 use Rattle.ar_world.specs.Founding.{place_of}
 use Rattle.ar_world.specs.State.{World}
 use Rattle.authority_core.specs.State.{IsAuthority}
 use Rattle.key_roll.specs.Ring.{AreKeysOf, IsRing}
 use Rattle.log_core.specs.Kept.{IsKeptCore}
 use Rattle.party_keys.specs.Directory.{Directory, IsDirectory}
+use Rattle.run_safety.specs.Own.{HasRolls}
 
 -- An honest log is kept: its record is an honest log's, and what it counts was seen. Its ring is its own: there is a key for
--- each generation of its book, and behind the first each is the next of the one before it.
+-- each generation of its book; behind the first each is the next of the one before it, and its Roll stands in the book.
 pub record KeepsLog (node : LogNode) : Type 0 where
   pub core : IsKeptCore node.core
   pub book : AreKeysOf node.core.log.past.signed node.core.signature_len node.keys
   pub ring : IsRing node.keys
+  pub rolls : HasRolls (log_party node.core.log.me) node.core.log.past.signed node.keys
 
 -- The same of an honest authority; and its own directory knows its keys.
 pub record KeepsAuthority (node : AuthorityNode) : Type 0 where
   pub state : IsAuthority node.state
   pub book : AreKeysOf node.state.past.signed node.state.signature_len node.keys
   pub ring : IsRing node.keys
+  pub rolls : HasRolls (authority_party node.state.me) node.state.past.signed node.keys
   pub known : KnowsRing node.state.keys (authority_party node.state.me) node.state.past.signed.leaves node.keys
 
 -- From the line `authorities` on the clients' directory is one; each honest log and authority is kept; each message is bytes,

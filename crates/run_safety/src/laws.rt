@@ -1,28 +1,43 @@
 //! Laws on runs: each is the contract of a function with an empty body.
-ghost use Rattle.std.specs.Prelude.{◌≡◌, ◌≤◌, ℕ, List, Some, length, map};
+ghost use Rattle.std.specs.Prelude.{◌≡◌, ◌≤◌, ◌+◌, ◌++◌, ℕ, Contains, List, Some, length, map, slice_get};
 ghost use Rattle.std.specs.List.{filter_map};
 ghost use Rattle.ar_cert.specs.Certificate.{Certificate, digest_of};
+ghost use Rattle.ar_claims.specs.Verified.{IsVerifiedIn};
+ghost use Rattle.ar_lines.specs.Lines.{lines_of};
 ghost use Rattle.ar_message.specs.Confirmation.{absent, present};
 ghost use Rattle.ar_message.specs.Filling.{bytes_at, filled};
 ghost use Rattle.ar_message.specs.Messages.{shown_in};
 ghost use Rattle.ar_message.specs.declared.message.Confirming.{Confirming};
 ghost use Rattle.ar_message.specs.declared.unsigned.Unsigned.{Unsigned};
 ghost use Rattle.ar_safety.specs.Accepting.{IsWithRing};
-ghost use Rattle.ar_safety.specs.Held.{AreKept};
+ghost use Rattle.ar_safety.specs.Held.{AreKept, records_of};
+ghost use Rattle.ar_safety.specs.Theorem.{NoForgery};
 ghost use Rattle.ar_nodes.specs.Parties.{AuthorityNode, CheckParts};
+ghost use Rattle.ar_statement.specs.declared.party.Party.{Party};
+ghost use Rattle.ar_statement.specs.declared.text.SeenText.{SeenText};
 ghost use Rattle.ar_world.specs.Finding.{authority_at};
 ghost use Rattle.ar_world.specs.Records.{HasParties, KeepsRecords, held_of};
-ghost use Rattle.ar_world.specs.Run.{Saying, flushed, most_deliveries, run, taken};
-ghost use Rattle.ar_world.specs.State.{World};
+ghost use Rattle.ar_world.specs.Run.{Saying, flushed, most_deliveries, run, run_from, taken};
+ghost use Rattle.ar_world.specs.State.{World, first_world};
 ghost use Rattle.client_rule.specs.Rule.{Asked, judgement};
 ghost use Rattle.client_rule.specs.declared.judgement.Judgement.TheVariants.{Absent, Accepted};
+ghost use Rattle.key_roll.specs.Book.{texts_of};
+ghost use Rattle.lms_tree.specs.Key.{public_of};
+ghost use Rattle.lms_tree.specs.KeyParts.{KeyParts};
+ghost use Rattle.party_keys.specs.Directory.{Directory};
+ghost use Rattle.party_keys.specs.Learning.{Announced, after_adopting, after_learning, roll_claim};
+ghost use Rattle.party_keys.specs.Seen.{seen_of};
+ghost use Rattle.party_keys.specs.Signers.{Claimed};
 ghost use Rattle.hash_tree.specs.declared.bottom.Bottom.{Bottom};
 ghost use Rattle.owner_check.specs.declared.answer.Outcome.{Outcome};
 ghost use Rattle.run_safety.specs.Confirmed.{AsksForIt, ConfirmsToo};
 ghost use Rattle.run_safety.specs.Flushes.{LeavesNothingDue};
 ghost use Rattle.run_safety.specs.Headline.{IsSafeRun, accepted_in, dishonest_in, said_by};
 ghost use Rattle.run_safety.specs.Kept.{KeepsWorld};
+ghost use Rattle.run_safety.specs.Lasting.{Lasts};
+ghost use Rattle.run_safety.specs.Own.{IsNoted, IsOwned, KnowsReal, NoneForged, Parties, PartyParts};
 ghost use Rattle.run_safety.specs.Seats.{IsSeated};
+ghost use Rattle.run_safety.specs.Unforged.{AllReal, AllShown, Unforged};
 ghost use Rattle.script_text.specs.declared.line.Line.TheVariants.{Flush};
 
 /// Whatever lines a script has: each honest log and authority is the one with the number of its place, by one council; the
@@ -55,7 +70,47 @@ pub fn a_run_keeps_its_nodes()
     ensures records { (w : World) → KeepsWorld w → HasParties w → KeepsRecords w }
 {}
 
-/// Each run is safe, whatever lines a script has, and whatever checks of owners say.
+/// What is signed stays signed: from the line `authorities` on, whoever is honest at the end of a run was honest behind each
+/// front of its lines, and its book, its keys and what it saw have only grown since; and each message of then is there,
+/// with its bytes.
+pub fn what_is_signed_stays_signed()
+    ensures { (saying : Saying) (checks : List CheckParts) (input : List ℕ) (front rest : List (List ℕ)) → lines_of input ≡ front ++ rest
+        → Lasts (run_from saying 1 (first_world checks) front).world (run saying checks input).world }
+{}
+
+/// Where none of some claims is forged, a directory that knows of honest parties no keys but their real ones goes on so: a key
+/// that it learns of one, by a note that is one of the claims and that it verified, is the party's own next one, and so is
+/// one that a party takes as its own. And what it verified of an honest party stands in that party's book.
+pub fn what_is_learnt_stays_real()
+    ensures learnt { (own : Parties) (claims : List Claimed) (keys : Directory) (a : Announced) → NoneForged own claims
+        → ((party : Party) (p : PartyParts) → own party ≡ Some p → IsOwned party p) → IsNoted a
+        → IsVerifiedIn keys claims (seen_of a.party (roll_claim a)) → KnowsReal own keys → KnowsReal own (after_learning keys a) }
+    ensures adopted { (own : Parties) (keys : Directory) (who : Party) (generation : ℕ) (key : KeyParts)
+        → ((p : PartyParts) → own who ≡ Some p → slice_get p.ring (generation + 1) ≡ Some key) → KnowsReal own keys
+        → KnowsReal own (after_adopting keys who generation (public_of key)) }
+    ensures seen { (own : Parties) (claims : List Claimed) (keys : Directory) (t : SeenText) (p : PartyParts) → NoneForged own claims
+        → KnowsReal own keys → own t.party ≡ Some p → IsVerifiedIn keys claims t → Contains (texts_of p.book) t.text }
+{}
+
+/// Whatever is taken from others in a run stands in its messages, with a signature that is valid under the keys that its holder
+/// knows: what each honest log and authority saw of another party, each Roll from which clients learnt a key, and each of the
+/// three statements of a confirmation that they accepted.
+pub fn what_a_run_took_was_shown()
+    ensures { (saying : Saying) (checks : List CheckParts) (input : List ℕ) → AllShown (run saying checks input).world }
+{}
+
+/// Where no signature that is valid under an honest party's own key stands in any message of a run, but on what that party
+/// signed: clients and honest parties know of each honest party no keys but its real ones; whatever they saw of it stands in
+/// its book; and so no signature was forged, as the theorem's records tell of it.
+pub fn what_a_run_knows_is_real()
+    ensures known { (saying : Saying) (checks : List CheckParts) (input : List ℕ)
+        → Unforged (run saying checks input).world → AllReal (run saying checks input).world }
+    ensures records { (saying : Saying) (checks : List CheckParts) (input : List ℕ)
+        → Unforged (run saying checks input).world → NoForgery (records_of (held_of (run saying checks input).world)) }
+{}
+
+/// Each run is safe, whatever lines a script has, and whatever checks of owners say: with at most two dishonest parties, no
+/// forged signature and no collision, of which the one on signatures speaks of keys and of the bytes of messages alone.
 pub fn a_run_is_safe()
     ensures { (saying : Saying) (checks : List CheckParts) (input : List ℕ) → IsSafeRun (run saying checks input) }
 {}

@@ -1,10 +1,12 @@
-//! The safety theorem of a run: with at most two dishonest parties, where no honest signature was forged and no hashes
-//! collide, a client of a script accepts only what honest parties agree on, whatever messages are made, lost, repeated,
-//! reordered or injected in it.
+//! The safety theorem of a run: with at most two dishonest parties, where no signature that is valid under an honest
+//! party's own key stands in a message but on what that party signed, and no hashes collide, a client of a script accepts
+//! only what honest parties agree on, whatever messages are made, lost, repeated, reordered or injected in it.
 //!
-//! `specs/Headline.antt` has what is promised of a run. `specs/Seats.antt` has what each line of a script keeps, by which the
-//! records that the parties of a world hold are those of which the theorem of `ar_safety` speaks. `specs/Flushes.antt` has
-//! what is promised of a `flush`: that it goes to its end. `laws` has all of it, over the definitions of `ar_world` alone.
+//! `specs/Headline.antt` has what is promised of a run. `specs/Own.antt` and `specs/Unforged.antt` have its premise on forged
+//! signatures, of keys and bytes, and what follows of what is known; `specs/Lasting.antt` what lasts. `specs/Seats.antt` has
+//! what each line of a script keeps, by which the records that the parties of a world hold are those of which the theorem of
+//! `ar_safety` speaks. `specs/Flushes.antt` has what is promised of a `flush`: that it goes to its end. `laws` has all of it,
+//! over the definitions of `ar_world` alone.
 #![tactic(auto)]
 
 pub mod laws;
