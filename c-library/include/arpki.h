@@ -3,8 +3,13 @@
  *
  * A client trusts the keys of logs and authorities (struct arpki_keys). It is given a confirmation: a message in which
  * one log and two authorities say which certificate a name has, or that it has none. arpki_judge tells what the client
- * makes of it. arpki_connect also tells whether a server has the key of that certificate, arpki_learn takes the next key
- * of a party that went on to one, and arpki_verify judges one signature (LMS, RFC 8554).
+ * makes of it. arpki_connect also tells whether a server has the key of that certificate. arpki_follow also holds it
+ * against what the client pinned of the name before. arpki_learn takes the next key of a party that went on to one, and
+ * arpki_verify judges one signature (LMS, RFC 8554).
+ *
+ * What a caller does once: fill in an arpki_keys with the keys that it ships. For each confirmation: fill in an
+ * arpki_question, call arpki_judge, and go on with answer.subject where the outcome is ARPKI_ACCEPTED. Set each field of
+ * both structs; no pointer in them may be null, also where there is nothing (learnt_len 0).
  *
  * The functions have no state, no handle and no initialisation. What a client knows is plain data of the caller's. They
  * open no file, read no clock, use no network, write to no stream, start no thread and take no lock.
@@ -12,7 +17,7 @@
  * OWNERSHIP. All memory that is passed stays the caller's. It is read, or written, during the call alone, and no pointer
  * to it is kept. Memory that a call takes is given back before it returns, by malloc, realloc and free of the process.
  *
- * THREADS. Any number of threads may call at once, also with one struct arpki_keys, with one name and one confirmation,
+ * THREADS. Any number of threads may call at once, also with one struct arpki_keys, with one question and with one pin,
  * as long as nobody writes to them meanwhile. Each call needs an answer or a lesson of its own to write to.
  *
  * ANSWERS. An answer (or a lesson) is written whole, in each outcome: what the outcome does not speak of is zero, so
@@ -24,11 +29,15 @@
  *   - No pointer is null, also where the length beside it is 0 (pass the address of anything then, as "" or an array).
  *   - Behind a pointer lie as many elements as the length beside it says, initialised, and not written meanwhile.
  *   - No length times the size of its element is more than PTRDIFF_MAX.
+ *   - Pointers to structs are aligned as the structs are.
  *   - What a call writes (the answer, the lesson) overlaps nothing that it reads.
  *   - malloc, realloc and free are of one allocator, and align a block as the C standard says.
  *   - No call is made from a signal handler, or in the child of a fork of a process that has threads.
- *   - The thread has 64 KiB of stack for the call. (The calls that tools/c-library measures use less than 16 KiB.)
- * Whether keys and entries are the right ones is the caller's to know: who can write to them decides what is believed.
+ *   - The thread has 64 KiB of stack for the call, and 64 bytes more for each change of a pin: 512 KiB are enough for
+ *     arpki_follow. (Of the calls that tools/c-library measures, that of a pin of 4,096 changes, the most that there
+ *     can be, uses 268 KiB, and each other one less than 16 KiB.)
+ * Whether keys, entries and pins are the right ones is the caller's to know: who can write to them decides what is
+ * believed.
  *
  * A program that is linked with the shared object can compare arpki_abi() with ARPKI_ABI. The library is built for Linux
  * on x86-64.
@@ -56,7 +65,8 @@ extern "C" {
 enum {
     ARPKI_KEY_SIZE = 56,       /* a public key */
     ARPKI_DIGEST_SIZE = 32,    /* a digest of SHA-256 */
-    ARPKI_CHALLENGE_SIZE = 32  /* a challenge */
+    ARPKI_CHALLENGE_SIZE = 32, /* a challenge */
+    ARPKI_FIRST_SIZE = 412     /* the field for the first bytes of a pin */
 };
 
 /* The role of a party in an entry. */
@@ -65,9 +75,10 @@ enum {
     ARPKI_AUTHORITY = 2
 };
 
-/* The outcomes of arpki_judge and arpki_connect. */
+/* The outcomes of arpki_judge, arpki_connect and arpki_follow. */
 enum {
-    /* Of arpki_judge: the certificate is the name's. Of arpki_connect: and the server has its key. */
+    /* The certificate is the name's. Of arpki_connect: and the server has its key. Of arpki_follow: and it is the newest
+     * that is pinned, or the links lead to it from there, or the name was not pinned; `keep` says which. */
     ARPKI_ACCEPTED = 0,
     /* The name has no certificate. No key is the name's. */
     ARPKI_ABSENT = 1,
@@ -79,7 +90,41 @@ enum {
     ARPKI_BAD_KEYS = 4,
     /* Of arpki_connect: the confirmation is accepted, and the server's response to the challenge is not valid. `check` is
      * the number of the first condition of a signature that fails, 1 to 5, as for arpki_verify. */
-    ARPKI_NO_POSSESSION = 5
+    ARPKI_NO_POSSESSION = 5,
+
+    /* The others are of arpki_follow. In those from ARPKI_NO_LINKS to ARPKI_FULL the confirmation would be accepted, if
+     * nothing was pinned of the name. */
+
+    /* The name has no certificate, and is pinned. No log takes a name out: treat it as an attack. */
+    ARPKI_GONE = 6,
+    /* Another certificate is pinned, and no links are given. Ask for them. */
+    ARPKI_NO_LINKS = 7,
+    /* An endorsement in a link is not valid, or by an authority that is not in the keys, or by a key of it that is not
+     * known. `check` is the number of the authority, from 0, and `links` says how many links before this one hold. */
+    ARPKI_BAD_ENDORSEMENT = 8,
+    /* A link does not follow the certificate before it by the policy of that one. `check` is the number of the first clause
+     * that fails (ARPKI_CLAUSE_...), and `links` says how many links before this one hold. */
+    ARPKI_BAD_UPDATE = 9,
+    /* All links hold, and the last one is of another certificate than that of the confirmation. */
+    ARPKI_WRONG_END = 10,
+    /* There are more than 64 links. Give them in parts, each with a confirmation of its own. */
+    ARPKI_LONG = 11,
+    /* With the links there would be more than 4,096 changes in the pin. */
+    ARPKI_FULL = 12,
+    /* The pin is none of this name. `check` says why (ARPKI_PIN_...). */
+    ARPKI_BAD_PIN = 13,
+    /* The bytes of the links are not the texts of at most 4,096 changes, one behind the other. */
+    ARPKI_BAD_LINKS = 14
+};
+
+/* What arpki_follow has a caller keep. */
+enum {
+    /* Leave the pin as it is. */
+    ARPKI_KEEP_NOTHING = 0,
+    /* The name was not pinned, and is now: its pin is the first_len bytes of `first`. */
+    ARPKI_KEEP_FIRST = 1,
+    /* The domain changed its certificate, by its own policy each time: put the bytes of the links behind those of the pin. */
+    ARPKI_KEEP_LINKS = 2
 };
 
 /* The outcomes of arpki_learn, beside ARPKI_NO_MEMORY and ARPKI_BAD_KEYS. */
@@ -96,7 +141,8 @@ enum {
      * key of the generation that signed is not known (learn the notes before this one first), 7 the signature stands at
      * a leaf that is not for it. */
     ARPKI_BAD_SIGNATURE = 6,
-    /* Another key is known as the next. The party signed two: trust it no longer. */
+    /* Another key is known as the next: the party signed two, or the entries are not those that were written. If they are,
+     * trust the party no longer. */
     ARPKI_OTHER_KEY = 7
 };
 
@@ -113,6 +159,25 @@ enum {
     ARPKI_CHECK_AGE = 9,               /* it is older than `age`, or than the certificate allows */
     ARPKI_CHECK_REVOKED = 10,          /* the certificate is revoked */
     ARPKI_CHECK_EXPIRED = 11           /* the certificate has expired */
+};
+
+/* `check` of ARPKI_BAD_UPDATE: the first clause of the rule that fails. "Old" is what the certificate before says. */
+enum {
+    ARPKI_CLAUSE_REVOKED = 1,    /* the old certificate is revoked */
+    ARPKI_CLAUSE_NAME = 2,       /* the name is another one */
+    ARPKI_CLAUSE_SERIAL = 3,     /* the serial number is not the next */
+    ARPKI_CLAUSE_PREVIOUS = 4,   /* the previous digest is not the old certificate's, or the link is an objection */
+    ARPKI_CLAUSE_ENDORSERS = 5,  /* fewer than three authorities endorse it */
+    ARPKI_CLAUSE_THRESHOLD = 6,  /* fewer authorities endorse it than the old policy asks for; also of a recovery */
+    ARPKI_CLAUSE_HANDOVER = 7,   /* the old policy asks for a handover, and there is no valid one; also of a recovery */
+    ARPKI_CLAUSE_POLICY = 8      /* the new policy is not well formed */
+};
+
+/* `check` of ARPKI_BAD_PIN. */
+enum {
+    ARPKI_PIN_FORM = 1,   /* the bytes are not the texts of at most 4,096 changes, one behind the other */
+    ARPKI_PIN_NAME = 2,   /* it is of another name */
+    ARPKI_PIN_CHAIN = 3   /* one of its certificates does not follow the one before it */
 };
 
 /* `check` of ARPKI_BAD_KEYS: the first thing that is wrong with the keys. */
@@ -157,9 +222,24 @@ typedef struct arpki_keys {
     size_t quorum;
 } arpki_keys;
 
+/* What is asked of a confirmation. The bytes are the caller's. */
+typedef struct arpki_question {
+    /* The name of the domain: name_len bytes, in lower case and without a zero byte at their end ("a.example" is 9). No
+     * confirmation is of what is no name, so such bytes are refused, as another name is. */
+    const uint8_t *name;
+    size_t name_len;
+    /* The confirmation: confirmation_len bytes, as they came. Any bytes may be given. */
+    const uint8_t *confirmation;
+    size_t confirmation_len;
+    /* The current epoch, by a clock that the caller trusts. */
+    uint64_t epoch;
+    /* How many epochs old a confirmation may be, at most. */
+    uint64_t age;
+} arpki_question;
+
 /* What is told of a confirmation or of a server. */
 typedef struct arpki_answer {
-    /* ARPKI_ACCEPTED and ARPKI_ABSENT: the epoch at whose end the name has the certificate, or none. */
+    /* ARPKI_ACCEPTED, ARPKI_ABSENT and ARPKI_GONE: the epoch at whose end the name has the certificate, or none. */
     uint64_t epoch;
     /* ARPKI_ACCEPTED: the serial number of the certificate, from 0. */
     uint64_t serial;
@@ -167,13 +247,28 @@ typedef struct arpki_answer {
     arpki_key subject;
     /* ARPKI_ACCEPTED: the digest of the certificate. */
     uint8_t certificate[ARPKI_DIGEST_SIZE];
-    /* ARPKI_ACCEPTED and ARPKI_ABSENT: the root of the table on which the logs agreed for the epoch. */
+    /* ARPKI_ACCEPTED, ARPKI_ABSENT and ARPKI_GONE: the root of the table on which the logs agreed for the epoch. */
     uint8_t root[ARPKI_DIGEST_SIZE];
-    /* ARPKI_ACCEPTED, ARPKI_ABSENT, ARPKI_REFUSED, ARPKI_NO_MEMORY, ARPKI_BAD_KEYS or ARPKI_NO_POSSESSION. */
+    /* ARPKI_ACCEPTED or why not: one of those that the function names. */
     uint32_t outcome;
-    /* ARPKI_REFUSED, ARPKI_BAD_KEYS and ARPKI_NO_POSSESSION: the number of what fails. */
+    /* The number of what fails, where the outcome has one. */
     uint32_t check;
 } arpki_answer;
+
+/* What is told of a confirmation by what is pinned of its name. */
+typedef struct arpki_followed {
+    /* What is told of the confirmation. Go on only where its outcome is ARPKI_ACCEPTED. */
+    arpki_answer answer;
+    /* ARPKI_KEEP_FIRST: how many bytes of `first` to keep, at most 406. */
+    size_t first_len;
+    /* How many links hold, from the first on: all of them where `keep` is ARPKI_KEEP_LINKS, and those before the one that
+     * fails in ARPKI_BAD_ENDORSEMENT and ARPKI_BAD_UPDATE. */
+    size_t links;
+    /* ARPKI_KEEP_NOTHING, ARPKI_KEEP_FIRST or ARPKI_KEEP_LINKS. The last two are of ARPKI_ACCEPTED alone. */
+    uint32_t keep;
+    /* ARPKI_KEEP_FIRST: the new pin. */
+    uint8_t first[ARPKI_FIRST_SIZE];
+} arpki_followed;
 
 /* What is learnt of a RollNote. */
 typedef struct arpki_lesson {
@@ -188,32 +283,51 @@ typedef struct arpki_lesson {
 
 /* Judges a confirmation of a name.
  *
- * Reads `keys` with its three arrays; name_len bytes of `name`, without a zero byte at their end, in lower case
- * ("a.example" is 9 bytes); and confirmation_len bytes of `confirmation`. Writes `answer`, and returns its outcome.
- *   now   the current epoch, by a clock that the caller trusts
- *   age   how many epochs old a confirmation may be, at most
- * Outcomes: ARPKI_ACCEPTED, ARPKI_ABSENT, ARPKI_REFUSED, ARPKI_NO_MEMORY, ARPKI_BAD_KEYS.
+ * Reads `keys` with its three arrays, and `question` with its name and its confirmation. Writes `answer`, and returns its
+ * outcome: ARPKI_ACCEPTED, ARPKI_ABSENT, ARPKI_REFUSED, ARPKI_NO_MEMORY or ARPKI_BAD_KEYS.
  */
-ARPKI_CHECKED uint32_t arpki_judge(const arpki_keys *keys,
-                                   const uint8_t *name, size_t name_len,
-                                   uint64_t now, uint64_t age,
-                                   const uint8_t *confirmation, size_t confirmation_len,
-                                   arpki_answer *answer);
+ARPKI_CHECKED uint32_t arpki_judge(const arpki_keys *keys, const arpki_question *question, arpki_answer *answer);
 
-/* Judges a server that claims to serve a name: its confirmation as arpki_judge does, and then its response to a
+/* Judges a server that claims to serve a name: the confirmation as arpki_judge does, and then the server's response to a
  * challenge, as a signature by the subject key of the certificate that is accepted.
  *
  * Reads what arpki_judge reads; the 32 bytes of `challenge`, which the caller drew at random for this connection alone;
- * and response_len bytes of `response`, the server's. Writes `answer`, and returns its outcome.
- * Outcomes: ARPKI_ACCEPTED (the connection is open), ARPKI_NO_POSSESSION, and those of arpki_judge.
+ * and response_len bytes of `response`, the server's. Writes `answer`, and returns its outcome: ARPKI_ACCEPTED (the
+ * connection is open), ARPKI_NO_POSSESSION, or one of the others of arpki_judge.
  */
-ARPKI_CHECKED uint32_t arpki_connect(const arpki_keys *keys,
-                                     const uint8_t *name, size_t name_len,
-                                     uint64_t now, uint64_t age,
-                                     const uint8_t *confirmation, size_t confirmation_len,
+ARPKI_CHECKED uint32_t arpki_connect(const arpki_keys *keys, const arpki_question *question,
                                      const uint8_t challenge[ARPKI_CHALLENGE_SIZE],
                                      const uint8_t *response, size_t response_len,
                                      arpki_answer *answer);
+
+/* Judges a confirmation of a name as arpki_judge does, and then holds the certificate against what is pinned of the name:
+ * where it is another one than the newest that is pinned, the links have to lead to it from there.
+ *
+ * A pin is what the caller keeps of a name, as bytes: the texts of changes, one behind the other, the oldest first, at most
+ * 4,096. A link is a change too: a certificate, and what vouched for it. A server or an archive hands links over; whoever it
+ * is, they are judged here. Their bytes stand one behind the other as well, the oldest first. A change says itself where it
+ * ends, so no lengths stand between them.
+ *
+ * Reads what arpki_judge reads; pin_len bytes of `pin`, which are none where the name is not pinned (pin_len 0); and
+ * links_len bytes of `links`, or none. Writes `followed`, and returns the outcome of its answer: those of arpki_judge,
+ * ARPKI_GONE, ARPKI_NO_LINKS, ARPKI_BAD_ENDORSEMENT, ARPKI_BAD_UPDATE, ARPKI_WRONG_END, ARPKI_LONG, ARPKI_FULL,
+ * ARPKI_BAD_PIN or ARPKI_BAD_LINKS. Of several faults the first is told: of the keys, of the pin, of the bytes of the links, of
+ * the confirmation by itself, and then of what is pinned. Links that are not needed (the certificate is the newest that is
+ * pinned, or the name is not pinned) have to be changes, and are not judged.
+ *
+ * What to keep `keep` says, and it changes nothing itself. Where it is ARPKI_KEEP_FIRST, store the first_len bytes of `first`
+ * as the pin of the name; where it is ARPKI_KEEP_LINKS, put the bytes of `links`, all of them, behind those of the pin. The
+ * next call with these bytes goes on where this one ended. Of two calls about one name at once, keep what one of them says,
+ * and make the other again. To forget a name, throw its pin away.
+ *
+ * The certificates of a pin are judged in each call by the policies in them alone, and what vouched for them is not verified
+ * again; that was done when they were pinned, by keys that may be others by now. So who can write to a pin decides what is
+ * pinned: keep pins as safely as the keys.
+ */
+ARPKI_CHECKED uint32_t arpki_follow(const arpki_keys *keys, const arpki_question *question,
+                                    const uint8_t *pin, size_t pin_len,
+                                    const uint8_t *links, size_t links_len,
+                                    arpki_followed *followed);
 
 /* Learns the next key of a log or an authority from a RollNote, which the party signed with the key before it. Nothing
  * is changed in `keys`: where the outcome is ARPKI_LEARNT, put lesson->entry behind the entries of `keys`, and the keys

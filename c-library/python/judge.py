@@ -1,5 +1,6 @@
 #!/usr/bin/env python3
-"""Judges an input of `arpki check` through libarpki.so.1, by ctypes, and writes what `arpki check` writes.
+"""Judges an input of `arpki check` through libarpki.so.1, by ctypes, and writes what `arpki check` writes. What is accepted
+it also pins, and judges by its pin.
 
     LD_LIBRARY_PATH=c-library/out python3 c-library/python/judge.py examples/check/accepted.in
 """
@@ -21,9 +22,20 @@ class Keys(ctypes.Structure):
                 ("learnt", ctypes.POINTER(Entry)), ("learnt_len", ctypes.c_size_t), ("quorum", ctypes.c_size_t)]
 
 
+class Question(ctypes.Structure):
+    _fields_ = [("name", ctypes.c_char_p), ("name_len", ctypes.c_size_t),
+                ("confirmation", ctypes.c_char_p), ("confirmation_len", ctypes.c_size_t),
+                ("epoch", ctypes.c_uint64), ("age", ctypes.c_uint64)]
+
+
 class Answer(ctypes.Structure):
     _fields_ = [("epoch", ctypes.c_uint64), ("serial", ctypes.c_uint64), ("subject", KEY), ("certificate", DIGEST),
                 ("root", DIGEST), ("outcome", ctypes.c_uint32), ("check", ctypes.c_uint32)]
+
+
+class Followed(ctypes.Structure):
+    _fields_ = [("answer", Answer), ("first_len", ctypes.c_size_t), ("links", ctypes.c_size_t), ("keep", ctypes.c_uint32),
+                ("first", ctypes.c_uint8 * 412)]
 
 
 class Lesson(ctypes.Structure):
@@ -33,8 +45,10 @@ class Lesson(ctypes.Structure):
 LIBRARY = ctypes.CDLL("libarpki.so.1")
 LIBRARY.arpki_abi.restype = ctypes.c_uint32
 LIBRARY.arpki_judge.restype = ctypes.c_uint32
-LIBRARY.arpki_judge.argtypes = [ctypes.POINTER(Keys), ctypes.c_char_p, ctypes.c_size_t, ctypes.c_uint64, ctypes.c_uint64,
-                                ctypes.c_char_p, ctypes.c_size_t, ctypes.POINTER(Answer)]
+LIBRARY.arpki_judge.argtypes = [ctypes.POINTER(Keys), ctypes.POINTER(Question), ctypes.POINTER(Answer)]
+LIBRARY.arpki_follow.restype = ctypes.c_uint32
+LIBRARY.arpki_follow.argtypes = [ctypes.POINTER(Keys), ctypes.POINTER(Question), ctypes.c_char_p, ctypes.c_size_t,
+                                 ctypes.c_char_p, ctypes.c_size_t, ctypes.POINTER(Followed)]
 LIBRARY.arpki_learn.restype = ctypes.c_uint32
 LIBRARY.arpki_learn.argtypes = [ctypes.POINTER(Keys), ctypes.c_char_p, ctypes.c_size_t, ctypes.POINTER(Lesson)]
 
@@ -60,11 +74,19 @@ class Client:
             self.learnt.append(lesson.entry)
         return outcome in (LEARNT, KNOWN)
 
-    def judge(self, name, now, age, confirmation):
-        """The answer for the bytes of a confirmation of a name, in epoch `now`, at most `age` epochs old."""
+    def judge(self, name, epoch, age, confirmation):
+        """The answer for the bytes of a confirmation of a name, in an epoch, at most `age` epochs old."""
         answer = Answer()
-        LIBRARY.arpki_judge(self._keys(), name, len(name), now, age, confirmation, len(confirmation), answer)
+        LIBRARY.arpki_judge(self._keys(), Question(name, len(name), confirmation, len(confirmation), epoch, age), answer)
         return answer
+
+    def follow(self, name, epoch, age, confirmation, pin, links):
+        """The answer by the pin of the name, no bytes where it has none, and by the bytes of links; and the pin to store."""
+        followed = Followed()
+        LIBRARY.arpki_follow(self._keys(), Question(name, len(name), confirmation, len(confirmation), epoch, age),
+                             pin, len(pin), links, len(links), followed)
+        more = {1: bytes(followed.first)[:followed.first_len], 2: links}.get(followed.keep, b"")
+        return followed.answer, pin + more
 
 
 def main():
@@ -79,7 +101,11 @@ def main():
     if LIBRARY.arpki_abi() != 1 or not all(client.learn(bytes.fromhex(note)) for note in fields["roll"]):
         return 1
     name = fields["name"]
-    answer = client.judge(name.encode(), int(fields["now"]), int(fields["age"]), bytes.fromhex(fields["confirmation"]))
+    asked = name.encode(), int(fields["now"]), int(fields["age"]), bytes.fromhex(fields["confirmation"])
+    answer = client.judge(*asked)
+    _, pin = client.follow(*asked, b"", b"")
+    if bytes(client.follow(*asked, pin, b"")[0]) != bytes(answer):
+        return 1
     root = bytes(answer.root).hex()
     if answer.outcome == ACCEPTED:
         print(f"accepted {name} serial {answer.serial} epoch {answer.epoch} root {root}"

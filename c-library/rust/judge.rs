@@ -1,8 +1,9 @@
-//! Judges an input of `arpki check` through the C library, and writes what `arpki check` writes.
+//! Judges an input of `arpki check` through the C library, and writes what `arpki check` writes. What is accepted it also
+//! pins, and judges by its pin.
 #[allow(dead_code)]
 mod arpki;
 
-use arpki::{Answer, Client, Key, NotLearnt};
+use arpki::{Answer, Asked, Client, Key, NotLearnt};
 
 fn unhex(hex: &str) -> Option<Vec<u8>> {
     (0..hex.len()).step_by(2).map(|i| u8::from_str_radix(hex.get(i..i + 2)?, 16).ok()).collect()
@@ -35,8 +36,14 @@ fn answer(input: &str) -> Option<String> {
         }
     }
     let one = |word: &str| fields(word).first().cloned();
-    let (name, now, age) = (one("name")?, one("now")?.parse().ok()?, one("age")?.parse().ok()?);
-    Some(match client.judge(name.as_bytes(), now, age, &unhex(&one("confirmation")?)?) {
+    let (name, epoch, age) = (one("name")?, one("now")?.parse().ok()?, one("age")?.parse().ok()?);
+    let confirmation = unhex(&one("confirmation")?)?;
+    let asked = Asked { name: name.as_bytes(), confirmation: &confirmation, epoch, age };
+    let mut pin = Vec::new();
+    client.follow(&asked, &mut pin, &[]);
+    let judged = client.judge(&asked);
+    assert_eq!(format!("{judged:?}"), format!("{:?}", client.follow(&asked, &mut pin, &[])));
+    Some(match judged {
         Answer::Accepted { serial, certificate, epoch, root, .. } => format!(
             "accepted {name} serial {serial} epoch {epoch} root {} certificate {}", hex(&root), hex(&certificate)
         ),

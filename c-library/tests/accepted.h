@@ -62,4 +62,18 @@ static inline arpki_keys keys_of(const struct question *question)
     return keys;
 }
 
+/* What is asked of it: about a.example, in an epoch, at an age of 4. */
+static inline arpki_question asked_in(const struct question *question, uint64_t epoch)
+{
+    static const uint8_t name[] = {'a', '.', 'e', 'x', 'a', 'm', 'p', 'l', 'e'};
+    arpki_question asked;
+    asked.name = name;
+    asked.name_len = sizeof name;
+    asked.confirmation = question->confirmation;
+    asked.confirmation_len = question->confirmation_len;
+    asked.epoch = epoch;
+    asked.age = 4;
+    return asked;
+}
+
 #endif

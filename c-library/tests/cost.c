@@ -19,15 +19,14 @@ int main(int argc, char **argv)
     if (argc != 4 || !read_question(argv[1], &question))
         return 2;
     arpki_keys keys = keys_of(&question);
+    arpki_question asked = asked_in(&question, (uint64_t)atoi(argv[2]));
     arpki_answer answer;
-    uint64_t now = (uint64_t)atoi(argv[2]);
     int count = atoi(argv[3]);
     double least = 1e9;
     for (int part = 0; part < 10; part++) {
         double before = seconds();
         for (int i = 0; i < count; i++)
-            if (arpki_judge(&keys, (const uint8_t *)"a.example", 9, now, 4, question.confirmation,
-                            question.confirmation_len, &answer) != ARPKI_ACCEPTED)
+            if (arpki_judge(&keys, &asked, &answer) != ARPKI_ACCEPTED)
                 return 1;
         double taken = seconds() - before;
         least = taken < least ? taken : least;

@@ -1,13 +1,13 @@
 -- The entries that were written make the directory that learnt.
-use Rattle.std.proofs.Common.{◌≡◌, ◌==◌, ℕ, zero, suc, ◌+◌, ◌<◌, ◌^◌, nat_lt, Bool, true, false, ◌&&◌, if◌then◌else◌, List, [], ◌∷◌, ◌++◌, length, slice_get, slice_index, Option, Some, None, Result, Ok, Err, All, refl, sym, ap, subst, ◌∙◌, arith}
+use Rattle.std.proofs.Common.{◌≡◌, ◌==◌, ℕ, zero, suc, ◌+◌, ◌<◌, nat_lt, Bool, true, false, if◌then◌else◌, List, [], ◌∷◌, ◌++◌, length, slice_get, Option, Some, None, Result, Ok, Err, All, refl, sym, ap, subst, ◌∙◌, arith}
 use Rattle.std.proofs.lemmas.Bool.{and_parts, eqb-true, lt-ltb}
 use Rattle.std.proofs.lemmas.Option.{same_Some, slice_get_within}
 use Rattle.std.proofs.lemmas.List.Elements.{All-head, All-tail}
-use Rattle.std.specs.Int.{w8, w16, w32}
+use Rattle.std.specs.Int.{w8, w32}
 use Rattle.ar_base.specs.Bytes.{AreBytes}
 use Rattle.ar_base.specs.Chaining.{◌>>=◌}
 use Rattle.ar_bytes.specs.RoundTrip.{counted_text, number_text}
-use Rattle.ar_statement.specs.Claims.{Claim, party, party_text, role_number, text_of}
+use Rattle.ar_statement.specs.Claims.{party, party_text, role_number, text_of}
 use Rattle.ar_statement.specs.Ranges.{IsValid, is_witness}
 use Rattle.ar_statement.specs.declared.party.Party.{Party}
 use Rattle.ar_statement.specs.declared.party.Role.{Role}
@@ -17,15 +17,15 @@ use Rattle.ar_message.specs.declared.message.Message.TheVariants.{EndorseAsk, En
 use Rattle.ar_message.specs.Messages.{IsMessage, message_in, message_text, fields_text}
 use Rattle.ar_message.proofs.MessageLaws.{only_messages}
 use Rattle.client_rule.specs.Notes.{note_of}
-use Rattle.lms_tree.specs.PublicKey.{HasWidths, key_of_text, key_text}
+use Rattle.lms_tree.specs.PublicKey.{key_text}
 use Rattle.lms_tree.specs.declared.public_key.LmsPublic.{LmsPublic}
 use Rattle.lms_tree.specs.declared.validity.Verdict.{Verdict}
 use Rattle.lms_tree.specs.declared.validity.Verdict.TheVariants.{Valid, Invalid}
 use Rattle.lms_tree.specs.Validity.{verdict_of}
 use Rattle.lms_tree.proofs.KeyLemmas.{key_of_text-key_text, length-key_text}
 use Rattle.party_keys.specs.Directory.{Directory, keys_of}
-use Rattle.party_keys.specs.Learning.{Announced, after_adopting, after_learning, learned, learned_as, learned_if, learning, roll_claim, with_next}
-use Rattle.party_keys.specs.Signatures.{answer_at, answer_by, answer_of, answer_under, behind_generation, generation_of, is_in_place, is_last_leaf, leaf_of, roll_in, rolls_from, verified}
+use Rattle.party_keys.specs.Learning.{Announced, after_adopting, learned, learned_if, learning, roll_claim, with_next}
+use Rattle.party_keys.specs.Signatures.{answer_at, answer_by, answer_of, answer_under, behind_generation, generation_of, is_in_place, is_last_leaf, leaf_of, roll_in, verified}
 use Rattle.party_keys.specs.declared.fault.VerifyFault.{VerifyFault}
 use Rattle.party_keys.specs.declared.fault.LearnFault.{LearnFault}
 use Rattle.party_keys.specs.declared.fault.LearnFault.TheVariants as learn_fault
@@ -33,12 +33,11 @@ use Rattle.party_keys.specs.declared.learning.Learned.{Learned}
 use Rattle.party_keys.specs.declared.learning.Learned.TheVariants.{New, Again}
 use Rattle.party_keys.proofs.Claims.{one_claim}
 use Rattle.ar_council.proofs.Readable.{readable}
-use Rattle.arpki_c.specs.Given.{directory_from, entered, entry_party, with_each, with_entry}
+use Rattle.arpki_c.specs.Given.{directory_from, entry_party, with_each, with_entry}
 use Rattle.arpki_c.specs.Keeping.{after_bytes, after_note, after_notes, keeping, keeping_all, keeping_from}
 use Rattle.arpki_c.specs.Learning.{entry_of, learnt_lesson, lesson_on, lesson_told}
 use Rattle.arpki_c.specs.declared.keys.Entry.{Entry}
 use Rattle.arpki_c.specs.declared.keys.KeysFault.{KeysFault}
-use Rattle.arpki_c.specs.declared.learning.Lesson.{Lesson}
 
 -- ---- bytes
 

@@ -1,1 +1,5 @@
+pub mod Carried
+pub mod Firsts
 pub mod Kept
+pub mod Runs
+pub mod Shows

@@ -1,5 +1,5 @@
 -- What a caller gives as keys, and the directory that they make.
-use Rattle.std.specs.Prelude.{ℕ, ◌==◌, Bool, if◌then◌else◌, List, [], ◌∷◌, ◌++◌, length, Option, Some, None, Result, Ok, Err}
+use Rattle.std.specs.Prelude.{ℕ, ◌==◌, if◌then◌else◌, List, [], ◌∷◌, ◌++◌, length, Option, Some, None, Result, Ok, Err}
 use Rattle.std.specs.Option.{ok_or}
 use Rattle.ar_base.specs.Chaining.{◌>>=◌, need}
 use Rattle.ar_statement.specs.Claims.{authority_party, log_party}

@@ -1,5 +1,5 @@
 -- What a caller keeps who learns from RollNotes, and what the directory is that learnt from them.
-use Rattle.std.specs.Prelude.{ℕ, ◌==◌, if◌then◌else◌, List, [], ◌∷◌, ◌++◌, fold, Option, Some, None, Result}
+use Rattle.std.specs.Prelude.{ℕ, ◌==◌, if◌then◌else◌, List, [], ◌∷◌, ◌++◌, Option, Some, None, Result}
 use Rattle.ar_message.specs.Messages.{message_in}
 use Rattle.client_rule.specs.Notes.{note_of}
 use Rattle.party_keys.specs.Directory.{Directory}

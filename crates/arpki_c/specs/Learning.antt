@@ -10,7 +10,6 @@ use Rattle.party_keys.specs.declared.fault.LearnFault.{LearnFault}
 use Rattle.party_keys.specs.declared.fault.LearnFault.TheVariants as learn_fault
 use Rattle.party_keys.specs.declared.learning.Learned.{Learned}
 use Rattle.party_keys.specs.declared.learning.Learned.TheVariants.{New, Again}
-use Rattle.arpki_c.specs.Given.{fault_number}
 use Rattle.arpki_c.specs.declared.keys.Entry.{Entry}
 use Rattle.arpki_c.specs.declared.keys.KeysFault.{KeysFault}
 use Rattle.arpki_c.specs.declared.keys.KeysFault.TheVariants as fault

@@ -1,7 +1,7 @@
 -- What a caller is told of a confirmation, and of a server.
 use Rattle.std.specs.Prelude.{◌≡◌, ◌⊎◌, ℕ, List, replicate, Result, Ok, Err}
 use Rattle.ar_cert.specs.Certificate.{Certificate}
-use Rattle.client_rule.specs.Rule.{judgement as judgement_of}
+use Rattle.client_rule.specs.Rule.{Asked, judgement as judgement_of}
 use Rattle.client_rule.specs.declared.judgement.Judgement.{Judgement}
 use Rattle.client_rule.specs.declared.judgement.Judgement.TheVariants as judgement
 use Rattle.lms_tree.specs.PublicKey.{key_text}
@@ -9,10 +9,10 @@ use Rattle.party_keys.specs.Directory.{Directory}
 use Rattle.possession.specs.Connections.{connection_of}
 use Rattle.possession.specs.declared.connection.Connection.{Connection}
 use Rattle.possession.specs.declared.connection.Connection.TheVariants as connection
-use Rattle.arpki_c.specs.Given.{fault_number}
 use Rattle.arpki_c.specs.declared.answers.Answer.{Answer}
 use Rattle.arpki_c.specs.declared.keys.KeysFault.{KeysFault}
 use Rattle.arpki_c.specs.declared.keys.KeysFault.TheVariants as fault
+use Rattle.arpki_c.specs.declared.questions.Question.{Question}
 
 -- ---- the outcomes: 0 accepted, 1 absent, 2 refused, 3 no memory, 4 bad keys, 5 no possession
 
@@ -70,17 +70,20 @@ connection_answer (connection.Absent epoch root) = absent_answer epoch root
 connection_answer (connection.Refused check) = said 2 check
 connection_answer (connection.NoPossession condition) = said 5 condition
 
+-- what is asked, by who trusts the directory
+abbrev pub asked_by : Directory → Question → Asked
+asked_by keys question = record { keys = keys; name = question.name.now; epoch = question.epoch; age = question.age }
+
 -- of a confirmation, to who trusts the directory, or whose keys make none
-abbrev pub judgement_told : Result Directory KeysFault → List ℕ → ℕ → ℕ → List ℕ → Answer
-judgement_told (Err wrong) name now age confirmation = fault_answer wrong
-judgement_told (Ok keys) name now age confirmation =
-    judgement_answer (judgement_of (record { keys = keys; name = name; epoch = now; age = age }) confirmation)
+abbrev pub judgement_told : Result Directory KeysFault → Question → Answer
+judgement_told (Err wrong) question = fault_answer wrong
+judgement_told (Ok keys) question = judgement_answer (judgement_of (asked_by keys question) question.confirmation.now)
 
 -- of a server, by the confirmation that it shows, and its response to a challenge
-abbrev pub connection_told : Result Directory KeysFault → List ℕ → ℕ → ℕ → List ℕ → List ℕ → List ℕ → Answer
-connection_told (Err wrong) name now age confirmation challenge response = fault_answer wrong
-connection_told (Ok keys) name now age confirmation challenge response =
-    connection_answer (connection_of (record { keys = keys; name = name; epoch = now; age = age }) confirmation challenge response)
+abbrev pub connection_told : Result Directory KeysFault → Question → List ℕ → List ℕ → Answer
+connection_told (Err wrong) question challenge response = fault_answer wrong
+connection_told (Ok keys) question challenge response =
+    connection_answer (connection_of (asked_by keys question) question.confirmation.now challenge response)
 
 -- the answer is this one, or that memory ran out
 abbrev pub IsUnlessMemory : Answer → Answer → Type 0

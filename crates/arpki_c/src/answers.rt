@@ -11,9 +11,9 @@ const ACCEPTED: u32 = 0;
 /// The name has no certificate.
 const ABSENT: u32 = 1;
 /// The confirmation is refused; `check` is the number of the first check that fails, 1 to 11.
-const REFUSED: u32 = 2;
+pub(crate) const REFUSED: u32 = 2;
 /// Memory ran out.
-const NO_MEMORY: u32 = 3;
+pub(crate) const NO_MEMORY: u32 = 3;
 /// The keys make no directory; `check` says what is wrong with them, 1 to 6.
 const BAD_KEYS: u32 = 4;
 /// The server's answer is not valid; `check` is the number of the first condition of a signature that fails, 1 to 5.
@@ -41,7 +41,7 @@ pub struct Answer {
 
 impl Answer {
     /// An outcome with a number, and nothing else.
-    fn said(outcome: u32, check: u32) -> Answer
+    pub(crate) fn said(outcome: u32, check: u32) -> Answer
         ensures { result ≡ said outcome check }
     {
         Answer {

@@ -4,43 +4,40 @@ ghost use Rattle.arpki_c.specs.Told.{IsUnlessMemory, connection_told, judgement_
 
 use crate::answers::Answer;
 use crate::keys::{Keys, directory_of};
+use crate::questions::Question;
 use client_rule::judge;
 use possession::connect;
 use std::alloc::Global;
 
 /// What is told of a confirmation.
-fn judged(
-    alloc: Global,
-    keys: &Keys,
-    name: &[u8],
-    now: u64,
-    age: u64,
-    confirmation: &[u8],
-) -> Answer
-    ensures { IsUnlessMemory result (judgement_told (directory_given keys.now) name.now now age confirmation.now) }
+fn judged(alloc: Global, keys: &Keys, question: &Question) -> Answer
+    ensures { IsUnlessMemory result (judgement_told (directory_given keys.now) question.now) }
 {
     match directory_of(alloc, keys) {
-        Ok(directory) => Answer::of_judgement(&judge(&directory, name, confirmation, now, age)),
+        Ok(directory) => Answer::of_judgement(&judge(
+            &directory,
+            question.name,
+            question.confirmation,
+            question.epoch,
+            question.age,
+        )),
         Err(fault) => Answer::of_fault(fault),
     }
 }
 
-/// Judges the bytes of a confirmation of a name, in epoch `now`, for a client that accepts what is at most `age`
-/// epochs old: writes the answer, all of it, and returns its outcome.
+/// Judges the bytes of a confirmation of a name, in an epoch, for a client that accepts what is at most `age` epochs
+/// old: writes the answer, all of it, and returns its outcome.
 #[unsafe(no_mangle)]
 pub extern "C" fn arpki_judge(
     alloc: Global,
     keys: &Keys,
-    name: &[u8],
-    now: u64,
-    age: u64,
-    confirmation: &[u8],
+    question: &Question,
     answer: &mut Answer,
 ) -> u32
-    ensures told { IsUnlessMemory answer.new (judgement_told (directory_given keys.now) name.now now age confirmation.now) }
+    ensures told { IsUnlessMemory answer.new (judgement_told (directory_given keys.now) question.now) }
     ensures outcome { result ≡ answer.new.outcome }
 {
-    *answer = judged(alloc, keys, name, now, age, confirmation);
+    *answer = judged(alloc, keys, question);
     answer.outcome
 }
 
@@ -48,22 +45,19 @@ pub extern "C" fn arpki_judge(
 fn connected(
     alloc: Global,
     keys: &Keys,
-    name: &[u8],
-    now: u64,
-    age: u64,
-    confirmation: &[u8],
+    question: &Question,
     challenge: &[u8; 32],
     response: &[u8],
 ) -> Answer
-    ensures { IsUnlessMemory result (connection_told (directory_given keys.now) name.now now age confirmation.now challenge.now response.now) }
+    ensures { IsUnlessMemory result (connection_told (directory_given keys.now) question.now challenge.now response.now) }
 {
     match directory_of(alloc, keys) {
         Ok(directory) => Answer::of_connection(&connect(
             &directory,
-            name,
-            confirmation,
-            now,
-            age,
+            question.name,
+            question.confirmation,
+            question.epoch,
+            question.age,
             challenge,
             response,
         )),
@@ -77,26 +71,14 @@ fn connected(
 pub extern "C" fn arpki_connect(
     alloc: Global,
     keys: &Keys,
-    name: &[u8],
-    now: u64,
-    age: u64,
-    confirmation: &[u8],
+    question: &Question,
     challenge: &[u8; 32],
     response: &[u8],
     answer: &mut Answer,
 ) -> u32
-    ensures told { IsUnlessMemory answer.new (connection_told (directory_given keys.now) name.now now age confirmation.now challenge.now response.now) }
+    ensures told { IsUnlessMemory answer.new (connection_told (directory_given keys.now) question.now challenge.now response.now) }
     ensures outcome { result ≡ answer.new.outcome }
 {
-    *answer = connected(
-        alloc,
-        keys,
-        name,
-        now,
-        age,
-        confirmation,
-        challenge,
-        response,
-    );
+    *answer = connected(alloc, keys, question, challenge, response);
     answer.outcome
 }

@@ -1,7 +1,8 @@
 ghost use Rattle.std.specs.Prelude.{◌≤◌};
 
 use crate::{
-    Answer, Entry, Keys, Lesson, arpki_abi, arpki_connect, arpki_judge, arpki_learn, arpki_verify,
+    Answer, Entry, Followed, Keys, Lesson, Question, arpki_abi, arpki_connect, arpki_follow,
+    arpki_judge, arpki_learn, arpki_verify,
 };
 use std::alloc::Global;
 use std::test::Fail;
@@ -156,34 +157,51 @@ fn note() -> [u8; 1362] {
     bytes
 }
 
-// An answer that nothing writes.
-fn stale() -> Answer {
+// An answer that nothing writes: each number in it is this one.
+fn every(byte: u8) -> Answer {
     Answer {
-        epoch: 77,
-        serial: 77,
-        subject: [77; 56],
-        certificate: [77; 32],
-        root: [77; 32],
-        outcome: 77,
-        check: 77,
+        epoch: u64::from(byte),
+        serial: u64::from(byte),
+        subject: [byte; 56],
+        certificate: [byte; 32],
+        root: [byte; 32],
+        outcome: u32::from(byte),
+        check: u32::from(byte),
     }
 }
 
 // An outcome with a number, and nothing else.
 fn alone(outcome: u32, check: u32) -> Answer {
     Answer {
-        epoch: 0,
-        serial: 0,
-        subject: [0; 56],
-        certificate: [0; 32],
-        root: [0; 32],
         outcome,
         check,
+        ..every(0)
     }
 }
 
-// What is judged of a confirmation of a name, in an epoch, at an age of 4, with a quorum.
-fn judged(alloc: Global, quorum: usize, name: &[u8], now: u64, bytes: &[u8]) -> Answer {
+// That the certificate is accepted.
+fn accepted() -> Answer {
+    Answer {
+        epoch: 5,
+        subject: filled(0x11, [0x22; 32]),
+        certificate: certificate_digest(),
+        root: table_root(),
+        ..every(0)
+    }
+}
+
+// The question about a name, at an age of 4.
+fn question<'a>(name: &'a [u8], epoch: u64, confirmation: &'a [u8]) -> Question<'a> {
+    Question {
+        name,
+        confirmation,
+        epoch,
+        age: 4,
+    }
+}
+
+// What is judged of a confirmation of a name, in an epoch, with a quorum.
+fn judged(alloc: Global, quorum: usize, name: &[u8], epoch: u64, bytes: &[u8]) -> Answer {
     let (logs, authorities) = (logs(), authorities());
     let keys = Keys {
         logs: &logs,
@@ -191,8 +209,8 @@ fn judged(alloc: Global, quorum: usize, name: &[u8], now: u64, bytes: &[u8]) -> 
         learnt: &[],
         quorum,
     };
-    let mut answer = stale();
-    arpki_judge(alloc, &keys, name, now, 4, bytes, &mut answer);
+    let mut answer = every(77);
+    arpki_judge(alloc, &keys, &question(name, epoch, bytes), &mut answer);
     answer
 }
 
@@ -205,19 +223,94 @@ fn connected(alloc: Global, name: &[u8], response: &[u8]) -> Answer {
         learnt: &[],
         quorum: 3,
     };
-    let mut answer = stale();
+    let bytes = confirmation();
+    let mut answer = every(77);
     arpki_connect(
         alloc,
         &keys,
-        name,
-        9,
-        4,
-        &confirmation(),
+        &question(name, 9, &bytes),
         &[1; 32],
         response,
         &mut answer,
     );
     answer
+}
+
+// What is told of the confirmation, a pin and links.
+fn pinned(alloc: Global, epoch: u64, pin: &[u8], links: &[u8]) -> Followed {
+    let (logs, authorities) = (logs(), authorities());
+    let keys = Keys {
+        logs: &logs,
+        authorities: &authorities,
+        learnt: &[],
+        quorum: 3,
+    };
+    let bytes = confirmation();
+    let asked = question(b"a.example", epoch, &bytes);
+    let mut followed = Followed {
+        answer: every(77),
+        first_len: 77,
+        links: 77,
+        keep: 77,
+        first: [77; 412],
+    };
+    arpki_follow(alloc, &keys, &asked, pin, links, &mut followed);
+    followed
+}
+
+// An answer, and nothing to keep.
+fn keeping_nothing(answer: Answer) -> Followed {
+    Followed {
+        answer,
+        first_len: 0,
+        links: 0,
+        keep: 0,
+        first: [0; 412],
+    }
+}
+
+// The text of a change of the certificate, with another byte at a place, which no signature vouches for.
+fn first(place: usize, byte: u8) -> [u8; 134]
+    requires { place ≤ 133 }
+{
+    let mut bytes = [0u8; 134];
+    bytes[..132].copy_from_slice(&certificate());
+    bytes[place] = byte;
+    bytes
+}
+
+// The text of the change of the certificate, and zero bytes.
+fn first_field() -> [u8; 412] {
+    let mut bytes = [0u8; 412];
+    bytes[..134].copy_from_slice(&first(131, 0));
+    bytes
+}
+
+// The text twice.
+fn twice() -> [u8; 268] {
+    let mut bytes = [0u8; 268];
+    bytes[..134].copy_from_slice(&first(131, 0));
+    bytes[134..].copy_from_slice(&first(131, 0));
+    bytes
+}
+
+// What is told where the pin is the beginning of such a text, and the links are that of the text of the certificate.
+fn pinned_cut(
+    alloc: Global,
+    epoch: u64,
+    place: usize,
+    byte: u8,
+    len: usize,
+    links: usize,
+) -> Followed
+    requires { (place ≤ 133) × (len ≤ 134) × (links ≤ 134) }
+{
+    pinned(
+        alloc,
+        epoch,
+        &first(place, byte)[..len],
+        &first(131, 0)[..links],
+    )
 }
 
 // What is learnt of bytes behind these entries.
@@ -255,17 +348,8 @@ fn entry(role: u16, key: [u8; 56]) -> Entry {
 
 #[test]
 fn a_confirmation_is_judged(rt: HostRuntime) {
-    let accepted = judged(rt.alloc(), 3, b"a.example", 9, &confirmation());
-    let expected = Answer {
-        epoch: 5,
-        serial: 0,
-        subject: filled(0x11, [0x22; 32]),
-        certificate: certificate_digest(),
-        root: table_root(),
-        outcome: 0,
-        check: 0,
-    };
-    assert!(rt; accepted == expected);
+    let told = judged(rt.alloc(), 3, b"a.example", 9, &confirmation());
+    assert!(rt; told == accepted());
     for (quorum, name, now, len, outcome, check) in [
         (3usize, b"a.example", 9u64, 4087usize, 2u32, 1u32),
         (3, b"b.example", 9, 4088, 2, 2),
@@ -287,6 +371,44 @@ fn a_server_has_to_respond(rt: HostRuntime) {
     assert!(rt; other == alone(5, 5));
     let refused = connected(rt.alloc(), b"b.example", &[]);
     assert!(rt; refused == alone(2, 2));
+}
+
+#[test]
+fn a_certificate_is_pinned(rt: HostRuntime) {
+    let told = pinned(rt.alloc(), 9, &[], &[]);
+    let expected = Followed {
+        first_len: 134,
+        keep: 1,
+        first: first_field(),
+        ..keeping_nothing(accepted())
+    };
+    assert!(rt; told == expected);
+    let again = pinned_cut(rt.alloc(), 9, 131, 0, 134, 0);
+    assert!(rt; again == keeping_nothing(accepted()));
+    let doubled = pinned(rt.alloc(), 9, &twice(), &[]);
+    assert!(rt; doubled == keeping_nothing(alone(13, 3)));
+}
+
+#[test]
+fn what_is_pinned_decides(rt: HostRuntime) {
+    for (place, byte, len, links, epoch, outcome, check) in [
+        // The pinned certificate expires an epoch earlier.
+        (123usize, 0xe7u8, 134usize, 0usize, 9u64, 7u32, 0u32),
+        // A link that nobody endorses.
+        (123, 0xe7, 134, 134, 9, 9, 3),
+        (131, 0, 134, 0, 10, 2, 9),
+        (131, 0, 133, 0, 9, 13, 1),
+        // Another name.
+        (4, 0x62, 134, 0, 9, 13, 2),
+        (131, 0, 134, 133, 9, 14, 0),
+    ] {
+        assert!(rt; place <= 133 && len <= 134 && links <= 134);
+        let told = pinned_cut(rt.alloc(), epoch, place, byte, len, links);
+        assert!(rt;
+            told == keeping_nothing(alone(outcome, check)),
+            "{outcome} {check}"
+        );
+    }
 }
 
 #[test]
