@@ -1,5 +1,6 @@
 """How many compressions of SHA-256 a string, an LM-OTS or LMS key, a signature and its judgement need, by RFC 8554 and
 docs/FORMATS.md. Nothing here asks the program that is measured."""
+import functools
 import hashlib
 
 HEIGHTS = {5: 5, 6: 10, 7: 15}  # by the LMS type
@@ -74,3 +75,21 @@ def needed_to_sign(key, message, signature):
     _, ots = types_of(key)
     steps = sum(1 + digit for digit in signed_digits(ots, key, message, signature))
     return blocks(1 + 32) + message_hash(message) + steps * STEP
+
+
+@functools.lru_cache(maxsize=None)
+def spread_of_digits(ots):
+    """(the least, the mean, the greatest) that the digits of a hash and of its checksum are together, over all hashes.
+
+    How many hashes have which sum of digits is read off a power: of the number that has a 1 at the place of each digit.
+    """
+    width, last = WIDTHS[ots], 2 ** WIDTHS[ots] - 1
+    count, place = 256 // width, 33  # bytes: there are 2^256 hashes
+    power = sum(1 << 8 * place * digit for digit in range(last + 1)) ** count
+    ways = power.to_bytes(place * (count * last + 1), "little")
+    sums, mean = [], 0
+    for total in range(count * last + 1):
+        checksum = count * last - total << SHIFTS[ots]
+        sums.append(total + sum(checksum >> 16 - width * (i + 1) & last for i in range(CHAINS[ots] - count)))
+        mean += sums[-1] * int.from_bytes(ways[place * total:place * (total + 1)], "little")
+    return min(sums), mean / 2 ** 256, max(sums)

@@ -18,6 +18,8 @@ What is counted (`Needs`):
   entry and the path;
 - certificates: the digest of each one, once for each log, and once for each other party and message that brings it;
 - printed: the digest of each message's bytes, and for `make <n> run` that of all that is printed.
+
+Beside them, under a word and a role, how many signatures the parties of each role made and verified, for tools/scale.
 """
 import collections
 import functools
@@ -136,20 +138,22 @@ class Signer:
         leaf = self.book.setdefault(text, len(self.book))
         signature = self.key.sign(leaf, text)
         self.needs["signed"] += needed_to_sign(self.key.public, text, signature)
+        self.needs["made by", self.party[0]] += 1
         return signature if self.party[0] == OWNER else u32(0) + signature
 
     def verify(self, key, text, signature):
-        judge(self.needs, self.judged, key, text, signature)
+        judge(self.needs, self.party[0], self.judged, key, text, signature)
 
     def verify_of(self, party, text, signature):
         """Verifies the statement of a log or an authority by its key of the generation 0."""
         self.verify(self.world.parties[party].key.public, text, signature[4:])
 
 
-def judge(needs, judged, key, text, signature):
+def judge(needs, role, judged, key, text, signature):
     """Counts a valid signature that a row or a client verifies."""
     count = needed_to_verify(key, text, signature)
     needs["verified"] += count
+    needs["verified by", role] += 1
     if (key, text, signature) in judged:
         needs["repeated"] += count
     judged.add((key, text, signature))
@@ -569,7 +573,7 @@ class World:
         assert which == "last" and told.name == name.encode() and 0 <= int(now) - told.epoch <= int(age)
         for party, signature in (((LOG, told.log), told.signature), ((AUTHORITY, told.first), first),
                                  ((AUTHORITY, told.second), second)):
-            judge(self.needs, self.judged, self.parties[party].key.public, told.statement(party), signature[4:])
+            judge(self.needs, CLIENT, self.judged, self.parties[party].key.public, told.statement(party), signature[4:])
         told.path_judged(self.needs)
         found = (f"accepted {name} serial {told.certificate.serial}" if told.certificate else f"absent {name}")
         self.say("judge", number, found, "epoch", told.epoch, "root", told.root.hex(),

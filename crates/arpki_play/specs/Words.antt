@@ -1,12 +1,14 @@
 -- The words that the program is called with, after its own name.
 use Rattle.std.specs.Prelude.{ℕ, ◌&&◌, if◌then◌else◌, List, [], ◌∷◌, codes, map, Option, Some, None, String, string_bytes, option_map}
+use Rattle.std.specs.Option.{option_or}
 use Rattle.std.specs.Str.{bytes_eq}
 use Rattle.std.specs.declared.alloc.Global.{Global}
 use Rattle.ar_lines.specs.Forms.{number_in}
 use Rattle.ar_run.specs.Answers.{Answer as Written, one_line}
 use Rattle.arpki_ask.specs.Commands.{command_named}
+use Rattle.review.specs.Reviews.{review_named}
 use Rattle.arpki_play.specs.declared.request.Request.{Request}
-use Rattle.arpki_play.specs.declared.request.Request.TheVariants.{Answer, Make, Play, Run}
+use Rattle.arpki_play.specs.declared.request.Request.TheVariants.{Answer, Make, Play, Review, Run}
 
 -- the bytes of each word
 abbrev pub texts : List (String Global) → List (List ℕ)
@@ -16,12 +18,14 @@ texts words = map string_bytes words
 abbrev pub domains_of : List ℕ → Option ℕ
 domains_of word = number_in 1 400 word
 
--- what one word asks for: to play, or the answer of a command
-abbrev pub request_named : List ℕ → Option Request
-request_named word = if bytes_eq word (codes "play") then Some Play else option_map Answer (command_named word)
+-- what one word asks for: to play, the answer of a command, or a review
+unfoldable pub request_named : List ℕ → Option Request
+request_named word =
+    if bytes_eq word (codes "play") then Some Play else
+    option_or (option_map Answer (command_named word)) (option_map Review (review_named word))
 
--- what the words ask for, where they are of a form: `play`, the answer of a command, or `make` with a number of domains, and with
--- the word `run` behind it
+-- what the words ask for, where they are of a form: `play`, the answer of a command, a review, or `make` with a number of domains,
+-- and with the word `run` behind it
 abbrev pub request_of : List (List ℕ) → Option Request
 request_of [] = None
 request_of (name ∷ []) = request_named name

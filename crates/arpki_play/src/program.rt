@@ -26,7 +26,7 @@ const USAGE: &[u8] =
 ///
 /// | status | comes |
 /// |---|---|
-/// | 0 | `sig` finds the signature valid, `check` accepts the confirmation, of a certificate or of none, `play` and `make <number> run` take each line of the script, `make <number>` writes it |
+/// | 0 | `sig` finds the signature valid, `check` accepts the confirmation, of a certificate or of none, `audit` writes its report, `play` and `make <number> run` take each line of the script, `make <number>` writes it |
 /// | 1 | `sig` finds the signature not valid, `check` refuses the confirmation |
 /// | 2 | the words are of no form: the usage line |
 /// | 3 | a line of the input, or of the script that is played, is refused, or the input is too long |
@@ -85,6 +85,7 @@ pub fn arpki_main<C: OwnerCheck, S: Source, K: Sink>(
         Some(Request::Answer(command)) => status(run(alloc, &command, source, sink)),
         Some(Request::Make(domains)) => status(show_script(alloc, &domains, sink)),
         Some(Request::Play) => status(play_input(alloc, checks, source, sink)),
+        Some(Request::Review(review)) => status(run(alloc, &review, source, sink)),
         Some(Request::Run(domains)) => status(run_made(alloc, &domains, checks, sink)),
         None => status(show_usage(sink)),
     }

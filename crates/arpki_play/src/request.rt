@@ -1,9 +1,10 @@
 ghost use Rattle.std.specs.Prelude.{◌≡◌, ◌≤◌, IfOk};
-ghost use Rattle.arpki_play.specs.Words.{domains_of, request_of, texts};
+ghost use Rattle.arpki_play.specs.Words.{domains_of, request_named, request_of, texts};
 ghost use Rattle.script_make.specs.Script.{script};
 
 use ar_lines::number_of;
 use arpki_ask::Command;
+use review::Review;
 use script_make::make;
 use std::alloc::{AllocError, Global};
 use std::marker::Model;
@@ -67,18 +68,33 @@ pub enum Request {
     Make(Domains),
     /// `play`: what happens where the input is played as a script.
     Play,
+    /// What a command that judges without a script, as `audit`, makes of the input.
+    Review(Review),
     /// `make <number> run`: that script played, and a summary of it. No input is read.
     Run(Domains),
 }
 
 impl Request {
+    /// What one word asks for; `None` where it is of no form.
+    #[tactic(auto, unfolding(crate::specs::Words::request_named))]
+    fn named(name: &str) -> Option<Request>
+        ensures { result ≡ request_named name.now }
+    {
+        if name == "play" {
+            return Some(Request::Play);
+        }
+        match Command::of(name) {
+            Some(command) => Some(Request::Answer(command)),
+            None => Review::of(name).map(Request::Review),
+        }
+    }
+
     /// What the words that follow the program's name ask for; `None` where they are of no form.
     pub fn read(words: &[String]) -> Option<Request>
         ensures { result ≡ request_of (texts words.now) }
     {
         match words {
-            [name] if name.as_str() == "play" => Some(Request::Play),
-            [name] => Command::of(name.as_str()).map(Request::Answer),
+            [name] => Request::named(name.as_str()),
             [name, number] if name.as_str() == "make" => {
                 Domains::of(number.as_bytes()).map(Request::Make)
             }

@@ -1,7 +1,10 @@
 //! Tests of the program's top call, which stand here so that its crate is proved once: answers over inputs, reads and writes
-//! that fail, scripts that are made and played, and the records of a world. There is nothing to call.
+//! that fail, scripts that are made and played, the records of a world, and an audit of all that its honest parties signed. There
+//! is nothing to call.
 #![tactic(auto)]
 
+#[cfg(test)]
+mod evidence;
 #[cfg(test)]
 mod failing_checks;
 #[cfg(test)]

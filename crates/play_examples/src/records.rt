@@ -29,7 +29,10 @@ learn 17
 ";
 
 // The world behind a script; none where it could not be played.
-fn world_behind(alloc: Global, script: &str) -> Result<Option<World<BookCheck>>, AllocError> {
+pub(crate) fn world_behind(
+    alloc: Global,
+    script: &str,
+) -> Result<Option<World<BookCheck>>, AllocError> {
     let checks = empty_books(alloc)?;
     let mut sink = QuietSink::new();
     match play(alloc, checks, script.as_bytes(), &mut sink) {

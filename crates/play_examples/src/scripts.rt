@@ -55,6 +55,16 @@ fn other_numbers_of_domains_are_words_of_no_form(rt: HostRuntime) -> Result<(), 
 }
 
 #[test]
+fn an_audit_takes_one_word(rt: HostRuntime) -> Result<(), Fail> {
+    // An empty input has no first line.
+    assert_eq!(rt; status_of(rt.alloc(), &["audit"])?, 3);
+    assert_eq!(rt; status_of(rt.alloc(), &["Audit"])?, 2);
+    assert_eq!(rt; status_of(rt.alloc(), &["audit", ""])?, 2);
+    assert_eq!(rt; status_of(rt.alloc(), &["audit", "run"])?, 2);
+    Ok(())
+}
+
+#[test]
 fn each_line_of_a_script_is_one_piece(rt: HostRuntime) -> Result<(), Fail> {
     // The first read fails, if there is one, and so does the third write.
     let (status, sink) = run(rt.alloc(), &["make", "1"], "", 1, &[1], &[3], 500)?;

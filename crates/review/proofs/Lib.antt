@@ -1,2 +1,4 @@
 mod Behind
+mod GroupLines
+mod LinkLines
 mod StatementLines

@@ -1,4 +1,5 @@
 pub mod Answers
 pub mod Audits
+pub mod Follows
 pub mod Reviews
 pub mod Telling

@@ -1,6 +1,6 @@
 ghost use Rattle.std.specs.Prelude.{◌≡◌};
 
-use crate::audits;
+use crate::{audits, follows};
 use ar_run::{Answer, Respond};
 use arpki_ask::refuse_long;
 use std::alloc::{AllocError, Global};
@@ -10,6 +10,8 @@ use std::alloc::{AllocError, Global};
 pub enum Review {
     /// `audit`: who contradicts himself in signed statements.
     Audit,
+    /// `follow`: what a client that remembers answers to confirmations, one after the other.
+    Follow,
 }
 
 impl Review {
@@ -21,6 +23,7 @@ impl Review {
     {
         match word {
             "audit" => Some(Review::Audit),
+            "follow" => Some(Review::Follow),
             _ => None,
         }
     }
@@ -34,6 +37,7 @@ impl Respond for Review {
     fn answer(&self, alloc: Global, input: &[u8]) -> Result<Answer, AllocError> {
         match self {
             Review::Audit => audits::answer(alloc, input),
+            Review::Follow => follows::answer(alloc, input),
         }
     }
 

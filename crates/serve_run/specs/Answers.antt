@@ -33,7 +33,7 @@ texts words = map string_bytes words
 
 -- the words are of no form: the usage line
 abbrev pub usage : Answer
-usage = one_line (codes "usage: arpki_crowd serve <workers>") 2
+usage = one_line (codes "usage: arpki_crowd crowd|serve <workers>") 2
 
 -- ---- lines
 

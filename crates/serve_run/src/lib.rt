@@ -9,7 +9,7 @@
 //! one run. Two runs with one secret sign by each leaf twice, and then anybody can forge with that key. A server of a real domain
 //! makes one `Server` for each start of its process, with a new key, to which `Server::handover` hands the name over.
 //!
-//! No program makes the call `crowd_main` yet.
+//! The program `arpki_crowd` makes the call `crowd_main`.
 //!
 //! In `specs/`, `Reading` says what is asked, `Serving` what is replied, `Workers` what a worker does, and `Answers` what the
 //! program writes, and with which status.

@@ -19,7 +19,7 @@ use std::alloc::{AllocError, Global};
 use std::thread::Threads;
 
 /// The usage line.
-const USAGE: &[u8] = b"usage: arpki_crowd serve <workers>\n";
+const USAGE: &[u8] = b"usage: arpki_crowd crowd|serve <workers>\n";
 
 /// How many workers the words ask for; `None` where they are of no form.
 fn workers_of(words: &[String]) -> Option<usize>

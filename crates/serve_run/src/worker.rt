@@ -47,8 +47,16 @@ impl Model for Told {
     ghost view = { λ t. record { seat = t.seat; replies = t.replies.items } };
 }
 
-/// Answers one challenge.
-fn reply(service: &Service, server: &Server, seat: &mut LeafSeat, challenge: &[u8; 32]) -> Reply
+/// Answers the challenge of this number, for which the gate was passed: that alone is why it takes the gate and the number.
+fn reply<G: Gate>(
+    gate: &G,
+    number: u64,
+    service: &Service,
+    server: &Server,
+    seat: &mut LeafSeat,
+    challenge: &[u8; 32],
+) -> Reply
+    requires passed { G.passed gate.now number }
     requires server { IsServerOf service.now server.now }
     requires own { seat.old.book ≡ server.now.book }
     ensures replied { IsReply service.now challenge.now result }
@@ -84,7 +92,8 @@ pub(crate) fn work<G: Gate>(
     for number in 0..service.challenges.len() {
         if number % workers == worker {
             gate.before(number as u64);
-            let reply = reply(service, server, &mut seat, &service.challenges[number]);
+            let challenge = &service.challenges[number];
+            let reply = reply(gate, number as u64, service, server, &mut seat, challenge);
             replies.push_back(reply)?;
         }
     }

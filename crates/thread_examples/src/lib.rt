@@ -1,5 +1,5 @@
-//! Tests of what many threads share: of leaves that are drawn, of a core that is asked, and of a server that answers challenges.
-//! They stand here so that the crates of these are proved once. There is nothing to call.
+//! Tests of what many threads share: of leaves that are drawn, of a core that is asked, of a server that answers challenges, and of
+//! the workers of `serve`. They stand here so that the crates of these are proved once. There is nothing to call.
 #![tactic(auto)]
 
 #[cfg(test)]
@@ -8,3 +8,5 @@ mod leaves;
 mod nodes;
 #[cfg(test)]
 mod servers;
+#[cfg(test)]
+mod workers;

@@ -3,7 +3,7 @@ use Rattle.ar_base.specs.Gives.{with_error}
 use Rattle.ar_lines.specs.declared.refusal.LineFault.TheVariants.{Refused}
 use Rattle.ar_lines.proofs.Faults.{GivesUp, gives_up-chained}
 use Rattle.review.specs.Audits.{is_over, most_statements, no_more_at, statement_at, statements_at}
-use Rattle.review.proofs.StatementLines.{no_statement, none-before, one-before, statement_gives_up, statement_more, statements_all}
+use Rattle.review.proofs.StatementLines.{no_statement, one-before, statement_gives_up, statement_more, statements_all}
 use Rattle.review.proofs.audits.statements.Goals as goal
 
 pub loop-preserved : goal.loop-preserved

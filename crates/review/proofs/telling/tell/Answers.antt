@@ -1,4 +1,4 @@
-use Rattle.std.proofs.Common.{rules, ◌≡◌, ◌∙◌, refl, List, ◌++◌, length, map}
+use Rattle.std.proofs.Common.{rules, ◌≡◌, ◌∙◌, refl, ◌++◌, length, map}
 use Rattle.ar_run.specs.Answers.{bytes_of}
 use Rattle.review.specs.Telling.{conflict_line, ignored_line, report_lines, total_line}
 use Rattle.review.proofs.Behind.{all-told}

@@ -1,0 +1,18 @@
+//! Laws on the definitions of `specs/`: each is the contract of a function with an empty body.
+ghost use Rattle.std.specs.Prelude.{◌≡◌, ℕ, List, IsTrue, Contains, false};
+ghost use Rattle.std.specs.List.{list_all};
+ghost use Rattle.ar_safety.specs.Held.{Held, records_of};
+ghost use Rattle.ar_safety.specs.Records.{signed_by};
+ghost use Rattle.ar_statement.specs.Claims.{has_party};
+ghost use Rattle.party_keys.specs.Signatures.{IsVerified};
+ghost use Rattle.party_keys.specs.Signers.{Claimed};
+ghost use Rattle.run_premises.specs.Books.{NoneForgedIn, are_fair, is_fair};
+
+/// Where each claim of each message is fair, none is forged; and a claim that is not fair is a forgery: its party is not dishonest,
+/// its signature is valid under the keys that clients know, and the party's book does not have its text.
+pub fn what_is_not_fair_is_forged()
+    ensures fair { (h : Held) (messages : List (List ℕ)) → IsTrue (list_all (are_fair h) messages) → NoneForgedIn h messages }
+    ensures forged { (h : Held) (c : Claimed) → is_fair h c ≡ false
+        → (has_party h.dishonest c.party ≡ false) × IsVerified h.directory c.party c.text c.signature
+        × ¬ Contains (signed_by (records_of h) c.party) c.text }
+{}

@@ -1,0 +1,17 @@
+//! Whether a run meets the premises of the safety theorem, as answers of calls.
+//!
+//! `few` says whether at most two parties are dishonest, and `is_unforged` whether each signature in given bytes that is
+//! valid under a key which clients know of an honest party is on what that party signed. `none_collide` says whether no two of
+//! some strings have one digest. `claims_in` has what logs and authorities are said to have signed in a message.
+//!
+//! `specs/Books.antt` says whose book has which text, and when a claim is fair; `laws` say what the answers mean.
+#![tactic(auto)]
+
+pub use claiming::claims_in;
+pub use colliding::none_collide;
+pub use forging::{few, is_unforged};
+
+mod claiming;
+mod colliding;
+mod forging;
+pub mod laws;

@@ -1,0 +1,175 @@
+use ar_io::{MemSink, QuietSource};
+use serve_run::{Gate, crowd_main};
+use std::alloc::{AllocError, Global};
+use std::sync::atomic::{AtomicBool, AtomicU64, Ordering};
+use std::test::Fail;
+use std::thread::Threads;
+
+// How often a worker looks for the other one before it goes on alone.
+const MOST_TURNS: u32 = 200_000_000;
+
+// A gate for two challenges at which two workers have to meet: who comes to it sets a flag, and waits for the other's.
+#[derive(Drop)]
+struct Meeting {
+    first: AtomicBool,
+    second: AtomicBool,
+    missed: AtomicBool,
+}
+
+impl Meeting {
+    fn new() -> Meeting {
+        Meeting {
+            first: AtomicBool::new(false),
+            second: AtomicBool::new(false),
+            missed: AtomicBool::new(false),
+        }
+    }
+
+    // Whether each found the other.
+    fn is_met(&self) -> bool {
+        self.first.load(Ordering::SeqCst)
+            && self.second.load(Ordering::SeqCst)
+            && !self.missed.load(Ordering::SeqCst)
+    }
+}
+
+impl Gate for Meeting {
+    ghost passed = { λ _ _. Unit {0} };
+
+    fn before(&self, number: u64) {
+        let (own, other) = if number == 0 {
+            (&self.first, &self.second)
+        } else {
+            (&self.second, &self.first)
+        };
+        own.store(true, Ordering::SeqCst);
+        for _ in 0..MOST_TURNS {
+            if other.load(Ordering::SeqCst) {
+                return;
+            }
+        }
+        self.missed.store(true, Ordering::SeqCst);
+    }
+}
+
+// A gate that notes which challenges it was passed for: how many times in all, and the sum of a power of two for each.
+#[derive(Drop)]
+struct Tally {
+    times: AtomicU64,
+    powers: AtomicU64,
+}
+
+impl Gate for Tally {
+    ghost passed = { λ _ _. Unit {0} };
+
+    fn before(&self, number: u64) {
+        self.times.fetch_add(1, Ordering::SeqCst);
+        if number < 64 {
+            self.powers.fetch_add(1 << number, Ordering::SeqCst);
+        }
+    }
+}
+
+// The words `serve` and a number of workers.
+fn words_of(alloc: Global, workers: &str) -> Result<Vec<String>, AllocError> {
+    let mut words = Vec::new(alloc);
+    words.push(String::from_str(alloc, "serve")?)?;
+    words.push(String::from_str(alloc, workers)?)?;
+    Ok(words)
+}
+
+// An input with so many challenges, no two of which are the same.
+fn input_of(alloc: Global, challenges: u8) -> Result<String, AllocError> {
+    let mut text = String::from_str(
+        alloc,
+        "secret 0000000000000000000000000000000000000000000000000000000000000000
+name a.example
+certificate 1111111111111111111111111111111111111111111111111111111111111111
+",
+    )?;
+    for number in 0..challenges {
+        let challenge = hex::encode(alloc, &[number; 32])?;
+        text.push_str("challenge ")?;
+        text.push_str(challenge.as_str())?;
+        text.push_str("\n")?;
+    }
+    Ok(text)
+}
+
+// The status of a run of so many workers over so many challenges, and what it wrote.
+fn serve<R: Threads + Sync, G: Gate>(
+    rt: &R,
+    alloc: Global,
+    workers: &str,
+    challenges: u8,
+    gate: &G,
+) -> Result<(u8, MemSink), AllocError> {
+    let words = words_of(alloc, workers)?;
+    let input = input_of(alloc, challenges)?;
+    let mut source = QuietSource::new(input.into_bytes());
+    let mut sink = MemSink::new(alloc, Vec::new(alloc));
+    sink.reserve(alloc, 8192)?;
+    let status = crowd_main(rt, alloc, &words, &mut source, &mut sink, gate);
+    Ok((status, sink))
+}
+
+// The leaf that the line of an answer tells; none where no leaf was left.
+fn leaf_of(line: &str) -> Option<usize> {
+    let (_, told) = line.split_once(" leaf ")?;
+    let (leaf, _) = told.split_once(' ')?;
+    leaf.parse::<usize>().ok()
+}
+
+// How often each leaf is told by the lines of answers, which stand behind the first.
+fn times_of(text: &str) -> [u8; 32] {
+    let mut times = [0u8; 32];
+    for line in text.lines().skip(1) {
+        if let Some(leaf) = leaf_of(line) {
+            if let Some(times) = times.get_mut(leaf) {
+                *times = times.saturating_add(1);
+            }
+        }
+    }
+    times
+}
+
+#[test]
+fn serve_meets(rt: HostRuntime) -> Result<(), Fail> {
+    let meeting = Meeting::new();
+    let (status, sink) = serve(&rt, rt.alloc(), "2", 2, &meeting)?;
+    assert_eq!(rt; status, 0);
+    assert!(rt; meeting.is_met(), "the two workers did not meet");
+    let Ok(text) = str::from_utf8(sink.written()) else {
+        panic!(rt; "lines are text")
+    };
+    let mut expected = [0u8; 32];
+    expected[0] = 1;
+    expected[1] = 1;
+    assert_eq!(rt; times_of(text), expected);
+    Ok(())
+}
+
+#[test]
+fn three_workers_answer_40_challenges_by_32_leaves(rt: HostRuntime) -> Result<(), Fail> {
+    let tally = Tally {
+        times: AtomicU64::new(0),
+        powers: AtomicU64::new(0),
+    };
+    let (status, sink) = serve(&rt, rt.alloc(), "3", 40, &tally)?;
+    assert_eq!(rt; status, 0);
+    let Ok(text) = str::from_utf8(sink.written()) else {
+        panic!(rt; "lines are text")
+    };
+    assert_eq!(rt; times_of(text), [1; 32]);
+    assert_eq!(rt; text.lines().count(), 41);
+    assert_eq!(rt;
+        text.lines()
+            .filter(|line| line.ends_with(" exhausted"))
+            .count(),
+        8
+    );
+    // The gate was passed once for each of the challenges 0 to 39.
+    assert_eq!(rt; tally.times.load(Ordering::SeqCst), 40);
+    assert_eq!(rt; tally.powers.load(Ordering::SeqCst), 0xff_ffff_ffff);
+    Ok(())
+}
