@@ -1,4 +1,5 @@
 pub mod Adding
+pub mod Appending
 pub mod Apart
 pub mod Digests
 pub mod Failing

@@ -1,4 +1,5 @@
 pub mod Adding
+pub mod Appending
 pub mod Apart
 pub mod Bytes
 pub mod Chaining
@@ -7,6 +8,5 @@ pub mod Faults
 pub mod FirstFailing
 pub mod Gives
 pub mod Ranges
-pub mod Shares
 pub mod Places
 pub mod Prefixes

@@ -6,7 +6,6 @@ ghost use Rattle.ar_base.specs.Apart.{Apart, IsIn, none_collide};
 ghost use Rattle.ar_base.specs.Faults.{HasRisen, most_faults, one_more};
 ghost use Rattle.ar_base.specs.FirstFailing.{first_failing};
 ghost use Rattle.ar_base.specs.Gives.{GivesOrWants, GivesUnless};
-ghost use Rattle.ar_base.specs.Shares.{given_of, left_of};
 
 /// A count after one more has risen.
 pub fn one_more_has_risen()
@@ -33,17 +32,6 @@ pub fn a_digest_is_of_one_string()
 pub fn no_part_collides()
     ensures { (part strings : List (List ℕ)) → ((x : List ℕ) → IsIn part x → IsIn strings x)
         → IsTrue (none_collide strings) → IsTrue (none_collide part) }
-{}
-
-/// A split loses nothing, and the part that is left is the greater by at most 1.
-pub fn a_split_loses_nothing()
-    ensures whole { (share : ℕ) → left_of share + given_of share ≡ share }
-    ensures halves { (share : ℕ) → (given_of share ≤ left_of share) × (left_of share ≤ given_of share + 1) }
-{}
-
-/// Each part of a share above 1 is a share.
-pub fn each_part_is_a_share()
-    ensures { (share : ℕ) → 1 < share → (0 < left_of share) × (0 < given_of share) }
 {}
 
 /// No test of a list fails exactly where all hold. The fault of the list is that of a test which does

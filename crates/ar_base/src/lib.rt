@@ -1,5 +1,5 @@
-//! What the crates above share: a list type whose value in a contract is the list of its items, the
-//! shares of seats, where a byte stands first, and the words of `specs/`.
+//! What the crates above have in common: a list type whose value in a contract is the list of its items,
+//! where a byte stands first, and the words of `specs/`.
 //!
 //! `specs/Bytes.antt` says what bytes and digests are, `specs/Ranges.antt` what numbers stand in a range,
 //! `specs/Counting.antt` what a test adds to a count, `specs/Chaining.antt` how one reading stands behind
@@ -7,17 +7,13 @@
 //! `specs/FirstFailing.antt` which of an ordered list of tests, conditions or answers is the first that fails,
 //! `specs/Gives.antt` that a call answers, or steps, as its definition says, also where it takes memory, and
 //! `specs/Apart.antt` that no two strings of a list have one digest under SHA-256.
-//! `specs/Shares.antt` says what shares of seats are, `specs/Places.antt` where a text stands in a list, and
-//! `specs/Adding.antt` what a list is with one more, behind the others or in its place.
+//! `specs/Places.antt` says where a text stands in a list, `specs/Adding.antt` what a list is with one more,
+//! behind the others or in its place, and `specs/Prefixes.antt` when a list begins with another.
 #![tactic(auto)]
 
 pub use bytes::position_of;
 pub use items::Items;
-pub use share::Share;
-pub use split_fault::SplitFault;
 
 mod bytes;
 mod items;
 pub mod laws;
-mod share;
-mod split_fault;

@@ -1,5 +1,6 @@
-ghost use Rattle.std.specs.Prelude.{◌≡◌, ◌+◌, ◌≤◌, ◌++◌, length, vec_len, vec_capacity, IsOk, OnOk, OnErr};
+ghost use Rattle.std.specs.Prelude.{◌≡◌, OnErr};
 ghost use Rattle.std.specs.Int.{w8, w16, w32, w64};
+ghost use Rattle.ar_base.specs.Appending.{Appends};
 ghost use Rattle.ar_bytes.specs.RoundTrip.{number_text};
 
 use std::alloc::{AllocError, Global};
@@ -10,10 +11,8 @@ use std::alloc::{AllocError, Global};
 /// not come where `out` has room for what is appended.
 #[tactic(auto, unfolding(crate::specs::RoundTrip::number_text))]
 pub fn put_u8(_alloc: Global, out: &mut Vec<u8>, v: u8) -> Result<(), AllocError>
-    ensures ok { OnOk result (out.new.items ≡ out.old.items ++ number_text w8 v) }
+    ensures appends { Appends (number_text w8 v) out.old out.new result }
     ensures err { OnErr result (out.new.items ≡ out.old.items) }
-    ensures room { vec_len out.old + 1 ≤ vec_capacity out.old → IsOk result }
-    ensures capacity { vec_capacity out.old ≤ vec_capacity out.new }
 {
     out.push(v)?;
     Ok(())
@@ -22,10 +21,8 @@ pub fn put_u8(_alloc: Global, out: &mut Vec<u8>, v: u8) -> Result<(), AllocError
 /// Appends a big-endian number of two bytes.
 #[tactic(auto, unfolding(crate::specs::RoundTrip::number_text))]
 pub fn put_u16(_alloc: Global, out: &mut Vec<u8>, v: u16) -> Result<(), AllocError>
-    ensures ok { OnOk result (out.new.items ≡ out.old.items ++ number_text w16 v) }
+    ensures appends { Appends (number_text w16 v) out.old out.new result }
     ensures err { OnErr result (out.new.items ≡ out.old.items) }
-    ensures room { vec_len out.old + 2 ≤ vec_capacity out.old → IsOk result }
-    ensures capacity { vec_capacity out.old ≤ vec_capacity out.new }
 {
     out.extend_from_slice(&v.to_be_bytes())
 }
@@ -33,10 +30,8 @@ pub fn put_u16(_alloc: Global, out: &mut Vec<u8>, v: u16) -> Result<(), AllocErr
 /// Appends a big-endian number of four bytes.
 #[tactic(auto, unfolding(crate::specs::RoundTrip::number_text))]
 pub fn put_u32(_alloc: Global, out: &mut Vec<u8>, v: u32) -> Result<(), AllocError>
-    ensures ok { OnOk result (out.new.items ≡ out.old.items ++ number_text w32 v) }
+    ensures appends { Appends (number_text w32 v) out.old out.new result }
     ensures err { OnErr result (out.new.items ≡ out.old.items) }
-    ensures room { vec_len out.old + 4 ≤ vec_capacity out.old → IsOk result }
-    ensures capacity { vec_capacity out.old ≤ vec_capacity out.new }
 {
     out.extend_from_slice(&v.to_be_bytes())
 }
@@ -44,20 +39,16 @@ pub fn put_u32(_alloc: Global, out: &mut Vec<u8>, v: u32) -> Result<(), AllocErr
 /// Appends a big-endian number of eight bytes.
 #[tactic(auto, unfolding(crate::specs::RoundTrip::number_text))]
 pub fn put_u64(_alloc: Global, out: &mut Vec<u8>, v: u64) -> Result<(), AllocError>
-    ensures ok { OnOk result (out.new.items ≡ out.old.items ++ number_text w64 v) }
+    ensures appends { Appends (number_text w64 v) out.old out.new result }
     ensures err { OnErr result (out.new.items ≡ out.old.items) }
-    ensures room { vec_len out.old + 8 ≤ vec_capacity out.old → IsOk result }
-    ensures capacity { vec_capacity out.old ≤ vec_capacity out.new }
 {
     out.extend_from_slice(&v.to_be_bytes())
 }
 
 /// Appends bytes as they stand, without a count.
 pub fn put_bytes(_alloc: Global, out: &mut Vec<u8>, v: &[u8]) -> Result<(), AllocError>
-    ensures ok { OnOk result (out.new.items ≡ out.old.items ++ v.now) }
+    ensures appends { Appends v.now out.old out.new result }
     ensures err { OnErr result (out.new.items ≡ out.old.items) }
-    ensures room { vec_len out.old + length v.now ≤ vec_capacity out.old → IsOk result }
-    ensures capacity { vec_capacity out.old ≤ vec_capacity out.new }
 {
     out.extend_from_slice(v)
 }

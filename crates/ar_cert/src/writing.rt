@@ -1,5 +1,6 @@
-ghost use Rattle.std.specs.Prelude.{◌≡◌, ◌+◌, ◌*◌, ◌≤◌, ◌++◌, length, take, is_some, vec_len, vec_capacity, IsOk, OnOk, OnErr, IfSome};
+ghost use Rattle.std.specs.Prelude.{◌≡◌, ◌+◌, ◌*◌, ◌≤◌, ◌++◌, length, take, is_some, vec_len, vec_capacity, OnErr, IfSome};
 ghost use Rattle.std.specs.List.{flat_map};
+ghost use Rattle.ar_base.specs.Appending.{Appends};
 ghost use Rattle.ar_bytes.specs.RoundTrip.{counted_text, number_text};
 ghost use Rattle.std.specs.Int.{w8};
 ghost use Rattle.ar_bytes.specs.Ascending.{numbers_text};
@@ -128,10 +129,8 @@ impl Cert {
     /// Appends the text. The one error is want of memory: it leaves the bytes of `out` as they were, and
     /// does not come where `out` has room for the text.
     pub fn write(&self, _alloc: Global, out: &mut Vec<u8>) -> Result<(), AllocError>
-        ensures ok { OnOk result (out.new.items ≡ out.old.items ++ certificate_text self.now) }
+        ensures appends { Appends (certificate_text self.now) out.old out.new result }
         ensures err { OnErr result (out.new.items ≡ out.old.items) }
-        ensures room { vec_len out.old + length (certificate_text self.now) ≤ vec_capacity out.old → IsOk result }
-        ensures capacity { vec_capacity out.old ≤ vec_capacity out.new }
     {
         let mut text = [0; TEXT_LEN];
         let len = self.put(&mut text);
@@ -262,11 +261,10 @@ fn append_consents(
 impl Cert {
     /// Appends the text behind the number of its bytes. The one error is want of memory: it leaves the
     /// bytes of `out` as they were, and does not come where `out` has room for both.
+    #[tactic(auto, unfolding(ar_bytes::specs::RoundTrip::number_text))]
     pub fn write_counted(&self, _alloc: Global, out: &mut Vec<u8>) -> Result<(), AllocError>
-        ensures ok { OnOk result (out.new.items ≡ out.old.items ++ counted_text (certificate_text self.now)) }
+        ensures appends { Appends (counted_text (certificate_text self.now)) out.old out.new result }
         ensures err { OnErr result (out.new.items ≡ out.old.items) }
-        ensures room { vec_len out.old + (2 + length (certificate_text self.now)) ≤ vec_capacity out.old → IsOk result }
-        ensures capacity { vec_capacity out.old ≤ vec_capacity out.new }
     {
         let mut text = [0; TEXT_LEN];
         let len = self.put(&mut text);
@@ -301,10 +299,8 @@ impl Change {
     /// does not come where `out` has room for the text.
     #[tactic(auto, using(crate::proofs::Lengths::change_lengths), unfolding(crate::specs::Changes::change_text))]
     pub fn write(&self, _alloc: Global, out: &mut Vec<u8>) -> Result<(), AllocError>
-        ensures ok { OnOk result (out.new.items ≡ out.old.items ++ change_text self.now) }
+        ensures appends { Appends (change_text self.now) out.old out.new result }
         ensures err { OnErr result (out.new.items ≡ out.old.items) }
-        ensures room { vec_len out.old + length (change_text self.now) ≤ vec_capacity out.old → IsOk result }
-        ensures capacity { vec_capacity out.old ≤ vec_capacity out.new }
     {
         let mut cert = [0; TEXT_LEN];
         let len = self.cert.put(&mut cert);

@@ -14,7 +14,7 @@
 pub use lines::{Lines, first_part, first_word, is_text};
 pub use party::{letter_of, party_of};
 pub use refusal::{LineFault, Reason, Refusal};
-pub use word::{Word, are_hex_digits, array_of_hex, is_hex, number_in, number_of};
+pub use word::{Word, array_of_hex, is_hex, number_in, number_of};
 
 pub mod laws;
 mod lines;

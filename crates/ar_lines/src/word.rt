@@ -33,7 +33,7 @@ impl<'a> Model for Word<'a> {
 }
 
 /// Whether a word has hex digits alone, in lower case.
-pub fn are_hex_digits(word: &[u8]) -> bool
+fn are_hex_digits(word: &[u8]) -> bool
     ensures { result ≡ list_all is_lower_hex_digit word.now }
 {
     word.iter()

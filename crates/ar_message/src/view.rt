@@ -93,7 +93,7 @@ impl<'a> ConfView<'a> {
     }
 
     /// The confirmation as a message of its own. The one error is want of memory.
-    pub fn to_message(&self, alloc: Global) -> Result<Message, AllocError>
+    pub(crate) fn to_message(&self, alloc: Global) -> Result<Message, AllocError>
         ensures { IfOk result (λ message. message ≡ with_confirmation self.now) }
     {
         let name = NameView::from_name(self.about.name).to_name(alloc)?;

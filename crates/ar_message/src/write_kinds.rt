@@ -1,6 +1,6 @@
 //! Messages written, kind by kind.
 
-ghost use Rattle.std.specs.Prelude.{◌≡◌, ◌+◌, ◌≤◌, ◌++◌, length, vec_len, vec_capacity, IfOk, IsOk, OnOk, OnErr};
+ghost use Rattle.std.specs.Prelude.{◌≡◌, ◌++◌, IfOk, OnErr};
 ghost use Rattle.std.specs.Int.{w8, w16, w32, w64};
 ghost use Rattle.ar_base.specs.Ranges.{IsFromTo};
 ghost use Rattle.ar_bytes.specs.Joined.{optional_text};
@@ -10,15 +10,15 @@ ghost use Rattle.ar_message.specs.Confirmation.{body_text, form_text, is_present
 ghost use Rattle.ar_message.specs.Lists.{changes_text, statuses_text, votes_text};
 ghost use Rattle.ar_message.specs.Messages.{fields_text, kind_of, message_text, path_in, shown_in, signed_in};
 ghost use Rattle.ar_statement.specs.Claims.{name_text, party_text, roots_text};
-ghost use Rattle.ar_text.specs.Parts.{Appends};
+ghost use Rattle.ar_base.specs.Appending.{Appends};
 ghost use Rattle.lms_tree.specs.PublicKey.{key_text};
 
 use crate::writing::{
-    put, put_body, put_cert, put_change, put_changes, put_confirming, put_form, put_name,
-    put_roots, put_signature, put_signed, put_statuses, put_subject, put_u8, put_u16, put_u32,
-    put_u64, put_value, put_votes,
+    put_body, put_cert, put_change, put_changes, put_confirming, put_form, put_name, put_roots,
+    put_signature, put_signed, put_statuses, put_subject, put_value, put_votes,
 };
 use crate::{Body, Changes, Message, Signature, Votes};
+use ar_bytes::{put_bytes, put_u8, put_u16, put_u32, put_u64};
 use ar_cert::Cert;
 use ar_names::Name;
 use ar_statement::Party;
@@ -49,7 +49,7 @@ fn put_endorsed(
 {
     put_u16(alloc, out, owner)?;
     put_u16(alloc, out, authority)?;
-    put(alloc, out, certificate)?;
+    put_bytes(alloc, out, certificate)?;
     put_signature(alloc, out, signature)
 }
 
@@ -162,7 +162,7 @@ fn put_roll_note(
     put_u8(alloc, out, party.role.number())?;
     put_u16(alloc, out, party.number)?;
     put_u32(alloc, out, generation)?;
-    put(alloc, out, &key.bytes())?;
+    put_bytes(alloc, out, &key.bytes())?;
     put_signature(alloc, out, signature)
 }
 
@@ -299,7 +299,7 @@ fn put_message(alloc: Global, out: &mut Vec<u8>, message: &Message) -> Result<()
 }
 
 impl Message {
-    ghost use Rattle.std.specs.Prelude.{◌≡◌, ◌+◌, ◌≤◌, ◌++◌, length, vec_len, vec_capacity, IsOk, OnOk, OnErr};
+    ghost use Rattle.std.specs.Prelude.{◌≡◌, OnErr};
     ghost use Rattle.ar_message.specs.Messages.{kind_of, message_text};
 
     /// The number of its kind, the first byte of its text.
@@ -326,10 +326,8 @@ impl Message {
     /// Appends the text, however long it is. The one error is want of memory: it leaves the bytes of `out`
     /// as they were, and does not come where `out` has room for the text.
     pub fn write(&self, alloc: Global, out: &mut Vec<u8>) -> Result<(), AllocError>
-        ensures ok { OnOk result (out.new.items ≡ out.old.items ++ message_text self.now) }
+        ensures appends { Appends (message_text self.now) out.old out.new result }
         ensures err { OnErr result (out.new.items ≡ out.old.items) }
-        ensures room { vec_len out.old + length (message_text self.now) ≤ vec_capacity out.old → IsOk result }
-        ensures capacity { vec_capacity out.old ≤ vec_capacity out.new }
     {
         let start = out.len();
         let result = put_message(alloc, out, self);

@@ -1,7 +1,7 @@
 //! Messages written: each function appends the text of a part of a message. After an error a part of the text may
 //! stand behind what was there; `Message::write` takes it away again.
 
-ghost use Rattle.std.specs.Prelude.{◌≡◌, ◌+◌, ◌≤◌, ◌++◌, length, vec_len, vec_capacity, IsOk, OnOk, OnErr};
+ghost use Rattle.std.specs.Prelude.{◌++◌, length};
 ghost use Rattle.std.specs.List.{flat_map};
 ghost use Rattle.std.specs.Int.{w8, w16, w32, w64};
 ghost use Rattle.ar_bytes.specs.Joined.{optional_text};
@@ -12,52 +12,19 @@ ghost use Rattle.ar_message.specs.Confirmation.{body_text, bottom_text, form_tex
 ghost use Rattle.ar_message.specs.Lists.{changes_text, status_text, statuses_text, vote_text, votes_text};
 ghost use Rattle.ar_message.specs.Messages.{about_in, confirmed_text, confirming_text, vouched_text, fields_text, message_text, path_in, shown_in, signed_in, kind_of};
 ghost use Rattle.ar_statement.specs.Claims.{name_text, party_text, roots_text};
-ghost use Rattle.ar_text.specs.Parts.{Appends};
+ghost use Rattle.ar_base.specs.Appending.{Appends};
 ghost use Rattle.lms_tree.specs.PublicKey.{key_text};
 
 use crate::{
     Body, Changes, Confirming, LogStatus, Message, Signature, Statuses, Steps, Vote, Votes,
 };
+use ar_bytes::{put_bytes, put_u8, put_u16, put_u32, put_u64};
 use ar_cert::{Cert, Change};
 use ar_names::Name;
 use std::alloc::{AllocError, Global};
 use tree_proof::Bottom;
 
 // ---- fields
-
-#[tactic(auto, unfolding(ar_bytes::specs::RoundTrip::number_text))]
-pub(crate) fn put_u8(alloc: Global, out: &mut Vec<u8>, n: u8) -> Result<(), AllocError>
-    ensures { Appends (number_text w8 n) out.old out.new result }
-{
-    ar_bytes::put_u8(alloc, out, n)
-}
-
-#[tactic(auto, unfolding(ar_bytes::specs::RoundTrip::number_text))]
-pub(crate) fn put_u16(alloc: Global, out: &mut Vec<u8>, n: u16) -> Result<(), AllocError>
-    ensures { Appends (number_text w16 n) out.old out.new result }
-{
-    ar_bytes::put_u16(alloc, out, n)
-}
-
-#[tactic(auto, unfolding(ar_bytes::specs::RoundTrip::number_text))]
-pub(crate) fn put_u32(alloc: Global, out: &mut Vec<u8>, n: u32) -> Result<(), AllocError>
-    ensures { Appends (number_text w32 n) out.old out.new result }
-{
-    ar_bytes::put_u32(alloc, out, n)
-}
-
-#[tactic(auto, unfolding(ar_bytes::specs::RoundTrip::number_text))]
-pub(crate) fn put_u64(alloc: Global, out: &mut Vec<u8>, n: u64) -> Result<(), AllocError>
-    ensures { Appends (number_text w64 n) out.old out.new result }
-{
-    ar_bytes::put_u64(alloc, out, n)
-}
-
-pub(crate) fn put(alloc: Global, out: &mut Vec<u8>, bytes: &[u8]) -> Result<(), AllocError>
-    ensures { Appends bytes.now out.old out.new result }
-{
-    ar_bytes::put_bytes(alloc, out, bytes)
-}
 
 /// Two digests.
 pub(crate) fn put_roots(
@@ -68,8 +35,8 @@ pub(crate) fn put_roots(
 ) -> Result<(), AllocError>
     ensures { Appends (roots_text (base.now, root.now)) out.old out.new result }
 {
-    put(alloc, out, base)?;
-    put(alloc, out, root)
+    put_bytes(alloc, out, base)?;
+    put_bytes(alloc, out, root)
 }
 
 /// A flag, and for 1 two digests.
@@ -100,7 +67,7 @@ pub(crate) fn put_signature(
 {
     let bytes = signature.as_slice();
     put_u16(alloc, out, bytes.len() as u16)?;
-    put(alloc, out, bytes)
+    put_bytes(alloc, out, bytes)
 }
 
 /// A name behind its length.
@@ -109,24 +76,14 @@ pub(crate) fn put_name(alloc: Global, out: &mut Vec<u8>, name: &Name) -> Result<
 {
     let text = name.view().text();
     put_u8(alloc, out, text.len() as u8)?;
-    put(alloc, out, text)
-}
-
-/// A certificate behind the number of its bytes. An error leaves the bytes as they were.
-fn write_counted(alloc: Global, out: &mut Vec<u8>, cert: &Cert) -> Result<(), AllocError>
-    ensures ok { OnOk result (out.new.items ≡ out.old.items ++ counted_text (certificate_text cert.now)) }
-    ensures err { OnErr result (out.new.items ≡ out.old.items) }
-    ensures room { vec_len out.old + length (counted_text (certificate_text cert.now)) ≤ vec_capacity out.old → IsOk result }
-    ensures capacity { vec_capacity out.old ≤ vec_capacity out.new }
-{
-    cert.write_counted(alloc, out)
+    put_bytes(alloc, out, text)
 }
 
 /// A certificate behind the number of its bytes.
 pub(crate) fn put_cert(alloc: Global, out: &mut Vec<u8>, cert: &Cert) -> Result<(), AllocError>
     ensures { Appends (counted_text (certificate_text cert.now)) out.old out.new result }
 {
-    write_counted(alloc, out, cert)
+    cert.write_counted(alloc, out)
 }
 
 pub(crate) fn put_change(
@@ -236,8 +193,8 @@ fn put_bottom(alloc: Global, out: &mut Vec<u8>, bottom: &Bottom) -> Result<(), A
         Bottom::Empty => put_u8(alloc, out, 0),
         Bottom::Other { key, value } => {
             put_u8(alloc, out, 1)?;
-            put(alloc, out, key)?;
-            put(alloc, out, value)
+            put_bytes(alloc, out, key)?;
+            put_bytes(alloc, out, value)
         }
     }
 }
@@ -248,7 +205,7 @@ fn put_path(alloc: Global, out: &mut Vec<u8>, path: &Steps) -> Result<(), AllocE
 {
     let bytes = path.as_slice();
     put_u16(alloc, out, (bytes.len() / 32) as u16)?;
-    put(alloc, out, bytes)
+    put_bytes(alloc, out, bytes)
 }
 
 /// What the table has for the name, and the path.
@@ -296,7 +253,7 @@ pub(crate) fn put_subject(
     put_u16(alloc, out, client)?;
     put_u64(alloc, out, epoch)?;
     put_name(alloc, out, name)?;
-    put(alloc, out, root)
+    put_bytes(alloc, out, root)
 }
 
 /// What is confirmed.
@@ -305,7 +262,7 @@ fn put_confirmed(alloc: Global, out: &mut Vec<u8>, part: &Confirming) -> Result<
 {
     put_form(alloc, out, &part.body)?;
     put_subject(alloc, out, part.client, part.epoch, &part.name, &part.root)?;
-    put(alloc, out, &part.base)?;
+    put_bytes(alloc, out, &part.base)?;
     put_body(alloc, out, &part.body)
 }
 

@@ -6,4 +6,5 @@ pub mod Noted
 pub mod Pieces
 pub mod Retold
 pub mod Seats
+pub mod Settled
 pub mod Spots

@@ -142,7 +142,7 @@ says-told says k a h = at k.told h where
   at (Some t) h = sym h
 
 -- the row by what it says is that by what is answered to the message
-abbrev AsTold : Outcome → Option CheckParts → Option Asked → Type 0
+abbrev pub AsTold : Outcome → Option CheckParts → Option Asked → Type 0
 AsTold says check asked = IfSome check (λ k. IfSome asked (λ a. IfSome k.told (λ t. says ≡ outcome_of t k.answers a.name a.key)))
 
 asked-row : (s : authority.AuthorityState) (check : Option CheckParts) (m : Message) (says : Outcome) → AsTold says check (asked_in (Ok m))
@@ -163,7 +163,7 @@ asked-row s check (SkipNote epoch statuses) says h = refl
 asked-row s check (ConfirmAsk client name first second) says h = refl
 asked-row s check (Confirmation client epoch name root body log log_signature first first_signature second second_signature) says h = refl
 
-said-row : (s : authority.AuthorityState) (check : Option CheckParts) (m : Result Message ℕ) (says : Outcome) → AsTold says check (asked_in m)
+pub said-row : (s : authority.AuthorityState) (check : Option CheckParts) (m : Result Message ℕ) (says : Outcome) → AsTold says check (asked_in m)
     → row s (is_none check) m says ≡ row s (is_none check) m (says_to says check (asked_in m))
 said-row s check (Ok m) says h = asked-row s check m says h
 said-row s check (Err place) says h = refl
@@ -189,7 +189,7 @@ authority-did node answer (Err refusal) state some h = elim h.1 [
 ]
 
 -- what a check kept of an answer does not ask what is sent
-after-alike : (A B : Type 0) (xs : List check.Answer) (a : Asked) (r : AuthorityRefusal) → answers_after {A = A} xs a (Err r) ≡ answers_after {A = B} xs a (Err r)
+pub after-alike : (A B : Type 0) (xs : List check.Answer) (a : Asked) (r : AuthorityRefusal) → answers_after {A = A} xs a (Err r) ≡ answers_after {A = B} xs a (Err r)
 after-alike A B xs a (refusals.Form place) = refl
 after-alike A B xs a refusals.NotForAuthority = refl
 after-alike A B xs a (refusals.Unknown party) = refl
@@ -216,7 +216,7 @@ behind-alike xs (Some a) keys answer (Err refusal) old new some h = elim h.1 [
 ]
 
 -- What a call of an authority says of its check.
-pub record ChecksBy {C : Type 0} (told : C → Option Told) (answers : C → List check.Answer) (old new : Option C) (asked : Option Asked) (result : Result Sent AuthorityRefusal) : Type 0 where
+pub record ChecksBy {C A : Type 0} (told : C → Option Told) (answers : C → List check.Answer) (old new : Option C) (asked : Option Asked) (result : Result A AuthorityRefusal) : Type 0 where
   pub retired : is_none new ≡ is_none old
   pub kept : IfSome old (λ o. IfSome new (λ n. answers n ≡ answers_behind (answers o) asked result))
   pub same : IfSome old (λ o. IfSome new (λ n. told n ≡ told o))
@@ -226,21 +226,20 @@ pub record ChecksBy {C : Type 0} (told : C → Option Told) (answers : C → Lis
 abbrev check-of : Option Told → List check.Answer → CheckParts
 check-of told answers = record { told = told; answers = answers }
 
--- the check behind
-check-behind : {C : Type 0} (told : C → Option Told) (answers : C → List check.Answer) (old new : Option C) (asked : Option Asked) (keys : List KeyParts) (answer : authority.Answer)
-    (result : Result Sent AuthorityRefusal) (s s' : authority.AuthorityState) → ChecksBy told answers old new asked result → result ≢ Err refusals.Memory
-    → authority_keyed.SendsBy keys result s s' answer
+-- the check behind, where it kept of the row's answer what it did of the call's
+pub check-behind : {C A : Type 0} (told : C → Option Told) (answers : C → List check.Answer) (old new : Option C) (asked : Option Asked) (answer : authority.Answer) (result : Result A AuthorityRefusal)
+    → ChecksBy told answers old new asked result → ((xs : List check.Answer) → answers_behind xs asked answer ≡ answers_behind xs asked result)
     → option_map (check_behind asked answer) (option_map (check_told told answers) old) ≡ option_map (check_told told answers) new
-check-behind told answers None None asked keys answer result s s' by some h = refl
-check-behind told answers None (Some n) asked keys answer result s s' by some h = clash (sym by.retired)
-check-behind told answers (Some o) None asked keys answer result s s' by some h = clash by.retired
-check-behind told answers (Some o) (Some n) asked keys answer result s s' by some h =
-    let kept : answers_behind (answers o) asked answer ≡ answers n = behind-alike (answers o) asked keys answer result s s' some h ∙ sym by.kept
+check-behind told answers None None asked answer result by alike = refl
+check-behind told answers None (Some n) asked answer result by alike = clash (sym by.retired)
+check-behind told answers (Some o) None asked answer result by alike = clash by.retired
+check-behind told answers (Some o) (Some n) asked answer result by alike =
+    let kept : answers_behind (answers o) asked answer ≡ answers n = alike (answers o) ∙ sym by.kept
     in let same : told o ≡ told n = sym by.same
     in ap (λ (k : CheckParts). Some k) (ap (λ t. check-of t (answers_behind (answers o) asked answer)) same ∙ ap (check-of (told n)) kept)
 
 -- it says as it tells
-told-so : (told : Option Told) (xs : List check.Answer) (a : Asked) (result : Result Sent AuthorityRefusal) → result ≢ Err refusals.Memory → SaysAsTold told xs a result
+told-so : {A : Type 0} (told : Option Told) (xs : List check.Answer) (a : Asked) (result : Result A AuthorityRefusal) → result ≢ Err refusals.Memory → SaysAsTold told xs a result
     → IfSome told (λ t. outcome_by result ≡ outcome_of t xs a.name a.key)
 told-so told xs a (Ok sent) some h = h
 told-so told xs a (Err refusals.Memory) some h = absurd (some refl)
@@ -257,14 +256,14 @@ told-so told xs a (Err refusals.Spent) some h = h
 told-so told xs a (Err (refusals.OtherRoll party generation)) some h = h
 told-so told xs a (Err refusals.LastGeneration) some h = h
 
-as-told : {C : Type 0} (told : C → Option Told) (answers : C → List check.Answer) (old : Option C) (asked : Option Asked) (result : Result Sent AuthorityRefusal)
+pub as-told : {C A : Type 0} (told : C → Option Told) (answers : C → List check.Answer) (old : Option C) (asked : Option Asked) (result : Result A AuthorityRefusal)
     → result ≢ Err refusals.Memory → IfSome old (λ o. IfSome asked (λ a. SaysAsTold (told o) (answers o) a result))
     → AsTold (outcome_by result) (option_map (check_told told answers) old) asked
 as-told told answers None asked result some h = tt
 as-told told answers (Some o) None result some h = tt
 as-told told answers (Some o) (Some a) result some h = told-so (told o) (answers o) a result some h
 
-none-mapped : {A B : Type 0} (f : A → B) (o : Option A) → is_none (option_map f o) ≡ is_none o
+pub none-mapped : {A B : Type 0} (f : A → B) (o : Option A) → is_none (option_map f o) ≡ is_none o
 none-mapped f None = refl
 none-mapped f (Some x) = refl
 
@@ -278,12 +277,13 @@ authority_did told answers old new s s' keys bytes result by some h =
     let asked : Option Asked = asked_in (message_in bytes)
     in let says : Outcome = outcome_by result
     in let node : AuthorityNode = record { state = s; keys = keys; check = option_map (check_told told answers) old }
-    in let is : row s (is_none old) (message_in bytes) says ≡ authority_reply says node (message_in bytes) =
+    in let is : row s (is_none old) (message_in bytes) says ≡ authority_reply says node.state node.check (message_in bytes) =
     ap (λ b. row s b (message_in bytes) says) (sym (none-mapped (check_told told answers) old))
     ∙ said-row s node.check (message_in bytes) says (as-told told answers old asked result some by.by)
-    in let h' : authority_keyed.SendsBy keys result s s' (authority_reply says node (message_in bytes)) = subst (authority_keyed.SendsBy keys result s s') is h
-    in authority-did (node_behind node (message_in bytes) (authority_reply says node (message_in bytes))) (authority_reply says node (message_in bytes)) result s' some h'
-    ∙ ap (λ (k : Option CheckParts). (record node { state = s'; check = k }, reply_of result)) (check-behind told answers old new asked keys (authority_reply says node (message_in bytes)) result s s' by some h')
+    in let h' : authority_keyed.SendsBy keys result s s' (authority_reply says node.state node.check (message_in bytes)) = subst (authority_keyed.SendsBy keys result s s') is h
+    in authority-did (node_behind node (message_in bytes) (authority_reply says node.state node.check (message_in bytes))) (authority_reply says node.state node.check (message_in bytes)) result s' some h'
+    ∙ ap (λ (k : Option CheckParts). (record node { state = s'; check = k }, reply_of result)) (check-behind told answers old new asked (authority_reply says node.state node.check (message_in bytes)) result by
+    (λ xs. behind-alike xs asked keys (authority_reply says node.state node.check (message_in bytes)) result s s' some h'))
 
 -- an authority of these parts
 abbrev pub authority-of : authority.AuthorityState → List KeyParts → Option CheckParts → AuthorityNode
@@ -353,7 +353,7 @@ took_so told answers old new s s' keys keys' bytes result reply by some h kept i
       ∙ ap (λ (r : Reply). (authority-with told answers s' keys' new, r)) (sym is);
 }
 
-check-waits : {C : Type 0} (told : C → Option Told) (answers : C → List check.Answer) (old new : Option C) (asked : Option Asked) → ChecksBy told answers old new asked (Err refusals.Memory)
+pub check-waits : {C A : Type 0} (told : C → Option Told) (answers : C → List check.Answer) (old new : Option C) (asked : Option Asked) → ChecksBy {A = A} told answers old new asked (Err refusals.Memory)
     → option_map (check_told told answers) new ≡ option_map (check_told told answers) old
 check-waits told answers None None asked by = refl
 check-waits told answers None (Some n) asked by = clash (sym by.retired)

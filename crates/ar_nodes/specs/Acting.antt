@@ -7,6 +7,8 @@ use Rattle.ar_message.specs.Filling.{filled}
 use Rattle.ar_message.specs.Messages.{message_in}
 use Rattle.ar_message.specs.declared.sent.Sent.{Sent}
 use Rattle.ar_statement.specs.declared.party.Party.{Party}
+use Rattle.ar_statement.specs.declared.party.Role.{Role}
+use Rattle.ar_statement.specs.declared.party.Role.TheVariants as role
 use Rattle.authority_core.specs.RollRows.{roll_row}
 use Rattle.authority_core.specs.State as authority
 use Rattle.lms_tree.specs.Key.{public_of}
@@ -109,6 +111,15 @@ log_does node keys event (Ok reply) =
     (record { core = reply.after; keys = keys; taken = node.taken ++ event ∷ [] }, Ok (filled keys reply.unsigned))
 log_does node keys event (Err refusal) = (node, Err (log_code refusal))
 
+-- the same of a log that steps apart from its world: what it did is not noted yet
+abbrev pub log_answers : LogNode → log.Answer → LogNode × Reply
+log_answers node (Ok reply) = (record node { core = reply.after }, Ok (filled node.keys reply.unsigned))
+log_answers node (Err refusal) = (node, Err (log_code refusal))
+
+-- a log that takes a message with these bytes
+abbrev pub log_took : LogNode → ℕ → List ℕ → LogNode × Reply
+log_took node message bytes = log_does node node.keys (events.Take message) (row node.core (log.takes bytes))
+
 -- ---- authorities
 
 -- an authority by its answer
@@ -119,7 +130,7 @@ authority_does node (Err refusal) = (node, Err (authority_code refusal))
 -- an authority that takes a message; a check that tells nothing of itself says this
 abbrev pub authority_took : Outcome → AuthorityNode → List ℕ → AuthorityNode × Reply
 authority_took says node bytes =
-    let answer = authority_reply says node (message_in bytes)
+    let answer = authority_reply says node.state node.check (message_in bytes)
     in authority_does (node_behind node (message_in bytes) answer) answer
 
 -- an authority that goes on to its next key
@@ -162,20 +173,54 @@ authority_rolled pool number next node = acted pool (authority_party number) Rol
 
 -- ---- deliveries
 
+-- The pool where a party has replied so to a message of it: the delivery is noted, and what the party sends comes behind. And
+-- what is printed of it.
+abbrev pub settled_in : List Pooled → ℕ → Party → Reply → List Pooled × List Happening
+settled_in pool message who reply =
+    let noted = noted_in pool message who
+    in (pool_behind noted who reply, told_of noted who (Take message) reply)
+
+-- what a party made of a message of the pool and its reply, with the pool behind the reply, and what is printed of it
+abbrev pub delivered_as : {X : Type 0} → List Pooled → ℕ → Party → X × Reply → X × (List Pooled × List Happening)
+delivered_as pool message who made = (made.0, settled_in pool message who made.1)
+
 -- a log that takes a message of the pool, in which this is noted
 unfoldable pub log_delivered : List Pooled → ℕ → ℕ → LogNode → LogNode × (List Pooled × List Happening)
 log_delivered pool message number node =
-    log_obeyed (noted_in pool message (log_party number)) number (Take message) (events.Take message) (log.takes (bytes_of (numbered pool message))) node
+    delivered_as pool message (log_party number) (log_took node message (bytes_of (numbered pool message)))
 
 -- an authority
 unfoldable pub authority_delivered : Outcome → List Pooled → ℕ → ℕ → AuthorityNode → AuthorityNode × (List Pooled × List Happening)
 authority_delivered says pool message number node =
-    acted (noted_in pool message (authority_party number)) (authority_party number) (Take message) (authority_took says node (bytes_of (numbered pool message)))
+    delivered_as pool message (authority_party number) (authority_took says node (bytes_of (numbered pool message)))
 
 -- an owner
 unfoldable pub owner_delivered : List Pooled → ℕ → ℕ → Owner → Owner × (List Pooled × List Happening)
 owner_delivered pool message number me =
-    acted (noted_in pool message (owner_party number)) (owner_party number) (Take message) (owner_does me (step_row me (bytes_of (numbered pool message))))
+    delivered_as pool message (owner_party number) (owner_does me (step_row me (bytes_of (numbered pool message))))
+
+-- ---- what a log did that took a message, and has replied already
+
+-- a log with this message behind what it did
+abbrev pub with_taken : ℕ → LogNode → LogNode
+with_taken message node = record node { taken = node.taken ++ events.Take message ∷ [] }
+
+-- the logs, where the one with this number took the message; one that is dishonest notes nothing
+abbrev pub logs_with : List (Option LogNode) → ℕ → ℕ → Option LogNode → List (Option LogNode)
+logs_with logs message number None = logs
+logs_with logs message number (Some node) = slice_set logs number (Some (with_taken message node))
+
+-- where the party of a role took it: logs alone note what they did
+abbrev pub logs_after : List (Option LogNode) → ℕ → Role → ℕ → List (Option LogNode)
+logs_after logs message role.LogServer number = logs_with logs message number (honest_in logs number)
+logs_after logs message role.Authority number = logs
+logs_after logs message role.Owner number = logs
+logs_after logs message role.Client number = logs
+
+-- where a party has replied so to it: one that refused did not take it
+abbrev pub logs_behind : List (Option LogNode) → ℕ → Party → Reply → List (Option LogNode)
+logs_behind logs message who (Ok sent) = logs_after logs message who.role who.number
+logs_behind logs message who (Err code) = logs
 
 -- ---- where what a check says is not known
 

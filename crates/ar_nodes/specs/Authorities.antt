@@ -3,7 +3,7 @@ use Rattle.std.specs.Prelude.{ℕ, is_none, unwrap_or, Option, Some, None, Resul
 use Rattle.std.specs.Option.{option_map}
 use Rattle.ar_message.specs.declared.message.Message.{Message}
 use Rattle.authority_core.specs.Row.{answers_behind, asked_in, row}
-use Rattle.authority_core.specs.State.{Answer}
+use Rattle.authority_core.specs.State.{Answer, AuthorityState}
 use Rattle.authority_core.specs.declared.entries.Asked.{Asked}
 use Rattle.owner_check.specs.Answers.{outcome_of}
 use Rattle.owner_check.specs.declared.answer.Outcome as said
@@ -28,10 +28,14 @@ check_behind asked answer check = record check { answers = answers_behind check.
 
 -- ---- what an authority answers
 
--- an authority's answer to a message, by what its check answers
-abbrev pub authority_reply : said.Outcome → AuthorityNode → Result Message ℕ → Answer
-authority_reply says node message = row node.state (is_none node.check) message (says_to says node.check (asked_in message))
+-- the answer to a message of an authority that stands so, by what its check answers
+abbrev pub authority_reply : said.Outcome → AuthorityState → Option CheckParts → Result Message ℕ → Answer
+authority_reply says state check message = row state (is_none check) message (says_to says check (asked_in message))
 
--- an authority with its check behind an answer to a message
+-- its check behind an answer to a message
+abbrev pub check_after : Option CheckParts → Result Message ℕ → Answer → Option CheckParts
+check_after check message answer = option_map (check_behind (asked_in message) answer) check
+
+-- the authority with its check behind an answer to a message
 abbrev pub node_behind : AuthorityNode → Result Message ℕ → Answer → AuthorityNode
-node_behind node message answer = record node { check = option_map (check_behind (asked_in message) answer) node.check }
+node_behind node message answer = record node { check = check_after node.check message answer }

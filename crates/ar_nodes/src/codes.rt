@@ -14,7 +14,7 @@ use owner_core::OwnerRefusal;
 use report_text::{Code, Shown, Values};
 
 /// The code of a log's refusal; want of memory has the number 0.
-pub(crate) fn log_code(refusal: LogRefusal) -> Code
+pub fn log_code(refusal: LogRefusal) -> Code
     ensures { result ≡ log_code refusal }
 {
     let role = Role::LogServer;
@@ -41,7 +41,7 @@ pub(crate) fn log_code(refusal: LogRefusal) -> Code
 }
 
 /// The code of an authority's refusal; want of memory has the number 0.
-pub(crate) fn authority_code(refusal: AuthorityRefusal) -> Code
+pub fn authority_code(refusal: AuthorityRefusal) -> Code
     ensures { result ≡ authority_code refusal }
 {
     let role = Role::Authority;

@@ -1,7 +1,8 @@
 //! The parties of a world and its pool of messages, each with its steps, without the world.
 //!
 //! A call takes one party, or all of a role with the number of one, and the pool: the party does what it is asked, what it
-//! sends enters the pool, and what happens is told. All memory of a call is taken before its first change.
+//! sends enters the pool, and what happens is told. All memory of a call is taken before its first change. Where a party has
+//! replied to a message of the pool already, `settling` makes the pool what it is then.
 //!
 //! `specs/Parties.antt` and `Pool` have the parties and the pool as plain data, and `Finding` what a word of a line names
 //! among them. `Acting` says what a party makes of an input, what its reply makes of the pool, and what is printed of it;
@@ -11,7 +12,7 @@
 #![tactic(auto)]
 
 mod authorities;
-mod codes;
+pub mod codes;
 mod composing;
 mod event;
 mod fault;
@@ -26,6 +27,7 @@ mod parties;
 mod pool;
 mod replying;
 pub mod sending;
+pub mod settling;
 pub mod submitting;
 pub mod taking;
 pub mod teaching;
@@ -36,3 +38,4 @@ pub use fault::WorldFault;
 pub use lesson::Lesson;
 pub use parties::{Forger, HonestAuthority, HonestLog};
 pub use pool::{MOST_MESSAGES, Pool, Pooled, numbered};
+pub use replying::Reply;

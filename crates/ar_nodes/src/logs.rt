@@ -1,6 +1,6 @@
 //! The steps of honest logs.
 
-ghost use Rattle.std.specs.Prelude.{◌≡◌, ◌<◌, ◌≤◌, ◌++◌, ◌∷◌, [], length, Some, IfOk};
+ghost use Rattle.std.specs.Prelude.{◌≡◌, ◌<◌, ◌≤◌, ◌++◌, ◌∷◌, [], length, Some, IfOk, OnOk, OnErr};
 ghost use Rattle.lms_tree.specs.Key.{public_of};
 ghost use Rattle.lms_tree.specs.KeyParts.{KeyParts};
 ghost use Rattle.log_core.specs.Inputs.{input_of};
@@ -17,7 +17,7 @@ use crate::fault::WorldFault;
 use crate::parties::HonestLog;
 use crate::replying::Reply;
 use log_core::{LogInput, LogRefusal};
-use std::alloc::Global;
+use std::alloc::{AllocError, Global};
 
 impl HonestLog {
     /// Tells a proof that the log has a next key. It does nothing.
@@ -26,6 +26,15 @@ impl HonestLog {
         ensures { 0 < length self.now.keys }
     {
         let _log = &self.log;
+    }
+
+    /// Notes what the log did. After an error it is as before.
+    pub(crate) fn note(&mut self, event: LogEvent) -> Result<(), AllocError>
+        ensures ok { OnOk result (self.new ≡ record self.old { taken = self.old.taken ++ event ∷ [] }) }
+        ensures err { OnErr result (self.new ≡ self.old) }
+    {
+        self.taken.push(event)?;
+        Ok(())
     }
 
     /// The log does what it is asked, which is not to go on to a key, and this is noted where it does not refuse.

@@ -20,62 +20,8 @@ use owner_check::OwnerCheck;
 use report_text::{Happening, What};
 use std::alloc::Global;
 
-/// A log does what it is asked, which is not to go on to a key.
+/// A log in its place does what it is asked, which is not to go on to a key.
 #[tactic(auto, unfolding(crate::specs::Acting::log_obeyed))]
-fn log_obeys(
-    alloc: Global,
-    pool: &mut Pool,
-    node: &mut HonestLog,
-    number: u16,
-    what: What,
-    event: LogEvent,
-    input: &LogInput,
-) -> Result<Items<Happening>, WorldFault>
-    requires { IsPlain (input_of input.now) }
-    ensures { ActsBy result node.old node.new pool.old.messages pool.new.messages
-        (log_obeyed pool.old.messages number what event (input_of input.now) node.old) }
-{
-    let said = reserve(alloc, pool, MOST_SENT)?;
-    let reply = node.step(alloc, event, input)?;
-    let party = Role::LogServer.party(number);
-    Ok(tell(alloc, pool, said, party, what, reply))
-}
-
-/// A log goes on to its next key.
-#[tactic(auto, unfolding(crate::specs::Acting::log_rolled))]
-fn log_rolls(
-    alloc: Global,
-    pool: &mut Pool,
-    node: &mut HonestLog,
-    number: u16,
-) -> Result<Items<Happening>, WorldFault>
-    ensures { (next : KeyParts) → next_of node.old.keys ≡ Some next → ActsBy result node.old node.new pool.old.messages pool.new.messages
-        (log_rolled pool.old.messages number next node.old) }
-{
-    let said = reserve(alloc, pool, MOST_SENT)?;
-    let reply = node.roll(alloc)?;
-    let party = Role::LogServer.party(number);
-    Ok(tell(alloc, pool, said, party, What::Roll, reply))
-}
-
-/// An authority goes on to its next key.
-#[tactic(auto, unfolding(crate::specs::Acting::authority_rolled))]
-fn authority_rolls<C: OwnerCheck>(
-    alloc: Global,
-    pool: &mut Pool,
-    node: &mut HonestAuthority<C>,
-    number: u16,
-) -> Result<Items<Happening>, WorldFault>
-    ensures { (next : KeyParts) → next_of node.old.keys ≡ Some next → ActsBy result node.old node.new pool.old.messages pool.new.messages
-        (authority_rolled pool.old.messages number next node.old) }
-{
-    let said = reserve(alloc, pool, MOST_SENT)?;
-    let reply = node.roll(alloc)?;
-    let party = Role::Authority.party(number);
-    Ok(tell(alloc, pool, said, party, What::Roll, reply))
-}
-
-/// A log in its place does what it is asked.
 pub fn log_obeys_there(
     alloc: Global,
     pool: &mut Pool,
@@ -90,13 +36,15 @@ pub fn log_obeys_there(
     ensures { ChangesThere slot.old slot.new (λ was is. ActsBy result was is pool.old.messages pool.new.messages
         (log_obeyed pool.old.messages number what event (input_of input.now) was)) }
 {
-    match slot {
-        Some(node) => log_obeys(alloc, pool, node, number, what, event, input),
-        None => unreachable!(),
-    }
+    let Some(node) = slot else { unreachable!() };
+    let said = reserve(alloc, pool, MOST_SENT)?;
+    let reply = node.step(alloc, event, input)?;
+    let party = Role::LogServer.party(number);
+    Ok(tell(alloc, pool, said, party, what, reply))
 }
 
 /// A log in its place goes on to its next key.
+#[tactic(auto, unfolding(crate::specs::Acting::log_rolled))]
 pub fn log_rolls_there(
     alloc: Global,
     pool: &mut Pool,
@@ -107,13 +55,15 @@ pub fn log_rolls_there(
     ensures { ChangesThere slot.old slot.new (λ was is. (next : KeyParts) → next_of was.keys ≡ Some next → ActsBy result was is pool.old.messages pool.new.messages
         (log_rolled pool.old.messages number next was)) }
 {
-    match slot {
-        Some(node) => log_rolls(alloc, pool, node, number),
-        None => unreachable!(),
-    }
+    let Some(node) = slot else { unreachable!() };
+    let said = reserve(alloc, pool, MOST_SENT)?;
+    let reply = node.roll(alloc)?;
+    let party = Role::LogServer.party(number);
+    Ok(tell(alloc, pool, said, party, What::Roll, reply))
 }
 
 /// An authority in its place goes on to its next key.
+#[tactic(auto, unfolding(crate::specs::Acting::authority_rolled))]
 pub fn authority_rolls_there<C: OwnerCheck>(
     alloc: Global,
     pool: &mut Pool,
@@ -124,8 +74,9 @@ pub fn authority_rolls_there<C: OwnerCheck>(
     ensures { ChangesThere slot.old slot.new (λ was is. (next : KeyParts) → next_of was.keys ≡ Some next → ActsBy result was is pool.old.messages pool.new.messages
         (authority_rolled pool.old.messages number next was)) }
 {
-    match slot {
-        Some(node) => authority_rolls(alloc, pool, node, number),
-        None => unreachable!(),
-    }
+    let Some(node) = slot else { unreachable!() };
+    let said = reserve(alloc, pool, MOST_SENT)?;
+    let reply = node.roll(alloc)?;
+    let party = Role::Authority.party(number);
+    Ok(tell(alloc, pool, said, party, What::Roll, reply))
 }

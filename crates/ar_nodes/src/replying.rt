@@ -11,8 +11,8 @@ use ar_statement::Party;
 use report_text::{Code, Happening, What};
 use std::alloc::Global;
 
-/// What a party sends, or the code of its refusal.
-pub(crate) type Reply = Result<Sent, Code>;
+/// What a party replies: what it sends, or the code of its refusal.
+pub type Reply = Result<Sent, Code>;
 
 /// The most messages that a log or an authority sends in a step.
 pub(crate) const MOST_SENT: usize = 2;

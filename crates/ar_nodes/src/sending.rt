@@ -1,6 +1,6 @@
 //! What parties send enters the pool, and what happens in a step is told.
 
-ghost use Rattle.std.specs.Prelude.{◌≡◌, ◌≤◌, ◌<◌, ◌+◌, ◌++◌, ◌∷◌, [], length, map, vec_len, vec_capacity, OnOk, IfOk, None, Some, ◌^◌};
+ghost use Rattle.std.specs.Prelude.{◌≡◌, ◌≤◌, ◌<◌, ◌+◌, ◌++◌, ◌∷◌, [], length, map, vec_len, vec_capacity, OnOk, IfOk, None, Some};
 ghost use Rattle.report_text.specs.declared.happening.Happening.TheVariants.{Step};
 ghost use Rattle.ar_nodes.specs.Pool.{entries_from, entry_of, pooled_from};
 ghost use Rattle.ar_nodes.specs.Sending.{ending_of};
@@ -21,14 +21,16 @@ pub fn reserve(
     pool: &mut Pool,
     messages: usize,
 ) -> Result<Vec<Happening>, AllocError>
-    requires { messages < 2 ^ 16 }
     ensures none { IfOk result (λ said. said.items ≡ []) }
     ensures said { IfOk result (λ said. messages + 3 ≤ vec_capacity said) }
     ensures room { OnOk result (messages ≤ pool.new.room) }
     ensures pool { pool.new.messages ≡ pool.old.messages }
 {
+    let Some(told) = messages.checked_add(3) else {
+        return Err(AllocError);
+    };
     pool.reserve(messages)?;
-    let said = Vec::with_capacity(alloc, messages + 3)?;
+    let said = Vec::with_capacity(alloc, told)?;
     Ok(said)
 }
 

@@ -9,55 +9,15 @@ use crate::fault::WorldFault;
 use crate::owners;
 use crate::parties::{HonestAuthority, HonestLog};
 use crate::pool::Pool;
-use crate::replying::{MOST_SENT, tell};
-use crate::sending::reserve;
+use crate::replying::MOST_SENT;
+use crate::settling::{finish, prepare};
 use ar_base::Items;
 use ar_statement::Role;
 use log_core::LogInput;
 use owner_check::OwnerCheck;
 use owner_core::Owner;
-use report_text::{Happening, What};
+use report_text::Happening;
 use std::alloc::Global;
-
-/// A log takes a message of the pool.
-#[tactic(auto, unfolding(crate::specs::Acting::log_delivered, crate::specs::Acting::log_obeyed))]
-fn log_takes(
-    alloc: Global,
-    pool: &mut Pool,
-    node: &mut HonestLog,
-    message: u64,
-    number: u16,
-) -> Result<Items<Happening>, WorldFault>
-    ensures { ActsBy result node.old node.new pool.old.messages pool.new.messages (log_delivered pool.old.messages message number node.old) }
-{
-    let who = Role::LogServer.party(number);
-    let said = reserve(alloc, pool, MOST_SENT)?;
-    let delivered = pool.delivered_by(alloc, message, who)?;
-    let input = LogInput::Take(pool.bytes(message));
-    let reply = node.step(alloc, LogEvent::Take(message), &input)?;
-    pool.note_delivered(message, delivered);
-    Ok(tell(alloc, pool, said, who, What::Take(message), reply))
-}
-
-/// An authority takes a message of the pool.
-#[tactic(auto, unfolding(crate::specs::Acting::authority_delivered))]
-fn authority_takes<C: OwnerCheck>(
-    alloc: Global,
-    pool: &mut Pool,
-    node: &mut HonestAuthority<C>,
-    message: u64,
-    number: u16,
-) -> Result<Items<Happening>, WorldFault>
-    ensures { ActsBySome result node.old node.new pool.old.messages pool.new.messages
-        (λ says. authority_delivered says pool.old.messages message number node.old) }
-{
-    let who = Role::Authority.party(number);
-    let said = reserve(alloc, pool, MOST_SENT)?;
-    let delivered = pool.delivered_by(alloc, message, who)?;
-    let reply = node.take(alloc, pool.bytes(message))?;
-    pool.note_delivered(message, delivered);
-    Ok(tell(alloc, pool, said, who, What::Take(message), reply))
-}
 
 /// An owner takes a message of the pool.
 #[tactic(auto, unfolding(crate::specs::Acting::owner_delivered))]
@@ -71,15 +31,14 @@ pub fn owner_takes(
     ensures { ActsBy result owner.old owner.new pool.old.messages pool.new.messages (owner_delivered pool.old.messages message number owner.old) }
 {
     let who = Role::Owner.party(number);
-    let said = reserve(alloc, pool, MOST_SENT)?;
-    let delivered = pool.delivered_by(alloc, message, who)?;
+    let ready = prepare(alloc, pool, message, who, MOST_SENT)?;
     let reply = owners::take(alloc, owner, pool.bytes(message))?;
-    pool.note_delivered(message, delivered);
-    Ok(tell(alloc, pool, said, who, What::Take(message), reply))
+    Ok(finish(alloc, pool, ready, message, who, reply))
 }
 
 /// A log that is honest takes a message of the pool.
-fn log_there_takes(
+#[tactic(auto, unfolding(crate::specs::Acting::log_delivered))]
+fn log_takes(
     alloc: Global,
     pool: &mut Pool,
     slot: &mut Option<HonestLog>,
@@ -90,10 +49,12 @@ fn log_there_takes(
     ensures { ChangesThere slot.old slot.new (λ was is. ActsBy result was is pool.old.messages pool.new.messages
         (log_delivered pool.old.messages message number was)) }
 {
-    match slot {
-        Some(node) => log_takes(alloc, pool, node, message, number),
-        None => unreachable!(),
-    }
+    let Some(node) = slot else { unreachable!() };
+    let who = Role::LogServer.party(number);
+    let ready = prepare(alloc, pool, message, who, MOST_SENT)?;
+    let input = LogInput::Take(pool.bytes(message));
+    let reply = node.step(alloc, LogEvent::Take(message), &input)?;
+    Ok(finish(alloc, pool, ready, message, who, reply))
 }
 
 /// The log with a number, which is honest, takes a message of the pool.
@@ -109,11 +70,12 @@ pub fn logs_take(
     ensures { ChangesAt logs.old.items logs.new.items number (λ was is. ActsBy result was is pool.old.messages pool.new.messages
         (log_delivered pool.old.messages message number was)) }
 {
-    log_there_takes(alloc, pool, &mut logs[number as usize], message, number)
+    log_takes(alloc, pool, &mut logs[number as usize], message, number)
 }
 
 /// An authority that is honest takes a message of the pool.
-fn authority_there_takes<C: OwnerCheck>(
+#[tactic(auto, unfolding(crate::specs::Acting::authority_delivered))]
+fn authority_takes<C: OwnerCheck>(
     alloc: Global,
     pool: &mut Pool,
     slot: &mut Option<HonestAuthority<C>>,
@@ -124,10 +86,11 @@ fn authority_there_takes<C: OwnerCheck>(
     ensures { ChangesThere slot.old slot.new (λ was is. ActsBySome result was is pool.old.messages pool.new.messages
         (λ says. authority_delivered says pool.old.messages message number was)) }
 {
-    match slot {
-        Some(node) => authority_takes(alloc, pool, node, message, number),
-        None => unreachable!(),
-    }
+    let Some(node) = slot else { unreachable!() };
+    let who = Role::Authority.party(number);
+    let ready = prepare(alloc, pool, message, who, MOST_SENT)?;
+    let reply = node.take(alloc, pool.bytes(message))?;
+    Ok(finish(alloc, pool, ready, message, who, reply))
 }
 
 /// The authority with a number, which is honest, takes a message of the pool.
@@ -143,7 +106,7 @@ pub fn authorities_take<C: OwnerCheck>(
     ensures { ChangesAt authorities.old.items authorities.new.items number (λ was is. ActsBySome result was is pool.old.messages pool.new.messages
         (λ says. authority_delivered says pool.old.messages message number was)) }
 {
-    authority_there_takes(
+    authority_takes(
         alloc,
         pool,
         &mut authorities[number as usize],

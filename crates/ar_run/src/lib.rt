@@ -10,7 +10,7 @@ pub use answer::Answer;
 pub use fault::Fault;
 pub use input::read_input;
 pub use respond::Respond;
-pub use running::{answer_from, run, status, write_answer, write_line, write_text};
+pub use running::{run, status, write_answer, write_line, write_text};
 
 mod answer;
 mod fault;

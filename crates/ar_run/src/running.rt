@@ -13,7 +13,7 @@ use std::alloc::Global;
 
 /// The answer of a command to all that the source has left.
 /// `Source` comes where a read failed, `Memory` where memory ran out, and `Sink` never.
-pub fn answer_from<S: Source, C: Respond>(
+fn answer_from<S: Source, C: Respond>(
     alloc: Global,
     command: &C,
     source: &mut S,

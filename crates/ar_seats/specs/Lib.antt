@@ -1,3 +1,4 @@
 pub mod Totals
 pub mod Numbers
 pub mod Prefixes
+pub mod Shares

@@ -30,7 +30,7 @@ impl Role {
     ghost use Rattle.ar_statement.specs.Texts.{role_with};
 
     /// The role with this number in texts.
-    pub fn with_number(number: u8) -> Option<Role>
+    pub(crate) fn with_number(number: u8) -> Option<Role>
         ensures { result ≡ role_with number }
     {
         match number {

@@ -1,6 +1,7 @@
 ghost use Rattle.std.specs.Prelude.{◌≡◌, OnErr};
 ghost use Rattle.hex.specs.Hex.{encode_lower};
-ghost use Rattle.ar_text.specs.Parts.{Appends, part_text, text_of_parts};
+ghost use Rattle.ar_base.specs.Appending.{Appends};
+ghost use Rattle.ar_text.specs.Parts.{part_text, text_of_parts};
 
 use crate::part::Part;
 use itoa::Buffer;

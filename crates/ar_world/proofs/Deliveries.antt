@@ -2,7 +2,7 @@
 use Rattle.std.proofs.Common.{◌≡◌, inr, ℕ, Bool, true, false, List, get_or, Option, Some, None, is_some, Result, Ok, Err, IfOk, OnOk, refl, sym, ap, ◌∙◌, subst}
 use Rattle.std.specs.Prelude.{position, slice_set}
 use Rattle.std.specs.Option.{option_map}
-use Rattle.std.specs.Result.{is_ok}
+use Rattle.std.specs.Result.{is_ok, result_ok}
 use Rattle.ar_base.specs.Chaining.{◌>>=◌, need}
 use Rattle.ar_base.specs.Gives.{with_error}
 use Rattle.ar_base.proofs.Shown.{if-chained}
@@ -100,6 +100,14 @@ can-be w message who u e = can-parts w (message_at w message) (taker_at w who) (
 pub some-mapped : {X Y : Type 0} (f : X → Y) (o : Option X) → is_some (option_map f o) ≡ is_some o
 some-mapped f (Some x) = refl
 some-mapped f None = refl
+
+-- what a delivery needs is there: a message, the party that takes it, and room
+pub can-take : (o : Option Pooled) (t : Option Taker) (r : Result (Unit {0}) WorldFault) (taker : Taker)
+    → (named 1 o >>= λ p. named 2 t >>= λ found. r >>= λ free. Ok found) ≡ Ok taker → ((p : Pooled) × (o ≡ Some p)) × (t ≡ Some taker) × (r ≡ Ok tt)
+can-take None t r taker same = absurd cc
+can-take (Some p) None r taker same = absurd cc
+can-take (Some p) (Some found) (Err e) taker same = absurd cc
+can-take (Some p) (Some found) (Ok u) taker same = ((p, refl), ap result_ok same, refl)
 
 -- so there is the log
 pub log_there : (w : World) (message number : ℕ) (result : Result (Unit {0}) WorldFault) → result ≡ deliverable w message (log_party number)

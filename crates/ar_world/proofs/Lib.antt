@@ -17,6 +17,7 @@ pub mod Remembered
 pub mod Retold
 pub mod Runs
 pub mod Seats
+pub mod Settling
 pub mod Small
 pub mod Stepping
 pub mod Terms

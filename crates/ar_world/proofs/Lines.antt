@@ -13,7 +13,7 @@ use Rattle.ar_statement.specs.declared.party.Role.TheVariants as role
 use Rattle.authority_core.specs.RollRows.{roll_row}
 use Rattle.lms_tree.specs.KeyParts.{KeyParts}
 use Rattle.log_core.specs.Row.{row}
-use Rattle.log_core.specs.State.{Input, rolls, takes}
+use Rattle.log_core.specs.State.{Input, rolls}
 use Rattle.ar_message.specs.Messages.{message_in}
 use Rattle.lms_tree.specs.Key.{public_of, type_to_make}
 use Rattle.lm_ots.specs.OtsKind.{type_of_number}
@@ -26,7 +26,7 @@ use Rattle.report_text.specs.declared.happening.What.{What}
 use Rattle.script_text.specs.declared.line.PolicyWords.{PolicyWords}
 use Rattle.ar_world.specs.Asking.{ask_line, question}
 use Rattle.ar_world.specs.Delivering.{Taker, a_log, an_authority, an_owner, can_deliver, deliver_line, delivery}
-use Rattle.ar_nodes.specs.Acting.{Reply, acted, authority_delivered, authority_rolled, authority_took, authority_turned, bytes_of, delivered_by, log_delivered, log_does, log_obeyed, log_rolled, noted_in, owner_delivered, owner_does, pool_behind, told_of, with_delivered}
+use Rattle.ar_nodes.specs.Acting.{Reply, acted, authority_delivered, authority_rolled, authority_took, authority_turned, bytes_of, delivered_as, delivered_by, log_delivered, log_does, log_obeyed, log_rolled, log_took, noted_in, owner_delivered, owner_does, pool_behind, told_of, with_delivered}
 use Rattle.ar_nodes.specs.Pool.{delivered_to}
 use Rattle.ar_world.specs.Drafting.{begun, draft_if, draft_room, drafted, first_certificate, next_certificate, policy_of, register_line, revoke_line, update_line}
 use Rattle.ar_world.specs.Finding.{authority_at, checking_at, draft_at, existing, forger_at, known_asks, log_at, message_at, owner_at, room, with_owner}
@@ -150,23 +150,20 @@ noted-tells : {X : Type 0} (pool : List Pooled) (message : ℕ) (who : Party) (m
     → StepTells (noted_in pool message who) made → StepTells pool made
 noted-tells pool message who made tells = tells-from pool (noted_in pool message who) made.1.0 made.1.1 (noted-alike pool message who) tells
 
-delivery-tells : (says : Outcome) (w : World) (message : ℕ) (number : ℕ) (taker : Taker) → Tells w.pool (delivery says w message number taker)
+-- so does what becomes of it where a party has replied to a message of it
+settled-tells : {X : Type 0} (pool : List Pooled) (message : ℕ) (who : Party) (made : X × Reply) → StepTells pool (delivered_as pool message who made)
+settled-tells pool message who made =
+    let noted = noted_in pool message who in
+    noted-tells pool message who (acted noted who (Take message) made) (reply-tells noted who (Take message) made.1)
+
+pub delivery-tells : (says : Outcome) (w : World) (message : ℕ) (number : ℕ) (taker : Taker) → Tells w.pool (delivery says w message number taker)
 unfolding log_delivered authority_delivered owner_delivered
 delivery-tells says w message number (a_log node) =
-    let pool = noted_in w.pool message (log_party number) in
-    let input = takes (bytes_of (numbered w.pool message)) in
-    noted-tells w.pool message (log_party number) (log_obeyed pool number (Take message) (events.Take message) input node)
-    (obeyed-tells pool number (Take message) (events.Take message) input node)
+    settled-tells w.pool message (log_party number) (log_took node message (bytes_of (numbered w.pool message)))
 delivery-tells says w message number (an_authority node) =
-    let made = authority_took says node (bytes_of (numbered w.pool message)) in
-    let pool = noted_in w.pool message (authority_party number) in
-    noted-tells w.pool message (authority_party number) (acted pool (authority_party number) (Take message) made)
-    (reply-tells pool (authority_party number) (Take message) made.1)
+    settled-tells w.pool message (authority_party number) (authority_took says node (bytes_of (numbered w.pool message)))
 delivery-tells says w message number (an_owner me) =
-    let made = owner_does me (step_row me (bytes_of (numbered w.pool message))) in
-    let pool = noted_in w.pool message (owner_party number) in
-    noted-tells w.pool message (owner_party number) (acted pool (owner_party number) (Take message) made)
-    (reply-tells pool (owner_party number) (Take message) made.1)
+    settled-tells w.pool message (owner_party number) (owner_does me (step_row me (bytes_of (numbered w.pool message))))
 
 pub deliver-tells : (says : Outcome) (w : World) (message : ℕ) (who : Party) → IfOk (deliver_line says w message who) (Tells w.pool)
 deliver-tells says w message who = if-chained (can_deliver w message who) _ (Tells w.pool) (λ taker same. delivery-tells says w message who.number taker)

@@ -15,11 +15,11 @@ use Rattle.report_text.specs.declared.happening.What.TheVariants as whats
 use Rattle.script_text.specs.Rows.{read_of}
 use Rattle.script_text.specs.declared.line.Line.{Line}
 use Rattle.script_text.specs.declared.line.Line.TheVariants as line
-use Rattle.ar_world.specs.Delivering.{deliver_line, next_due}
-use Rattle.ar_world.specs.Finding.{Effect}
+use Rattle.ar_world.specs.Delivering.{Taker, can_deliver, deliver_line, delivery, next_due, taker_at}
+use Rattle.ar_world.specs.Finding.{Effect, message_at, room}
 use Rattle.ar_world.specs.Founding.{may_come}
 use Rattle.ar_nodes.specs.Parties.{CheckParts}
-use Rattle.ar_nodes.specs.Pool.{entries_from}
+use Rattle.ar_nodes.specs.Pool.{Pooled, entries_from}
 use Rattle.ar_world.specs.Printed.{Tells, TellsPool, entries_in}
 use Rattle.ar_world.specs.Run.{Course, Progress, Saying, at_line, delivering, flushed, follows, line_taken, most_deliveries, most_lines, progress_of, refusing, run, run_from, taken_as, then_if}
 use Rattle.ar_world.specs.State.{World, first_world}
@@ -28,7 +28,8 @@ use Rattle.ar_world.specs.declared.cause.Cause.TheVariants.{Unread}
 use Rattle.ar_nodes.specs.declared.event.LogEvent.TheVariants as events
 use Rattle.ar_nodes.specs.declared.fault.WorldFault.TheVariants.{Order}
 use Rattle.ar_world.specs.declared.phase.Phase.{Phase}
-use Rattle.ar_world.proofs.Lines.{ask-tells, authorities-tells, check-line-tells, deliver-tells, dishonest-tells, handover-tells, inject-tells, judge-tells, keys-tells, learn-tells, log-order-tells, logs-tells, object-tells, owner-line-tells, quiet, register-tells, retire-tells, revoke-tells, roll-tells, sign-tells, submit-tells, update-tells}
+use Rattle.ar_world.proofs.Deliveries.{can-take}
+use Rattle.ar_world.proofs.Lines.{ask-tells, authorities-tells, check-line-tells, deliver-tells, delivery-tells, dishonest-tells, handover-tells, inject-tells, judge-tells, keys-tells, learn-tells, log-order-tells, logs-tells, object-tells, owner-line-tells, quiet, register-tells, retire-tells, revoke-tells, roll-tells, sign-tells, submit-tells, update-tells}
 use Rattle.ar_world.proofs.Pools.{entries-alike, tells-both}
 use Rattle.ar_base.proofs.Shown.{if-chained}
 
@@ -75,15 +76,24 @@ step-tells says w l = stepped-tells w (leads_to l) (effect says w l) (effect-tel
 -- ---- what holds of a run
 
 -- What holds of a world, a later one and what is printed between them: where nothing happens, of one thing behind another, of
--- each step, and of each delivery.
+-- each step, and of each delivery of a message of the pool, whatever room there is.
 pub record HoldsOfSteps (R : World → World → List Happening → Type 0) : Type 0 where
   pub still : (w : World) → R w w []
   pub both : (u v w : World) (said later : List Happening) → R u v said → R v w later → R u w (said ++ later)
   pub steps : (says : Outcome) (w : World) (l : Line) → IfOk (step says w l) (λ made. R w made.0 made.1)
-  pub delivers : (says : Outcome) (w : World) (message : ℕ) (who : Party) → IfOk (deliver_line says w message who) (λ made. R w made.0 made.1)
+  pub delivers : (says : Outcome) (w : World) (message : ℕ) (p : Pooled) (who : Party) (taker : Taker) → message_at w message ≡ Some p → taker_at w who ≡ Some taker
+      → R w (delivery says w message who.number taker).0 (delivery says w message who.number taker).1
+
+-- so of each line `deliver`
+pub deliver-goes : (R : World → World → List Happening → Type 0) → HoldsOfSteps R → (says : Outcome) (w : World) (message : ℕ) (who : Party)
+    → IfOk (deliver_line says w message who) (λ made. R w made.0 made.1)
+deliver-goes R holds says w message who =
+    if-chained (can_deliver w message who) _ (λ made. R w made.0 made.1) (λ taker same.
+    let can = can-take (message_at w message) (taker_at w who) (room w) taker same in
+    holds.delivers says w message can.0.0 who taker can.0.1 can.1)
 
 -- it holds of what some lines came to
-abbrev Goes : {C : Type 0} → (World → World → List Happening → Type 0) → World → Course C → Type 0
+abbrev pub Goes : {C : Type 0} → (World → World → List Happening → Type 0) → World → Course C → Type 0
 Goes R w p = R w p.world p.said
 
 effect-goes : (R : World → World → List Happening → Type 0) → HoldsOfSteps R → (w : World) (made : Effect) → IfOk made (λ made. R w made.0 made.1) → Goes R w (progress_of w made)
@@ -100,7 +110,7 @@ delivering-goes : (R : World → World → List Happening → Type 0) → HoldsO
 delivering-goes R holds says w None next rest = holds.still w
 delivering-goes R holds says w (Some due) next rest =
     let p = progress_of w (deliver_line says w due.0 due.1)
-    in if-goes R holds w p.refused p next (effect-goes R holds w (deliver_line says w due.0 due.1) (holds.delivers says w due.0 due.1)) rest
+    in if-goes R holds w p.refused p next (effect-goes R holds w (deliver_line says w due.0 due.1) (deliver-goes R holds says w due.0 due.1)) rest
 
 flushed-goes : (R : World → World → List Happening → Type 0) → HoldsOfSteps R → (most : ℕ) (says : ℕ → Outcome) (number : ℕ) (w : World) → Goes R w (flushed most says number w)
 unfolding flushed
@@ -119,7 +129,8 @@ taken-goes R holds says w (Ok (Some l)) =
 taken-goes R holds says w (Ok None) = holds.still w
 taken-goes R holds says w (Err why) = holds.still w
 
-line-goes : (R : World → World → List Happening → Type 0) → HoldsOfSteps R → (says : ℕ → Outcome) (number : ℕ) (w : World) (text : List ℕ) → Goes R w (line_taken says number w text)
+-- so it holds of the line with a number
+pub line-goes : (R : World → World → List Happening → Type 0) → HoldsOfSteps R → (says : ℕ → Outcome) (number : ℕ) (w : World) (text : List ℕ) → Goes R w (line_taken says number w text)
 unfolding line_taken
 line-goes R holds says number w text = by (nat_lt most_lines number)
   where
@@ -149,7 +160,7 @@ tells-of-steps = record {
   still = λ w. quiet w.pool [] refl;
   both = λ u v w said later. tells-both u.pool v.pool w.pool said later;
   steps = step-tells;
-  delivers = deliver-tells;
+  delivers = λ says w message p who taker has takes. delivery-tells says w message who.number taker;
 }
 
 -- the printed messages are those of the pool, numbered from 1

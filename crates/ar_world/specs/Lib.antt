@@ -14,6 +14,7 @@ pub mod Printed
 pub mod Records
 pub mod Run
 pub mod Sending
+pub mod Settling
 pub mod State
 pub mod Step
 pub mod Submitting

@@ -3,6 +3,7 @@ use Rattle.std.specs.Prelude.{◌≡◌, ℕ, List, All, nat_le, true, Option, S
 use Rattle.std.specs.Option.{option_map}
 use Rattle.ar_base.specs.Bytes.{AreBytes}
 use Rattle.ar_safety.specs.Held.{Held}
+use Rattle.epoch_log.specs.Record.{LogRecord}
 use Rattle.party_keys.specs.Directory.{IsDirectory}
 use Rattle.ar_world.specs.Finding.{authority_at, log_at, message_at}
 use Rattle.ar_records.specs.Records.{AuthorityKeepsRecord, LogKeepsRecord, held_by}
@@ -34,3 +35,7 @@ bytes_at w message = option_map (λ p. p.bytes) (message_at w message)
 -- what an honest log did without refusing, in order
 abbrev pub taken_at : World → ℕ → Option (List LogEvent)
 taken_at w log = option_map (λ node. node.taken) (log_at w log)
+
+-- what an honest log remembers
+abbrev pub past_at : World → ℕ → Option LogRecord
+past_at w log = option_map (λ node. node.core.log.past) (log_at w log)

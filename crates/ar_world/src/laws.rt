@@ -3,13 +3,15 @@ ghost use Rattle.std.specs.Prelude.{◌≡◌, ◌≢◌, ℕ, List, [], nat_lt,
 ghost use Rattle.owner_check.specs.declared.answer.Outcome.{Outcome};
 ghost use Rattle.script_text.specs.declared.line.Line.{Line};
 ghost use Rattle.ar_world.specs.Examples.{no_logs, told_twice, too_early, unread};
+ghost use Rattle.ar_world.specs.Delivering.{a_log, an_authority, delivery};
 ghost use Rattle.ar_world.specs.Finding.{log_at, message_at};
 ghost use Rattle.ar_world.specs.Founding.{place_of};
-ghost use Rattle.ar_nodes.specs.Parties.{CheckParts, LogNode};
+ghost use Rattle.ar_nodes.specs.Parties.{AuthorityNode, CheckParts, LogNode};
 ghost use Rattle.ar_nodes.specs.Pool.{Pooled, entries_from};
 ghost use Rattle.ar_world.specs.Printed.{Tells, entries_in};
 ghost use Rattle.ar_world.specs.Records.{bytes_at, held_of, taken_at};
 ghost use Rattle.ar_world.specs.Run.{Saying, lines_of_run, run};
+ghost use Rattle.ar_world.specs.Settling.{authority_apart, authority_settled, log_apart, log_settled};
 ghost use Rattle.ar_world.specs.State.{World, first_world, no_directory};
 ghost use Rattle.ar_world.specs.Step.{leads_to, step};
 ghost use Rattle.ar_nodes.specs.declared.fault.WorldFault.TheVariants.{Order};
@@ -46,4 +48,13 @@ pub fn what_is_told_of_a_world_is_its_own()
         ≡ record { directory = no_directory; dishonest = []; logs = []; authorities = []; judged = []; learned = [] } }
     ensures message { (w : World) (number : ℕ) (p : Pooled) → message_at w number ≡ Some p → bytes_at w number ≡ Some p.bytes }
     ensures log { (w : World) (number : ℕ) (node : LogNode) → log_at w number ≡ Some node → taken_at w number ≡ Some node.taken }
+{}
+
+/// A delivery is what its party makes of the message, apart from its world, and what becomes of the world where the party has
+/// replied so. Thus a party may take its messages apart from the world, and what it replied is settled later.
+pub fn a_delivery_is_a_reply_that_is_settled()
+    ensures log { (says : Outcome) (w : World) (message number : ℕ) (node : LogNode) → log_at w number ≡ Some node
+        → delivery says w message number (a_log node) ≡ log_settled w message number (log_apart w message node) }
+    ensures authority { (says : Outcome) (w : World) (message number : ℕ) (node : AuthorityNode)
+        → delivery says w message number (an_authority node) ≡ authority_settled w message number (authority_apart says w message node) }
 {}

@@ -2,6 +2,8 @@
 //!
 //! `World::step` takes a line, and answers what happens; `World::next_due` and `World::deliver` are the deliveries of a
 //! `flush`. All memory of a step is taken before its first change, so that a line which is refused changes nothing.
+//! `World::part` takes the logs and authorities out of the world, so that they can take messages side by side; `World::join`
+//! puts them back, and `World::settle` makes the world what it is behind a delivery to which its party has replied already.
 //!
 //! The parties and the pool, with their steps, are those of `ar_nodes`, and the first logs and authorities those of
 //! `ar_founding`. `specs/State.antt` has the world between two lines, as plain data.
@@ -11,7 +13,8 @@
 //! that clients learn (`Learning`), ask for (`Asking`) and judge (`Judging`), deliveries (`Delivering`), and what
 //! dishonest parties send (`Forging`). What a party makes of an order, a draft or a delivery is told by `ar_nodes` (its
 //! `Acting`), and `Sending` puts the party and the pool into their places in the world. `Step` has the step of each line,
-//! and `Run` a whole script with all that is written of it.
+//! and `Run` a whole script with all that is written of it. `Settling` has parties apart from their world, and what becomes
+//! of it where they have replied.
 //! `Records` has what the honest parties and the clients of a world hold, of which the safety theorem speaks.
 #![tactic(auto)]
 
@@ -30,6 +33,7 @@ mod named;
 mod order;
 mod ordering;
 mod owning;
+mod parties;
 mod phase;
 mod policies;
 mod records;
@@ -37,8 +41,9 @@ mod step;
 mod submitting;
 mod world;
 
-pub use ar_nodes::{LogEvent, WorldFault};
+pub use ar_nodes::{LogEvent, Reply, WorldFault};
 pub use ar_records::{Judged, Records};
 pub use cause::Cause;
+pub use parties::Parties;
 pub use phase::Phase;
 pub use world::World;

@@ -2,8 +2,9 @@
 
 ghost use Rattle.std.specs.Prelude.{◌≡◌, length};
 ghost use Rattle.std.specs.Option.{option_map};
+ghost use Rattle.epoch_log.specs.Log.{record_of};
 ghost use Rattle.ar_nodes.specs.Parties.{checks_told};
-ghost use Rattle.ar_world.specs.Records.{bytes_at, taken_at};
+ghost use Rattle.ar_world.specs.Records.{HasParties, bytes_at, past_at, taken_at};
 ghost use Rattle.ar_world.specs.State.{first_world};
 
 use crate::drafted::Drafted;
@@ -13,8 +14,10 @@ use ar_nodes::finding::honest;
 use ar_nodes::{Forger, HonestAuthority, HonestLog, LogEvent, Pool};
 use ar_records::Judged;
 use ar_statement::SeenText;
+use epoch_log::Record;
 use owner_check::OwnerCheck;
 use owner_core::Owner;
+use party_keys::Directory;
 use std::alloc::Global;
 use std::marker::Model;
 
@@ -114,5 +117,31 @@ impl<C: OwnerCheck> World<C> {
     {
         let node = honest(&self.logs, log)?;
         Some(node.taken.as_slice())
+    }
+
+    /// What a log remembers; `None` where there is no honest log with this number.
+    pub fn record(&self, log: u16) -> Option<&Record>
+        ensures { option_map (λ kept. record_of kept.now) result ≡ past_at self.now log }
+    {
+        let node = honest(&self.logs, log)?;
+        Some(node.log.record())
+    }
+
+    /// What the setup said, of which `make_key` of `ar_founding` makes the first key of a log or an authority again.
+    pub fn setup(&self) -> &Setup
+        ensures { result.now ≡ self.now.setup }
+    {
+        &self.setup
+    }
+
+    /// The directory of the first keys, with which each party begins.
+    pub fn genesis(&self) -> &Directory
+        requires { HasParties self.now }
+        ensures { result.now ≡ self.now.genesis }
+    {
+        let Some(known) = &self.directories else {
+            unreachable!()
+        };
+        &known.genesis
     }
 }

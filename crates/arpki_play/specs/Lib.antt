@@ -1,3 +1,3 @@
-pub mod Plays
+pub mod Made
 pub mod Program
 pub mod Words

@@ -1,34 +1,20 @@
 -- What a run of the program takes of its source, and what it writes to its sink.
-use Rattle.std.specs.Prelude.{◌≡◌, ◌≤◌, ◌⊎◌, ℕ, List, [], ◌∷◌, length, Option, Some, None, Result, IfOk, Vec}
+use Rattle.std.specs.Prelude.{◌≡◌, ◌⊎◌, ℕ, List, [], ◌∷◌, Option, Some, None, Vec}
 use Rattle.std.specs.declared.alloc.Global.{Global}
 use Rattle.ar_io.specs.Wrote.{Appended, AppendedFront, Unchanged}
 use Rattle.ar_run.specs.Answers.{Answer, written_of}
 use Rattle.ar_run.specs.Runs as runs
-use Rattle.ar_run.specs.declared.fault.Fault.{Fault}
 use Rattle.ar_nodes.specs.Parties.{CheckParts}
 use Rattle.ar_world.specs.Run.{Saying, run}
 use Rattle.run_safety.specs.Headline.{IsSafeRun}
 use Rattle.script_make.specs.Script.{script}
-use Rattle.script_play.specs.Playing.{AppendedUpTo, WritesUpTo}
+use Rattle.script_play.specs.Played.{IsAnswered, PlaysFront, PlaysWhole, run_with}
 use Rattle.arpki_ask.specs.Answers.{answer_to}
 use Rattle.review.specs.Answers as reviews
-use Rattle.arpki_play.specs.Plays.{made_answer, made_of, play_answer}
+use Rattle.arpki_play.specs.Made.{made_answer, made_of}
 use Rattle.arpki_play.specs.Words.{usage}
 use Rattle.arpki_play.specs.declared.request.Request.{Request}
 use Rattle.arpki_play.specs.declared.request.Request.TheVariants as requests
-
--- This answer was written whole, and the status is its own.
-abbrev pub IsAnswered : {K : Type 0} → Answer → (K → List ℕ → Type 0) → K → K → ℕ → Type 0
-IsAnswered answer wrote sink written status = (status ≡ answer.status) × Appended wrote sink written (written_of answer)
-
--- `play` took its input, and its answer to it was written whole, by some answers of the checks that tell nothing of themselves;
--- the status is the answer's, and the run is safe.
-pub record PlaysWhole {K : Type 0} (checks : List CheckParts) (old new : Option (List ℕ)) (wrote : K → List ℕ → Type 0) (sink written : K) (status : ℕ) : Type 0 where
-  pub saying : Saying
-  pub input : List ℕ
-  pub taken : runs.TakesAll old new input
-  pub answered : IsAnswered (play_answer saying checks input) wrote sink written status
-  pub safe : length input ≤ runs.most_bytes → IsSafeRun (run saying checks input)
 
 -- The script for so many domains was played, and its summary was written whole; its run is safe.
 pub record RunsWhole {K : Type 0} (checks : List CheckParts) (domains : ℕ) (wrote : K → List ℕ → Type 0) (sink written : K) (status : ℕ) : Type 0 where
@@ -41,31 +27,16 @@ pub record Sums (checks : List CheckParts) (domains : ℕ) (text : List ℕ) (to
   pub saying : Saying
   pub is : made_of saying checks domains text ≡ record { lines = told.0.items ∷ []; status = told.1 }
 
--- A command took its input, its answer to it was written whole, and the status is the answer's; so did a review, and `play`. A
--- script, its summary and the usage line take no input: the script was written whole, with status 0, and the usage line where the
--- words are of no form.
+-- A command took its input, its answer to it was written whole, and the status is the answer's; so did a review, and `play`, whose
+-- run is safe. A script, its summary and the usage line take no input: the script was written whole, with status 0, and the usage
+-- line where the words are of no form.
 abbrev pub Answers : {K : Type 0} → List CheckParts → Option Request → Option (List ℕ) → Option (List ℕ) → (K → List ℕ → Type 0) → K → K → ℕ → Type 0
 Answers checks (Some (requests.Answer command)) old new wrote sink written status = runs.Answers (answer_to command) old new wrote sink written status
 Answers checks (Some (requests.Make domains)) old new wrote sink written status = (status ≡ 0) × Appended wrote sink written (script domains)
-Answers checks (Some requests.Play) old new wrote sink written status = PlaysWhole checks old new wrote sink written status
+Answers checks (Some requests.Play) old new wrote sink written status = PlaysWhole (run_with checks) IsSafeRun old new wrote sink written status
 Answers checks (Some (requests.Review review)) old new wrote sink written status = runs.Answers (reviews.answer_to review) old new wrote sink written status
 Answers checks (Some (requests.Run domains)) old new wrote sink written status = RunsWhole checks domains wrote sink written status
 Answers checks None old new wrote sink written status = IsAnswered usage wrote sink written status
-
--- An input was played: its answer was written whole, by some answers of the checks that tell nothing of themselves, and the status
--- is the answer's. Or memory ran out, or a write failed, and a front of the answer was written.
-pub record IsPlayed {K : Type 0} (faults : K → ℕ) (wrote : K → List ℕ → Type 0) (old new : K) (checks : List CheckParts) (input : List ℕ) (result : Result ℕ Fault) : Type 0 where
-  pub saying : Saying
-  pub status : IfOk result (λ status. status ≡ (play_answer saying checks input).status)
-  pub written : WritesUpTo faults wrote old new (written_of (play_answer saying checks input)) result
-
--- `play` took its input, and of its answer to it a front was written; the run of which it is a front is safe.
-pub record PlaysFront {K : Type 0} (checks : List CheckParts) (old new : Option (List ℕ)) (wrote : K → List ℕ → Type 0) (sink written : K) : Type 0 where
-  pub saying : Saying
-  pub input : List ℕ
-  pub taken : runs.TakesAll old new input
-  pub front : AppendedUpTo wrote sink written (written_of (play_answer saying checks input))
-  pub safe : length input ≤ runs.most_bytes → IsSafeRun (run saying checks input)
 
 -- The script for so many domains was played, and of its summary a front was written, and not all; its run is safe.
 pub record RunsFront {K : Type 0} (checks : List CheckParts) (domains : ℕ) (wrote : K → List ℕ → Type 0) (sink written : K) : Type 0 where
@@ -74,11 +45,11 @@ pub record RunsFront {K : Type 0} (checks : List CheckParts) (domains : ℕ) (wr
   pub safe : IsSafeRun (run saying checks (script domains))
 
 -- A command or a review took its input, and of its answer to it, of the script, its summary or the usage line a front was written, and
--- not all. Of what `play` answers a front was written, or all.
+-- not all. Of what `play` answers a front was written, or all, and its run is safe.
 abbrev pub BreaksOff : {K : Type 0} → List CheckParts → Option Request → Option (List ℕ) → Option (List ℕ) → (K → List ℕ → Type 0) → K → K → Type 0
 BreaksOff checks (Some (requests.Answer command)) old new wrote sink written = runs.BreaksOff (answer_to command) old new wrote sink written
 BreaksOff checks (Some (requests.Make domains)) old new wrote sink written = AppendedFront wrote sink written (script domains)
-BreaksOff checks (Some requests.Play) old new wrote sink written = PlaysFront checks old new wrote sink written
+BreaksOff checks (Some requests.Play) old new wrote sink written = PlaysFront (run_with checks) IsSafeRun old new wrote sink written
 BreaksOff checks (Some (requests.Review review)) old new wrote sink written = runs.BreaksOff (reviews.answer_to review) old new wrote sink written
 BreaksOff checks (Some (requests.Run domains)) old new wrote sink written = RunsFront checks domains wrote sink written
 BreaksOff checks None old new wrote sink written = AppendedFront wrote sink written (written_of usage)
@@ -87,7 +58,7 @@ BreaksOff checks None old new wrote sink written = AppendedFront wrote sink writ
 abbrev pub Stops : {K : Type 0} → List CheckParts → Option Request → Option (List ℕ) → Option (List ℕ) → (K → List ℕ → Type 0) → K → K → Type 0
 Stops checks (Some (requests.Answer command)) old new wrote sink written = Unchanged wrote sink written
 Stops checks (Some (requests.Make domains)) old new wrote sink written = Unchanged wrote sink written
-Stops checks (Some requests.Play) old new wrote sink written = Unchanged wrote sink written ⊎ PlaysFront checks old new wrote sink written
+Stops checks (Some requests.Play) old new wrote sink written = Unchanged wrote sink written ⊎ PlaysFront (run_with checks) IsSafeRun old new wrote sink written
 Stops checks (Some (requests.Review review)) old new wrote sink written = Unchanged wrote sink written
 Stops checks (Some (requests.Run domains)) old new wrote sink written = Unchanged wrote sink written
 Stops checks None old new wrote sink written = Unchanged wrote sink written

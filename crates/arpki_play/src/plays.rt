@@ -4,35 +4,25 @@ ghost use Rattle.std.specs.Prelude.{◌≡◌, ◌≢◌, ◌<◌, ◌≤◌, �
 ghost use Rattle.ar_base.specs.Faults.{HasRisen};
 ghost use Rattle.ar_io.specs.Wrote.{Unchanged};
 ghost use Rattle.ar_run.specs.Runs.{IsInput, TakesAtMost, most_bytes};
-ghost use Rattle.ar_nodes.specs.Parties.{CheckParts, checks_told};
+ghost use Rattle.ar_nodes.specs.Parties.{checks_told};
+ghost use Rattle.run_safety.specs.Headline.{IsSafeRun};
 ghost use Rattle.script_make.specs.Script.{script};
-ghost use Rattle.arpki_play.specs.Plays.{run_status, summary_line, summed};
-ghost use Rattle.arpki_play.specs.Program.{Answers, IsPlayed, PlaysFront, RunsFront, RunsWhole, Stops, Sums};
+ghost use Rattle.script_play.specs.Played.{IsPlayed, PlaysFront, run_with};
+ghost use Rattle.arpki_play.specs.Made.{summary_line, summed};
+ghost use Rattle.arpki_play.specs.Program.{Answers, RunsFront, RunsWhole, Stops, Sums};
 ghost use Rattle.arpki_play.specs.declared.request.Request.TheVariants.{Play};
 
 use crate::request::Domains;
 use ar_io::{QuietSink, Sink, Source};
-use ar_run::{Fault, read_input, write_answer, write_line};
+use ar_run::{Fault, read_input, write_line};
 use ar_text::{Part, append};
-use arpki_ask::refuse_long;
 use owner_check::OwnerCheck;
 use script_make::last_epoch;
-use script_play::{Counts, Played, play, refused_line};
+use script_play::{Counts, Played, play, refused_line, tell_too_long};
 use std::alloc::{AllocError, Global};
 
-/// The status where a script came to this.
-fn status_of<C: OwnerCheck>(played: Played<C>) -> u8
-    ensures status { result ≡ run_status played.refused }
-    ensures bound { result < 4 }
-{
-    match played.refused {
-        Some(_) => 3,
-        None => 0,
-    }
-}
-
 /// Plays a script that is not too long, and writes what happens.
-#[tactic(auto, using(crate::proofs::Played::short_laws))]
+#[tactic(auto, using(script_play::proofs::Inputs::short_laws))]
 fn play_short<C: OwnerCheck, K: Sink>(
     alloc: Global,
     checks: Vec<C>,
@@ -40,28 +30,16 @@ fn play_short<C: OwnerCheck, K: Sink>(
     sink: &mut K,
 ) -> Result<u8, Fault>
     ensures played { length script.now ≤ most_bytes
-        → IsPlayed K.faults K.wrote sink.old sink.new (checks_told C.told C.answers checks.items) script.now result }
+        → IsPlayed (run_with (checks_told C.told C.answers checks.items)) K.faults K.wrote sink.old sink.new script.now result }
     ensures bound { IfOk result (λ status. status < 4) }
 {
     match play(alloc, checks, script, sink) {
-        Ok(played) => Ok(status_of(played)),
+        Ok(played) => Ok(played.status()),
         Err(fault) => Err(fault),
     }
 }
 
-/// Writes that a script is too long.
-#[tactic(auto, using(crate::proofs::Played::long_laws))]
-fn play_long<K: Sink>(alloc: Global, sink: &mut K) -> Result<u8, Fault>
-    ensures played { (checks : List CheckParts) (input : List ℕ) → most_bytes < length input
-        → IsPlayed K.faults K.wrote sink.old sink.new checks input result }
-    ensures bound { IfOk result (λ status. status < 4) }
-{
-    let answer = refuse_long(alloc)?;
-    write_answer(sink, &answer)?;
-    Ok(3)
-}
-
-/// Plays a script, and writes what happens.
+/// Plays what is there of an input, and writes what happens, or that it is too long.
 #[tactic(auto, using(crate::proofs::Played::script_laws))]
 fn play_script<C: OwnerCheck, K: Sink>(
     alloc: Global,
@@ -70,12 +48,12 @@ fn play_script<C: OwnerCheck, K: Sink>(
     sink: &mut K,
 ) -> Result<u8, Fault>
     ensures played { (input : List ℕ) → IsInput script input
-        → IsPlayed K.faults K.wrote sink.old sink.new (checks_told C.told C.answers checks.items) input result }
+        → IsPlayed (run_with (checks_told C.told C.answers checks.items)) K.faults K.wrote sink.old sink.new input result }
     ensures bound { IfOk result (λ status. status < 4) }
 {
     match script {
         Some(script) => play_short(alloc, checks, &script, sink),
-        None => play_long(alloc, sink),
+        None => tell_too_long(alloc, sink),
     }
 }
 
@@ -93,7 +71,8 @@ pub(crate) fn play_input<C: OwnerCheck, S: Source, K: Sink>(
     ensures source { result ≡ Err Fault.Source → HasRisen (S.faults source.old) (S.faults source.new)
         × Unchanged K.wrote sink.old sink.new }
     ensures sink { result ≡ Err Fault.Sink → HasRisen (K.faults sink.old) (K.faults sink.new)
-        × PlaysFront (checks_told C.told C.answers checks.items) (S.left source.old) (S.left source.new) K.wrote sink.old sink.new }
+        × PlaysFront (run_with (checks_told C.told C.answers checks.items)) IsSafeRun (S.left source.old) (S.left source.new)
+        K.wrote sink.old sink.new }
     ensures memory { result ≡ Err Fault.Memory → Stops (checks_told C.told C.answers checks.items) (Some Play)
         (S.left source.old) (S.left source.new) K.wrote sink.old sink.new }
     ensures source_uncounted { result ≢ Err Fault.Source → S.faults source.new ≡ S.faults source.old }

@@ -26,7 +26,7 @@ const USAGE: &[u8] =
 ///
 /// | status | comes |
 /// |---|---|
-/// | 0 | `sig` finds the signature valid, `check` accepts the confirmation, of a certificate or of none, `audit` writes its report, `play` and `make <number> run` take each line of the script, `make <number>` writes it |
+/// | 0 | `sig` finds the signature valid, `check` accepts the confirmation, of a certificate or of none, `audit` writes its report, `follow` answers each group of lines, `play` and `make <number> run` take each line of the script, `make <number>` writes it |
 /// | 1 | `sig` finds the signature not valid, `check` refuses the confirmation |
 /// | 2 | the words are of no form: the usage line |
 /// | 3 | a line of the input, or of the script that is played, is refused, or the input is too long |

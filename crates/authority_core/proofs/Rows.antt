@@ -1,10 +1,11 @@
 -- Each row leaves an honest authority.
 use Rattle.std.proofs.Common.{◌≡◌, ℕ, ◌≤◌, List, Bool, true, false, Result, Ok, Err, refl, sym, subst}
-use Rattle.ar_base.specs.Bytes.{IsDigest}
+use Rattle.ar_base.specs.Bytes.{AreBytes, IsDigest}
 use Rattle.ar_base.proofs.Giving.{order-first, order-then}
 use Rattle.ar_cert.specs.Certificate.{Certificate, digest_of}
 use Rattle.ar_cert.proofs.Digests.{digest-fits}
-use Rattle.ar_message.specs.Messages.{IsConfirming, IsMessage}
+use Rattle.ar_message.specs.Messages.{IsConfirming, IsMessage, message_in}
+use Rattle.ar_message.proofs.MessageLaws.{only_messages}
 use Rattle.ar_message.specs.declared.message.Confirming.{Confirming}
 use Rattle.ar_message.specs.declared.message.Message.{Message}
 use Rattle.ar_message.specs.declared.message.Message.TheVariants.{EndorseAsk, Endorsed, Submit, Propose, Ballot, StatusNote, Decision, SkipNote, ConfirmAsk, LogConfirmed, HalfConfirmed, Confirmation, RollNote}
@@ -29,7 +30,7 @@ use Rattle.authority_core.specs.Confirming.{confirming_checks, confirming_with, 
 use Rattle.authority_core.specs.EndorseRow.{asked_of, endorse_due, endorse_row, endorsing}
 use Rattle.authority_core.specs.Honest.{HasAsked}
 use Rattle.authority_core.specs.RollRows.{learning, roll_by, roll_note_by, roll_note_row, roll_row, rolling}
-use Rattle.authority_core.specs.Row.{message_row}
+use Rattle.authority_core.specs.Row.{message_row, row}
 use Rattle.authority_core.specs.State.{Answer, AuthorityState, IsAuthority, StepsBy}
 use Rattle.authority_core.specs.declared.refusal.AuthorityRefusal.{AuthorityRefusal}
 use Rattle.authority_core.specs.declared.entries.Asked.{Asked}
@@ -94,6 +95,14 @@ message-keeps s retired (Decision epoch base root changes votes) said is range l
 message-keeps s retired (SkipNote epoch statuses) said is range later sent e = absurd cc
 message-keeps s retired (ConfirmAsk client name first second) said is range later sent e = absurd cc
 message-keeps s retired (Confirmation client epoch name root body log log_signature first first_signature second second_signature) said is range later sent e = absurd cc
+
+-- bytes that are read are a message
+pub read-keeps : (s : AuthorityState) (retired : Bool) (bytes : List ℕ) (said : Outcome) → IsAuthority s → AreBytes bytes → Leaves (row s retired (message_in bytes) said)
+read-keeps s retired bytes said is are = by (message_in bytes) refl
+  where
+    by : (read : Result Message ℕ) → message_in bytes ≡ read → Leaves (row s retired read said)
+    by (Ok m) at later sent e = message-keeps s retired m said is ((only_messages bytes m are).0 at).0 later sent e
+    by (Err place) at later sent e = absurd cc
 
 -- ---- what an answer Ok shows
 

@@ -1,16 +1,19 @@
 //! Laws on the definitions of `specs/`: each is the contract of a function with an empty body.
-ghost use Rattle.std.specs.Prelude.{◌≡◌, ℕ, ◌<◌, ◌≤◌, ◌^◌, Bool, true, false, [], ◌∷◌, List, Option, All, Contains, Result, Ok, Err, length};
-ghost use Rattle.ar_base.specs.Bytes.{IsDigest};
+ghost use Rattle.std.specs.Prelude.{◌≡◌, ℕ, ◌<◌, ◌≤◌, ◌^◌, Bool, true, false, [], ◌∷◌, ◌++◌, List, Option, All, Contains, Result, Ok, Err, length};
+ghost use Rattle.ar_base.specs.Bytes.{AreBytes, IsDigest};
 ghost use Rattle.ar_statement.specs.declared.party.Party.{Party};
 ghost use Rattle.ar_statement.specs.Claims.{authority_party, confirmation_by, endorse, text_of};
 ghost use Rattle.ar_statement.specs.Ranges.{IsKeyText, IsValid};
 ghost use Rattle.ar_cert.specs.Certificate.{Certificate, digest_of};
 ghost use Rattle.ar_claims.specs.Claimed.{claimed_by};
 ghost use Rattle.ar_claims.specs.Verified.{SeesClaimed};
-ghost use Rattle.ar_message.specs.Messages.{IsMessage};
+ghost use Rattle.ar_message.specs.Messages.{IsMessage, message_in};
 ghost use Rattle.ar_message.specs.declared.message.Confirming.{Confirming};
 ghost use Rattle.ar_message.specs.declared.message.Message.{Message};
 ghost use Rattle.ar_message.specs.declared.unsigned.Unsigned.{Unsigned};
+ghost use Rattle.ar_message.specs.Filling.{CanFill};
+ghost use Rattle.lms_tree.specs.Key.{public_of};
+ghost use Rattle.lms_tree.specs.KeyParts.{KeyParts};
 ghost use Rattle.lms_tree.specs.PublicKey.{HasWidths, key_text};
 ghost use Rattle.lms_tree.specs.declared.public_key.LmsPublic.{LmsPublic};
 ghost use Rattle.owner_check.specs.declared.answer.Outcome.{Outcome};
@@ -18,6 +21,7 @@ ghost use Rattle.owner_check.specs.declared.answer.Outcome.TheVariants.{Yes};
 ghost use Rattle.key_roll.specs.Book.{texts_of};
 ghost use Rattle.key_roll.specs.Entry.{MayRoll};
 ghost use Rattle.key_roll.specs.Later.{IsServed};
+ghost use Rattle.key_roll.specs.Ring.{IsNext};
 ghost use Rattle.ar_council.specs.Council.{Council, IsMember, council_of};
 ghost use Rattle.ar_council.specs.Room.{HasRoom};
 ghost use Rattle.authority_core.specs.Calls.{MayConfirm, after_endorse, after_half_confirmed, after_learn, after_log_confirmed, after_roll, fresh_authority, kept_claim};
@@ -26,6 +30,7 @@ ghost use Rattle.ar_message.specs.Shown.{shows};
 ghost use Rattle.authority_core.specs.Confirming.{vote_count};
 ghost use Rattle.authority_core.specs.EndorseRow.{endorse_row};
 ghost use Rattle.authority_core.specs.Honest.{HasAsked, HasKept, HonestAuthority};
+ghost use Rattle.authority_core.specs.Keyed.{IsRingOf};
 ghost use Rattle.authority_core.specs.Later.{AuthorityGrows};
 ghost use Rattle.authority_core.specs.Record.{AuthorityRecord};
 ghost use Rattle.authority_core.specs.RollRows.{roll_row};
@@ -83,11 +88,13 @@ pub fn what_is_signed_is_told()
         → HasKept council r.seen r.kept epoch name certificate root }
 {}
 
-/// Each row keeps an authority: of each message, by whatever the check answered, and of the order to roll, where the next
-/// key is one.
+/// Each row keeps an authority: of each message and of whatever bytes, by whatever the check answered, and of the order to
+/// roll, where the next key is one.
 pub fn rows_keep_an_authority()
     ensures message { (s : AuthorityState) (retired : Bool) (m : Message) (said : Outcome) (later : AuthorityState) (sent : Unsigned) → IsAuthority s → IsMessage m
         → message_row s retired m said ≡ Ok (later, sent) → IsAuthority later }
+    ensures bytes { (s : AuthorityState) (retired : Bool) (bytes : List ℕ) (said : Outcome) (later : AuthorityState) (sent : Unsigned) → IsAuthority s
+        → AreBytes bytes → row s retired (message_in bytes) said ≡ Ok (later, sent) → IsAuthority later }
     ensures roll { (s : AuthorityState) (next : LmsPublic) (later : AuthorityState) (sent : Unsigned) → IsAuthority s → IsKeyText (key_text next) → HasWidths next
         → roll_row s next ≡ Ok (later, sent) → IsAuthority later }
 {}
@@ -161,4 +168,15 @@ pub fn each_own_signature_is_of_the_book()
         → row s retired m said ≡ Ok (later, sent) → All (λ blank. IsServed later.past.signed blank.due) sent.blanks }
     ensures roll { (s : AuthorityState) (next : LmsPublic) (later : AuthorityState) (sent : Unsigned) → roll_row s next ≡ Ok (later, sent)
         → All (λ blank. IsServed later.past.signed blank.due) sent.blanks }
+{}
+
+/// What a step leaves blank the authority's keys can sign, and they stay its keys; of the order to roll, those with the next
+/// key behind them.
+pub fn each_step_can_be_signed()
+    ensures step { (s : AuthorityState) (keys : List KeyParts) (retired : Bool) (m : Result Message ℕ) (said : Outcome)
+        (later : AuthorityState) (sent : Unsigned) → IsAuthority s → IsRingOf s keys → row s retired m said ≡ Ok (later, sent)
+        → CanFill keys sent × IsRingOf later keys }
+    ensures roll { (s : AuthorityState) (keys : List KeyParts) (next : KeyParts) (later : AuthorityState) (sent : Unsigned)
+        → IsRingOf s keys → IsNext keys next → roll_row s (public_of next) ≡ Ok (later, sent)
+        → CanFill (keys ++ next ∷ []) sent × IsRingOf later (keys ++ next ∷ []) }
 {}

@@ -11,7 +11,7 @@ ghost use Rattle.authority_core.specs.ConfirmRows.{half_confirmed_row, log_confi
 ghost use Rattle.authority_core.specs.EndorseRow.{SaysAsTold, answers_after, asked_of, endorsing, outcome_by};
 ghost use Rattle.authority_core.specs.Honest.{HonestAuthority};
 ghost use Rattle.authority_core.specs.RollRows.{roll_note_row, roll_row};
-ghost use Rattle.authority_core.specs.State.{StepsBy};
+ghost use Rattle.authority_core.specs.State.{IsAuthority, StepsBy};
 ghost use Rattle.authority_core.specs.declared.refusal.AuthorityRefusal.TheVariants as refusal;
 
 use crate::desk::Desk;
@@ -65,6 +65,13 @@ impl AuthorityState {
                 past: AuthorityRecord::new(alloc, leaves),
             },
         }
+    }
+
+    /// Tells a proof what is true of where the authority stands. It does nothing.
+    pub fn told(&self)
+        ensures { IsAuthority self.now }
+    {
+        let _desk = &self.desk;
     }
 
     /// The number of the authority.

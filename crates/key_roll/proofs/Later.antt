@@ -1,13 +1,16 @@
 -- Books grow by entries and rolls, and what is due is served.
-use Rattle.std.proofs.Common.{◌≡◌, ℕ, ◌+◌, ◌-◌, ◌==◌, List, [], ◌∷◌, ◌++◌, length, get_or, refl, sym, ap, ◌∙◌, subst, arith, Bool, true, false, cond, Option, Some, None, Result, Ok, Err}
-use Rattle.std.specs.Prelude.{slice_get, option_and_then}
+use Rattle.std.proofs.Common.{◌≡◌, ℕ, ◌+◌, ◌-◌, ◌<◌, ◌==◌, List, [], ◌∷◌, ◌++◌, length, get_or, refl, sym, ap, ◌∙◌, subst, arith, Bool, true, false, cond, Option, Some, None, Result, Ok, Err}
+use Rattle.std.specs.Prelude.{slice_get, option_and_then, map}
 use Rattle.std.specs.Option.{ok_or, option_map}
 use Rattle.ar_base.proofs.Prefixes.{begins_itself, begins_on}
+use Rattle.std.proofs.lemmas.List.{get_or-map, length-map}
+use Rattle.std.proofs.lemmas.Option.{get_or_from_slice_get, slice_get_within}
 use Rattle.ar_base.specs.Places.{place_of}
+use Rattle.ar_base.proofs.Places.{one-place}
 use Rattle.ar_statement.specs.declared.fault.BookFault.TheVariants.{Spent}
-use Rattle.key_roll.specs.Book.{RollBook, last_generation, texts_of}
+use Rattle.key_roll.specs.Book.{IsRollBook, RollBook, last_generation, texts_of}
 use Rattle.key_roll.specs.Due.{DueParts}
-use Rattle.key_roll.specs.Entry.{Serves, after_at, after_entry, due_at, due_of, entered, has_room, rolled, with_roll, with_text}
+use Rattle.key_roll.specs.Entry.{Serves, after_at, after_entry, due_at, due_of, entered, has_room, leaf_of, rolled, with_roll, with_text}
 use Rattle.key_roll.specs.Later.{IsLaterBook, IsServed}
 use Rattle.key_roll.specs.Rolls.{is_roll}
 use Rattle.key_roll.specs.declared.fault.RollFault.{RollFault}
@@ -116,3 +119,37 @@ rolled_is_served book text due is-roll e = by (book.newest == last_generation) e
           serves = (length book.list, entry book.newest text, (last_entry book.list (entry book.newest text), refl, refl, leaf-roll (with_roll book text) (length book.list) (entry book.newest text) is-roll));
           leaves = refl;
         })
+
+-- what is served is due in a book that is sound
+pub served_is_due : (book : RollBook) (due : DueParts) → IsRollBook book → IsServed book due → due_of book due.text ≡ Some due
+served_is_due book due sound served =
+    let k : ℕ = served.serves.0 in
+    let s : Signed = served.serves.1 in
+    let at : slice_get book.list k ≡ Some s = served.serves.2.0 in
+    let within = slice_get_within book.list k s at in
+    let inside : k < length (texts_of book) = omega (arith, within, length-map book.list (λ (x : Signed). x.text)) in
+    let text : get_or (texts_of book) k [] ≡ due.text =
+    get_or-map (λ (x : Signed). x.text) book.list k (entry 0 []) [] within
+    ∙ ap (λ (x : Signed). x.text) (get_or_from_slice_get book.list k s (entry 0 []) at) ∙ served.serves.2.2 in
+    let place : place_of (texts_of book) due.text ≡ Some k = one-place (texts_of book) due.text k [] sound.once inside text in
+    ap (λ (o : Option ℕ). option_and_then (due_at book) o) place ∙ ap (λ (o : Option Signed). option_map (due_for book k) o) at
+    ∙ made s served.serves.2.1 served.serves.2.2 served.serves.2.3
+  where
+    k : ℕ
+    k = served.serves.0
+
+    parts : ℕ → ℕ → List ℕ → ℕ → Option DueParts
+    parts generation leaf text leaves = Some (record { generation = generation; leaf = leaf; text = text; leaves = leaves })
+
+    made : (s : Signed) → s.generation ≡ due.generation → s.text ≡ due.text → leaf_of book k s ≡ due.leaf → Some (due_for book k s) ≡ Some due
+    made s generation text leaf =
+        ap (λ (g : ℕ). parts g (leaf_of book k s) s.text book.leaves) generation
+        ∙ ap (λ (l : ℕ). parts due.generation l s.text book.leaves) leaf
+        ∙ ap (λ (t : List ℕ). parts due.generation due.leaf t book.leaves) text
+        ∙ ap (λ (n : ℕ). parts due.generation due.leaf due.text n) (sym served.leaves)
+
+-- what is due for a text stays due
+pub due_on : (book later : RollBook) (text : List ℕ) (due : DueParts) → IsRollBook later → IsLaterBook book later → due_of book text ≡ Some due → due_of later text ≡ Some due
+due_on book later text due sound is e =
+    subst (λ (t : List ℕ). due_of later t ≡ Some due) (due_is_for book text due e)
+    (served_is_due later due sound (served_on book later due is (due_is_served book text due e)))

@@ -3,9 +3,10 @@ use Rattle.std.specs.Prelude.{◌≡◌, ℕ, ◌+◌, ◌-◌, ◌<◌, List, �
 use Rattle.std.specs.Int.{w32}
 use Rattle.sha2.specs.Sha256.{sha256}
 use Rattle.ar_bytes.specs.RoundTrip.{number_text}
-use Rattle.lms_tree.specs.Key.{signature_of}
+use Rattle.lms_tree.specs.Key.{public_of, signature_of}
 use Rattle.lms_tree.specs.KeyParts.{KeyParts}
 use Rattle.lms_tree.specs.LmsKind.{leaves_of}
+use Rattle.lms_tree.specs.declared.public_key.LmsPublic.{LmsPublic}
 use Rattle.lms_tree.specs.Signature.{lms_signature_len_of}
 use Rattle.key_roll.specs.Book.{RollBook}
 use Rattle.key_roll.specs.Due.{DueParts}
@@ -33,6 +34,12 @@ pub record IsNext (keys : List KeyParts) (key : KeyParts) : Type 0 where
   pub newest : KeyParts
   pub last : slice_get keys (length keys - 1) ≡ Some newest
   pub is : key ≡ next_key newest
+
+-- a public key is that of the newest of the keys
+pub record IsNewest (keys : List KeyParts) (public : LmsPublic) : Type 0 where
+  pub key : KeyParts
+  pub last : slice_get keys (length keys - 1) ≡ Some key
+  pub is : public ≡ public_of key
 
 -- how many bytes a signature by a key has, with the generation in front
 abbrev pub ring_signature_len : KeyParts → ℕ

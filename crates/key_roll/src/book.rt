@@ -1,15 +1,15 @@
-ghost use Rattle.std.specs.Prelude.{◌≡◌, ◌<◌, ◌≤◌, ◌+◌, ◌⊎◌, Some, None, Err, Contains, OnOk, OnErr, false, is_some, true, length, max, ◌↔◌};
+ghost use Rattle.std.specs.Prelude.{◌≡◌, ◌<◌, ◌≤◌, ◌+◌, ◌⊎◌, Some, None, Err, Contains, OnOk, OnErr, IfSome, false, is_some, true, length, max, slice_get, ◌↔◌};
 ghost use Rattle.ar_base.specs.Gives.{GivesOrWants};
 ghost use Rattle.ar_base.specs.Places.{place_of};
 ghost use Rattle.ar_statement.specs.Claims.{claim_of, text_of};
 ghost use Rattle.key_roll.specs.Book.{IsRollBook, empty_book, texts_of};
-ghost use Rattle.key_roll.specs.Entry.{after_entry, announced, due_at, due_of, entered, entered_new, roll_text, rolled, with_roll, with_text};
+ghost use Rattle.key_roll.specs.Entry.{after_entry, announced, due_at, due_of, entered, entered_new, leaf_of, roll_text, rolled, with_roll, with_text};
 ghost use Rattle.key_roll.specs.Rolls.{is_roll, named_generation, plain_count};
 ghost use Rattle.ar_statement.specs.declared.fault.BookFault.TheVariants as book_fault;
 ghost use Rattle.key_roll.specs.declared.fault.RollFault.TheVariants as roll_fault;
 
 use crate::entries::{is_roll, leaf_number, place_of, plain_count};
-use crate::{BookFault, RollDue, RollFault, Signed};
+use crate::{BookFault, RollDue, RollFault, Signed, forgo};
 use ar_statement::{Party, Statement, Text};
 use lms_tree::LmsPublic;
 use std::alloc::{AllocError, Global};
@@ -192,6 +192,17 @@ impl RollBook {
         let count = plain_count(&self.list[..place], entry.generation);
         let leaf = leaf_number(count, self.leaves);
         RollDue::new(entry.generation, leaf, entry.text, self.leaves)
+    }
+
+    /// The leaf of the statement at this place of the list, from 0.
+    pub fn leaf_at(&self, place: usize) -> u32
+        requires { place < length self.now.book.list }
+        ensures { IfSome (slice_get self.now.book.list place) (λ s. result ≡ leaf_of self.now.book place s) }
+    {
+        let due = self.due(place);
+        let leaf = due.leaf;
+        forgo(due);
+        leaf
     }
 
     /// Whether the book holds the statement, at whatever generation.

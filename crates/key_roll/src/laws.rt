@@ -76,3 +76,10 @@ pub fn what_is_due_is_served()
         → IsServed book due × (due.text ≡ text) }
     ensures later { (book later : RollBook) (due : DueParts) → IsLaterBook book later → IsServed book due → IsServed later due }
 {}
+
+/// What a leaf serves is due in each sound book, so that what is due for a text stays due while the book grows.
+pub fn what_is_due_stays_due()
+    ensures served { (book : RollBook) (due : DueParts) → IsRollBook book → IsServed book due → due_of book due.text ≡ Some due }
+    ensures stays { (book later : RollBook) (text : List ℕ) (due : DueParts) → IsRollBook later → IsLaterBook book later
+        → due_of book text ≡ Some due → due_of later text ≡ Some due }
+{}

@@ -1,10 +1,10 @@
 ghost use Rattle.std.specs.Prelude.{◌≡◌, ◌<◌, ◌-◌, ◌++◌, ◌∷◌, [], ℕ, length, max, slice_get, Some, IfOk, IfErr, OnOk, OnErr, MatchResult};
-ghost use Rattle.key_roll.specs.Ring.{IsNext, Owes, next_seed, ring_signature_len, signature_by};
+ghost use Rattle.key_roll.specs.Ring.{IsNewest, IsNext, Owes, next_seed, ring_signature_len, signature_by};
 ghost use Rattle.lms_tree.specs.KeyParts.{KeyParts};
 
 use crate::RollDue;
 use ar_bytes::write_u32;
-use lms_tree::{KeyFault, LmsKey};
+use lms_tree::{KeyFault, LmsKey, LmsPublic};
 use sha2::{Digest, Sha256};
 use std::alloc::{AllocError, Global};
 use std::marker::Model;
@@ -57,6 +57,13 @@ impl KeyRing {
             Err(KeyFault::Memory) => Err(AllocError),
             Err(KeyFault::Kind) => unreachable!(),
         }
+    }
+
+    /// The public key of the newest generation. It takes no memory.
+    pub fn newest(&self) -> LmsPublic
+        ensures { IsNewest self.now.keys result }
+    {
+        self.keys[self.keys.len() - 1].public()
     }
 
     /// Takes memory for one key more, where there is room for none: the next `add` then answers `Ok`. The

@@ -6,7 +6,7 @@ use mathlib.Core.Option.{some, some-injective}
 use mathlib.Core.Logic.{dite}
 use native.Mathlib.Decide.{dec_lt}
 use lib.ListN.{get_elem?}
-use Rattle.ar_base.specs.Shares.{whole}
+use Rattle.ar_seats.specs.Shares.{whole}
 use Rattle.ar_seats.specs.Numbers.{times, once_below, HasEachBelow}
 use Rattle.ar_seats.proofs.TotalsLemmas.{total-set, total_split, total_join, total_le, one-le-total, two-le-total, one_of_total, total_owner}
 use Rattle.ar_seats.proofs.NumbersLemmas.{times-append, once_below-lt, once_below-le, once_below-suc, once_below-le-1, times_of_place, place_of_times}

@@ -1,6 +1,6 @@
 -- A book of leaves as contracts see it, with its seats and its leaves.
 use Rattle.std.specs.Prelude.{ℕ, ◌≡◌, ◌≤◌, ◌<◌, ◌+◌, ◌-◌, max, min, List, [], ◌∷◌, ◌++◌, Contains}
-use Rattle.ar_base.specs.Shares.{given_of, left_of}
+use Rattle.ar_seats.specs.Shares.{given_of, left_of}
 use Rattle.atomic_table.specs.Seated.{TableId}
 
 -- which book it is, and how many leaves it has

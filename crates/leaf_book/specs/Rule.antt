@@ -2,7 +2,7 @@
 use Rattle.std.specs.Prelude.{ℕ, ◌≡◌, ◌≤◌, ◌<◌, ◌+◌, ◌^◌, min, List, [], ◌∷◌}
 use mathlib.Core.Option.{some}
 use lib.ListN.{get_elem?}
-use Rattle.ar_base.specs.Shares.{whole}
+use Rattle.ar_seats.specs.Shares.{whole}
 use Rattle.ar_seats.specs.Totals.{total}
 use Rattle.ar_seats.specs.Numbers.{times, once_below}
 use Rattle.atomic_table.specs.Table.{State}

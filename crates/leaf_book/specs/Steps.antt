@@ -1,6 +1,6 @@
 -- What each atomic step on the word tells, and how views are split and joined.
 use Rattle.std.specs.Prelude.{ℕ, ◌≡◌, ◌≤◌, ◌+◌, ◌-◌, max, min, nat_lt, if◌then◌else◌, [], ◌∷◌, ◌++◌}
-use Rattle.ar_base.specs.Shares.{given_of, left_of, whole}
+use Rattle.ar_seats.specs.Shares.{given_of, left_of, whole}
 use Rattle.ar_seats.specs.Numbers.{times}
 use Rattle.atomic_table.specs.Table.{Me}
 use Rattle.leaf_book.specs.declared.held.Held.{Held}

@@ -1,13 +1,13 @@
 ghost use Rattle.std.specs.Prelude.{◌≡◌, ◌<◌, ◌≤◌, ◌↔◌, length, IsOk, IfOk, IfErr, OnErr, Err};
-ghost use Rattle.ar_base.specs.Shares.{whole};
+ghost use Rattle.ar_seats.specs.Shares.{whole};
 ghost use Rattle.ar_seats.specs.Numbers.{HasEachBelow};
 ghost use Rattle.leaf_book.specs.Book.{Draws, FindsNone, AreApart, first_seat, left_seat, given_seat, joined_seat};
-ghost use Rattle.ar_base.specs.declared.split_fault.SplitFault.TheVariants.{Narrow};
+ghost use Rattle.ar_seats.specs.declared.split_fault.SplitFault.TheVariants.{Narrow};
 
 use crate::held::Held;
 use crate::steps::{Compare, Draw, Halve, LeafRule, Look, Unite};
 use crate::{Exhausted, Leaf, LeafSeat, SplitFault};
-use ar_base::Share;
+use ar_seats::Share;
 use atomic_table::Table;
 use std::alloc::{AllocError, Global};
 use std::marker::Model;

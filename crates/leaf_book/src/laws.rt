@@ -3,7 +3,7 @@
 ghost use Rattle.std.specs.Prelude.{◌≡◌, ◌≢◌, ◌<◌, ◌≤◌, ◌^◌, ℕ, List, [], min, Contains};
 ghost use mathlib.Core.Option.{some};
 ghost use lib.ListN.{get_elem?};
-ghost use Rattle.ar_base.specs.Shares.{whole};
+ghost use Rattle.ar_seats.specs.Shares.{whole};
 ghost use Rattle.ar_seats.specs.Numbers.{HasEachBelow, times};
 ghost use Rattle.leaf_book.specs.Book.{AreApart};
 ghost use Rattle.leaf_book.specs.Rule.{Keeps};

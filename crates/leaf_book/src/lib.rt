@@ -9,7 +9,7 @@
 //! only one: with it the book is closed, and its leaves are counted.
 #![tactic(auto)]
 
-pub use ar_base::SplitFault;
+pub use ar_seats::SplitFault;
 pub use book::LeafBook;
 pub use fault::Exhausted;
 pub use leaf::{Leaf, sign_leaf};

@@ -1,8 +1,8 @@
 ghost use Rattle.std.specs.Prelude.{◌≡◌, ◌<◌, ◌≤◌};
-ghost use Rattle.ar_base.specs.Shares.{whole};
+ghost use Rattle.ar_seats.specs.Shares.{whole};
 
 use crate::held::Held;
-use ar_base::Share;
+use ar_seats::Share;
 use atomic_table::Seat;
 use std::marker::Model;
 

@@ -3,3 +3,4 @@ pub mod DigitLemmas
 pub mod EndLemmas
 pub mod PieceLemmas
 pub mod SigningLemmas
+pub mod WayLemmas

@@ -3,3 +3,4 @@ pub mod Chain
 pub mod Digits
 pub mod OtsKind
 pub mod Signing
+pub mod Ways

@@ -1,13 +1,14 @@
-ghost use Rattle.std.specs.Prelude.{◌≡◌, ◌+◌, ◌*◌, ◌<◌, ◌≤◌, length};
+ghost use Rattle.std.specs.Prelude.{◌≡◌, length};
 ghost use Rattle.lm_ots.specs.OtsKind.{signature_len_of};
-ghost use Rattle.lm_ots.specs.Candidate.{candidate, candidate_key, element};
+ghost use Rattle.lm_ots.specs.Candidate.{candidate, candidate_key};
 
 use crate::OtsType;
-use crate::chain::chain;
-use crate::digits::{coef, with_checksum};
-use crate::hashing::{D_PBLC, domain_hasher, message_hash};
+use crate::chains::{Chains, ROOM};
+use crate::digits::digits;
+use crate::hashing::message_hash;
+use crate::values::{key_of, put_elements};
+use crate::walk::walk;
 use ar_bytes::Fields;
-use sha2::Digest;
 
 // Where C begins in a signature.
 const RANDOMIZER_PLACE: usize = 4;
@@ -50,30 +51,12 @@ fn candidate_key(
 {
     let randomizer = &signature[RANDOMIZER_PLACE..ELEMENTS_PLACE];
     let hash = message_hash(id, leaf, randomizer, message);
-    let digits = with_checksum(kind, &hash);
-    let mut hasher = domain_hasher(id, leaf, D_PBLC);
-    for i in 0..kind.p() {
-        let from = coef(kind, &digits, i);
-        let end = chain(
-            id,
-            leaf,
-            i as u16,
-            from,
-            kind.last(),
-            &element(signature, i),
-        );
-        hasher.update(&end);
-    }
-    hasher.finalize()
-}
-
-// Element `i` of a signature.
-fn element(signature: &[u8], i: usize) -> [u8; 32]
-    requires { 36 + 32 * i + 32 ≤ length signature.now }
-    ensures { result ≡ element signature.now i }
-{
-    let place = ELEMENTS_PLACE + 32 * i;
-    let mut bytes = [0u8; 32];
-    bytes.copy_from_slice(&signature[place..place + 32]);
-    bytes
+    let mut chains = Chains {
+        values: [[0; 32]; ROOM],
+        next: digits(kind, &hash),
+        ends: [kind.last(); ROOM],
+    };
+    put_elements(kind, signature, &mut chains.values);
+    walk(id, leaf, kind.p(), &mut chains);
+    key_of(id, leaf, kind, &chains.values)
 }

@@ -40,10 +40,7 @@ fn advance(text: &mut [u8; 55], step: u8)
     text[VALUE_PLACE..].copy_from_slice(&next);
 }
 
-/// A value after the steps `from` to `to - 1` of chain `index` at a leaf (RFC 8554, section 4.3).
-///
-/// It is inlined into the loop over the chains, since the compiler inlines the hash into nested loops.
-#[inline(always)]
+/// A value after the steps `from` to `to - 1` of chain `index` at a leaf (RFC 8554, section 4.3), one chain by itself.
 pub(crate) fn chain(
     id: &[u8; 16],
     leaf: u32,

@@ -1,12 +1,13 @@
-ghost use Rattle.std.specs.Prelude.{◌≡◌, ◌*◌, ◌/◌, ◌<◌, length};
-ghost use Rattle.lm_ots.specs.OtsKind.{width_of};
-ghost use Rattle.lm_ots.specs.Digits.{checksum, coef, with_checksum};
+ghost use Rattle.std.specs.Prelude.{◌≡◌, ◌*◌, ◌/◌, ◌<◌, ℕ, length, slice_index};
+ghost use Rattle.lm_ots.specs.OtsKind.{count_of, width_of};
+ghost use Rattle.lm_ots.specs.Digits.{checksum, coef, digit, with_checksum};
 
 use crate::OtsType;
+use crate::chains::ROOM;
 use ar_bytes::{write_bytes, write_u16};
 
 // Digit `i` of `bytes`, cut into numbers of the type's width (RFC 8554, section 3.1.3).
-pub(crate) fn coef(kind: OtsType, bytes: &[u8], i: usize) -> u8
+fn coef(kind: OtsType, bytes: &[u8], i: usize) -> u8
     requires { i / (8 / width_of kind) < length bytes.now }
     ensures { result ≡ coef bytes.now i (width_of kind) }
 {
@@ -29,11 +30,23 @@ fn checksum(kind: OtsType, hash: &[u8; 32]) -> u16
 
 // A hash with its checksum behind it, which the digits are read from (RFC 8554, section 4.5).
 #[tactic(auto, unfolding(ar_bytes::specs::RoundTrip::number_text))]
-pub(crate) fn with_checksum(kind: OtsType, hash: &[u8; 32]) -> [u8; 34]
+fn with_checksum(kind: OtsType, hash: &[u8; 32]) -> [u8; 34]
     ensures { result ≡ with_checksum kind hash.now }
 {
     let mut digits = [0u8; 34];
     let place = write_bytes(&mut digits, 0, hash);
     write_u16(&mut digits, place, checksum(kind, hash));
+    digits
+}
+
+/// The digits of a hash and its checksum, one for each chain (RFC 8554, section 4.5).
+pub(crate) fn digits(kind: OtsType, hash: &[u8; 32]) -> [u8; ROOM]
+    ensures { (i : ℕ) → i < count_of kind → slice_index result i ≡ digit kind hash.now i }
+{
+    let text = with_checksum(kind, hash);
+    let mut digits = [0u8; ROOM];
+    for i in 0..kind.p() {
+        digits[i] = coef(kind, &text, i);
+    }
     digits
 }

@@ -3,6 +3,9 @@
 //! `specs/` states the scheme on lists of bytes: `OtsKind` the table of types, `Digits` how a hash is
 //! cut into digits, `Chain` the chains, `Candidate` the public key that a signature leads to, and
 //! `Signing` the keys and signatures that a seed gives. `laws` says that the two fit.
+//!
+//! The chains of a leaf do not wait for each other, so four of them go side by side (`walk`), in the lanes of
+//! `hash_lanes`; `Ways` says where a chain leads that is on its way.
 #![tactic(auto)]
 
 pub use candidate::ots_candidate;
@@ -13,9 +16,14 @@ pub use signing::{ots_public, ots_sign_into};
 
 mod candidate;
 mod chain;
+mod chains;
 mod digits;
+mod four;
 mod hashing;
 pub mod laws;
 mod ots_type;
+mod queue;
 mod secret;
 mod signing;
+mod values;
+mod walk;

@@ -2,22 +2,21 @@ ghost use Rattle.std.specs.Prelude.{◌≡◌, ◌+◌, ◌*◌, ◌∷◌, ◌+
 ghost use Rattle.std.specs.List.{flat_map, range_with_len};
 ghost use Rattle.sha2.specs.Sha256.{sha256};
 ghost use Rattle.lm_ots.specs.OtsKind.{count_of, signature_len_of};
-ghost use Rattle.lm_ots.specs.Signing.{public_key_of, randomizer_of, secret_element, signature_of, signed_element, value_after};
+ghost use Rattle.lm_ots.specs.Signing.{public_key_of, randomizer_of, signature_of, signed_element};
 
 use crate::OtsSecret;
 use crate::candidate::ELEMENTS_PLACE;
-use crate::chain::{chain, step_text};
-use crate::digits::{coef, with_checksum};
-use crate::hashing::{D_PBLC, domain_hasher, message_hash};
+use crate::chains::{Chains, ROOM};
+use crate::digits::digits;
+use crate::hashing::message_hash;
+use crate::values::{key_of, put_beginnings};
+use crate::walk::walk;
 use ar_bytes::{write_bytes, write_u32};
 use byteorder::{ByteOrder, LittleEndian};
 use rand_chacha::ChaCha20Rng;
 use rand_core::SeedableRng;
 use rand_core::utils::NextWord;
 use sha2::{Digest, Sha256};
-
-// The number that stands for a step where a chain's beginning is made (RFC 8554, appendix A).
-const SECRET_STEP: u8 = 0xff;
 
 // What stands before the seed where the key of the generator is hashed.
 const RANDOMIZER_TAG: u8 = 0x43;
@@ -26,11 +25,14 @@ const RANDOMIZER_TAG: u8 = 0x43;
 pub fn ots_public(secret: &OtsSecret) -> [u8; 32]
     ensures { result ≡ public_key_of secret.now }
 {
-    let mut hasher = domain_hasher(&secret.id, secret.leaf, D_PBLC);
-    for i in 0..secret.kind.p() {
-        hasher.update(&value_after(secret, secret.kind.last(), i as u16));
-    }
-    hasher.finalize()
+    let mut chains = Chains {
+        values: [[0; 32]; ROOM],
+        next: [0; ROOM],
+        ends: [secret.kind.last(); ROOM],
+    };
+    put_beginnings(secret, &mut chains.values);
+    walk(&secret.id, secret.leaf, secret.kind.p(), &mut chains);
+    key_of(&secret.id, secret.leaf, secret.kind, &chains.values)
 }
 
 /// Writes the signature of `message` (RFC 8554, section 4.5, algorithm 3): the type, C and the
@@ -55,29 +57,17 @@ fn put_elements(secret: &OtsSecret, hash: &[u8; 32], out: &mut [u8])
     ensures { out.new ≡ take 36 out.old
         ++ flat_map (signed_element secret.now hash.now) (range_with_len 0 (count_of secret.now.kind)) }
 {
-    let digits = with_checksum(secret.kind, hash);
+    let mut chains = Chains {
+        values: [[0; 32]; ROOM],
+        next: [0; ROOM],
+        ends: digits(secret.kind, hash),
+    };
+    put_beginnings(secret, &mut chains.values);
+    walk(&secret.id, secret.leaf, secret.kind.p(), &mut chains);
     let mut place = ELEMENTS_PLACE;
     for i in 0..secret.kind.p() {
-        let digit = coef(secret.kind, &digits, i);
-        place = write_bytes(out, place, &value_after(secret, digit, i as u16));
+        place = write_bytes(out, place, &chains.values[i]);
     }
-}
-
-// The value of chain `i` after its first `steps` steps.
-#[inline(always)]
-fn value_after(secret: &OtsSecret, steps: u8, i: u16) -> [u8; 32]
-    ensures { result ≡ value_after secret.now steps i }
-{
-    let start = secret_element(secret, i);
-    chain(&secret.id, secret.leaf, i, 0, steps, &start)
-}
-
-// The beginning of chain `i`.
-fn secret_element(secret: &OtsSecret, i: u16) -> [u8; 32]
-    ensures { result ≡ secret_element secret.now i }
-{
-    let text = step_text(&secret.id, secret.leaf, i, SECRET_STEP, &secret.seed);
-    Sha256::digest(text.as_slice())
 }
 
 // The key of the generator that gives C.

@@ -17,6 +17,7 @@ pub mod Passed
 pub mod Proposals
 pub mod Replies
 pub mod Sees
+pub mod Short
 pub mod Skips
 pub mod Standing
 pub mod Statuses

@@ -25,7 +25,8 @@ ghost use Rattle.log_core.specs.Sees.{SeesVerified};
 ghost use Rattle.ar_claims.specs.Lists.{endorsements_in};
 ghost use Rattle.log_sending.specs.Signers.{signers};
 ghost use Rattle.log_core.specs.Skipped.{skip_row};
-ghost use Rattle.log_core.specs.State.{CoreState, Input, Reply, most_sent};
+ghost use Rattle.ar_message.specs.Messages.{longest};
+ghost use Rattle.log_core.specs.State.{CoreState, Input, Reply, most_sent, takes};
 ghost use Rattle.log_sending.specs.Queued.{is_queued};
 ghost use Rattle.log_sending.specs.Walk.{StandIn, bytes_of};
 ghost use Rattle.log_core.specs.Proposing.{proposal, proposed_value};
@@ -124,4 +125,9 @@ pub fn each_step_sends_few()
 pub fn each_row_keeps_number_and_council()
     ensures { (s : CoreState) (input : Input) (reply : Reply) → row s input ≡ Ok reply
         → (reply.after.log.me ≡ s.log.me) × (reply.after.log.council ≡ s.log.council) }
+{}
+
+/// A log takes no message of more than 4,194,304 bytes.
+pub fn no_long_message_is_taken()
+    ensures { (s : CoreState) (bytes : List ℕ) (reply : Reply) → row s (takes bytes) ≡ Ok reply → length bytes ≤ longest }
 {}

@@ -4,12 +4,12 @@ ghost use Rattle.epoch_log.specs.Calls.{fresh};
 ghost use Rattle.epoch_log.specs.Honest.{HonestLog};
 ghost use Rattle.epoch_log.specs.Log.{record_of};
 ghost use Rattle.epoch_log.specs.State.{epoch_of};
-ghost use Rattle.key_roll.specs.Ring.{IsNext, ring_signature_len};
+ghost use Rattle.key_roll.specs.Ring.{IsNewest, IsNext, ring_signature_len};
 ghost use Rattle.lms_tree.specs.Key.{public_of};
 ghost use Rattle.lms_tree.specs.KeyParts.{KeyParts};
 ghost use Rattle.lms_tree.specs.LmsKind.{leaves_of};
 ghost use Rattle.log_core.specs.Inputs.{input_of};
-ghost use Rattle.log_core.specs.Keyed.{AreBehind, IsOwn, IsPlain, IsRingOf, SendsBy};
+ghost use Rattle.log_core.specs.Keyed.{AreBehind, IsOfNext, IsOwn, IsPlain, IsRingOf, SendsBy};
 ghost use Rattle.log_core.specs.Rolling.{rolling_row};
 ghost use Rattle.log_core.specs.Row.{IsInput, row};
 ghost use Rattle.log_core.specs.State.{most_sent, rolls};
@@ -133,6 +133,22 @@ impl Log {
         ensures honest { HonestLog self.now.core.log.council self.now.core.log.me self.now.core.log.past }
     {
         self.core.record()
+    }
+
+    /// The public key of the generation behind the newest, to which the log can be asked to go on. It takes as long as a key
+    /// does. The only error is want of memory.
+    pub fn next_key(&self, alloc: Global) -> Result<LmsPublic, AllocError>
+        ensures { IfOk result (λ key. IsOfNext self.now.ring.keys key) }
+    {
+        let key = self.ring.next(alloc)?;
+        Ok(key.public())
+    }
+
+    /// The public key of the newest generation: that to which the log went on last, or its first. It takes no memory.
+    pub fn newest_key(&self) -> LmsPublic
+        ensures { IsNewest self.now.ring.keys result }
+    {
+        self.ring.newest()
     }
 
     /// What the log does with no other key.

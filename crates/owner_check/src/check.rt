@@ -9,7 +9,9 @@ use crate::AskFault;
 use std::alloc::{AllocError, Global};
 
 /// Says whether the holder of a key is the owner of a name.
-pub trait OwnerCheck: Send + Drop {
+///
+/// Who shares an authority among threads asks of its check that it is `Send` too.
+pub trait OwnerCheck: Drop {
     /// Its book and the numbers of its asks that fail, where it tells them.
     ghost told: { Self → Option Told };
 

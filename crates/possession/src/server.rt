@@ -1,6 +1,6 @@
 ghost use Rattle.std.specs.Prelude.{◌≡◌, ◌≤◌, ◌<◌, ◌↔◌, length, Err, IfErr, IfOk, IsOk, OnErr};
-ghost use Rattle.ar_base.specs.Shares.{whole};
-ghost use Rattle.ar_base.specs.declared.split_fault.SplitFault.TheVariants.{Narrow};
+ghost use Rattle.ar_seats.specs.Shares.{whole};
+ghost use Rattle.ar_seats.specs.declared.split_fault.SplitFault.TheVariants.{Narrow};
 ghost use Rattle.ar_seats.specs.Numbers.{HasEachBelow};
 ghost use Rattle.leaf_book.specs.Book.{AreApart, Draws, FindsNone, first_seat, given_seat, joined_seat, left_seat};
 ghost use Rattle.lms_tree.specs.Key.{public_of, signature_of};

@@ -1,5 +1,5 @@
 ghost use Rattle.std.specs.Prelude.{◌≡◌, ◌+◌, ◌≤◌, ◌++◌, length, vec_len, vec_capacity, IsOk, OnOk, OnErr};
-ghost use Rattle.ar_text.specs.Parts.{Appends};
+ghost use Rattle.ar_base.specs.Appending.{Appends};
 ghost use Rattle.report_text.specs.Lines.{check_text, digest_text, dishonest_text, draft_text, ended_text, ending_text, entry_text, learning_text, line_of, made_text, message_text, order_text, outcome_text, route_text, step_text};
 
 use crate::happening::{Code, Happening, Kind, Said, Target, Unlearnt, What};

@@ -1,5 +1,5 @@
 ghost use Rattle.std.specs.Prelude.{◌≡◌, OnErr};
-ghost use Rattle.ar_text.specs.Parts.{Appends};
+ghost use Rattle.ar_base.specs.Appending.{Appends};
 ghost use Rattle.report_text.specs.Lines.{said_text};
 
 use crate::happening::Said;

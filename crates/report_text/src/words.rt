@@ -1,6 +1,6 @@
 //! The words of lines.
 ghost use Rattle.std.specs.Prelude.{◌≡◌, ◌++◌, decimal};
-ghost use Rattle.ar_text.specs.Parts.{Appends};
+ghost use Rattle.ar_base.specs.Appending.{Appends};
 ghost use Rattle.ar_lines.specs.Parties.{party_word};
 ghost use Rattle.report_text.specs.Lines.{code_text, kind_text, rule_letter, sender_text, taken_text, target_text, value_text, values_text, what_text};
 

@@ -1,12 +1,14 @@
 -- Lines that are put behind others, one after the other.
-use Rattle.std.proofs.Common.{◌≡◌, ℕ, zero, suc, ◌+◌, ◌<◌, ◌≤◌, List, [], ◌∷◌, ◌++◌, Vec, Global, length, map, drop, refl, sym, ap, ◌∙◌, append_assoc, append-nil, arith, Option, Some, None}
+use Rattle.std.proofs.Common.{◌≡◌, inl, inr, ℕ, zero, suc, ◌+◌, ◌<◌, ◌≤◌, List, [], ◌∷◌, ◌++◌, Vec, Global, length, map, drop, refl, sym, ap, ◌∙◌, append_assoc, append-nil, arith, Option, Some, None}
 use Rattle.std.specs.Prelude.{slice_get, slice_index_or}
 use Rattle.std.specs.Option.{option_map}
 use Rattle.std.proofs.lemmas.List.{map-append}
 use Rattle.lms_tree.specs.declared.public_key.LmsPublic.{LmsPublic}
 use Rattle.ar_nodes.specs.Pool.{Pooled, numbered}
 use Rattle.ar_run.specs.Answers.{bytes_of}
-use Rattle.run_messages.specs.Telling.{first_line, first_lines, line_at, message_lines}
+use Rattle.ar_world.specs.declared.cause.Cause.{Cause}
+use Rattle.script_play.specs.Played.{run_status}
+use Rattle.run_messages.specs.Telling.{IsScriptStatus, first_line, first_lines, line_at, message_lines}
 
 -- ---- one behind the others
 
@@ -91,4 +93,10 @@ message-all pool place lines all over is =
 
 pub ruleset message_laws = (message-next, message-all)
 
-pub ruleset behind_laws = (behind-two)
+-- ---- the status
+
+pub script-status : (refused : Option (ℕ × Cause)) → IsScriptStatus (run_status refused)
+script-status None = inl refl
+script-status (Some refusal) = inr refl
+
+pub ruleset behind_laws = (behind-two, script-status)

@@ -10,8 +10,8 @@ use Rattle.ar_run.specs.Answers.{Answer}
 use Rattle.ar_world.specs.Founding.{place_of}
 use Rattle.ar_world.specs.Run.{refused_lines}
 use Rattle.ar_world.specs.State.{World}
-use Rattle.ar_world.specs.declared.cause.Cause.{Cause}
 use Rattle.party_keys.specs.Directory.{Directory}
+use Rattle.script_play.specs.Played.{run_status}
 use Rattle.script_play.specs.Playing.{Played}
 
 -- ---- the directory, in the lines that `check` and `audit` read
@@ -64,11 +64,6 @@ message_lines number [] = []
 message_lines number (p ∷ more) = message_line number p.bytes ∷ message_lines (number + 1) more
 
 -- ---- a run
-
--- the status of a run: 3 where a line is refused
-abbrev pub run_status : Option (ℕ × Cause) → ℕ
-run_status None = 0
-run_status (Some refusal) = 3
 
 -- a status that a run has
 abbrev pub IsScriptStatus : ℕ → Type 0

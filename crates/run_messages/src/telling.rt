@@ -1,10 +1,10 @@
 //! What is written of a script that was played.
 
-ghost use Rattle.std.specs.Prelude.{◌≡◌, ◌<◌, ◌++◌, IfOk, OnOk, map};
+ghost use Rattle.std.specs.Prelude.{◌≡◌, ◌++◌, IfOk, OnOk, map};
 ghost use Rattle.ar_run.specs.Answers.{bytes_of};
 ghost use Rattle.ar_world.specs.Records.{bytes_at};
 ghost use Rattle.ar_world.specs.Run.{refused_lines};
-ghost use Rattle.run_messages.specs.Telling.{IsScriptStatus, line_at, message_lines, run_status, told_of};
+ghost use Rattle.run_messages.specs.Telling.{IsScriptStatus, line_at, message_lines, told_of};
 
 use crate::known::put_known;
 use crate::lines::{message_line, put_line};
@@ -58,18 +58,6 @@ fn put_refusal(
     }
 }
 
-/// The status where a script came to this.
-fn status_of(refused: Option<(u64, Cause)>) -> u8
-    ensures status { result ≡ run_status refused }
-    ensures bound { result < 4 }
-    ensures script { IsScriptStatus result }
-{
-    match refused {
-        Some(_) => 3,
-        None => 0,
-    }
-}
-
 /// What is written of a script that was played: the keys, the messages, and the line that was refused, if one was. The only
 /// error is want of memory.
 #[tactic(auto, using(crate::proofs::Behind::behind_laws))]
@@ -81,5 +69,5 @@ pub(crate) fn told<C: OwnerCheck>(alloc: Global, played: &Played<C>) -> Result<A
     put_known(alloc, &played.world, &mut lines)?;
     put_messages(alloc, &played.world, &mut lines)?;
     put_refusal(alloc, played.refused, &mut lines)?;
-    Ok(Answer::of(lines, status_of(played.refused)))
+    Ok(Answer::of(lines, played.status()))
 }

@@ -1,3 +1,4 @@
 pub mod Counting
 pub mod Meaning
 pub mod Strings
+pub mod Ties

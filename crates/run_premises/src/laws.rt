@@ -1,12 +1,17 @@
 //! Laws on the definitions of `specs/`: each is the contract of a function with an empty body.
 ghost use Rattle.std.specs.Prelude.{◌≡◌, ℕ, List, IsTrue, Contains, false};
 ghost use Rattle.std.specs.List.{list_all};
+ghost use Rattle.ar_nodes.specs.Parties.{CheckParts};
 ghost use Rattle.ar_safety.specs.Held.{Held, records_of};
 ghost use Rattle.ar_safety.specs.Records.{signed_by};
 ghost use Rattle.ar_statement.specs.Claims.{has_party};
+ghost use Rattle.ar_world.specs.Records.{held_of};
+ghost use Rattle.ar_world.specs.Run.{Saying, run};
 ghost use Rattle.party_keys.specs.Signatures.{IsVerified};
 ghost use Rattle.party_keys.specs.Signers.{Claimed};
 ghost use Rattle.run_premises.specs.Books.{NoneForgedIn, are_fair, is_fair};
+ghost use Rattle.run_premises.specs.Known.{KnowAsMany, NoneRolled};
+ghost use Rattle.run_safety.specs.Unforged.{Unforged, messages_of};
 
 /// Where each claim of each message is fair, none is forged; and a claim that is not fair is a forgery: its party is not dishonest,
 /// its signature is valid under the keys that clients know, and the party's book does not have its text.
@@ -15,4 +20,17 @@ pub fn what_is_not_fair_is_forged()
     ensures forged { (h : Held) (c : Claimed) → is_fair h c ≡ false
         → (has_party h.dishonest c.party ≡ false) × IsVerified h.directory c.party c.text c.signature
         × ¬ Contains (signed_by (records_of h) c.party) c.text }
+{}
+
+/// Where the premise on forgery of the theorem of a run holds, which speaks of honest parties' own keys, no claim is forged by
+/// the keys that clients know: so a run of which one is found does not meet it. And where clients know as many keys of each
+/// honest party as it has, the premise holds where none is found. They do where no honest party went on to a second key.
+pub fn the_test_is_of_the_premise()
+    ensures finds { (saying : Saying) (checks : List CheckParts) (input : List ℕ) → Unforged (run saying checks input).world
+        → NoneForgedIn (held_of (run saying checks input).world) (messages_of (run saying checks input).world.pool) }
+    ensures meets { (saying : Saying) (checks : List CheckParts) (input : List ℕ) → KnowAsMany (run saying checks input).world
+        → NoneForgedIn (held_of (run saying checks input).world) (messages_of (run saying checks input).world.pool)
+        → Unforged (run saying checks input).world }
+    ensures first { (saying : Saying) (checks : List CheckParts) (input : List ℕ) → NoneRolled (run saying checks input).world
+        → KnowAsMany (run saying checks input).world }
 {}

@@ -170,7 +170,7 @@ took-sends : (says : Outcome) (w : World) (number : ℕ) (node : AuthorityNode) 
     → Sends w (authority_made w number (acted w.pool (authority_party number) what (authority_took says node bytes))).0
 took-sends says w number node what bytes there =
     let m = message_in bytes
-    in let a = authority_reply says node m
+    in let a = authority_reply says node.state node.check m
     in authority-sends w number node (node_behind node m a) what a there
     (authority.row-few node.state (is_none node.check) m (says_to says node.check (asked_in m)))
 
@@ -232,7 +232,7 @@ takes-role w role.Client number taker h = absurd cc
 
 taker-sends : (says : Outcome) (w : World) (message number : ℕ) (taker : Taker) → taker_in w (taker-role taker) number ≡ Some taker
     → Sends (noted w message (party (taker-role taker) number)) (delivery says w message number taker).0
-unfolding log_delivered authority_delivered owner_delivered
+unfolding log_delivered log_obeyed authority_delivered owner_delivered
 taker-sends says w message number (a_log node) there =
     obeyed-sends (noted w message (log_party number)) number (Take message) (events.Take message) (log_state.takes (bytes_of (numbered w.pool message))) node
     (log-takes w role.LogServer number node there)

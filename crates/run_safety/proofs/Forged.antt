@@ -44,17 +44,17 @@ use Rattle.run_safety.specs.Own.{HasRolls, IsOwned, PartyParts, SawSigned, real_
 use Rattle.run_safety.specs.Seats.{IsAuthorityOf, IsLogOf, IsSeated}
 use Rattle.run_safety.specs.Unforged.{AllReal, AllShown, Unforged, authority_parts, log_parts, messages_of, parts_in, parts_of, shown}
 use Rattle.run_safety.proofs.Held.{authorities-known, authority-records, authority_past, log-records, log_past, logs-known, record_or, sits-there}
-use Rattle.run_safety.proofs.KeptLines.{authority-at-kept, log-at-kept, run-kept}
-use Rattle.run_safety.proofs.Lasting.{IsFinal, Real, later-itself, run-goes}
+use Rattle.run_safety.proofs.KeptLines.{authority-at-kept, log-at-kept}
+use Rattle.run_safety.proofs.Lasting.{Goes, Holds, IsFinal, Real, later-itself, run-goes}
 use Rattle.run_safety.proofs.Moves.{claims-within}
+use Rattle.run_safety.proofs.Parts.{seated}
 use Rattle.run_safety.proofs.PartySteps.{IsReal}
 use Rattle.run_safety.proofs.RealKeys.{claim-signed}
-use Rattle.run_safety.proofs.Runs.{run-seated}
 use Rattle.run_safety.proofs.Shown.{Seen, first-seen, nothing-known, still-verified}
 
 -- ---- the honest parties of the end
 
-owned-in : (f : World) → KeepsWorld f → IsSeated f → (r : Role) (number : ℕ) (p : PartyParts) → parts_in f r number ≡ Some p → IsOwned (party r number) p
+pub owned-in : (f : World) → KeepsWorld f → IsSeated f → (r : Role) (number : ℕ) (p : PartyParts) → parts_in f r number ≡ Some p → IsOwned (party r number) p
 owned-in f kept seated role.LogServer number p is = by (log_at f number) refl is
   where
     by : (o : Option LogNode) → log_at f number ≡ o → option_map log_parts o ≡ Some p → IsOwned (log_party number) p
@@ -82,6 +82,10 @@ owned-in f kept seated role.Authority number p is = by (authority_at f number) r
 owned-in f kept seated role.Owner number p is = absurd cc
 owned-in f kept seated role.Client number p is = absurd cc
 
+-- who sits where in a world that holds what is needed
+pub seated-now : (f : World) → Holds f → IsSeated f
+seated-now f h = seated f h.stands.seated
+
 final-of : (f : World) → KeepsWorld f → IsSeated f → Unforged f → IsFinal f
 final-of f kept seated unforged = record {
   seated = seated;
@@ -90,7 +94,7 @@ final-of f kept seated unforged = record {
 
 -- ---- the beginning
 
-first-real : (f : World) (checks : List CheckParts) → Real f (first_world checks)
+pub first-real : (f : World) (checks : List CheckParts) → Real f (first_world checks)
 first-real f checks = record {
   clients = λ who p is. (real_keys p, ap (λ keys. keys ++ real_keys p) (sym (nothing-known who.role who.number)));
   learned = λ t p is there. absurd (omega (arith, there.1));
@@ -104,15 +108,13 @@ first-real f checks = record {
     nobody role.Owner number p is = absurd cc
     nobody role.Client number p is = absurd cc
 
--- all is real at the end of a run
-run-real : (saying : Saying) (checks : List CheckParts) (input : List ℕ) → Unforged (run saying checks input).world → Real (run saying checks input).world (run saying checks input).world
-run-real saying checks input unforged =
-    let f : World = (run saying checks input).world in
-    (run-goes saying checks input).real f (final-of f (run-kept saying checks input) (run-seated saying checks input) unforged) (later-itself f) (first-real f checks)
+-- all is real in a world to which the first one went
+goes-real : (checks : List CheckParts) (f : World) → Goes (first_world checks) f → Unforged f → Real f f
+goes-real checks f goes unforged = goes.real f (final-of f goes.held.kept (seated-now f goes.held) unforged) (later-itself f) (first-real f checks)
 
-pub all-real : (saying : Saying) (checks : List CheckParts) (input : List ℕ) → Unforged (run saying checks input).world → AllReal (run saying checks input).world
-all-real saying checks input unforged =
-    let real = run-real saying checks input unforged in
+pub goes-all-real : (checks : List CheckParts) (f : World) → Goes (first_world checks) f → Unforged f → AllReal f
+goes-all-real checks f goes unforged =
+    let real = goes-real checks f goes unforged in
     record {
       clients = real.clients;
       learned = real.learned;
@@ -120,16 +122,19 @@ all-real saying checks input unforged =
       saw = λ who p is. (real.parties who.role who.number p is).saw;
     }
 
+pub all-real : (saying : Saying) (checks : List CheckParts) (input : List ℕ) → Unforged (run saying checks input).world → AllReal (run saying checks input).world
+all-real saying checks input = goes-all-real checks (run saying checks input).world (run-goes saying checks input)
+
 -- ---- the theorem's records
 
 -- an honest party of the records is one of the world, with the record's book and what it saw
-record Signer (f : World) (who : Party) : Type 0 where
-  parts : PartyParts
-  there : parts_of f who ≡ Some parts
-  signed : texts_of parts.book ≡ signed_by (records_of (held_of f)) who
-  saw : parts.saw ≡ seen_by (records_of (held_of f)) who
+pub record Signer (f : World) (who : Party) : Type 0 where
+  pub parts : PartyParts
+  pub there : parts_of f who ≡ Some parts
+  pub signed : texts_of parts.book ≡ signed_by (records_of (held_of f)) who
+  pub saw : parts.saw ≡ seen_by (records_of (held_of f)) who
 
-signer-in : (f : World) → IsSeated f → (r : Role) (number : ℕ) → IsHonest (records_of (held_of f)) (party r number) → Signer f (party r number)
+pub signer-in : (f : World) → IsSeated f → (r : Role) (number : ℕ) → IsHonest (records_of (held_of f)) (party r number) → Signer f (party r number)
 signer-in f seated role.LogServer n is =
     let dishonest : List Party = (held_of f).dishonest in
     let none : LogRecord = (fresh 0 (council_of f.clients) 1).past in
@@ -253,11 +258,12 @@ none-forged f kept final real = record {
   learned = saw-signed f f.learned final.seated real.learned;
 }
 
+pub goes-unforged : (checks : List CheckParts) (f : World) → Goes (first_world checks) f → Unforged f → NoForgery (records_of (held_of f))
+goes-unforged checks f goes unforged =
+    none-forged f goes.held.kept (final-of f goes.held.kept (seated-now f goes.held) unforged) (goes-real checks f goes unforged)
+
 pub run-unforged : (saying : Saying) (checks : List CheckParts) (input : List ℕ) → Unforged (run saying checks input).world → NoForgery (records_of (held_of (run saying checks input).world))
-run-unforged saying checks input unforged =
-    let f : World = (run saying checks input).world in
-    let kept = run-kept saying checks input in
-    none-forged f kept (final-of f kept (run-seated saying checks input) unforged) (run-real saying checks input unforged)
+run-unforged saying checks input = goes-unforged checks (run saying checks input).world (run-goes saying checks input)
 
 -- ---- what was taken of others
 
@@ -295,12 +301,14 @@ judged-shown f kept seated seen t c there is s has =
     All-contains (IsVerifiedIn f.clients (shown f)) (carried c) s
     (carried-shown f t c (seen.judged t there) are (subst (Passes (asked_by f.clients t) t.bytes) same was.passes)) has
 
-pub run-shown : (saying : Saying) (checks : List CheckParts) (input : List ℕ) → AllShown (run saying checks input).world
-run-shown saying checks input =
-    let f : World = (run saying checks input).world in
-    let seen : Seen f = (run-goes saying checks input).seen (first-seen checks) in
+pub goes-shown : (checks : List CheckParts) (f : World) → Goes (first_world checks) f → AllShown f
+goes-shown checks f goes =
+    let seen : Seen f = goes.seen (first-seen checks) in
     record {
       saw = λ who p is. seen.parties who.role who.number p is;
       learned = seen.learned;
-      judged = judged-shown f (run-kept saying checks input) (run-seated saying checks input) seen;
+      judged = judged-shown f goes.held.kept (seated-now f goes.held) seen;
     }
+
+pub run-shown : (saying : Saying) (checks : List CheckParts) (input : List ℕ) → AllShown (run saying checks input).world
+run-shown saying checks input = goes-shown checks (run saying checks input).world (run-goes saying checks input)

@@ -26,7 +26,7 @@ use Rattle.party_keys.specs.declared.fault.DirectoryFault.{DirectoryFault}
 use Rattle.party_keys.specs.declared.fault.DirectoryFault.TheVariants.{Authorities, Logs, Quorum}
 use Rattle.run_safety.proofs.Quiet.{marked_in, quiet}
 use Rattle.run_safety.specs.Seats.{AreSeated, IsAuthorityOf, IsLogOf, honest_count}
-use Rattle.run_safety.proofs.Places.{honest-below}
+use Rattle.ar_nodes.proofs.Spots.{honest-below}
 use Rattle.run_safety.proofs.Parts.{Bare, Makes, SeatedIn, Stands, part_of, told_by, told_in}
 use Rattle.ar_base.proofs.Shown.{if-chained, needed}
 

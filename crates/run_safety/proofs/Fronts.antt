@@ -17,26 +17,27 @@ use Rattle.owner_check.specs.declared.answer.Outcome.{Outcome}
 use Rattle.script_text.specs.Rows.{read_of}
 use Rattle.script_text.specs.declared.line.Line.{Line}
 use Rattle.script_text.specs.declared.line.Line.TheVariants as line
+use Rattle.ar_world.proofs.Runs.{deliver-goes}
 use Rattle.run_safety.specs.Lasting.{Lasts}
 use Rattle.run_safety.proofs.Lasting.{Goes, Holds, Later, first-holds, goes-of-steps, later-itself, later-on}
 
 -- ---- what some lines come to
 
 -- what holds of a world goes on to hold in what some lines come to
-abbrev Leads : {C : Type 0} → World → Course C → Type 0
+abbrev pub Leads : {C : Type 0} → World → Course C → Type 0
 Leads w p = Holds w → Goes w p.world
 
-still : (w : World) → Holds w → Goes w w
+pub still : (w : World) → Holds w → Goes w w
 still w h = record { held = h; later = later-itself w; seen = λ s. s; real = λ f final on r. r }
 
-join : (u v w : World) → Goes u v → Goes v w → Goes u w
+pub join : (u v w : World) → Goes u v → Goes v w → Goes u w
 join u v w a b = record { held = b.held; later = later-on u v w a.later b.later; seen = λ s. b.seen (a.seen s); real = λ f final on r. b.real f final on (a.real f final (later-on v w f b.later on) r) }
 
-effect-leads : (w : World) (made : Effect) → IfOk made (λ m. Holds w → Goes w m.0) → Leads w (progress_of w made)
+pub effect-leads : (w : World) (made : Effect) → IfOk made (λ m. Holds w → Goes w m.0) → Leads w (progress_of w made)
 effect-leads w (Ok m) goes = goes
 effect-leads w (Err why) goes = still w
 
-if-leads : {C : Type 0} (w : World) (cause : Option C) (p : Course C) (next : World → Course C) → Leads w p → ((v : World) → Leads v (next v)) → Leads w (then_if cause p next)
+pub if-leads : {C : Type 0} (w : World) (cause : Option C) (p : Course C) (next : World → Course C) → Leads w p → ((v : World) → Leads v (next v)) → Leads w (then_if cause p next)
 if-leads w None p next first rest h = let a = first h in join w p.world (next p.world).world a (rest p.world a.held)
 if-leads w (Some cause) p next first rest h = first h
 
@@ -44,9 +45,9 @@ delivering-leads : (says : Outcome) (w : World) (due : Option (ℕ × Party)) (n
 delivering-leads says w None next rest = still w
 delivering-leads says w (Some due) next rest =
     let p = progress_of w (deliver_line says w due.0 due.1)
-    in if-leads w p.refused p next (effect-leads w (deliver_line says w due.0 due.1) (goes-of-steps.delivers says w due.0 due.1)) rest
+    in if-leads w p.refused p next (effect-leads w (deliver_line says w due.0 due.1) (deliver-goes (λ w v said. Holds w → Goes w v) goes-of-steps says w due.0 due.1)) rest
 
-flushed-leads : (most : ℕ) (says : ℕ → Outcome) (number : ℕ) (w : World) → Leads w (flushed most says number w)
+pub flushed-leads : (most : ℕ) (says : ℕ → Outcome) (number : ℕ) (w : World) → Leads w (flushed most says number w)
 unfolding flushed
 flushed-leads zero says number w = still w
 flushed-leads (suc more) says number w =
@@ -71,7 +72,7 @@ line-leads says number w text = by (nat_lt most_lines number)
     by true = still w
     by false = taken-leads says w (read_of text)
 
-from-leads : (saying : Saying) (number : ℕ) (w : World) (texts : List (List ℕ)) → Leads w (run_from saying number w texts)
+pub from-leads : (saying : Saying) (number : ℕ) (w : World) (texts : List (List ℕ)) → Leads w (run_from saying number w texts)
 unfolding run_from
 from-leads saying number w [] = still w
 from-leads saying number w (text ∷ texts) =

@@ -81,8 +81,8 @@ use Rattle.run_safety.proofs.Founded.{genesis-long, known-there, made-of}
 use Rattle.run_safety.proofs.KeptNodes.{authority-rolls-kept, authority-took-kept, check-kept, fresh-log-kept, log-does-kept, log-rolls-kept, new-authority-kept}
 use Rattle.run_safety.proofs.KeptPool.{IsBytes, behind-bytes, delivered-bytes, message-bytes, noted-bytes, raw-bytes, reply-bytes}
 use Rattle.run_safety.proofs.Learns.{knows-directory}
-use Rattle.run_safety.proofs.Lines.{authority-takes, can-take, checking-there, deliver-makes, log-takes}
-use Rattle.run_safety.proofs.Parts.{Makes}
+use Rattle.ar_world.proofs.Deliveries.{can-take}
+use Rattle.run_safety.proofs.Lines.{authority-takes, checking-there, delivery-makes, log-takes}
 use Rattle.run_safety.proofs.Runs.{Comes}
 
 -- what is kept of a world, from the line `authorities` on or before it
@@ -142,7 +142,7 @@ obeyed-kept w number pool what event input node kept all there is plain =
 
 log-delivered-kept : {late : Bool} (w : World) (message number : ℕ) (node : LogNode) → Keeps late w → log_at w number ≡ Some node
     → Keeps late (log_made w number (log_delivered w.pool message number node)).0
-unfolding log_delivered
+unfolding log_delivered log_obeyed
 log-delivered-kept w message number node kept there =
     obeyed-kept w number (noted_in w.pool message (log_party number)) (whats.Take message) (events.Take message) (log_state.takes (bytes_of (numbered w.pool message))) node kept
     (noted-bytes w.pool message (log_party number) kept.each_message) there (delivered-bytes w.pool message kept.each_message) tt
@@ -492,23 +492,20 @@ stepped-kept w (Some next) made keeps = if-chained (need (may_come w.phase next)
 -- ---- a script
 
 -- a delivery leaves the phase
-delivered-kept : (w : World) (made : Effect) → ((late : Bool) → Keeps late w → IfOk made (λ m. Keeps late m.0)) → IfOk made (λ m. m.0.phase ≡ w.phase) → IfOk made (StillKept w)
-delivered-kept w (Ok m) keeps same = λ kept. subst (λ (p : Phase). Keeps (is-late p) m.0) (sym same) (keeps (is-late w.phase) kept)
-delivered-kept w (Err why) keeps same = tt
+pub same-phase : (says : Outcome) (w : World) (message : ℕ) (who : Party) (taker : Taker) → taker_at w who ≡ Some taker → (delivery says w message who.number taker).0.phase ≡ w.phase
+same-phase says w message who taker takes = (delivery-makes says w message who.role who.number taker takes).phase
 
-pub same-phase : (says : Outcome) (w : World) (message : ℕ) (who : Party) → IfOk (deliver_line says w message who) (λ m. m.0.phase ≡ w.phase)
-same-phase says w message who = by (deliver_line says w message who) (deliver-makes says w message who)
-  where
-    by : (made : Effect) → IfOk made (Makes w) → IfOk made (λ m. m.0.phase ≡ w.phase)
-    by (Ok m) makes = makes.phase
-    by (Err why) makes = tt
+delivered-kept : (says : Outcome) (w : World) (message : ℕ) (who : Party) (taker : Taker) → taker_at w who ≡ Some taker → StillKept w (delivery says w message who.number taker)
+delivered-kept says w message who taker takes kept =
+    let v = (delivery says w message who.number taker).0 in
+    subst (λ (p : Phase). Keeps (is-late p) v) (sym (same-phase says w message who taker takes)) (delivery-kept says w message who.role who.number taker takes kept)
 
 pub kept-of-steps : HoldsOfSteps (λ w v said. KeepsWorld w → KeepsWorld v)
 kept-of-steps = record {
   still = λ w kept. kept;
   both = λ u v w said later first second kept. second (first kept);
   steps = λ says w l. stepped-kept w (leads_to l) (effect says w l) (effect-kept says w l);
-  delivers = λ says w message who. delivered-kept w (deliver_line says w message who) (λ late kept. deliver-kept says w message who kept) (same-phase says w message who);
+  delivers = λ says w message p who taker has takes. delivered-kept says w message who taker takes;
 }
 
 pub first-kept : (checks : List CheckParts) → KeepsWorld (first_world checks)

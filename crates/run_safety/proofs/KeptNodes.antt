@@ -6,7 +6,6 @@ use Rattle.std.proofs.lemmas.Nat.{pow_pos}
 use Rattle.ar_base.specs.Bytes.{AreBytes}
 use Rattle.ar_council.specs.Council.{council_of}
 use Rattle.ar_founding.specs.Founding.{fresh_log, new_authority}
-use Rattle.ar_message.proofs.MessageLaws.{only_messages}
 use Rattle.ar_message.specs.Messages.{message_in}
 use Rattle.ar_message.specs.declared.message.Message.{Message}
 use Rattle.ar_message.specs.declared.unsigned.Unsigned.{Unsigned}
@@ -21,7 +20,7 @@ use Rattle.ar_safety.specs.Accepting.{KnowsRing}
 use Rattle.ar_statement.specs.Claims.{authority_party, log_party}
 use Rattle.authority_core.proofs.Growing.{honest-fresh}
 use Rattle.authority_core.proofs.Later.{row_step}
-use Rattle.authority_core.proofs.Rows.{message-keeps, roll-row-keeps}
+use Rattle.authority_core.proofs.Rows.{read-keeps, roll-row-keeps}
 use Rattle.authority_core.proofs.Signing as authority
 use Rattle.authority_core.proofs.Standing.{row-stays}
 use Rattle.authority_core.specs.RollRows.{roll_row, rolling}
@@ -143,12 +142,6 @@ log-rolls-kept node next kept there = by (row node.core (log_state.rolls (public
 pub check-kept : (node : AuthorityNode) (check : Option CheckParts) → KeepsAuthority node → KeepsAuthority (record node { check = check })
 check-kept node check kept = record { state = kept.state; book = kept.book; ring = kept.ring; rolls = kept.rolls; known = kept.known }
 
--- bytes that are read are a message
-read-keeps : (s : authority_state.AuthorityState) (retired : Bool) (bytes : List ℕ) (read : Result Message ℕ) (said : Outcome) → message_in bytes ≡ read → AreBytes bytes
-    → authority_state.IsAuthority s → (later : authority_state.AuthorityState) (sent : Unsigned) → rows.row s retired read said ≡ Ok (later, sent) → authority_state.IsAuthority later
-read-keeps s retired bytes (Ok m) said was are is later sent at = message-keeps s retired m said is ((only_messages bytes m are).0 was).0 later sent at
-read-keeps s retired bytes (Err place) said was are is later sent at = absurd cc
-
 -- the directory behind a step knows the ring
 row-knows : (s : authority_state.AuthorityState) (ring : List KeyParts) (retired : Bool) (read : Result Message ℕ) (said : Outcome) (later : authority_state.AuthorityState) (sent : Unsigned)
     → rows.row s retired read said ≡ Ok (later, sent) → authority.IsSameKeys s later
@@ -162,16 +155,16 @@ row-knows s ring retired read said later sent at same known =
     (learnt-known s.keys learns.0 (authority_party s.me) s.past.signed.leaves ring known)))
 
 pub authority-took-kept : (says : Outcome) (node : AuthorityNode) (bytes : List ℕ) → KeepsAuthority node → AreBytes bytes → KeepsAuthority (authority_took says node bytes).0
-authority-took-kept says node bytes kept are = by (authority_reply says node (message_in bytes)) refl
+authority-took-kept says node bytes kept are = by (authority_reply says node.state node.check (message_in bytes)) refl
   where
     said : Outcome
     said = says_to says node.check (rows.asked_in (message_in bytes))
 
-    by : (a : authority_state.Answer) → authority_reply says node (message_in bytes) ≡ a → KeepsAuthority (authority_does (node_behind node (message_in bytes) a) a).0
+    by : (a : authority_state.Answer) → authority_reply says node.state node.check (message_in bytes) ≡ a → KeepsAuthority (authority_does (node_behind node (message_in bytes) a) a).0
     by (Ok answer) at =
         let signs = authority.row-signs node.state node.keys (is_none node.check) (message_in bytes) said kept.book kept.state.honest.sound answer.0 answer.1 at in
         record {
-          state = read-keeps node.state (is_none node.check) bytes (message_in bytes) said refl are kept.state answer.0 answer.1 at;
+          state = read-keeps node.state (is_none node.check) bytes said kept.state are answer.0 answer.1 at;
           book = authority.keys-stay node.state answer.0 node.keys kept.book signs.stays;
           ring = kept.ring;
           rolls = subst (λ n. HasRolls (authority_party n) answer.0.past.signed node.keys)

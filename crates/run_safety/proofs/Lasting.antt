@@ -15,8 +15,11 @@ use Rattle.ar_statement.specs.Claims.{party}
 use Rattle.ar_statement.specs.declared.party.Role.{Role}
 use Rattle.ar_statement.specs.declared.party.Role.TheVariants as role
 use Rattle.ar_world.proofs.Runs.{HoldsOfSteps, run-holds}
-use Rattle.ar_world.specs.Delivering.{deliver_line}
-use Rattle.ar_world.specs.Finding.{Effect, authority_at, log_at}
+use Rattle.ar_nodes.specs.Pool.{Pooled}
+use Rattle.ar_statement.specs.declared.party.Party.{Party}
+use Rattle.owner_check.specs.declared.answer.Outcome.{Outcome}
+use Rattle.ar_world.specs.Delivering.{Taker, delivery, taker_at}
+use Rattle.ar_world.specs.Finding.{Effect, authority_at, log_at, message_at}
 use Rattle.ar_world.specs.Founding.{led_to, may_come, place_of}
 use Rattle.ar_world.specs.Records.{HasParties}
 use Rattle.ar_world.specs.Run.{Saying, run}
@@ -33,7 +36,7 @@ use Rattle.run_safety.specs.Unforged.{authority_parts, log_parts, messages_of, p
 use Rattle.run_safety.proofs.Chains.{need-holds}
 use Rattle.run_safety.proofs.Founds.{Founds, first-begins}
 use Rattle.run_safety.proofs.KeptLines.{authority-at-kept, first-kept, kept-of-steps, log-at-kept, same-phase}
-use Rattle.run_safety.proofs.MovedLines.{Stood, deliver-moves, effect-moves, MovesTo}
+use Rattle.run_safety.proofs.MovedLines.{Stood, delivery-moves, effect-moves, MovesTo}
 use Rattle.run_safety.proofs.Moves.{CameFrom, Moves}
 use Rattle.run_safety.proofs.Parts.{Keeps, Stands, part_of, seated}
 use Rattle.run_safety.proofs.PartySteps.{IsEnd, IsReal, later-party, learns-real, same-party, steps-real}
@@ -141,7 +144,7 @@ moves-real f w v final on bare moves real = record {
 
 -- ---- the directory with which all begin
 
-genesis-knows : (f : World) (r : Role) (number : ℕ) (p : PartyParts) → IsSeated f → parts_in f r number ≡ Some p → KnowsFirst (keys_of f.genesis (party r number)) p.ring
+pub genesis-knows : (f : World) (r : Role) (number : ℕ) (p : PartyParts) → IsSeated f → parts_in f r number ≡ Some p → KnowsFirst (keys_of f.genesis (party r number)) p.ring
 genesis-knows f role.LogServer number p seated is = by (log_at f number) refl is
   where
     by : (o : Option LogNode) → log_at f number ≡ o → option_map log_parts o ≡ Some p → KnowsFirst (keys_of f.genesis (party role.LogServer number)) p.ring
@@ -241,10 +244,10 @@ founded w v before late founds = record {
 }
 
 -- the same in another phase
-moves-in : (w m : World) (next : Phase) → Moves w m → Moves w (record m { phase = next })
+pub moves-in : (w m : World) (next : Phase) → Moves w m → Moves w (record m { phase = next })
 moves-in w m next moves = record { messages = moves.messages; genesis = moves.genesis; clients = moves.clients; learned = moves.learned; judged = moves.judged; parties = moves.parties }
 
-founds-in : (w m : World) (next : Phase) → Founds w m → Founds w (record m { phase = next })
+pub founds-in : (w m : World) (next : Phase) → Founds w m → Founds w (record m { phase = next })
 founds-in w m next founds = record { messages = founds.messages; clients = founds.clients; learned = founds.learned; judged = founds.judged; one = founds.one; knows = founds.knows; saw = founds.saw }
 
 moved : (w m : World) (next : Phase) → may_come w.phase next ≡ true → MovesTo (Some next) w m → Holds w → Stepped w (record m { phase = next })
@@ -264,9 +267,12 @@ stepped-goes w (Some next) made gives = if-chained (need (may_come w.phase next)
     by comes (Ok m) gives = λ h. moved w m.0 next comes (gives h) h
     by comes (Err why) gives = tt
 
-delivered-goes : (w : World) (made : Effect) → (Holds w → IfOk made (λ m. Moves w m.0)) → IfOk made (λ m. m.0.phase ≡ w.phase) → IfOk made (λ m. Holds w → Stepped w m.0)
-delivered-goes w (Ok m) moves same = λ h. goes-on w m.0 (λ before. ap (λ p. nat_le 4 (place_of p)) (sym same) ∙ before) (moves h) h
-delivered-goes w (Err why) moves same = tt
+delivered-goes : (says : Outcome) (w : World) (message : ℕ) (p : Pooled) (who : Party) (taker : Taker) → message_at w message ≡ Some p → taker_at w who ≡ Some taker → Holds w
+    → Stepped w (delivery says w message who.number taker).0
+delivered-goes says w message p who taker has takes h =
+    let v = (delivery says w message who.number taker).0 in
+    goes-on w v (λ before. ap (λ p. nat_le 4 (place_of p)) (sym (same-phase says w message who taker takes)) ∙ before)
+    (delivery-moves says w message p who.role who.number taker (stood w h) has takes) h
 
 -- ---- a run
 
@@ -296,8 +302,8 @@ goes-of-steps = record {
       record { held = b.held; later = later-on u v w a.later b.later; seen = λ s. b.seen (a.seen s); real = λ f final on r. b.real f final on (a.real f final (later-on v w f b.later on) r) };
   steps = λ says w l. joined w (step says w l) (kept-of-steps.steps says w l) (keeps-of-steps.steps says w l)
       (stepped-goes w (leads_to l) (effect says w l) (λ comes h. effect-moves says w l comes (stood w h)));
-  delivers = λ says w message who. joined w (deliver_line says w message who) (kept-of-steps.delivers says w message who) (keeps-of-steps.delivers says w message who)
-      (delivered-goes w (deliver_line says w message who) (λ h. deliver-moves says w message who (stood w h)) (same-phase says w message who));
+  delivers = λ says w message p who taker has takes. joined w (Ok (delivery says w message who.number taker)) (kept-of-steps.delivers says w message p who taker has takes)
+      (keeps-of-steps.delivers says w message p who taker has takes) (delivered-goes says w message p who taker has takes);
 }
 
 pub first-holds : (checks : List CheckParts) → Holds (first_world checks)

@@ -12,6 +12,7 @@ pub mod Held
 pub mod KeptLines
 pub mod KeptNodes
 pub mod KeptPool
+pub mod KnownKeys
 pub mod Lasting
 pub mod Learns
 pub mod Lines
@@ -22,6 +23,7 @@ pub mod Nodes
 pub mod Notes
 pub mod Parts
 pub mod PartySteps
+pub mod Passing
 pub mod Places
 pub mod Quiet
 pub mod RealKeys
@@ -29,5 +31,8 @@ pub mod Rings
 pub mod RollTexts
 pub mod Runs
 pub mod Safe
+pub mod SentBytes
 pub mod Shown
+pub mod SignatureBytes
 pub mod Waiting
+pub mod Written

@@ -1,14 +1,13 @@
 -- What each line makes keeps who sits where and what clients hold.
-use Rattle.std.proofs.Common.{◌≡◌, ◌∙◌, ◌≤◌, ℕ, zero, suc, ◌+◌, List, [], ◌∷◌, ◌++◌, append-nil, arith, refl, sym, ap, subst, Bool, true, false, Option, Some, None, Ok, Err, Result, IfOk, get_or, is_none}
+use Rattle.std.proofs.Common.{◌≡◌, ◌∙◌, ◌≤◌, ℕ, zero, suc, ◌+◌, List, [], ◌∷◌, ◌++◌, append-nil, arith, refl, sym, ap, subst, Bool, true, false, Option, Some, None, Ok, Err, IfOk, get_or, is_none}
 use Rattle.std.specs.Prelude.{length, map, nat_le, nat_lt, position, slice_set, unwrap_or}
 use Rattle.std.specs.List.{filter_map}
 use Rattle.std.specs.Option.{option_map}
-use Rattle.std.specs.Result.{result_ok}
 use Rattle.std.proofs.lemmas.Bool.{and_parts, leb-true}
 use Rattle.std.proofs.lemmas.List.{length-append, map-append, length-set}
 use Rattle.std.proofs.lemmas.List.Quantifiers.{position-Some}
 use Rattle.std.proofs.lemmas.Option.{option_and_then_some}
-use Rattle.ar_base.specs.Chaining.{◌>>=◌, need}
+use Rattle.ar_base.specs.Chaining.{need}
 use Rattle.ar_base.specs.Gives.{with_error}
 use Rattle.ar_base.proofs.Shown.{if-chained, needed}
 use Rattle.ar_cert.specs.Certificate.{Certificate, digest_of}
@@ -41,11 +40,10 @@ use Rattle.ar_world.specs.Owning.{check_line, owner_key, owner_line, retire_line
 use Rattle.ar_nodes.specs.Owners.{known_key}
 use Rattle.ar_nodes.specs.Teaching.{retold}
 use Rattle.ar_nodes.specs.Parties.{AuthorityNode, CheckParts, Forger, LogNode}
-use Rattle.ar_nodes.specs.Pool.{Pooled, raw}
+use Rattle.ar_nodes.specs.Pool.{raw}
 use Rattle.ar_world.specs.State.{Drafted, World}
 use Rattle.ar_world.specs.Submitting.{handed, handover_line, object_line, submit_line}
 use Rattle.ar_nodes.specs.declared.event.LogEvent.{LogEvent}
-use Rattle.ar_nodes.specs.declared.fault.WorldFault.{WorldFault}
 use Rattle.ar_nodes.specs.declared.fault.WorldFault.TheVariants.{Absent}
 use Rattle.lm_ots.specs.OtsKind.{type_of_number}
 use Rattle.lms_tree.specs.Key.{type_to_make}
@@ -64,6 +62,7 @@ use Rattle.report_text.specs.declared.happening.What.TheVariants.{Handover, Obje
 use Rattle.script_text.specs.declared.line.PolicyWords.{PolicyWords}
 use Rattle.run_safety.proofs.Quiet.{marked_in}
 use Rattle.run_safety.specs.Seats.{IsAuthorityOf, IsLogOf, honest_count}
+use Rattle.ar_world.proofs.Deliveries.{can-take}
 use Rattle.ar_world.proofs.OwnerReplies.{attached-by-alone}
 use Rattle.run_safety.proofs.Chains.{need-holds}
 use Rattle.run_safety.proofs.Clients.{judging-makes, learning-makes}
@@ -302,15 +301,7 @@ authority-takes w role.Owner number node h = by (owner_at w number) h
     by (Some x) e = absurd cc
 authority-takes w role.Client number node h = absurd cc
 
--- what a delivery needs is there: a message, the party that takes it, and room
-pub can-take : (o : Option Pooled) (t : Option Taker) (r : Result (Unit {0}) WorldFault) (taker : Taker)
-    → (named 1 o >>= λ p. named 2 t >>= λ found. r >>= λ free. Ok found) ≡ Ok taker → ((p : Pooled) × (o ≡ Some p)) × (t ≡ Some taker) × (r ≡ Ok tt)
-can-take None t r taker same = absurd cc
-can-take (Some p) None r taker same = absurd cc
-can-take (Some p) (Some found) (Err e) taker same = absurd cc
-can-take (Some p) (Some found) (Ok u) taker same = ((p, refl), ap result_ok same, refl)
-
-delivery-makes : (says : Outcome) (w : World) (message : ℕ) (r : Role) (number : ℕ) (taker : Taker) → taker_in w r number ≡ Some taker
+pub delivery-makes : (says : Outcome) (w : World) (message : ℕ) (r : Role) (number : ℕ) (taker : Taker) → taker_in w r number ≡ Some taker
     → Makes w (delivery says w message number taker)
 delivery-makes says w message r number (a_log node) there = log-delivered-makes w message number node (log-takes w r number node there)
 delivery-makes says w message r number (an_authority node) there = authority-delivered-makes says w message number node (authority-takes w r number node there)

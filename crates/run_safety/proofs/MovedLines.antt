@@ -77,7 +77,8 @@ use Rattle.report_text.specs.declared.happening.What.TheVariants as whats
 use Rattle.script_text.specs.declared.line.PolicyWords.{PolicyWords}
 use Rattle.run_safety.specs.Kept.{KeepsAuthority, KeepsLog}
 use Rattle.run_safety.proofs.KeptPool.{IsBytes, message-bytes}
-use Rattle.run_safety.proofs.Lines.{authority-takes, can-take, checking-there, log-takes}
+use Rattle.ar_world.proofs.Deliveries.{can-take}
+use Rattle.run_safety.proofs.Lines.{authority-takes, checking-there, log-takes}
 use Rattle.std.proofs.Common.{arith}
 use Rattle.ar_nodes.specs.declared.event.LogEvent.TheVariants as events
 use Rattle.ar_world.specs.Finding.{Effect}
@@ -257,7 +258,7 @@ roll-of-moves w role.Client number stood = tt
 
 -- ---- deliveries
 
-delivery-moves : (says : Outcome) (w : World) (message : ℕ) (p : Pooled) (r : Role) (number : ℕ) (taker : Taker) → Stood w → message_at w message ≡ Some p → taker_in w r number ≡ Some taker
+pub delivery-moves : (says : Outcome) (w : World) (message : ℕ) (p : Pooled) (r : Role) (number : ℕ) (taker : Taker) → Stood w → message_at w message ≡ Some p → taker_in w r number ≡ Some taker
     → Moves w (delivery says w message number taker).0
 delivery-moves says w message p r number (a_log node) stood has takes =
     let there = log-takes w r number node takes in

@@ -28,7 +28,7 @@ use Rattle.party_keys.specs.Signers.{Claimed}
 use Rattle.run_safety.proofs.AuthoritySteps.{roll-steps, state_parts, took-steps}
 use Rattle.run_safety.proofs.LogSteps.{core_parts, input-teaches, log-steps, rolling-adopts}
 use Rattle.run_safety.proofs.PartySteps.{Adopts, Learns, Steps, get-last, learns-more, still-steps}
-use Rattle.run_safety.proofs.Places.{honest-below, put-beside, put-there}
+use Rattle.ar_nodes.proofs.Spots.{honest-below, put-beside, put-there}
 use Rattle.run_safety.specs.Own.{PartyParts}
 use Rattle.run_safety.specs.Unforged.{authority_parts, log_parts, messages_of, parts_in, shown}
 use Rattle.ar_message.specs.Messages.{message_in}
@@ -241,7 +241,7 @@ obeyed-moves w number pool what event input node me there same is plain takes =
 
 pub log-delivered-moves : (w : World) (message number : ℕ) (p : Pooled) (node : LogNode) → All IsBytes w.pool → node.core.log.me ≡ number → log_at w number ≡ Some node → message_at w message ≡ Some p
     → Moves w (log_made w number (log_delivered w.pool message number node)).0
-unfolding log_delivered
+unfolding log_delivered log_obeyed
 log-delivered-moves w message number p node bytes me there has =
     obeyed-moves w number (noted_in w.pool message (log_party number)) (whats.Take message) (events.Take message) (log_state.takes (bytes_of (numbered w.pool message))) node me there
     (noted-messages w.pool message (log_party number)) (delivered-bytes w.pool message bytes) tt
@@ -278,7 +278,7 @@ unfolding authority_delivered
 authority-delivered-moves says w message number p node bytes there has =
     let taken : List ℕ = bytes_of (numbered w.pool message) in
     let m = message_in taken in
-    let a = authority_reply says node m in
+    let a = authority_reply says node.state node.check m in
     authority-answer-moves w number (noted_in w.pool message (authority_party number)) (whats.Take message) node (node_behind node m a) a there
     (noted-messages w.pool message (authority_party number)) refl (λ later sent at.
     took-steps number (shown w) node.state node.keys (is_none node.check) taken (says_to says node.check (asked_in m)) later sent (delivered-bytes w.pool message bytes) at

@@ -128,7 +128,7 @@ obeyed-makes w number pool what event input node there =
     log-makes w number pool node node.keys what event (row node.core input) there (λ first is. is) (log.row-stays node.core input)
 
 pub log-delivered-makes : (w : World) (message number : ℕ) (node : LogNode) → log_at w number ≡ Some node → Makes w (log_made w number (log_delivered w.pool message number node))
-unfolding log_delivered
+unfolding log_delivered log_obeyed
 log-delivered-makes w message number node there =
     obeyed-makes w number (noted_in w.pool message (log_party number)) (whats.Take message) (events.Take message) (log_state.takes (bytes_of (numbered w.pool message))) node there
 
@@ -159,7 +159,7 @@ pub authority-delivered-makes : (says : Outcome) (w : World) (message number : �
 unfolding authority_delivered
 authority-delivered-makes says w message number node there =
     let m = message_in (bytes_of (numbered w.pool message))
-    in let a = authority_reply says node m
+    in let a = authority_reply says node.state node.check m
     in authority-makes w number (noted_in w.pool message (authority_party number)) node (node_behind node m a) (whats.Take message) a there refl (λ first is. is)
     (authority.row-stays node.state (is_none node.check) m (says_to says node.check (asked_in m)))
 

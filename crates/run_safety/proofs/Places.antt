@@ -1,5 +1,5 @@
 -- Honest parties in their places: one that changes, one that becomes dishonest, and one of another role that does.
-use Rattle.std.proofs.Common.{◌≡◌, ◌≢◌, ◌⊎◌, inl, inr, ℕ, zero, suc, ◌<◌, List, [], ◌∷◌, ◌++◌, refl, sym, ap, ◌∙◌, subst, arith, Bool, true, false, ◌||◌, eqb, Option, Some, None, is_none, is_some}
+use Rattle.std.proofs.Common.{◌≡◌, ◌≢◌, ◌⊎◌, inl, inr, ℕ, zero, suc, ◌<◌, List, [], ◌∷◌, ◌++◌, refl, sym, ap, ◌∙◌, subst, Bool, true, false, ◌||◌, eqb, Option, Some, None, is_none}
 use Rattle.std.specs.Prelude.{length, slice_set}
 use Rattle.std.specs.List.{list_any}
 use Rattle.std.proofs.lemmas.Bool.Decides.{eqb_tells}
@@ -10,28 +10,10 @@ use Rattle.ar_statement.specs.Claims.{is_party, party}
 use Rattle.ar_statement.specs.declared.party.Party.{Party}
 use Rattle.ar_statement.specs.declared.party.Role.{Role}
 use Rattle.ar_nodes.specs.Finding.{honest_in}
-use Rattle.ar_nodes.proofs.Spots.{honest_within}
+use Rattle.ar_nodes.proofs.Spots.{honest-below, put-beside, put-there}
 use Rattle.run_safety.specs.Seats.{AreSeated, honest_count}
 
 -- ---- places of a list
-
--- an honest party has a place
-pub honest-below : {X : Type 0} (parties : List (Option X)) (n : ℕ) (x : X) → honest_in parties n ≡ Some x → n < length parties
-honest-below parties n x there = honest_within parties n (ap is_some there)
-
--- in its place stands what was put there
-pub put-there : {X : Type 0} (parties : List (Option X)) (n : ℕ) (slot : Option X) → n < length parties → honest_in (slice_set parties n slot) n ≡ slot
-put-there [] n slot less = absurd (omega (arith, less))
-put-there (p ∷ more) zero slot less = refl
-put-there (p ∷ more) (suc n) slot less = put-there more n slot (omega (arith, less))
-
--- and in each other place what stood there
-pub put-beside : {X : Type 0} (parties : List (Option X)) (n m : ℕ) (slot : Option X) → m ≢ n → honest_in (slice_set parties n slot) m ≡ honest_in parties m
-put-beside [] n m slot other = refl
-put-beside (p ∷ more) zero zero slot other = absurd (other refl)
-put-beside (p ∷ more) zero (suc m) slot other = refl
-put-beside (p ∷ more) (suc n) zero slot other = refl
-put-beside (p ∷ more) (suc n) (suc m) slot other = put-beside more n m slot (λ same. other (ap suc same))
 
 -- as many are honest where one stands in the place of another
 pub count-changed : {X : Type 0} (parties : List (Option X)) (n : ℕ) (was is : X) → honest_in parties n ≡ Some was → honest_count (slice_set parties n (Some is)) ≡ honest_count parties

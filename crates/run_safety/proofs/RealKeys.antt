@@ -55,7 +55,7 @@ under-more [] more party text signature is = absurd cc
 under-more (first ∷ later) more party text signature is = at-more (generation_of signature) (first ∷ later) more text signature is
 
 -- what is valid under keys that real ones begin with is valid under the real ones
-under-real : (real known : List LmsPublic) (party : Party) (text signature : List ℕ) → BeginsWith real known → answer_under known party text signature ≡ Ok tt → answer_under real party text signature ≡ Ok tt
+pub under-real : (real known : List LmsPublic) (party : Party) (text signature : List ℕ) → BeginsWith real known → answer_under known party text signature ≡ Ok tt → answer_under real party text signature ≡ Ok tt
 under-real real known party text signature begins is =
     subst (λ (keys : List LmsPublic). answer_under keys party text signature ≡ Ok tt) (sym begins.1) (under-more known begins.0 party text signature is)
 
@@ -156,19 +156,19 @@ other-party one other not same =
     let e : false ≡ true = sym not ∙ ap (is_party one) (sym same) ∙ is_party-self one in
     absurd cc
 
--- what a directory learns, of whomever, leaves it real
-pub learning-real : (own : Parties) (all claims : List Claimed) (keys : Directory) (a : Announced) → NoneForged own all → ((c : Claimed) → Contains claims c → Contains all c)
+-- what a directory learns, of whomever, leaves it real, where an honest party signed what says so of it
+pub signed-real : (own : Parties) (claims : List Claimed) (keys : Directory) (a : Announced) → ((p : PartyParts) → own a.party ≡ Some p → Contains (texts_of p.book) (text_of (roll_claim a)))
     → ((party : Party) (p : PartyParts) → own party ≡ Some p → IsOwned party p) → IsNoted a → IsVerifiedIn keys claims (seen_of a.party (roll_claim a)) → KnowsReal own keys
     → KnowsReal own (after_learning keys a)
 unfolding verified
-learning-real own all claims keys a none within each noted v knows party p is = by (is_party party a.party) refl
+signed-real own claims keys a signed each noted v knows party p is = by (is_party party a.party) refl
   where
     Real : Directory → Party → Type 0
     Real directory who = BeginsWith (real_keys p) (keys_of directory who)
 
     learns : own a.party ≡ Some p → (r : Result Learned LearnFault) → learned keys a ≡ r → BeginsWith (real_keys p) (keys_of keys a.party) → Real (learning r keys a) a.party
     learns its (Ok New) at begins =
-        let has = claim-signed own all claims keys (seen_of a.party (roll_claim a)) p none within knows its v in
+        let has = signed p its in
         subst (λ (r : Result Learned LearnFault). Real (learning r keys a) a.party) at (new-real keys a p v.0 noted (each a.party p its) has v.2 begins at)
     learns its (Ok Again) at begins = begins
     learns its (Err fault) at begins = begins
@@ -179,6 +179,13 @@ learning-real own all claims keys a none within each noted v knows party p is = 
         let one : party ≡ a.party = one_party party a.party same in
         let its : own a.party ≡ Some p = ap own (sym one) ∙ is in
         subst (Real (after_learning keys a)) (sym one) (learns its (learned keys a) refl (knows a.party p its))
+
+-- so where no claim is forged
+pub learning-real : (own : Parties) (all claims : List Claimed) (keys : Directory) (a : Announced) → NoneForged own all → ((c : Claimed) → Contains claims c → Contains all c)
+    → ((party : Party) (p : PartyParts) → own party ≡ Some p → IsOwned party p) → IsNoted a → IsVerifiedIn keys claims (seen_of a.party (roll_claim a)) → KnowsReal own keys
+    → KnowsReal own (after_learning keys a)
+learning-real own all claims keys a none within each noted v knows =
+    signed-real own claims keys a (λ p its. claim-signed own all claims keys (seen_of a.party (roll_claim a)) p none within knows its v) each noted v knows
 
 -- ---- what a party takes as its own next key
 

@@ -7,7 +7,6 @@ use Rattle.std.proofs.lemmas.List.Elements.{All-nil}
 use Rattle.std.proofs.lemmas.Option.{same_Some}
 use Rattle.ar_base.specs.Chaining.{need}
 use Rattle.ar_safety.specs.Held.{IsTaken, verdict_on}
-use Rattle.ar_world.specs.Delivering.{deliver_line}
 use Rattle.ar_world.specs.Finding.{Effect}
 use Rattle.ar_world.specs.Founding.{led_to, may_come, place_of}
 use Rattle.ar_nodes.specs.Parties.{CheckParts}
@@ -32,7 +31,7 @@ use Rattle.run_safety.specs.Headline.{accepted_in, dishonest_in, said_by}
 use Rattle.run_safety.specs.Seats.{IsSeated}
 use Rattle.run_safety.proofs.Chains.{need-holds}
 use Rattle.run_safety.proofs.Founded.{authorities-makes}
-use Rattle.run_safety.proofs.Lines.{ask-makes, check-line-makes, deliver-makes, dishonest-makes, handover-makes, inject-makes, judge-makes, keys-makes, learn-makes, log-order-makes, logs-makes, object-makes, owner-line-makes, register-makes, retire-makes, revoke-makes, roll-makes, sign-makes, submit-makes, update-makes}
+use Rattle.run_safety.proofs.Lines.{ask-makes, check-line-makes, deliver-makes, delivery-makes, dishonest-makes, handover-makes, inject-makes, judge-makes, keys-makes, learn-makes, log-order-makes, logs-makes, object-makes, owner-line-makes, register-makes, retire-makes, revoke-makes, roll-makes, sign-makes, submit-makes, update-makes}
 use Rattle.run_safety.proofs.Parts.{Keeps, Makes, Stands, both, part_of, seated, still}
 use Rattle.ar_base.proofs.Shown.{if-chained}
 
@@ -131,20 +130,16 @@ step-keeps says w l = stepped-keeps w (leads_to l) (effect says w l) (effect-mak
 
 -- ---- a script
 
-delivered-keeps : (w : World) (made : Effect) → IfOk made (Makes w) → IfOk made (KeptBy w)
-delivered-keeps w (Ok m) makes = makes.keeps
-delivered-keeps w (Err why) makes = tt
-
 -- what was done since keeps all
 pub keeps-of-steps : HoldsOfSteps (λ w v said. Keeps (part_of w) (part_of v) said)
 keeps-of-steps = record {
   still = λ w. (still (part_of w) (part_of w) [] refl refl).keeps;
   both = λ u v w said later. both (part_of u) (part_of v) (part_of w) said later;
   steps = step-keeps;
-  delivers = λ says w message who. delivered-keeps w (deliver_line says w message who) (deliver-makes says w message who);
+  delivers = λ says w message p who taker has takes. (delivery-makes says w message who.role who.number taker takes).keeps;
 }
 
-run-keeps : (saying : Saying) (checks : List CheckParts) (input : List ℕ)
+pub run-keeps : (saying : Saying) (checks : List CheckParts) (input : List ℕ)
     → Keeps (part_of (first_world checks)) (part_of (run saying checks input).world) (run saying checks input).said
 run-keeps saying checks input = run-holds (λ w v said. Keeps (part_of w) (part_of v) said) keeps-of-steps saying checks input
 

@@ -1,6 +1,6 @@
 -- What is promised of a run.
-use Rattle.std.specs.Prelude.{◌≡◌, ◌++◌, List, map}
-use Rattle.std.specs.List.{filter_map}
+use Rattle.std.specs.Prelude.{◌≡◌, ◌++◌, ◌∷◌, [], ℕ, List, map}
+use Rattle.std.specs.List.{concat, filter_map}
 use Rattle.std.specs.Prelude.{Option, Some, None}
 use Rattle.report_text.specs.declared.happening.Happening.{Happening}
 use Rattle.report_text.specs.declared.happening.Happening.TheVariants.{Dishonest, Judged}
@@ -10,9 +10,10 @@ use Rattle.ar_base.specs.Prefixes.{BeginsWith}
 use Rattle.ar_statement.specs.declared.party.Party.{Party}
 use Rattle.ar_safety.specs.Held.{AreKept, AreSafe, Held, Taken, records_of, verdict_on}
 use Rattle.ar_safety.specs.Theorem.{Few, NoCollision, NoForgery}
+use Rattle.report_text.specs.Lines.{line_of}
 use Rattle.report_text.specs.Verdicts.{said_of}
 use Rattle.ar_world.specs.Records.{HasParties, held_of}
-use Rattle.ar_world.specs.Run.{Run}
+use Rattle.ar_world.specs.Run.{Run, lines_of_run, refused_lines}
 use Rattle.ar_world.specs.State.{World}
 use Rattle.run_safety.specs.Unforged.{AllReal, AllShown, Unforged}
 
@@ -38,6 +39,27 @@ dishonest_in _ = None
 abbrev pub said_by : Held → Taken → Said
 said_by h t = said_of t.name (verdict_on h.directory t)
 
+-- ---- what is written, byte by byte
+
+-- All that is written of a run.
+abbrev pub written_of : Run → List ℕ
+written_of r = concat (lines_of_run r)
+
+-- the bytes begin the line of what happened next, and are not all of it; behind all that happened they begin what tells which line
+-- was refused
+abbrev pub IsPartOfNext : List (List ℕ) → List Happening → List ℕ → Type 0
+IsPartOfNext refusal [] part = BeginsWith (concat refusal) part
+IsPartOfNext refusal (next ∷ more) part = (byte : ℕ) × ((others : List ℕ) × (line_of next ≡ part ++ byte ∷ others))
+
+-- Some bytes are the lines of a front of what happened, all of them whole, and a part of the next one's line.
+pub record IsCut (said : List Happening) (refusal : List (List ℕ)) (bytes : List ℕ) : Type 0 where
+  pub front : List Happening
+  pub rest : List Happening
+  pub part : List ℕ
+  pub happened : said ≡ front ++ rest
+  pub is : bytes ≡ concat (map line_of front) ++ part
+  pub next : IsPartOfNext refusal rest part
+
 -- ---- the promise
 
 -- With at most two dishonest parties, where no signature that is valid under an honest party's own key stands in a message but on
@@ -49,8 +71,8 @@ IsSafeWorld w = Few (records_of (held_of w)) → Unforged w → NoCollision (rec
 -- its parties are safe so. Whatever was taken from others stands in messages, with a signature that was verified. Where none was
 -- forged, all that is known of honest parties is real, and the theorem's own premise on forgery, which speaks of the records
 -- alone, holds. What is written as accepted, a certificate or that there is none, is what clients hold, each by its verdict, in
--- order; and in a front of the lines, where it was broken off, it begins that. And the lines `dishonest` that are written tell
--- who is dishonest, each once, in order.
+-- order; and in a front of what happened it begins that. Where it was broken off, what was written is the lines of such a front,
+-- and a part of the next line. And the lines `dishonest` that are written tell who is dishonest, each once, in order.
 pub record IsSafeRun (r : Run) : Type 0 where
   pub kept : HasParties r.world → AreKept (held_of r.world)
   pub safe : HasParties r.world → IsSafeWorld r.world
@@ -60,3 +82,4 @@ pub record IsSafeRun (r : Run) : Type 0 where
   pub written : filter_map accepted_in r.said ≡ map (said_by (held_of r.world)) (held_of r.world).judged
   pub fronts : (front rest : List Happening) → r.said ≡ front ++ rest → BeginsWith (map (said_by (held_of r.world)) (held_of r.world).judged) (filter_map accepted_in front)
   pub dishonest : filter_map dishonest_in r.said ≡ (held_of r.world).dishonest
+  pub cut : (bytes others : List ℕ) → written_of r ≡ bytes ++ others → IsCut r.said (refused_lines r.refused) bytes

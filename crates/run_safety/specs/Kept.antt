@@ -14,8 +14,9 @@ use Rattle.log_core.specs.Kept.{IsKeptCore}
 use Rattle.party_keys.specs.Directory.{Directory, IsDirectory}
 use Rattle.run_safety.specs.Own.{HasRolls}
 
--- An honest log is kept: its record is an honest log's, and what it counts was seen. Its ring is its own: there is a key for
--- each generation of its book; behind the first each is the next of the one before it, and its Roll stands in the book.
+-- An honest log is kept: its record is an honest log's, and what it counts was seen. Its ring has a key for each generation of
+-- its book; behind the first each is the next of the one before it, and its Roll stands in the book. (That the first is the key
+-- of its place, and so the ring no other party's, is said with the places: `IsLogOf`.)
 pub record KeepsLog (node : LogNode) : Type 0 where
   pub core : IsKeptCore node.core
   pub book : AreKeysOf node.core.log.past.signed node.core.signature_len node.keys

@@ -4,5 +4,6 @@ pub mod Headline
 pub mod Kept
 pub mod Lasting
 pub mod Own
+pub mod Passing
 pub mod Seats
 pub mod Unforged

@@ -13,12 +13,13 @@ ghost use Rattle.ar_safety.specs.Accepting.{IsWithRing};
 ghost use Rattle.ar_safety.specs.Held.{AreKept, records_of};
 ghost use Rattle.ar_safety.specs.Theorem.{NoForgery};
 ghost use Rattle.ar_nodes.specs.Parties.{AuthorityNode, CheckParts};
+ghost use Rattle.ar_statement.specs.Claims.{authority_party};
 ghost use Rattle.ar_statement.specs.declared.party.Party.{Party};
 ghost use Rattle.ar_statement.specs.declared.text.SeenText.{SeenText};
 ghost use Rattle.ar_world.specs.Finding.{authority_at};
 ghost use Rattle.ar_world.specs.Records.{HasParties, KeepsRecords, held_of};
 ghost use Rattle.ar_world.specs.Run.{Saying, flushed, most_deliveries, run, run_from, taken};
-ghost use Rattle.ar_world.specs.State.{World, first_world};
+ghost use Rattle.ar_world.specs.State.{Moved, World, first_world};
 ghost use Rattle.client_rule.specs.Rule.{Asked, judgement};
 ghost use Rattle.client_rule.specs.declared.judgement.Judgement.TheVariants.{Absent, Accepted};
 ghost use Rattle.key_roll.specs.Book.{texts_of};
@@ -36,8 +37,9 @@ ghost use Rattle.run_safety.specs.Headline.{IsSafeRun, accepted_in, dishonest_in
 ghost use Rattle.run_safety.specs.Kept.{KeepsWorld};
 ghost use Rattle.run_safety.specs.Lasting.{Lasts};
 ghost use Rattle.run_safety.specs.Own.{IsNoted, IsOwned, KnowsReal, NoneForged, Parties, PartyParts};
+ghost use Rattle.run_safety.specs.Passing.{Delivers, GoesThrough};
 ghost use Rattle.run_safety.specs.Seats.{IsSeated};
-ghost use Rattle.run_safety.specs.Unforged.{AllReal, AllShown, Unforged};
+ghost use Rattle.run_safety.specs.Unforged.{AllReal, AllShown, Unforged, messages_of};
 ghost use Rattle.script_text.specs.declared.line.Line.TheVariants.{Flush};
 
 /// Whatever lines a script has: each honest log and authority is the one with the number of its place, by one council; the
@@ -62,9 +64,10 @@ pub fn what_seated_parties_hold_is_kept()
     ensures { (w : World) → IsSeated w → KeepsRecords w → AreKept (held_of w) }
 {}
 
-/// Whatever lines a script has, and whatever checks of owners say: each honest log and authority is kept, its keys are its
-/// own, one for each generation of its book, each message is bytes, and the clients' directory is one. So each honest party's
-/// record is an honest one's.
+/// Whatever lines a script has, and whatever checks of owners say: each honest log and authority is kept, its ring has a key
+/// for each generation of its book, behind the first each the next of the one before, which is announced; each message is bytes,
+/// and the clients' directory is one. So each honest party's record is an honest one's. (That the first key of a ring is the one
+/// of its place is in `a_run_keeps_its_parties`.)
 pub fn a_run_keeps_its_nodes()
     ensures nodes { (saying : Saying) (checks : List CheckParts) (input : List ℕ) → KeepsWorld (run saying checks input).world }
     ensures records { (w : World) → KeepsWorld w → HasParties w → KeepsRecords w }
@@ -115,23 +118,33 @@ pub fn a_run_is_safe()
     ensures { (saying : Saying) (checks : List CheckParts) (input : List ℕ) → IsSafeRun (run saying checks input) }
 {}
 
-/// Each honest authority of a run has its ring: a key for each generation of its book, which its own directory knows. So what
-/// it sends where it is the second of two authorities that confirm, by a message of the pool, a client accepts that asks for
-/// this name, in time, and whose directory has the keys of the three signatures.
+/// In each world through which a run goes, behind each line and behind each delivery of a `flush`, each honest authority has its
+/// ring: a key for each generation of its book, which its own directory knows. So what it sends where it is the second of two
+/// authorities that confirm, by a message of the pool, a client accepts that asks for this name, in time, and whose directory
+/// has the keys of the three signatures, as the clients' at the end of the run may. And what it sends so in a delivery of the
+/// run is one of the messages at its end. A run goes through each world in which it delivers, and through its last.
 pub fn what_a_run_confirms_is_accepted()
-    ensures ring { (saying : Saying) (checks : List CheckParts) (input : List ℕ) (number : ℕ) (node : AuthorityNode)
-        → authority_at (run saying checks input).world number ≡ Some node → IsWithRing node.state node.keys }
-    ensures accepted { (saying : Saying) (checks : List CheckParts) (input : List ℕ) (message number : ℕ) (node : AuthorityNode)
+    ensures ring { (saying : Saying) (checks : List CheckParts) (input : List ℕ) (w : World) (number : ℕ) (node : AuthorityNode)
+        → GoesThrough saying checks input w → authority_at w number ≡ Some node → IsWithRing node.state node.keys }
+    ensures accepted { (saying : Saying) (checks : List CheckParts) (input : List ℕ) (w : World) (message number : ℕ) (node : AuthorityNode)
         (part : Confirming) (first_signature : List ℕ) (sent : Unsigned) (asked : Asked) (certificate : Certificate)
-        → ConfirmsToo (run saying checks input).world message number node part first_signature sent
+        → GoesThrough saying checks input w → ConfirmsToo w message number node part first_signature sent
         → AsksForIt node part first_signature asked → shown_in part.body ≡ present certificate
         → judgement asked (bytes_at (filled node.keys sent).messages 0)
         ≡ Accepted certificate (digest_of certificate) part.epoch part.root }
-    ensures absent { (saying : Saying) (checks : List CheckParts) (input : List ℕ) (message number : ℕ) (node : AuthorityNode)
+    ensures absent { (saying : Saying) (checks : List CheckParts) (input : List ℕ) (w : World) (message number : ℕ) (node : AuthorityNode)
         (part : Confirming) (first_signature : List ℕ) (sent : Unsigned) (asked : Asked) (bottom : Bottom)
-        → ConfirmsToo (run saying checks input).world message number node part first_signature sent
+        → GoesThrough saying checks input w → ConfirmsToo w message number node part first_signature sent
         → AsksForIt node part first_signature asked → shown_in part.body ≡ absent bottom
         → judgement asked (bytes_at (filled node.keys sent).messages 0) ≡ Absent part.epoch part.root }
+    ensures sent { (saying : Saying) (checks : List CheckParts) (input : List ℕ) (w : World) (message number : ℕ) (node : AuthorityNode)
+        (part : Confirming) (first_signature : List ℕ) (sent : Unsigned) (made : Moved)
+        → Delivers saying checks input w message (authority_party number) made
+        → ConfirmsToo w message number node part first_signature sent
+        → Contains (messages_of (run saying checks input).world.pool) (bytes_at (filled node.keys sent).messages 0) }
+    ensures delivered { (saying : Saying) (checks : List CheckParts) (input : List ℕ) (w : World) (message : ℕ) (who : Party) (made : Moved)
+        → Delivers saying checks input w message who made → GoesThrough saying checks input w }
+    ensures ended { (saying : Saying) (checks : List CheckParts) (input : List ℕ) → GoesThrough saying checks input (run saying checks input).world }
 {}
 
 /// A `flush` goes to its end, whatever checks of owners say: of at most 16 logs nothing is due behind its deliveries, unless

@@ -4,8 +4,8 @@ use Rattle.std.specs.List.{flat_map, range_with_len}
 use Rattle.std.proofs.lemmas.List.{flat_map_more, map-id}
 use Rattle.std.proofs.lemmas.List.FromFn.{get_or-range_with_len, length-range_with_len, map-range_with_len_more, take-map-range_with_len}
 use Rattle.std.specs.declared.alloc.AllocError.{AllocError}
-use Rattle.ar_text.specs.Parts.{Appends}
-use Rattle.ar_text.proofs.Joined.{appends-then, item_stops}
+use Rattle.ar_base.specs.Appending.{Appends}
+use Rattle.ar_base.proofs.Appending.{appends-then, item_stops}
 
 -- one number more
 range_more : (first count n : ℕ) → n ≡ first + count → range_with_len first (count + 1) ≡ range_with_len first count ++ (n ∷ [])

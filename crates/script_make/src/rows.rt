@@ -1,6 +1,6 @@
 ghost use Rattle.std.specs.Prelude.{◌≡◌, ◌+◌, ◌*◌, ◌<◌, ◌≤◌, ◌^◌, flat_map};
 ghost use Rattle.std.specs.List.{range_with_len};
-ghost use Rattle.ar_text.specs.Parts.{Appends};
+ghost use Rattle.ar_base.specs.Appending.{Appends};
 ghost use Rattle.script_make.specs.Numbers.{batch};
 ghost use Rattle.script_make.specs.Rows.{handover_text, keyed_text, question_on_none_text, question_text, registration_text, row_text, teaching_text, trusted_by, trusted_text, update_text};
 

@@ -1,4 +1,5 @@
 pub mod Deliveries
+pub mod Inputs
 pub mod Parts
 pub mod Runs
 pub mod Taking

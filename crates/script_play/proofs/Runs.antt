@@ -11,11 +11,12 @@ use Rattle.owner_check.specs.declared.answer.Outcome.{Outcome}
 use Rattle.owner_check.specs.declared.answer.Outcome.TheVariants.{Failed}
 use Rattle.report_text.specs.Lines.{line_of}
 use Rattle.ar_nodes.specs.Parties.{CheckParts}
-use Rattle.ar_world.specs.Run.{Progress, Run, Saying, at_line, line_taken, refused_lines, run, run_from, then_on}
-use Rattle.ar_world.specs.State.{World, first_world}
+use Rattle.ar_world.specs.Run.{Progress, Run, Saying, at_line, line_taken, refused_lines, run_from, then_on}
+use Rattle.ar_world.specs.State.{World}
 use Rattle.ar_world.specs.declared.cause.Cause.{Cause}
 use Rattle.script_play.specs.Counts.{counted_from, no_counts}
-use Rattle.script_play.specs.Playing.{Plays, PlaysAll, PlaysPart, PlaysSome, Stand, WritesUpTo, refusal_told, told, written_of}
+use Rattle.script_play.specs.Played.{Plays, run_with}
+use Rattle.script_play.specs.Playing.{Played, PlaysAll, PlaysPart, PlaysSome, Stand, WritesUpTo, begun, refusal_told, told, written_of}
 use Rattle.script_play.specs.declared.counts.Counts.{Counts}
 use Rattle.script_play.proofs.Deliveries.{said-later, said-there, then-same, with_said_at}
 use Rattle.script_play.proofs.Parts.{plays-nothing, then-broken, then-plays, then-refused}
@@ -48,7 +49,7 @@ at_number number (Ok cause) = Ok (option_map (λ why. (number, why)) cause)
 at_number number (Err fault) = Err fault
 
 -- what was played of a text was played of the line with its number
-line-plays : {K : Type 0} (faults : K → ℕ) (wrote : K → List ℕ → Type 0) (a b : K) (s t : Stand) (number : ℕ) (p : Progress) (result : Result (Option Cause) Fault)
+pub line-plays : {K : Type 0} (faults : K → ℕ) (wrote : K → List ℕ → Type 0) (a b : K) (s t : Stand) (number : ℕ) (p : Progress) (result : Result (Option Cause) Fault)
     → PlaysPart faults wrote a b s t p result → PlaysPart faults wrote a b s t (at_line number p) (at_number number result)
 line-plays faults wrote a b s t number p (Ok cause) plays = record {
   refused = ap (option_map (λ why. (number, why))) plays.refused;
@@ -176,9 +177,6 @@ on-line-none faults wrote begun here s t first at on none =
 written-so : (r : Run) → written_of r ≡ told r.said ++ concat (refused_lines r.refused)
 written-so r = concat-append (map line_of r.said) (refused_lines r.refused)
 
-abbrev pub All : {K : Type 0} → (K → ℕ) → (K → List ℕ → Type 0) → K → K → Stand → Stand → List ℕ → Result (Option (ℕ × Cause)) Fault → Type 0
-All faults wrote a b s t input result = PlaysAll faults wrote a b s t (λ saying. run_from saying 1 s.world (lines_of input)) result
-
 written-all : {K T : Type 0} (faults : K → ℕ) (wrote : K → List ℕ → Type 0) (a b c : K) (r : Run) (refusal : Option (ℕ × Cause)) (result : Result T Fault)
     → refusal ≡ r.refused → WritesUpTo faults wrote a b (told r.said) (Ok refusal) → WritesUpTo faults wrote b c (refusal_told refusal) result
     → WritesUpTo faults wrote a c (written_of r) result
@@ -188,10 +186,10 @@ written-all faults wrote a b c r refusal result is first later =
     (written-both faults wrote a b c (told r.said) (refusal_told refusal) refusal result first later)
 
 -- all lines, and the refused one, are told
-pub all-told : {K : Type 0} (faults : K → ℕ) (wrote : K → List ℕ → Type 0) (a b c : K) (s t : Stand) (input : List ℕ) (refusal : Option (ℕ × Cause))
-    → Lines faults wrote a b s t 1 (lines_of input) (Ok refusal) → WritesUpTo faults wrote b c (refusal_told refusal) done → All faults wrote a c s t input (Ok refusal)
-all-told faults wrote a b c s t input refusal lines later =
-    let r = run_from lines.says 1 s.world (lines_of input) in
+pub all-told : {K S : Type 0} (faults : K → ℕ) (wrote : K → List ℕ → Type 0) (a b c : K) (s t : Stand) (run : S → Run) (refusal : Option (ℕ × Cause))
+    → PlaysSome faults wrote a b s t run (Ok refusal) → WritesUpTo faults wrote b c (refusal_told refusal) done → PlaysAll faults wrote a c s t run (Ok refusal)
+all-told faults wrote a b c s t run refusal lines later =
+    let r = run lines.says in
     record {
       says = lines.says;
       plays = record {
@@ -202,22 +200,22 @@ all-told faults wrote a b c s t input refusal lines later =
     }
 
 -- it broke off
-failed-all : {K : Type 0} (faults : K → ℕ) (wrote : K → List ℕ → Type 0) (a b : K) (s t : Stand) (input : List ℕ) (saying : Saying) (f : Fault)
-    → WritesUpTo faults wrote a b (written_of (run_from saying 1 s.world (lines_of input))) (failing (Option (ℕ × Cause)) f) → All faults wrote a b s t input (Err f)
-failed-all faults wrote a b s t input saying f written = record { says = saying; plays = record { refused = tt; stands = tt; written = written } }
+failed-all : {K S : Type 0} (faults : K → ℕ) (wrote : K → List ℕ → Type 0) (a b : K) (s t : Stand) (run : S → Run) (says : S) (f : Fault)
+    → WritesUpTo faults wrote a b (written_of (run says)) (failing (Option (ℕ × Cause)) f) → PlaysAll faults wrote a b s t run (Err f)
+failed-all faults wrote a b s t run says f written = record { says = says; plays = record { refused = tt; stands = tt; written = written } }
 
-pub all-untold : {K : Type 0} (faults : K → ℕ) (wrote : K → List ℕ → Type 0) (a b c : K) (s t : Stand) (input : List ℕ) (refusal : Option (ℕ × Cause)) (f : Fault)
-    → Lines faults wrote a b s t 1 (lines_of input) (Ok refusal) → WritesUpTo faults wrote b c (refusal_told refusal) (failing (Unit {0}) f) → All faults wrote a c s t input (Err f)
-all-untold faults wrote a b c s t input refusal f lines later =
-    let r = run_from lines.says 1 s.world (lines_of input) in
-    failed-all faults wrote a c s t input lines.says f
+pub all-untold : {K S : Type 0} (faults : K → ℕ) (wrote : K → List ℕ → Type 0) (a b c : K) (s t : Stand) (run : S → Run) (refusal : Option (ℕ × Cause)) (f : Fault)
+    → PlaysSome faults wrote a b s t run (Ok refusal) → WritesUpTo faults wrote b c (refusal_told refusal) (failing (Unit {0}) f) → PlaysAll faults wrote a c s t run (Err f)
+all-untold faults wrote a b c s t run refusal f lines later =
+    let r = run lines.says in
+    failed-all faults wrote a c s t run lines.says f
     (written-failed faults wrote a c (written_of r) f (written-all faults wrote a b c r refusal (failing (Unit {0}) f) lines.plays.refused lines.plays.written later))
 
-pub all-broken : {K : Type 0} (faults : K → ℕ) (wrote : K → List ℕ → Type 0) (a b : K) (s t : Stand) (input : List ℕ) (f : Fault)
-    → Lines faults wrote a b s t 1 (lines_of input) (Err f) → All faults wrote a b s t input (Err f)
-all-broken faults wrote a b s t input f lines =
-    let r = run_from lines.says 1 s.world (lines_of input) in
-    failed-all faults wrote a b s t input lines.says f
+pub all-broken : {K S : Type 0} (faults : K → ℕ) (wrote : K → List ℕ → Type 0) (a b : K) (s t : Stand) (run : S → Run) (f : Fault)
+    → PlaysSome faults wrote a b s t run (Err f) → PlaysAll faults wrote a b s t run (Err f)
+all-broken faults wrote a b s t run f lines =
+    let r = run lines.says in
+    failed-all faults wrote a b s t run lines.says f
     (subst (λ (bytes : List ℕ). WritesUpTo faults wrote a b bytes (failing (Option (ℕ × Cause)) f)) (sym (written-so r))
     (written-broken faults wrote a b (told r.said) (concat (refused_lines r.refused)) f (written-failed faults wrote a b (told r.said) f lines.plays.written)))
 
@@ -225,41 +223,51 @@ pub ruleset all_laws = (all-told, all-untold, all-broken)
 
 -- ---- a script
 
-abbrev begun : List CheckParts → Stand
-begun checks = record { world = first_world checks; counts = no_counts }
+-- these lines, the first of which has the number 1
+abbrev pub from_first : World → List ℕ → Saying → Run
+from_first w input saying = run_from saying 1 w (lines_of input)
 
-pub play-done : {K : Type 0} (faults : K → ℕ) (wrote : K → List ℕ → Type 0) (a b : K) (checks : List CheckParts) (t : Stand) (input : List ℕ) (refused : Option (ℕ × Cause))
-    → All faults wrote a b (begun checks) t input (Ok refused)
-    → Plays faults wrote a b checks input (Ok (record { world = t.world; counts = t.counts; refused = refused }))
-play-done faults wrote a b checks t input refused all =
-    let r = run all.says checks input in
+pub script-done : {S : List ℕ → Type 0} (runs : (input : List ℕ) → S input → Run) {K : Type 0} (faults : K → ℕ) (wrote : K → List ℕ → Type 0) (a b : K) (s t : Stand) (input : List ℕ) (refused : Option (ℕ × Cause)) (p : Played)
+    → s.counts ≡ no_counts → p ≡ record { world = t.world; counts = t.counts; refused = refused } → PlaysAll faults wrote a b s t (runs input) (Ok refused)
+    → Plays runs faults wrote a b input (Ok p)
+script-done runs faults wrote a b s t input refused p none is all =
+    let r = runs input all.says in
     record {
-      saying = all.says;
-      played = ap (λ (v : Stand). record { world = v.world; counts = v.counts; refused = refused }) all.plays.stands
+      choice = all.says;
+      played = is
+          ∙ ap (λ (v : Stand). record { world = v.world; counts = v.counts; refused = refused }) all.plays.stands
+          ∙ ap (λ (n : Counts). record { world = r.world; counts = counted_from n r.said; refused = refused }) none
           ∙ ap (λ (b : Option (ℕ × Cause)). record { world = r.world; counts = counted_from no_counts r.said; refused = b }) all.plays.refused;
-      written = written-answered faults wrote a b (written_of r) refused (record { world = t.world; counts = t.counts; refused = refused }) all.plays.written;
+      written = written-answered faults wrote a b (written_of r) refused p all.plays.written;
     }
 
--- the same of the stage that was played on
-pub play-so : {K : Type 0} (faults : K → ℕ) (wrote : K → List ℕ → Type 0) (a b : K) (checks : List CheckParts) (w : World) (n : Counts) (s t : Stand) (input : List ℕ) (refused : Option (ℕ × Cause))
-    → w ≡ first_world checks → n ≡ no_counts → s ≡ t → All faults wrote a b (record { world = w; counts = n }) t input (Ok refused)
-    → Plays faults wrote a b checks input (Ok (record { world = s.world; counts = s.counts; refused = refused }))
-play-so faults wrote a b checks w n s t input refused first none same all =
+pub script-broken : {S : List ℕ → Type 0} (runs : (input : List ℕ) → S input → Run) {K : Type 0} (faults : K → ℕ) (wrote : K → List ℕ → Type 0) (a b : K) (s t : Stand) (input : List ℕ) (f : Fault)
+    → PlaysAll faults wrote a b s t (runs input) (Err f) → Plays runs faults wrote a b input (Err f)
+script-broken runs faults wrote a b s t input f all =
+    record { choice = all.says; played = tt; written = written-failed faults wrote a b (written_of (runs input all.says)) f all.plays.written }
+
+-- the same where it began with the first world
+pub play-done : {K : Type 0} (faults : K → ℕ) (wrote : K → List ℕ → Type 0) (a b : K) (checks : List CheckParts) (s t : Stand) (input : List ℕ) (refused : Option (ℕ × Cause)) (p : Played)
+    → s ≡ begun checks → p ≡ record { world = t.world; counts = t.counts; refused = refused } → PlaysAll faults wrote a b s t (from_first s.world input) (Ok refused)
+    → Plays (run_with checks) faults wrote a b input (Ok p)
+play-done faults wrote a b checks s t input refused p first is all =
     let ok : Result (Option (ℕ × Cause)) Fault = Ok refused in
-    let Begun = λ (v : World). All faults wrote a b (record { world = v; counts = n }) t input ok in
-    let Counted = λ (m : Counts). All faults wrote a b (record { world = first_world checks; counts = m }) t input ok in
-    let Ended = λ (v : Stand). All faults wrote a b (begun checks) v input ok in
-    play-done faults wrote a b checks s input refused (subst Ended (sym same) (subst Counted none (subst Begun first all)))
+    script-done (run_with checks) faults wrote a b (begun checks) t input refused p refl is
+    (subst (λ (v : Stand). PlaysAll faults wrote a b v t (from_first v.world input) ok) first all)
 
-pub play-broken : {K : Type 0} (faults : K → ℕ) (wrote : K → List ℕ → Type 0) (a b : K) (checks : List CheckParts) (w : World) (n : Counts) (t : Stand) (input : List ℕ) (f : Fault)
-    → w ≡ first_world checks → All faults wrote a b (record { world = w; counts = n }) t input (Err f) → Plays faults wrote a b checks input (Err f)
-play-broken faults wrote a b checks w n t input f first all =
-    let Broken = λ (v : World). All faults wrote a b (record { world = v; counts = n }) t input (Err f) in
-    let so = subst Broken first all in
-    record {
-      saying = so.says;
-      played = tt;
-      written = written-failed faults wrote a b (written_of (run so.says checks input)) f so.plays.written;
-    }
+-- the same of the parts of where it stands
+pub play-so : {K : Type 0} (faults : K → ℕ) (wrote : K → List ℕ → Type 0) (a b : K) (checks : List CheckParts) (s t v : Stand) (input : List ℕ) (refused : Option (ℕ × Cause))
+    → s ≡ begun checks → v ≡ t → PlaysAll faults wrote a b s t (from_first s.world input) (Ok refused)
+    → Plays (run_with checks) faults wrote a b input (Ok (record { world = v.world; counts = v.counts; refused = refused }))
+play-so faults wrote a b checks s t v input refused first same all =
+    play-done faults wrote a b checks s t input refused (record { world = v.world; counts = v.counts; refused = refused }) first
+    (ap (λ (x : Stand). record { world = x.world; counts = x.counts; refused = refused }) same) all
 
-pub ruleset play_laws = (play-done)
+pub play-broken : {K : Type 0} (faults : K → ℕ) (wrote : K → List ℕ → Type 0) (a b : K) (checks : List CheckParts) (s t : Stand) (input : List ℕ) (f : Fault)
+    → s ≡ begun checks → PlaysAll faults wrote a b s t (from_first s.world input) (Err f) → Plays (run_with checks) faults wrote a b input (Err f)
+play-broken faults wrote a b checks s t input f first all =
+    let broken : Result (Option (ℕ × Cause)) Fault = Err f in
+    script-broken (run_with checks) faults wrote a b (begun checks) t input f
+    (subst (λ (v : Stand). PlaysAll faults wrote a b v t (from_first v.world input) broken) first all)
+
+pub ruleset play_laws = (play-so, play-broken)

@@ -16,7 +16,7 @@ use Rattle.ar_world.specs.Step.{effect, step}
 use Rattle.ar_world.specs.declared.cause.Cause.{Cause}
 use Rattle.ar_world.specs.declared.cause.Cause.TheVariants.{Unread}
 use Rattle.script_play.specs.Counts.{counted_from}
-use Rattle.script_play.specs.Playing.{PlaysPart, PlaysSome, Stand}
+use Rattle.script_play.specs.Playing.{PlaysPart, PlaysSome, Stand, line_read}
 use Rattle.script_play.proofs.Parts.{plays-nothing, then-broken, then-plays, then-refused}
 use Rattle.script_play.proofs.Written.{wrote-nothing}
 
@@ -86,51 +86,69 @@ take-broken faults wrote a b s t l f first =
       plays = then-broken faults wrote a b s t (progress_of s.world (step first.says s.world l)) (follows says l) f first.plays;
     }
 
--- ---- the text of a line
+-- ---- a line as it was read
 
-abbrev pub TakesText : {K : Type 0} → (K → ℕ) → (K → List ℕ → Type 0) → K → K → Stand → Stand → ℕ → List ℕ → Result (Option Cause) Fault → Type 0
-TakesText faults wrote a b s t number text result = PlaysSome faults wrote a b s t (λ (says : ℕ → Outcome). line_taken says number s.world text) result
+abbrev pub TakesRead : {K : Type 0} → (K → ℕ) → (K → List ℕ → Type 0) → K → K → Stand → Stand → Result (Option Line) Reason → Result (Option Cause) Fault → Type 0
+TakesRead faults wrote a b s t read result = PlaysSome faults wrote a b s t (λ (says : ℕ → Outcome). taken_as says s.world read) result
 
 plays-unread : {K : Type 0} (faults : K → ℕ) (wrote : K → List ℕ → Type 0) (a : K) (s : Stand) (why : Reason) → PlaysPart faults wrote a a s s (refusing s.world (Unread why)) (Ok (Some (Unread why)))
 unfolding counted_from
 plays-unread faults wrote a s why = record { refused = refl; stands = refl; written = wrote-nothing faults wrote a (Some (Unread why)) }
 
--- a line past the last that there may be
-pub text-past : {K : Type 0} (faults : K → ℕ) (wrote : K → List ℕ → Type 0) (a : K) (s : Stand) (number : ℕ) (text : List ℕ) → most_lines < number → TakesText faults wrote a a s s number text (Ok (Some (Unread reason.Limit)))
-unfolding line_taken
-text-past faults wrote a s number text past =
-    let so : nat_lt most_lines number ≡ true = grind (arith, nat_tests) in
-    record {
-      says = λ _. Failed;
-      plays = subst (λ (b : Bool). PlaysPart faults wrote a a s s (if b then refusing s.world (Unread reason.Limit) else taken_as (λ _. Failed) s.world (read_of text)) (Ok (Some (Unread reason.Limit))))
-          (sym so) (plays-unread faults wrote a s reason.Limit);
-    }
-
-taken-text : (says : ℕ → Outcome) (number : ℕ) (w : World) (text : List ℕ) (read : Result (Option Line) Reason) → number ≤ most_lines → read_of text ≡ read → line_taken says number w text ≡ taken_as says w read
-unfolding line_taken
-taken-text says number w text read few is =
-    let so : nat_lt most_lines number ≡ false = grind (arith, nat_tests) in
-    ap (λ (b : Bool). if b then refusing w (Unread reason.Limit) else taken_as says w (read_of text)) so ∙ ap (taken_as says w) is
+-- one that could not be read
+pub read-unread : {K : Type 0} (faults : K → ℕ) (wrote : K → List ℕ → Type 0) (a : K) (s : Stand) (read : Result (Option Line) Reason) (why : Reason) → read ≡ Err why → TakesRead faults wrote a a s s read (Ok (Some (Unread why)))
+read-unread faults wrote a s read why is = record {
+  says = λ _. Failed;
+  plays = subst (λ (r : Result (Option Line) Reason). PlaysPart faults wrote a a s s (taken_as (λ _. Failed) s.world r) (Ok (Some (Unread why)))) (sym is) (plays-unread faults wrote a s why);
+}
 
 -- one that is skipped
-pub text-skipped : {K : Type 0} (faults : K → ℕ) (wrote : K → List ℕ → Type 0) (a : K) (s : Stand) (number : ℕ) (text : List ℕ) → number ≤ most_lines → read_of text ≡ Ok None → TakesText faults wrote a a s s number text (Ok None)
-text-skipped faults wrote a s number text few is = record {
+pub read-skipped : {K : Type 0} (faults : K → ℕ) (wrote : K → List ℕ → Type 0) (a : K) (s : Stand) (read : Result (Option Line) Reason) → read ≡ Ok None → TakesRead faults wrote a a s s read (Ok None)
+read-skipped faults wrote a s read is = record {
   says = λ _. Failed;
-  plays = subst (λ (p : Progress). PlaysPart faults wrote a a s s p (Ok None)) (sym (taken-text (λ _. Failed) number s.world text (Ok None) few is)) (plays-nothing faults wrote a s);
+  plays = subst (λ (r : Result (Option Line) Reason). PlaysPart faults wrote a a s s (taken_as (λ _. Failed) s.world r) (Ok None)) (sym is) (plays-nothing faults wrote a s);
 }
 
--- one that cannot be read
-pub text-unread : {K : Type 0} (faults : K → ℕ) (wrote : K → List ℕ → Type 0) (a : K) (s : Stand) (number : ℕ) (text : List ℕ) (why : Reason) → number ≤ most_lines → read_of text ≡ Err why
-    → TakesText faults wrote a a s s number text (Ok (Some (Unread why)))
-text-unread faults wrote a s number text why few is = record {
-  says = λ _. Failed;
-  plays = subst (λ (p : Progress). PlaysPart faults wrote a a s s p (Ok (Some (Unread why)))) (sym (taken-text (λ _. Failed) number s.world text (Err why) few is)) (plays-unread faults wrote a s why);
-}
+-- one that is there
+pub read-taken : {K : Type 0} (faults : K → ℕ) (wrote : K → List ℕ → Type 0) (a b : K) (s t : Stand) (read : Result (Option Line) Reason) (l : Line) (result : Result (Option Cause) Fault) → read ≡ Ok (Some l)
+    → Takes faults wrote a b s t l result → TakesRead faults wrote a b s t read result
+read-taken faults wrote a b s t read l result is takes =
+    subst (λ (r : Result (Option Line) Reason). TakesRead faults wrote a b s t r result) (sym is) takes
 
--- one that is read
-pub text-read : {K : Type 0} (faults : K → ℕ) (wrote : K → List ℕ → Type 0) (a b : K) (s t : Stand) (number : ℕ) (text : List ℕ) (l : Line) (result : Result (Option Cause) Fault) → number ≤ most_lines → read_of text ≡ Ok (Some l)
-    → Takes faults wrote a b s t l result → TakesText faults wrote a b s t number text result
-text-read faults wrote a b s t number text l result few is takes = record {
+pub ruleset read_laws = (read-unread, read-skipped, read-taken)
+
+-- ---- the text of a line
+
+-- what is read of a line behind the last that there may be, and of one before it
+pub read-past : (number : ℕ) (text : List ℕ) → most_lines < number → Err reason.Limit ≡ line_read number text
+read-past number text past =
+    let so : nat_lt most_lines number ≡ true = grind (arith, nat_tests) in
+    ap (λ (b : Bool). if b then Err reason.Limit else read_of text) (sym so)
+
+pub read-within : (number : ℕ) (text : List ℕ) (read : Result (Option Line) Reason) → number ≤ most_lines → read ≡ read_of text → read ≡ line_read number text
+read-within number text read few is =
+    let so : nat_lt most_lines number ≡ false = grind (arith, nat_tests) in
+    is ∙ ap (λ (b : Bool). if b then Err reason.Limit else read_of text) (sym so)
+
+pub ruleset line_laws = (read-past, read-within)
+
+abbrev pub TakesText : {K : Type 0} → (K → ℕ) → (K → List ℕ → Type 0) → K → K → Stand → Stand → ℕ → List ℕ → Result (Option Cause) Fault → Type 0
+TakesText faults wrote a b s t number text result = PlaysSome faults wrote a b s t (λ (says : ℕ → Outcome). line_taken says number s.world text) result
+
+-- a line with a number is taken as it is read
+pub taken-as-read : (says : ℕ → Outcome) (number : ℕ) (w : World) (text : List ℕ) → line_taken says number w text ≡ taken_as says w (line_read number text)
+unfolding line_taken
+taken-as-read says number w text = by (nat_lt most_lines number)
+  where
+    by : (b : Bool) → (if b then refusing w (Unread reason.Limit) else taken_as says w (read_of text)) ≡ taken_as says w (if b then Err reason.Limit else read_of text)
+    by true = refl
+    by false = refl
+
+pub text-taken : {K : Type 0} (faults : K → ℕ) (wrote : K → List ℕ → Type 0) (a b : K) (s t : Stand) (number : ℕ) (text : List ℕ) (read : Result (Option Line) Reason) (result : Result (Option Cause) Fault)
+    → read ≡ line_read number text → TakesRead faults wrote a b s t read result → TakesText faults wrote a b s t number text result
+text-taken faults wrote a b s t number text read result is takes = record {
   says = takes.says;
-  plays = subst (λ (p : Progress). PlaysPart faults wrote a b s t p result) (sym (taken-text takes.says number s.world text (Ok (Some l)) few is)) takes.plays;
+  plays = subst (λ (p : Progress). PlaysPart faults wrote a b s t p result) (ap (taken_as takes.says s.world) is ∙ sym (taken-as-read takes.says number s.world text)) takes.plays;
 }
+
+pub ruleset text_laws = (text-taken)

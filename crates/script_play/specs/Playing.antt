@@ -1,15 +1,19 @@
 -- What it is to play a script: its lines are taken by a world, one after the other, and what happens is written at once.
-use Rattle.std.specs.Prelude.{◌≡◌, ◌≢◌, ◌≤◌, ℕ, List, ◌++◌, map, Option, Some, Result, IfOk, OnErr, OnOk, Ok, Err}
+use Rattle.std.specs.Prelude.{◌≡◌, ◌≢◌, ◌≤◌, ℕ, nat_lt, if◌then◌else◌, List, ◌++◌, map, Option, Some, Result, IfOk, OnErr, OnOk, Ok, Err}
 use Rattle.std.specs.List.{concat}
 use Rattle.ar_base.specs.Faults.{HasRisen}
 use Rattle.ar_io.specs.Wrote.{Appended}
+use Rattle.ar_lines.specs.declared.refusal.Reason.{Reason}
+use Rattle.ar_lines.specs.declared.refusal.Reason.TheVariants as reason
 use Rattle.ar_run.specs.declared.fault.Fault.{Fault}
 use Rattle.ar_run.specs.declared.fault.Fault.TheVariants as fault
 use Rattle.report_text.specs.Lines.{line_of}
 use Rattle.report_text.specs.declared.happening.Happening.{Happening}
 use Rattle.ar_nodes.specs.Parties.{CheckParts}
-use Rattle.ar_world.specs.Run.{Course, Run, Saying, lines_of_run, refused_lines, run}
-use Rattle.ar_world.specs.State.{World}
+use Rattle.script_text.specs.Rows.{read_of}
+use Rattle.script_text.specs.declared.line.Line.{Line}
+use Rattle.ar_world.specs.Run.{Course, Run, lines_of_run, most_lines, refused_lines}
+use Rattle.ar_world.specs.State.{World, first_world}
 use Rattle.ar_world.specs.declared.cause.Cause.{Cause}
 use Rattle.ar_world.specs.declared.cause.Cause.TheVariants.{Untaken}
 use Rattle.ar_nodes.specs.declared.fault.WorldFault.{WorldFault}
@@ -54,6 +58,10 @@ pub record Stand : Type 0 where
   pub world : World
   pub counts : Counts
 
+-- where each begins, with these checks of owners
+abbrev pub begun : List CheckParts → Stand
+begun checks = record { world = first_world checks; counts = no_counts }
+
 -- A part of a script was played: the world is the one behind it, its judgements are counted, all that happened was written, and
 -- the answer is why a line was refused, if one was. Or memory ran out, or a write failed, and a front was written. The bytes are
 -- what there is to write of the part.
@@ -79,13 +87,17 @@ refused_by why = Ok (Some (Untaken why))
 
 -- ---- lines
 
+-- what the line with this number is read as; behind the last that there may be, none is read
+abbrev pub line_read : ℕ → List ℕ → Result (Option Line) Reason
+line_read number text = if nat_lt most_lines number then Err reason.Limit else read_of text
+
 -- the bytes that are written of the line that was refused, if one was
 abbrev pub refusal_told : Option (ℕ × Cause) → List ℕ
 refusal_told refusal = concat (refused_lines refusal)
 
 -- lines were played, up to the first that is refused, and that was told too
-pub record PlaysAll {K : Type 0} (faults : K → ℕ) (wrote : K → List ℕ → Type 0) (old new : K) (before after : Stand) (run : Saying → Run) (result : Result (Option (ℕ × Cause)) Fault) : Type 0 where
-  pub says : Saying
+pub record PlaysAll {K S : Type 0} (faults : K → ℕ) (wrote : K → List ℕ → Type 0) (old new : K) (before after : Stand) (run : S → Run) (result : Result (Option (ℕ × Cause)) Fault) : Type 0 where
+  pub says : S
   pub plays : PlaysAs written_of faults wrote old new before after (run says) result
 
 -- ---- a script
@@ -99,11 +111,3 @@ pub record Played : Type 0 where
 -- what a run comes to
 abbrev pub played_of : Run → Played
 played_of r = record { world = r.world; counts = counted_from no_counts r.said; refused = r.refused }
-
--- A script was played to its end, or to the first line that is refused, and all of its run was written; or memory ran out, or a
--- write failed, and a front of that was written. The run is that of some answers of the checks that tell nothing
--- of themselves.
-pub record Plays {K : Type 0} (faults : K → ℕ) (wrote : K → List ℕ → Type 0) (old new : K) (checks : List CheckParts) (input : List ℕ) (result : Result Played Fault) : Type 0 where
-  pub saying : Saying
-  pub played : IfOk result (λ p. p ≡ played_of (run saying checks input))
-  pub written : WritesUpTo faults wrote old new (written_of (run saying checks input)) result

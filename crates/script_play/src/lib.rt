@@ -1,15 +1,25 @@
 //! A script that is played: its lines are taken by a world, and what happens is written at once.
 //!
 //! `specs/Playing.antt` says what it is to play a script, over the run that `ar_world` defines, and `Counts` what is counted
-//! of it. A check of owners that tells nothing of itself may say anything: what is played is then the run of some answers.
+//! of it. `Played` says what is answered where an input is played, and what a program that plays its input takes and writes,
+//! over any run. A check of owners that tells nothing of itself may say anything: what is played is then the run of some
+//! answers.
+//!
+//! `play` plays a script whole. A `Stage` takes it line by line, for whoever has lines of its own beside those of a world.
 #![tactic(auto)]
 
 pub use counts::Counts;
-pub use playing::{Played, play};
-pub use refusing::refused_line;
+pub use lines::read_line;
+pub use played::Played;
+pub use playing::play;
+pub use refusing::{refused_line, tell_refusal, tell_too_long};
+pub use stage::Stage;
+pub use telling::{tell, tell_made};
 
 mod counts;
 mod flushing;
+mod lines;
+mod played;
 mod playing;
 mod refusing;
 mod stage;

@@ -1,114 +1,22 @@
 //! A script, from its first line to its last.
 
-ghost use Rattle.std.specs.Prelude.{ℕ};
-ghost use Rattle.owner_check.specs.declared.answer.Outcome.{Outcome};
 ghost use Rattle.ar_lines.specs.Lines.{lines_of};
 ghost use Rattle.ar_nodes.specs.Parties.{checks_told};
-ghost use Rattle.ar_world.specs.Run.{follows, line_taken, progress_of, run_from, taken};
-ghost use Rattle.ar_world.specs.Step.{step};
-ghost use Rattle.script_play.specs.Playing.{Plays, PlaysAll, PlaysSome};
+ghost use Rattle.ar_world.specs.Run.{run_from};
+ghost use Rattle.script_play.specs.Played.{Plays, run_with};
+ghost use Rattle.script_play.specs.Playing.{PlaysAll, PlaysSome};
 
-use crate::counts::Counts;
+use crate::played::Played;
 use crate::refusing::tell_refusal;
 use crate::stage::Stage;
-use crate::telling::tell_made;
 use ar_io::Sink;
-use ar_lines::{Lines, Reason};
+use ar_lines::Lines;
 use ar_run::Fault;
-use ar_world::{Cause, World};
+use ar_world::Cause;
 use owner_check::OwnerCheck;
-use script_text::Line;
 use std::alloc::Global;
-use std::marker::Model;
-
-/// The most lines of a script.
-const MOST_LINES: u64 = 20000;
-
-/// What a script came to.
-#[derive(Drop)]
-pub struct Played<C: OwnerCheck> {
-    /// The world behind its last line, or before the line that was refused.
-    pub world: World<C>,
-    /// The judgements of its clients.
-    pub counts: Counts,
-    /// The number of the line that was refused, and why; none where each was taken.
-    pub refused: Option<(u64, Cause)>,
-}
-
-// Clauses see the world as plain data.
-impl<C: OwnerCheck> Model for Played<C> {
-    ghost use Rattle.script_play.specs.Playing.{Played as Parts};
-
-    ghost Value = { Parts };
-
-    ghost view = { λ p. record { world = p.world; counts = p.counts; refused = p.refused } };
-}
 
 impl<C: OwnerCheck> Stage<C> {
-    /// Takes a line, without what follows it.
-    #[tactic(auto, using(crate::proofs::Parts::some_laws))]
-    fn take_alone<K: Sink>(
-        &mut self,
-        alloc: Global,
-        sink: &mut K,
-        line: &Line,
-    ) -> Result<Option<Cause>, Fault>
-        ensures { PlaysSome K.faults K.wrote sink.old sink.new self.old self.new (λ (says : Outcome). progress_of self.old.world (step says self.old.world line.now)) result }
-    {
-        let made = self.world.step(alloc, line);
-        tell_made(alloc, sink, &mut self.counts, made)
-    }
-
-    /// Makes what follows a line.
-    fn follow<K: Sink>(
-        &mut self,
-        alloc: Global,
-        sink: &mut K,
-        line: &Line,
-    ) -> Result<Option<Cause>, Fault>
-        ensures { PlaysSome K.faults K.wrote sink.old sink.new self.old self.new (λ (says : ℕ → Outcome). follows says line.now self.old.world) result }
-    {
-        match line {
-            Line::Flush => self.flush(alloc, sink),
-            _ => Ok(None),
-        }
-    }
-
-    /// Takes a line, and what follows it.
-    fn take<K: Sink>(
-        &mut self,
-        alloc: Global,
-        sink: &mut K,
-        line: &Line,
-    ) -> Result<Option<Cause>, Fault>
-        ensures { PlaysSome K.faults K.wrote sink.old sink.new self.old self.new (λ (says : ℕ → Outcome). taken says self.old.world line.now) result }
-    {
-        match self.take_alone(alloc, sink, line)? {
-            Some(cause) => Ok(Some(cause)),
-            None => self.follow(alloc, sink, line),
-        }
-    }
-
-    /// Takes the line with this number and this text.
-    fn take_text<K: Sink>(
-        &mut self,
-        alloc: Global,
-        sink: &mut K,
-        number: u64,
-        text: &[u8],
-    ) -> Result<Option<Cause>, Fault>
-        ensures { PlaysSome K.faults K.wrote sink.old sink.new self.old self.new (λ (says : ℕ → Outcome). line_taken says number self.old.world text.now) result }
-    {
-        if number > MOST_LINES {
-            return Ok(Some(Cause::Unread(Reason::Limit)));
-        }
-        match Line::read(text) {
-            Ok(Some(line)) => self.take(alloc, sink, &line),
-            Ok(None) => Ok(None),
-            Err(reason) => Ok(Some(Cause::Unread(reason))),
-        }
-    }
-
     /// Takes the lines, one after the other, until one is refused: its number, and why.
     fn take_lines<K: Sink>(
         &mut self,
@@ -157,12 +65,9 @@ pub fn play<C: OwnerCheck, K: Sink>(
     input: &[u8],
     sink: &mut K,
 ) -> Result<Played<C>, Fault>
-    ensures { Plays K.faults K.wrote sink.old sink.new (checks_told C.told C.answers checks.items) input.now result }
+    ensures { Plays (run_with (checks_told C.told C.answers checks.items)) K.faults K.wrote sink.old sink.new input.now result }
 {
-    let mut stage = Stage {
-        world: World::new(alloc, checks),
-        counts: Counts::none(),
-    };
+    let mut stage = Stage::begin(alloc, checks);
     match stage.take_all(alloc, sink, input) {
         Ok(refused) => {
             let Stage { world, counts } = stage;

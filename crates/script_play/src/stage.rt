@@ -1,15 +1,22 @@
 //! Where a script stands.
 
+ghost use Rattle.std.specs.Prelude.{◌≡◌};
+ghost use Rattle.ar_nodes.specs.Parties.{checks_told};
+ghost use Rattle.script_play.specs.Playing.{begun};
+
 use crate::counts::Counts;
 use ar_world::World;
 use owner_check::OwnerCheck;
+use std::alloc::Global;
 use std::marker::Model;
 
-/// The world, and what was counted so far.
+/// Where a script that is played stands, between two of its lines.
 #[derive(Drop)]
-pub(crate) struct Stage<C: OwnerCheck> {
-    pub(crate) world: World<C>,
-    pub(crate) counts: Counts,
+pub struct Stage<C: OwnerCheck> {
+    /// The world behind the lines so far.
+    pub world: World<C>,
+    /// The judgements of its clients so far.
+    pub counts: Counts,
 }
 
 // Clauses see both.
@@ -19,4 +26,16 @@ impl<C: OwnerCheck> Model for Stage<C> {
     ghost Value = { Stand };
 
     ghost view = { λ s. record { world = s.world; counts = s.counts } };
+}
+
+impl<C: OwnerCheck> Stage<C> {
+    /// Where each script begins. The checks are those of the authorities, in their order.
+    pub fn begin(alloc: Global, checks: Vec<C>) -> Stage<C>
+        ensures { result ≡ begun (checks_told C.told C.answers checks.items) }
+    {
+        Stage {
+            world: World::new(alloc, checks),
+            counts: Counts::none(),
+        }
+    }
 }

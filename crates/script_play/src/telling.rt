@@ -35,9 +35,10 @@ fn tell_one<K: Sink>(alloc: Global, sink: &mut K, happening: &Happening) -> Resu
     tell_line(sink, &line)
 }
 
-/// Writes the lines of what happens, each as one piece, and counts the judgements.
+/// Writes the lines of what happens, each as one piece, and counts the judgements. Memory that runs out, and a write that
+/// fails, end it behind some of the lines.
 #[tactic(auto, using(crate::proofs::Written::written_laws))]
-fn tell<K: Sink>(
+pub fn tell<K: Sink>(
     alloc: Global,
     sink: &mut K,
     counts: &mut Counts,
@@ -65,7 +66,7 @@ fn refused_by(fault: WorldFault) -> Result<Option<Cause>, Fault>
 
 /// Writes what a call made happen in a world, and answers why the world did not take it, where it did not.
 #[tactic(auto, using(crate::proofs::Parts::made_laws))]
-pub(crate) fn tell_made<K: Sink>(
+pub fn tell_made<K: Sink>(
     alloc: Global,
     sink: &mut K,
     counts: &mut Counts,

@@ -3,7 +3,7 @@ use Rattle.std.proofs.Common.{rules, ◌≡◌, ℕ, zero, suc, ◌+◌, ◌-◌
 use Rattle.std.proofs.lemmas.List.{append-nil, map-append}
 use Rattle.std.proofs.lemmas.List.Elements.{All-nil, All-cons}
 use Rattle.std.specs.List.{AllByRecursion, AllZip}
-use Rattle.ar_base.specs.Shares.{given_of, left_of, whole}
+use Rattle.ar_seats.specs.Shares.{given_of, left_of, whole}
 use Rattle.ar_seats.specs.Totals.{total}
 use Rattle.ar_seats.proofs.TotalsLemmas.{total-append}
 use Rattle.leaf_book.specs.Book.{Book, Seat, first_seat, given_seat, joined_seat, left_seat}

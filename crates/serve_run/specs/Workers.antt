@@ -1,7 +1,7 @@
 -- What a worker does with its seat, and what all workers have together.
 use Rattle.std.specs.Prelude.{ℕ, ◌≡◌, ◌<◌, ◌≤◌, ◌+◌, ◌%◌, List, [], ◌∷◌, ◌++◌, length, take, drop, get_or, set, Option, Some, None, Result, Ok, Err}
 use Rattle.std.specs.List.{AllByRecursion, AllZip}
-use Rattle.ar_base.specs.Shares.{whole}
+use Rattle.ar_seats.specs.Shares.{whole}
 use Rattle.ar_seats.specs.Totals.{total}
 use Rattle.leaf_book.specs.Book.{Book, Draws, FindsNone, Seat, joined_seat}
 use Rattle.serve_run.specs.Reading.{Service}

@@ -1,6 +1,6 @@
 ghost use Rattle.std.specs.Prelude.{◌≡◌, ◌<◌, IfOk, Ok, All, map};
 ghost use Rattle.std.specs.List.{AllByRecursion, AllZip};
-ghost use Rattle.ar_base.specs.Shares.{whole};
+ghost use Rattle.ar_seats.specs.Shares.{whole};
 ghost use Rattle.leaf_book.specs.Book.{first_seat};
 ghost use Rattle.serve_run.specs.Answers.{Serves};
 ghost use Rattle.serve_run.specs.Serving.{IsServed, IsServerOf, serving_key};

@@ -3,7 +3,7 @@ use Rattle.std.proofs.Common.{◌≡◌, ◌≢◌, ℕ, ◌+◌, ◌<◌, ◌�
 use mathlib.Core.Option.{some}
 use mathlib.Core.Option as home
 use lib.ListN.{get_elem?}
-use Rattle.ar_base.specs.Shares.{whole}
+use Rattle.ar_seats.specs.Shares.{whole}
 use Rattle.ar_base.specs.Counting.{one_if}
 use Rattle.ar_seats.specs.Numbers.{HasEachBelow, times, once_below, merged}
 use Rattle.ar_base.specs.Prefixes.{BeginsWith}
@@ -13,7 +13,7 @@ use Rattle.ar_seats.proofs.RisingLemmas.{times-merged, rising_merged}
 use Rattle.ar_base.proofs.Prefixes.{begins_on}
 use Rattle.ar_seats.proofs.PrefixLemmas.{longer_is_one}
 use Rattle.atomic_table.proofs.Lists.{at_set, at_snoc}
-use Rattle.shared_node.specs.History.{IsLegal}
+use Rattle.node_core.specs.History.{IsLegal}
 use Rattle.shared_node.specs.Rule.{Fits, IsHome, Keeps}
 use Rattle.shared_node.specs.Steps.{left_view, given_view, joined_view, spent_view}
 use Rattle.shared_node.specs.declared.held.Held.{Held}

@@ -8,7 +8,7 @@ use mathlib.Core.Logic.{dite}
 use native.Mathlib.Decide.{dec_lt, ℕ_discrete}
 use prog.Atomic.{either}
 use lib.ListN.{get_elem?}
-use Rattle.ar_base.specs.Shares.{whole}
+use Rattle.ar_seats.specs.Shares.{whole}
 use Rattle.ar_base.specs.Counting.{one_if}
 use Rattle.ar_seats.specs.Numbers.{HasEachBelow, times, once_below}
 use Rattle.ar_base.specs.Prefixes.{BeginsWith}
@@ -19,7 +19,7 @@ use Rattle.ar_base.proofs.Prefixes.{begins_itself}
 use Rattle.atomic_table.proofs.Lists.{at_snoc}
 use Rattle.atomic_table.specs.Table.{Allows, Final, Seen, opening}
 use Rattle.atomic_table.specs.Table.Act.{keeps, takes, gives}
-use Rattle.shared_node.specs.History.{IsLegal, Replays, state_after}
+use Rattle.node_core.specs.History.{IsLegal, Replays, state_after}
 use Rattle.shared_node.specs.Rule.{Fits, IsHome, Keeps, IsKept}
 use Rattle.shared_node.specs.Steps.{Mine, Looks, Compares, Counts, Leaves, Enters, first_view}
 use Rattle.shared_node.specs.declared.held.Held.{Held}

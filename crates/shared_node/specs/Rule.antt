@@ -4,13 +4,13 @@ use Rattle.std.specs.Prelude.{◌≡◌, ℕ, ◌<◌, ◌≤◌, true, false, O
 use mathlib.Core.Option.{some}
 use mathlib.Core.Option as home
 use lib.ListN.{get_elem?}
-use Rattle.ar_base.specs.Shares.{whole}
+use Rattle.ar_seats.specs.Shares.{whole}
 use Rattle.ar_seats.specs.Totals.{total}
 use Rattle.ar_base.specs.Counting.{one_if}
 use Rattle.ar_seats.specs.Numbers.{IsRising, times, once_below}
 use Rattle.ar_base.specs.Prefixes.{BeginsWith}
 use Rattle.atomic_table.specs.Table.{State}
-use Rattle.shared_node.specs.History.{IsLegal, state_after}
+use Rattle.node_core.specs.History.{IsLegal, state_after}
 use Rattle.shared_node.specs.declared.held.Held.{Held}
 use Rattle.shared_node.specs.declared.node.Node.{Node}
 

@@ -1,11 +1,11 @@
 -- A node and its seats as contracts see them.
 use Rattle.std.specs.Prelude.{◌≡◌, ℕ, ◌+◌, Option, Some, List, [], ◌∷◌, ◌++◌, length}
-use Rattle.ar_base.specs.Shares.{given_of, left_of}
+use Rattle.ar_seats.specs.Shares.{given_of, left_of}
 use Rattle.ar_seats.specs.Numbers.{merged}
 use Rattle.ar_base.specs.Prefixes.{BeginsWith}
 use Rattle.ar_seats.specs.Prefixes.{longer}
 use Rattle.atomic_table.specs.Seated.{TableId}
-use Rattle.shared_node.specs.History.{IsLegal, reply_after}
+use Rattle.node_core.specs.History.{IsLegal, reply_after}
 
 -- which node it is, and the state of the core that it began with
 pub record NodeParts (S : Type 0) : Type 0 where

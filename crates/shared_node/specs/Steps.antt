@@ -1,11 +1,11 @@
 -- What each atomic step tells, and how views are split and joined.
 use Rattle.std.specs.Prelude.{◌≡◌, ℕ, ◌+◌, ◌≤◌, ◌≢◌, true, false, Option, Some, None, List, [], ◌∷◌, ◌++◌, length}
-use Rattle.ar_base.specs.Shares.{given_of, left_of, whole}
+use Rattle.ar_seats.specs.Shares.{given_of, left_of, whole}
 use Rattle.ar_seats.specs.Numbers.{IsRising, merged}
 use Rattle.ar_base.specs.Prefixes.{BeginsWith}
 use Rattle.ar_seats.specs.Prefixes.{longer}
 use Rattle.atomic_table.specs.Table.{Me, rest}
-use Rattle.shared_node.specs.History.{Replays}
+use Rattle.node_core.specs.History.{Replays}
 use Rattle.shared_node.specs.declared.held.Held.{Held}
 use Rattle.shared_node.specs.declared.node.Node.{Node}
 

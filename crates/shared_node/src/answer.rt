@@ -1,6 +1,6 @@
 ghost use Rattle.std.specs.Prelude.{◌≡◌};
 
-use crate::Core;
+use node_core::Core;
 use std::marker::Model;
 
 /// The place of a call in the history: the number of calls before it. Only `SharedNode::ask` makes

@@ -10,7 +10,7 @@ ghost use Rattle.shared_node.specs.Rule.{Keeps};
 ghost use Rattle.shared_node.specs.declared.held.Held.{Held};
 ghost use Rattle.shared_node.specs.declared.node.Node.{Node};
 
-use crate::Core;
+use node_core::Core;
 
 /// What two seats have seen are beginnings of one history: the longer begins with both.
 pub fn two_seats_have_seen_one_history<C: Core>()

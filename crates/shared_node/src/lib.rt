@@ -9,17 +9,15 @@
 //! A seat can be split for another thread, and joined again. A seat that has the whole share is the
 //! only one: with it the node is closed, and gives back the core and the history.
 //!
-//! `specs/History.antt` says what a core makes of a history of calls, and which histories are legal.
+//! What a core makes of a history of calls, and which histories are legal, is said by `node_core`.
 #![tactic(auto)]
 
 pub use answer::{Answer, Closed, Place};
-pub use ar_base::SplitFault;
-pub use core_trait::Core;
+pub use ar_seats::SplitFault;
 pub use seat::Seat;
 pub use shared::SharedNode;
 
 mod answer;
-mod core_trait;
 mod held;
 pub mod laws;
 mod node;

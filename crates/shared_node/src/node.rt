@@ -1,7 +1,7 @@
 ghost use Rattle.std.specs.Prelude.{◌≡◌, IfOk, IfErr};
 ghost use Rattle.shared_node.specs.Answers.{AddsCall, IsAsBefore};
 
-use crate::Core;
+use node_core::Core;
 use std::alloc::{AllocError, Global};
 
 /// A core with the calls that it answered.

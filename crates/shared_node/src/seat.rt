@@ -1,10 +1,10 @@
 ghost use Rattle.std.specs.Prelude.{◌≡◌, ◌<◌, ◌≤◌};
-ghost use Rattle.ar_base.specs.Shares.{whole};
+ghost use Rattle.ar_seats.specs.Shares.{whole};
 
-use crate::Core;
 use crate::held::Held;
 use crate::node::NodeOf;
-use ar_base::Share;
+use ar_seats::Share;
+use node_core::Core;
 use std::marker::Model;
 
 pub(crate) type HeldOf<C> = Held<<C as Core>::State, <C as Core>::Input, <C as Core>::Note>;

@@ -1,17 +1,18 @@
 ghost use Rattle.std.specs.Prelude.{◌≡◌, ◌<◌, ◌↔◌, [], ◌∷◌, ◌++◌, true, false, length, Some, None, Err, IsOk, IfOk, IfErr, OnErr};
-ghost use Rattle.ar_base.specs.Shares.{whole};
+ghost use Rattle.ar_seats.specs.Shares.{whole};
 ghost use Rattle.ar_seats.specs.Numbers.{HasEachBelow, IsRising};
 ghost use Rattle.ar_base.specs.Prefixes.{BeginsWith};
-ghost use Rattle.shared_node.specs.History.{Replays};
+ghost use Rattle.node_core.specs.History.{Replays};
 ghost use Rattle.shared_node.specs.Seats.{IsSeatOf, Asked, SeesOn, first_seat, left_seat, given_seat, joined_seat};
-ghost use Rattle.ar_base.specs.declared.split_fault.SplitFault.TheVariants.{Narrow};
+ghost use Rattle.ar_seats.specs.declared.split_fault.SplitFault.TheVariants.{Narrow};
 
 use crate::node::{Node, NodeOf, answer};
 use crate::seat::{HeldOf, Token};
 use crate::steps::{Compare, Count, Enter, Halve, Leave, Look, NodeRule, Unite};
-use crate::{Answer, Closed, Core, Place, Seat, SplitFault};
-use ar_base::Share;
+use crate::{Answer, Closed, Place, Seat, SplitFault};
+use ar_seats::Share;
 use atomic_table::Table;
+use node_core::Core;
 use std::alloc::{AllocError, Global};
 use std::marker::Model;
 use std::snapshot::Snapshot;
@@ -128,8 +129,8 @@ impl<C: Core> SharedNode<C> {
     /// It waits for the lock, and returns if it gets it.
     pub fn ask<R: Wait>(
         &self,
-        alloc: Global,
         rt: &R,
+        alloc: Global,
         seat: &mut Seat<C>,
         input: C::Input,
     ) -> Result<Answer<C::Reply>, (C::Input, AllocError)>

@@ -1,10 +1,10 @@
 //! The rule of a node's table, and what each of its atomic steps tells.
 
-use crate::Core;
 use crate::held::Held;
 use crate::node::NodeOf;
 use crate::seat::HeldOf;
 use atomic_table::{Join, Play, Split, TableRule};
+use node_core::Core;
 use std::marker::PhantomData;
 use std::snapshot::Snapshot;
 

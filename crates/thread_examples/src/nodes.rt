@@ -1,7 +1,8 @@
 ghost use Rattle.std.specs.Prelude.{◌≡◌, ◌+◌, ℕ, All, IfOk};
 ghost use Rattle.shared_node.specs.Seats.{IsSeatOf};
 
-use shared_node::{Core, Seat, SharedNode};
+use node_core::Core;
+use shared_node::{Seat, SharedNode};
 use std::alloc::{AllocError, Global};
 use std::sync::Wait;
 use std::test::Fail;
@@ -50,7 +51,7 @@ fn ask<R: Wait>(
     requires { IsSeatOf node.now seat.old }
     ensures { IsSeatOf node.now seat.new }
 {
-    match node.ask(alloc, rt, seat, input) {
+    match node.ask(rt, alloc, seat, input) {
         Ok(answer) => Ok((answer.place.number(), answer.reply)),
         Err((_, error)) => Err(error),
     }
@@ -86,7 +87,7 @@ fn an_ask_that_wants_memory_leaves_no_trace(rt: HostRuntime) -> Result<(), Fail>
         panic!(rt; "out of memory")
     };
     let refused = node
-        .ask(alloc, &rt, &mut seat, 0)
+        .ask(&rt, alloc, &mut seat, 0)
         .err()
         .map(|refused| refused.0);
     assert_eq!(rt; refused, Some(0));

@@ -1,5 +1,5 @@
 ghost use Rattle.std.specs.Prelude.{◌≡◌, All, IfOk, length};
-ghost use Rattle.ar_base.specs.Shares.{whole};
+ghost use Rattle.ar_seats.specs.Shares.{whole};
 ghost use Rattle.lms_tree.specs.Signature.{lms_signature_len_of};
 
 use ar_names::Name;

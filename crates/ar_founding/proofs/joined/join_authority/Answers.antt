@@ -3,8 +3,8 @@ use Rattle.ar_founding.specs.Founded.{IsAuthorityRing}
 use Rattle.ar_founding.proofs.FirstParties.{authority-joined, first-own}
 use Rattle.ar_founding.proofs.joined.join_authority.Goals as goal
 
-pub authority_node-requires-clause-own : goal.authority_node-requires-clause-own
-authority_node-requires-clause-own g c κs within = (first-own IsAuthorityRing _ _ _ _ _ _ c.take_first-state.ensures c.take_first-ring.ensures c.requires.own).0
+pub authority_node-requires : goal.authority_node-requires
+authority_node-requires g c = record { own = (first-own IsAuthorityRing _ _ _ _ _ _ c.take_first-state.ensures c.take_first-ring.ensures c.requires.own).0 }
 
 pub returns-clause-same : goal.returns-clause-same
 returns-clause-same g c =

@@ -1,6 +1,6 @@
 use Rattle.std.proofs.Common.{rules, subst}
-use Rattle.ar_text.specs.Parts.{Appends}
-use Rattle.ar_text.proofs.Joined.{item_stops}
+use Rattle.ar_base.specs.Appending.{Appends}
+use Rattle.ar_base.proofs.Appending.{item_stops}
 use Rattle.ar_cert.specs.Changes.{change_text}
 use Rattle.ar_message.proofs.writing.put_each_change.Goals as goal
 

@@ -1,7 +1,7 @@
 -- What has been appended so far is the text of the entries so far.
 use Rattle.std.proofs.Common.{take, Ok}
 use Rattle.std.specs.List.{flat_map}
-use Rattle.ar_text.specs.Parts.{Appends}
+use Rattle.ar_base.specs.Appending.{Appends}
 use Rattle.ar_cert.specs.Changes.{change_text}
 use Rattle.ar_message.proofs.writing.put_each_change.Given as goal
 

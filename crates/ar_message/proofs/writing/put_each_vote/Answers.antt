@@ -1,6 +1,6 @@
 use Rattle.std.proofs.Common.{rules, subst}
-use Rattle.ar_text.specs.Parts.{Appends}
-use Rattle.ar_text.proofs.Joined.{item_stops}
+use Rattle.ar_base.specs.Appending.{Appends}
+use Rattle.ar_base.proofs.Appending.{item_stops}
 use Rattle.ar_message.specs.Lists.{vote_text}
 use Rattle.ar_message.proofs.writing.put_each_vote.Goals as goal
 

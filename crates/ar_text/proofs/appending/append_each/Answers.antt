@@ -1,6 +1,6 @@
 use Rattle.std.proofs.Common.{rules}
 use Rattle.ar_text.specs.Parts.{part_text}
-use Rattle.ar_text.proofs.Joined.{item_stops}
+use Rattle.ar_base.proofs.Appending.{item_stops}
 use Rattle.ar_text.proofs.appending.append_each.Goals as goal
 
 pub returns-in_err-append_part : goal.returns-in_err-append_part

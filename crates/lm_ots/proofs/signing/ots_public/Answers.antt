@@ -1,27 +1,20 @@
-use Rattle.std.proofs.Common.{◌≡◌, ◌∙◌, ap, subst, arith, ◌-◌, ◌^◌}
-use Rattle.std.specs.List.{flat_map, range_with_len}
-use Rattle.sha2.specs.Hashers.{Holds256}
-use Rattle.sha2.specs.Sha256.{sha256}
-use Rattle.lm_ots.specs.Chain.{d_pblc, domain_text}
+use Rattle.std.proofs.Common.{◌≡◌, ◌∙◌, ap, arith, ℕ, ◌-◌, ◌^◌, ◌<◌, [], slice_index_or}
+use Rattle.std.proofs.lemmas.List.{get_or-replicate}
 use Rattle.lm_ots.specs.OtsKind.{width_of, count_of}
 use Rattle.lm_ots.specs.Signing.{public_key_of, value_after}
-use Rattle.lm_ots.proofs.EndLemmas.{domain_text-more}
+use Rattle.lm_ots.proofs.EndLemmas.{key_of_ends-same}
+use Rattle.lm_ots.proofs.WayLemmas.{count_of-le, from_beginning}
 use Rattle.lm_ots.proofs.signing.ots_public.Goals as goal
-
-pub loop-i-preserved : goal.loop-i-preserved
-loop-i-preserved c =
-    let secret = c.args.secret.now in
-    let i = c.loop-i.i in
-    subst (λ m. Holds256 c.update.new.self m)
-    (domain_text-more secret.id secret.leaf d_pblc (value_after secret (2 ^ width_of secret.kind - 1)) i c.value_after.result
-    (c.value_after.ensures ∙ ap (λ n. value_after secret n i) c.last.ensures))
-    (c.update.ensures _ c.loop-i.invariant)
 
 pub returns : goal.returns
 unfolding public_key_of
 returns c =
     let secret = c.args.secret.now in
-    let ends = value_after secret (2 ^ width_of secret.kind - 1) in
-    let at_end : c.loop-i.i ≡ count_of secret.kind = omega (arith, c.p-i-end.ensures) in
-    c.finalize.ensures _ c.loop-i.invariant
-    ∙ ap (λ n. sha256 (domain_text secret.id secret.leaf d_pblc (flat_map ends (range_with_len 0 n)))) at_end
+    let few = count_of-le secret.kind in
+    let end_is : (i : ℕ) → i < count_of secret.kind → slice_index_or c.walk.new.chains.values i [] ≡ value_after secret (2 ^ width_of secret.kind - 1) i =
+    λ i below.
+    let room : i < 268 = omega arith in
+    c.walk.ensures i (omega (arith, c.p.ensures))
+    ∙ from_beginning secret i _ _ _ (get_or-replicate 268 i 0 0 room) (c.put_beginnings.ensures i below)
+    ∙ ap (λ n. value_after secret n i) (get_or-replicate 268 i c.last.result 0 room ∙ c.last.ensures) in
+    c.key_of.ensures ∙ key_of_ends-same secret.id secret.leaf secret.kind _ _ end_is

@@ -1,6 +1,6 @@
 use Rattle.std.proofs.Common.{rules, ℕ, ◌++◌, codes}
 use Rattle.std.specs.Fmt.{decimal}
-use Rattle.ar_text.proofs.Joined.{item_stops}
+use Rattle.ar_base.proofs.Appending.{item_stops}
 use Rattle.report_text.proofs.words.put_taken.Goals as goal
 
 pub returns-in_err-put_numbered : goal.returns-in_err-put_numbered

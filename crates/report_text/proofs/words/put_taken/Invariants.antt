@@ -1,6 +1,6 @@
 -- What has been appended so far are the numbers so far.
 use Rattle.std.proofs.Common.{take, Ok}
-use Rattle.ar_text.specs.Parts.{Appends}
+use Rattle.ar_base.specs.Appending.{Appends}
 use Rattle.report_text.specs.Lines.{taken_text}
 use Rattle.report_text.proofs.words.put_taken.Given as goal
 

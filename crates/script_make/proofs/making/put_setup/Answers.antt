@@ -1,5 +1,5 @@
 use Rattle.std.proofs.Common.{codes}
-use Rattle.ar_text.proofs.Joined.{appends-then}
+use Rattle.ar_base.proofs.Appending.{appends-then}
 use Rattle.script_make.proofs.making.put_setup.Goals as goal
 
 pub returns : goal.returns

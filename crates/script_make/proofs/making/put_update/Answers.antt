@@ -1,6 +1,6 @@
 use Rattle.std.proofs.Common.{◌≡◌, ℕ, ◌∙◌, ap, codes}
 use Rattle.std.specs.List.{range_with_len}
-use Rattle.ar_text.proofs.Joined.{appends-then}
+use Rattle.ar_base.proofs.Appending.{appends-then}
 use Rattle.script_make.specs.Numbers.{batch}
 use Rattle.script_make.specs.Script.{updates_of}
 use Rattle.script_make.proofs.making.put_update.Goals as goal

@@ -1,7 +1,7 @@
 -- What has been appended so far are the lines of the numbers so far.
 use Rattle.std.proofs.Common.{Ok, ◌-◌}
 use Rattle.std.specs.List.{flat_map, range_with_len}
-use Rattle.ar_text.specs.Parts.{Appends}
+use Rattle.ar_base.specs.Appending.{Appends}
 use Rattle.script_make.specs.Rows.{row_text}
 use Rattle.script_make.proofs.rows.put_rows.Given as goal
 

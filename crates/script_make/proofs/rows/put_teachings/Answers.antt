@@ -1,5 +1,5 @@
 use Rattle.std.proofs.Common.{rules}
-use Rattle.ar_text.proofs.Joined.{item_stops}
+use Rattle.ar_base.proofs.Appending.{item_stops}
 use Rattle.script_make.specs.Rows.{teaching_text}
 use Rattle.script_make.proofs.rows.put_teachings.Goals as goal
 

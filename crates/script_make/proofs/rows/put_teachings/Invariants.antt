@@ -1,7 +1,7 @@
 -- What has been appended so far are the lines of the authorities so far.
 use Rattle.std.proofs.Common.{take, Ok}
 use Rattle.std.specs.List.{flat_map}
-use Rattle.ar_text.specs.Parts.{Appends}
+use Rattle.ar_base.specs.Appending.{Appends}
 use Rattle.script_make.specs.Rows.{teaching_text}
 use Rattle.script_make.proofs.rows.put_teachings.Given as goal
 

@@ -4,9 +4,9 @@ use Rattle.script_play.proofs.playing.play.Goals as goal
 
 pub returns-in-Err : goal.returns-in-Err
 returns-in-Err g c =
-    play-broken g.K.Sink.faults g.K.Sink.wrote c.args.sink.now c.take_all.new.sink _ c.new.result c.none.result c.take_all.new.self c.args.input.now c.in-Err.fault c.new.ensures c.in-Err.ensures
+    play-broken g.K.Sink.faults g.K.Sink.wrote c.args.sink.now c.take_all.new.sink _ c.begin-stage.result c.take_all.new.self c.args.input.now c.in-Err.fault c.begin-stage.ensures c.in-Err.ensures
 
 pub returns-in-Ok : goal.returns-in-Ok
 returns-in-Ok g c =
-    play-so g.K.Sink.faults g.K.Sink.wrote c.args.sink.now c.take_all.new.sink _ c.new.result c.none.result _ c.take_all.new.self c.args.input.now c.in-Ok.refused
-    c.new.ensures c.none.ensures c.stage.view_is c.in-Ok.ensures
+    play-so g.K.Sink.faults g.K.Sink.wrote c.args.sink.now c.take_all.new.sink _ c.begin-stage.result c.take_all.new.self _ c.args.input.now c.in-Ok.refused
+    c.begin-stage.ensures c.stage.view_is c.in-Ok.ensures

@@ -1,25 +1,25 @@
 -- Lines that break off, or the line that tells which was refused.
 use Rattle.std.proofs.Common.{rules, Err, Ok, subst}
 use Rattle.ar_lines.specs.Readings.{LineCursor}
-use Rattle.script_play.proofs.Runs.{Lines, all-broken, all-told, all-untold}
+use Rattle.script_play.proofs.Runs.{Lines, all-broken, all-told, all-untold, from_first}
 use Rattle.script_play.proofs.stage.Stage.take_all.Goals as goal
 
 pub returns-in_err-refusal : goal.returns-in_err-refusal
 returns-in_err-refusal g c =
     let fault = c.in_err-refusal.field-0.0 in
     let Played = λ (at : LineCursor). Lines g.K.Sink.faults g.K.Sink.wrote c.args.sink.now c.take_lines.new.sink c.args.self.now c.take_lines.new.self at.next at.ahead (Err fault) in
-    let so = all-broken g.K.Sink.faults g.K.Sink.wrote c.args.sink.now c.take_lines.new.sink c.args.self.now c.take_lines.new.self c.args.input.now fault (subst Played c.new.ensures c.in_err-refusal.ensures) in
+    let so = all-broken g.K.Sink.faults g.K.Sink.wrote c.args.sink.now c.take_lines.new.sink c.args.self.now c.take_lines.new.self (from_first c.args.self.now.world c.args.input.now) fault (subst Played c.new.ensures c.in_err-refusal.ensures) in
     search (rules, so)
 
 pub returns-in_err-tell_refusal : goal.returns-in_err-tell_refusal
 returns-in_err-tell_refusal g c =
     let refusal = c.in_ok-refusal.refusal in
     let Played = λ (at : LineCursor). Lines g.K.Sink.faults g.K.Sink.wrote c.args.sink.now c.take_lines.new.sink c.args.self.now c.take_lines.new.self at.next at.ahead (Ok refusal) in
-    let so = all-untold g.K.Sink.faults g.K.Sink.wrote c.args.sink.now c.take_lines.new.sink c.tell_refusal.new.sink c.args.self.now c.take_lines.new.self c.args.input.now refusal _ (subst Played c.new.ensures c.in_ok-refusal.ensures) c.in_err-tell_refusal.ensures in
+    let so = all-untold g.K.Sink.faults g.K.Sink.wrote c.args.sink.now c.take_lines.new.sink c.tell_refusal.new.sink c.args.self.now c.take_lines.new.self (from_first c.args.self.now.world c.args.input.now) refusal _ (subst Played c.new.ensures c.in_ok-refusal.ensures) c.in_err-tell_refusal.ensures in
     search (rules, so)
 
 pub returns : goal.returns
 returns g c =
     let refusal = c.in_ok-refusal.refusal in
     let Played = λ (at : LineCursor). Lines g.K.Sink.faults g.K.Sink.wrote c.args.sink.now c.take_lines.new.sink c.args.self.now c.take_lines.new.self at.next at.ahead (Ok refusal) in
-    all-told g.K.Sink.faults g.K.Sink.wrote c.args.sink.now c.take_lines.new.sink c.tell_refusal.new.sink c.args.self.now c.take_lines.new.self c.args.input.now refusal (subst Played c.new.ensures c.in_ok-refusal.ensures) c.in_ok-tell_refusal.ensures
+    all-told g.K.Sink.faults g.K.Sink.wrote c.args.sink.now c.take_lines.new.sink c.tell_refusal.new.sink c.args.self.now c.take_lines.new.self (from_first c.args.self.now.world c.args.input.now) refusal (subst Played c.new.ensures c.in_ok-refusal.ensures) c.in_ok-tell_refusal.ensures

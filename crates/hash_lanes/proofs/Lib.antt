@@ -1,0 +1,4 @@
+mod LaneLemmas
+mod TextLemmas
+mod RoundLemmas
+mod Turns

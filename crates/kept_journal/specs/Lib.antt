@@ -1,0 +1,6 @@
+pub mod Appending
+pub mod Fused
+pub mod Journal
+pub mod Loaded
+pub mod Replays
+pub mod Settled

@@ -1,0 +1,4 @@
+pub mod Accepted
+pub mod Kept
+pub mod Replayed
+pub mod Spelled

@@ -1,0 +1,103 @@
+//! A log takes the inputs of its journal again.
+
+ghost use Rattle.std.specs.Prelude.{◌≡◌, ◌≢◌, false, IsTrue, OnOk, IsErrOf};
+ghost use Rattle.key_roll.specs.Ring.{IsNewest};
+ghost use Rattle.log_core.specs.Inputs.{input_of};
+ghost use Rattle.log_core.specs.Keyed.{IsPlain};
+ghost use Rattle.log_core.specs.State.{rolls};
+ghost use Rattle.log_journal.specs.Determined.{one_standing};
+ghost use Rattle.log_journal.specs.Steps.{LogStanding, Steps, standing_of, takes};
+
+use crate::input::{Said, read_text};
+use kept_journal::{Replay, ReplayFault};
+use lms_tree::LmsPublic;
+use log_core::{Log, LogInput, LogRefusal};
+use std::alloc::Global;
+use std::marker::Model;
+
+/// The bytes with which a log's journal begins: `ARPKILG1`.
+pub(crate) const MARK: [u8; 8] = *b"ARPKILG1";
+
+/// A log that takes the inputs of its journal again.
+#[derive(Drop)]
+pub(crate) struct Replaying {
+    pub(crate) log: Log,
+}
+
+// Clauses see where it stands, and its keys.
+impl Model for Replaying {
+    ghost use Rattle.log_journal.specs.Steps.{LogStanding, standing_of};
+
+    ghost Value = { LogStanding };
+
+    ghost view = { λ r. standing_of r.log };
+}
+
+/// Why a log does not take an input again.
+fn fault_of(refusal: LogRefusal) -> ReplayFault
+    ensures { result ≡ ReplayFault.Stuck → refusal ≢ LogRefusal.Memory }
+{
+    match refusal {
+        LogRefusal::Memory => ReplayFault::Memory,
+        _ => ReplayFault::Stuck,
+    }
+}
+
+/// A log takes an input again that is no roll.
+fn take_again(alloc: Global, log: &mut Log, input: &LogInput) -> Result<(), ReplayFault>
+    requires { IsPlain (input_of input.now) }
+    ensures taken { OnOk result (Steps (standing_of log.old) (input_of input.now) (standing_of log.new)) }
+    ensures stuck { IsErrOf result ReplayFault.Stuck → (later : LogStanding) → ¬ Steps (standing_of log.old) (input_of input.now) later }
+{
+    match log.step(alloc, input) {
+        Ok(_) => Ok(()),
+        Err(refusal) => Err(fault_of(refusal)),
+    }
+}
+
+/// Is the newest key of a log this one?
+fn is_newest(log: &Log, key: &LmsPublic) -> bool
+    ensures yes { IsTrue result → IsNewest log.now.ring.keys key.now }
+    ensures no { result ≡ false → ¬ IsNewest log.now.ring.keys key.now }
+{
+    log.newest_key() == *key
+}
+
+/// Tells a proof that a log has a newest key. It does nothing.
+fn newest_told(log: &Log)
+    ensures { (key : LmsPublic) × IsNewest log.now.ring.keys key }
+{
+    let _key = log.newest_key();
+}
+
+/// A log goes on to its next key again, which is to be this one.
+fn roll_again(alloc: Global, log: &mut Log, key: &LmsPublic) -> Result<(), ReplayFault>
+    ensures taken { OnOk result (Steps (standing_of log.old) (rolls key.now) (standing_of log.new)) }
+    ensures stuck { IsErrOf result ReplayFault.Stuck → (later : LogStanding) → ¬ Steps (standing_of log.old) (rolls key.now) later }
+{
+    newest_told(log);
+    match log.roll(alloc) {
+        Ok(_) => {
+            if is_newest(log, key) {
+                Ok(())
+            } else {
+                Err(ReplayFault::Stuck)
+            }
+        }
+        Err(refusal) => Err(fault_of(refusal)),
+    }
+}
+
+impl Replay for Replaying {
+    ghost takes = { takes };
+
+    ghost determined = { one_standing };
+
+    fn replay(&mut self, alloc: Global, text: &[u8]) -> Result<(), ReplayFault> {
+        match read_text(text) {
+            Said::Plain(input) => take_again(alloc, &mut self.log, &input),
+            Said::Roll(key) => roll_again(alloc, &mut self.log, &key),
+            Said::Nothing => Err(ReplayFault::Stuck),
+        }
+    }
+}

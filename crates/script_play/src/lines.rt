@@ -1,0 +1,110 @@
+//! A line of a script, and what follows it.
+
+ghost use Rattle.std.specs.Prelude.{◌≡◌, ℕ};
+ghost use Rattle.owner_check.specs.declared.answer.Outcome.{Outcome};
+ghost use Rattle.ar_world.specs.Run.{follows, line_taken, progress_of, taken, taken_as};
+ghost use Rattle.ar_world.specs.Step.{step};
+ghost use Rattle.script_play.specs.Playing.{PlaysSome, line_read};
+
+use crate::stage::Stage;
+use crate::telling::tell_made;
+use ar_io::Sink;
+use ar_lines::Reason;
+use ar_run::Fault;
+use ar_world::Cause;
+use owner_check::OwnerCheck;
+use script_text::Line;
+use std::alloc::Global;
+
+/// The most lines of a script.
+const MOST_LINES: u64 = 20000;
+
+/// Reads the text of the line with this number; behind the last line that there may be, none is read.
+#[tactic(auto, using(crate::proofs::Taking::line_laws))]
+pub fn read_line<'a>(number: u64, text: &'a [u8]) -> Result<Option<Line<'a>>, Reason>
+    ensures { result ≡ line_read number text.now }
+{
+    if number > MOST_LINES {
+        return Err(Reason::Limit);
+    }
+    Line::read(text)
+}
+
+impl<C: OwnerCheck> Stage<C> {
+    /// Takes a line, without what follows it.
+    #[tactic(auto, using(crate::proofs::Parts::some_laws))]
+    fn take_alone<K: Sink>(
+        &mut self,
+        alloc: Global,
+        sink: &mut K,
+        line: &Line,
+    ) -> Result<Option<Cause>, Fault>
+        ensures { PlaysSome K.faults K.wrote sink.old sink.new self.old self.new (λ (says : Outcome). progress_of self.old.world (step says self.old.world line.now)) result }
+    {
+        let made = self.world.step(alloc, line);
+        tell_made(alloc, sink, &mut self.counts, made)
+    }
+
+    /// Makes what follows a line.
+    fn follow<K: Sink>(
+        &mut self,
+        alloc: Global,
+        sink: &mut K,
+        line: &Line,
+    ) -> Result<Option<Cause>, Fault>
+        ensures { PlaysSome K.faults K.wrote sink.old sink.new self.old self.new (λ (says : ℕ → Outcome). follows says line.now self.old.world) result }
+    {
+        match line {
+            Line::Flush => self.flush(alloc, sink),
+            _ => Ok(None),
+        }
+    }
+
+    /// Takes a line, and what follows it.
+    fn take<K: Sink>(
+        &mut self,
+        alloc: Global,
+        sink: &mut K,
+        line: &Line,
+    ) -> Result<Option<Cause>, Fault>
+        ensures { PlaysSome K.faults K.wrote sink.old sink.new self.old self.new (λ (says : ℕ → Outcome). taken says self.old.world line.now) result }
+    {
+        match self.take_alone(alloc, sink, line)? {
+            Some(cause) => Ok(Some(cause)),
+            None => self.follow(alloc, sink, line),
+        }
+    }
+
+    /// Takes a line as it was read, and what follows it: one that is skipped does nothing, and one that could not be read is
+    /// refused.
+    ///
+    /// The answer is why the line was refused, if it was. Memory that runs out, and a write that fails, end it where it stands.
+    #[tactic(auto, using(crate::proofs::Taking::read_laws))]
+    pub fn take_read<K: Sink>(
+        &mut self,
+        alloc: Global,
+        sink: &mut K,
+        read: Result<Option<Line>, Reason>,
+    ) -> Result<Option<Cause>, Fault>
+        ensures { PlaysSome K.faults K.wrote sink.old sink.new self.old self.new (λ (says : ℕ → Outcome). taken_as says self.old.world read.entry) result }
+    {
+        match read {
+            Ok(Some(line)) => self.take(alloc, sink, &line),
+            Ok(None) => Ok(None),
+            Err(reason) => Ok(Some(Cause::Unread(reason))),
+        }
+    }
+
+    /// Takes the line with this number and this text.
+    pub(crate) fn take_text<K: Sink>(
+        &mut self,
+        alloc: Global,
+        sink: &mut K,
+        number: u64,
+        text: &[u8],
+    ) -> Result<Option<Cause>, Fault>
+        ensures { PlaysSome K.faults K.wrote sink.old sink.new self.old self.new (λ (says : ℕ → Outcome). line_taken says number self.old.world text.now) result }
+    {
+        self.take_read(alloc, sink, read_line(number, text))
+    }
+}
