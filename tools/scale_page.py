@@ -79,9 +79,9 @@ def listing(sentences):
 # What it costs.
 
 
-def seconds(counts):
-    """The seconds of one processor for compressions by purpose."""
-    return sum(count * per_compression(purpose) for purpose, count in counts.items()) / SPEED
+def seconds(counts, ots=COUNCIL.types.ots):
+    """The seconds of one processor for compressions by purpose, where signatures are of this one-time type."""
+    return sum(count * per_compression(purpose, ots) for purpose, count in counts.items()) / SPEED
 
 
 def by_purpose(load, council=COUNCIL, roles=(LOG, AUTHORITY, OWNER, CLIENT)):
@@ -209,7 +209,7 @@ def key_times():
 def verdict(types):
     """The seconds of a client's verdict."""
     council = COUNCIL._replace(types=types)
-    return seconds(by_purpose(one_load(asked=1), council, (CLIENT,)))
+    return seconds(by_purpose(one_load(asked=1), council, (CLIENT,)), types.ots)
 
 
 def byte_sizes():

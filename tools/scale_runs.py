@@ -101,18 +101,19 @@ def of_performance():
     yield "instructions, an endorsement verified", (new - queued) / (3 * 16), one
     for ots in (4, 3):
         judged = pages.numbers(pages.figure("BROWSER.md", "one `arpki_judge`", f"types 5 and {ots}"))[1]
-        three = 3 * Types(5, ots).verify(77 + len("a.example")) * per_compression("verified")
+        three = 3 * Types(5, ots).verify(77 + len("a.example")) * per_compression("verified", ots)
         yield f"instructions, a verdict of types 5 and {ots}", judged, three
 
 
-# The calls by which the costs of a compression are told, by what it is for; one of a digest costs what one of a tree does.
-CALLS = {"keys": "`LmsKey::make`, types 6", "signed": "`LmsKey::sign_at`", "verified": "`arpki sig`",
+# The calls by which the costs of a compression are told, by what it is for, but of a verification (`valid`); one of a digest
+# costs what one of a tree does.
+CALLS = {"keys": "`LmsKey::make`, types 6", "signed": "`LmsKey::sign_at`",
          "trees": "`Trie::set`, 4,096 entries one", "certificates": "`Trie::set`, 4,096 entries one"}
 
 
-def per_compression(purpose):
-    """The instructions for each compression that is needed."""
-    row = CALLS[purpose]
+def per_compression(purpose, ots=3):
+    """The instructions for each compression that is needed; of a verification by the one-time type, too."""
+    row = f"`valid`, types 5 and {ots}" if purpose == "verified" else CALLS[purpose]
     return pages.number("PERFORMANCE.md", row, "instructions") / pages.number("PERFORMANCE.md", row, "needed")
 
 

@@ -461,7 +461,7 @@ static void stack_is_below(size_t most, uint32_t (*call)(void), uint32_t expecte
 
 static void stack_is_enough(uint32_t (*call)(void), uint32_t expected, const char *what)
 {
-    stack_is_below(16 * 1024, call, expected, what);
+    stack_is_below(32 * 1024, call, expected, what);
 }
 
 static void stacks_are_enough(void)

@@ -9,6 +9,8 @@
 //! `specs/Apart.antt` that no two strings of a list have one digest under SHA-256.
 //! `specs/Places.antt` says where a text stands in a list, `specs/Adding.antt` what a list is with one more,
 //! behind the others or in its place, and `specs/Prefixes.antt` when a list begins with another.
+//!
+//! Its tests: those of the crates above it.
 #![tactic(auto)]
 
 pub use bytes::position_of;

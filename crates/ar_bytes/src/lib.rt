@@ -7,6 +7,8 @@
 //! `specs/Tested.antt` has fields of one byte with few values, `specs/Joined.antt` fields that are joined to
 //! one, `specs/Ascending.antt` lists whose numbers ascend, and `specs/RoundTrip.antt` the texts of fields: what
 //! is put is read again.
+//!
+//! Its tests: `base_tests`, module `ar_bytes_tests`.
 #![tactic(auto)]
 
 mod fields;

@@ -11,6 +11,8 @@
 //!
 //! A certificate is read in place, and this takes no memory; the caller `serial_of` of the crate `worked_examples` has
 //! the contract that goes with it.
+//!
+//! Its tests: `call_tests`, module `ar_cert_tests`.
 #![tactic(auto)]
 
 mod cert;

@@ -4,6 +4,8 @@
 //!
 //! `specs/Claimed.antt` has the claims of a message and of bytes, `specs/Lists.antt` those of its lists, and
 //! `specs/Verified.antt` says that one of some claims was verified under the keys of a directory.
+//!
+//! Its tests: `examples/play`.
 #![tactic(auto)]
 
 pub mod laws;

@@ -7,6 +7,8 @@
 //! `specs/Values.antt` values and the statements on them, and `specs/Room.antt` the room in a book.
 //! `specs/Endorsements.antt` has what an authority says that endorses a certificate.
 //! `specs/Votes.antt` says of which value a quorum of votes was seen.
+//!
+//! Its tests: `examples/play`.
 #![tactic(auto)]
 
 mod keys;

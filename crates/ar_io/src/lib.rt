@@ -10,6 +10,8 @@
 //! source that could not be read to its end, and `specs/Wrote.antt` what a call did to what a sink wrote.
 //! `specs/MemSource.antt`, `specs/MemSink.antt`, `specs/QuietSink.antt` and `specs/StdEdge.antt` say what
 //! contracts see of each kind.
+//!
+//! Its tests: `base_tests`, module `ar_io_tests`.
 #![tactic(auto)]
 
 pub use command_line::words;

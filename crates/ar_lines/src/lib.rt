@@ -9,6 +9,8 @@
 //! `Refusals` how a refused line is told, `Readings` and `Rows` what is read of lines and of named lines,
 //! `Views` how words and a row that are read in place are seen, and `Written` how lines and words are
 //! written. `laws` says that what is written is read, and that it is read from nothing else.
+//!
+//! Its tests: `base_tests`, module `ar_lines_tests`.
 #![tactic(auto)]
 
 pub use lines::{Lines, first_part, first_word, is_text};

@@ -6,6 +6,8 @@
 //!
 //! What a step of a party sends is an `Unsigned` first, with zero bytes where a signature is due, and `fill`
 //! makes it a `Sent` with the party's keys (`specs/Filling.antt`).
+//!
+//! Its tests: `call_tests`, module `ar_message_tests`.
 #![tactic(auto)]
 
 mod address;

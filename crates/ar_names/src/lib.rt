@@ -3,6 +3,8 @@
 //!
 //! `specs/Names.antt` says which texts are names, where the first fault of another one is, and which digest a
 //! name has, and `specs/NameReading.antt` what reading a text as a name gives.
+//!
+//! Its tests: `base_tests`, module `ar_names_tests`.
 #![tactic(auto)]
 
 mod fault;

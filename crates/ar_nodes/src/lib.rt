@@ -9,6 +9,8 @@
 //! `Authorities` what an authority answers by what its check says, `Teaching` what a check learns of `Owners`, `Codes` the
 //! codes of refusals, and `Sending` what is printed beside them. `Composing` and `Forging` have the bytes that a script
 //! composes, and what dishonest parties sign.
+//!
+//! Its tests: `examples/play`, and `play_tests`, module `records`.
 #![tactic(auto)]
 
 mod authorities;

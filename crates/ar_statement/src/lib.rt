@@ -3,6 +3,8 @@
 //! `specs/Claims.antt` has the texts as a table by kind.
 //! `specs/Texts.antt` says how a text is read, `specs/Fields.antt` the fields that certificates and messages
 //! have too, and `specs/Ranges.antt` which values the fields of a statement have.
+//!
+//! Its tests: `call_tests`, module `ar_statement_tests`.
 #![tactic(auto)]
 
 mod fault;

@@ -1,6 +1,8 @@
 //! Texts that are appended to a vector part by part, without memory of their own.
 //!
 //! `specs/Parts.antt` says what the text of a part is, and what it is that a call appends a text.
+//!
+//! Its tests: `base_tests`, module `ar_text_tests`.
 #![tactic(auto)]
 
 pub use appending::append;

@@ -43,8 +43,9 @@ impl<C: OwnerCheck> World<C> {
         }
     }
 
-    /// Whether the line `deliver` is taken, or why it is refused: `Absent(1)` where there is no message with this number,
-    /// `Absent(2)` where the party takes no deliveries, and `Limit` where the pool is full.
+    /// Whether the line `deliver` is taken where it may come, behind the line `authorities`, or why it is refused: `Absent(1)`
+    /// where there is no message with this number, `Absent(2)` where the party takes no deliveries, and `Limit` where the pool
+    /// is full.
     #[tactic(auto, using(crate::proofs::Deliveries::can), unfolding(crate::specs::Finding::has_room))]
     pub fn can_deliver(&self, message: u64, party: Party) -> Result<(), WorldFault>
         ensures { result ≡ deliverable self.now message party }

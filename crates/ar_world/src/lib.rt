@@ -16,6 +16,8 @@
 //! and `Run` a whole script with all that is written of it. `Settling` has parties apart from their world, and what becomes
 //! of it where they have replied.
 //! `Records` has what the honest parties and the clients of a world hold, of which the safety theorem speaks.
+//!
+//! Its tests: `examples/play`, and `play_tests`, module `records`.
 #![tactic(auto)]
 
 mod asking;

@@ -4,6 +4,8 @@
 //! written and with which status. `Written` says how a question and an inquiry are written, and `laws` that they are read
 //! so. `Notes` says what the directory of `check` learns from the lines `roll`. `readers` has the calls that read the lines
 //! of a directory, and of a question about it, for commands that are asked with the same lines.
+//!
+//! Its tests: `examples/sig` and `examples/check`.
 #![tactic(auto)]
 
 pub use command::Command;

@@ -10,6 +10,8 @@
 //! is told of a confirmation and of a server, `Following` what to who pins names, `Learning` what of a RollNote, and
 //! `Verifying` which number a signature has. `laws` says that the entries which were written make the directory that
 //! learnt.
+//!
+//! Its tests: its own, through its exports, and `tools/c-library`.
 #![tactic(auto)]
 
 mod answers;

@@ -4,6 +4,8 @@
 //! script is made and played, and `Program` what a run takes and writes, by three families with a line for each request. What
 //! `play` answers is in `script_play`, what `sig` and `check` answer in `arpki_ask`, and what the commands answer that
 //! `review_named` names in `review`.
+//!
+//! Its tests: `play_tests`, and `examples/`.
 #![tactic(auto)]
 
 pub use program::arpki_main;

@@ -1,10 +1,11 @@
-//! The program `arpki_premises`, beside `arpki`: it plays a script, and tells whether its run meets two premises of the safety
-//! theorem: that at most two logs and authorities are dishonest (`few`), and that no signature in a message is valid under a
-//! key which clients know of an honest party, but on what that party signed (`unforged`).
+//! The program `arpki_premises`, beside `arpki`: it plays a script, and tells whether its run meets premises of the safety
+//! theorem: that at most two logs and authorities are dishonest (`few`); that no signature in a message is valid under a
+//! key which clients know of an honest party, but on what that party signed (`unforged`); and that no two of the strings
+//! collide which are hashed for the tables of honest logs and by clients for what they accepted (`apart`).
 //!
-//! It writes `few yes` or `few no`, and `unforged yes` or `unforged no`, or `no parties` where the script ends before its logs
-//! and authorities are there. What the answers mean is in the contracts of `few` and `is_unforged`, in the crate
-//! `run_premises`; that this program asks them of each message is read in the code.
+//! It writes three lines, `few`, `unforged` and `apart` with `yes` or `no`, or `no parties` where the script ends before its
+//! logs and authorities are there. What the answers mean is in the contracts of `few`, `is_unforged` and `none_collide`, in the
+//! crate `run_premises`; that this program asks them of the run's records and of each message is read in the code.
 #![tactic(auto)]
 
 ghost use Rattle.std.specs.Prelude.{◌<◌, IfOk};
@@ -14,7 +15,7 @@ use ar_records::Records;
 use ar_run::{Fault, read_input, status, write_line};
 use ar_world::World;
 use owner_check::{BookCheck, OwnerCheck};
-use run_premises::{few, is_unforged};
+use run_premises::{few, is_unforged, none_collide};
 use script_play::play;
 use std::alloc::{AllocError, Global};
 use std::process::ExitCode;
@@ -86,8 +87,10 @@ fn tell<C: OwnerCheck, K: Sink>(
     let records = world.records(alloc)?;
     let few = line(alloc, "few", few(&records))?;
     let unforged = line(alloc, "unforged", !has_forgery(alloc, world, &records)?)?;
+    let apart = line(alloc, "apart", none_collide(alloc, &records)?)?;
     write_line(sink, &few)?;
-    write_line(sink, &unforged)
+    write_line(sink, &unforged)?;
+    write_line(sink, &apart)
 }
 
 /// Plays the script, writes what is told of its run, and returns the status: 3 where the input is too long or one of its lines is

@@ -156,8 +156,8 @@ impl<C: OwnerCheck> Authority<C> {
     /// Makes the authority's next key, enters its Roll, and takes the key into the authority's own directory, which is not
     /// seen as a party's Roll. What it sends, to the logs, is signed by the key before it.
     ///
-    /// It takes as long as a key does. It is `LastGeneration` exactly where the newest generation is 999. After a refusal
-    /// the authority stands as before, with the keys that it had.
+    /// It takes as long as a key does. It is `LastGeneration` exactly where the newest generation is 999, but that `Memory`
+    /// may come in place of it. After a refusal the authority stands as before, with the keys that it had.
     pub fn roll(&mut self, alloc: Global) -> Result<Sent, AuthorityRefusal>
         // The answer, signed, with the one key that is the next of the ring, and where the authority stands then.
         ensures row { (next : KeyParts) → IsNext self.old.ring.keys next

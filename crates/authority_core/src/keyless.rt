@@ -113,7 +113,8 @@ impl<C: OwnerCheck> AuthorityCore<C> {
     /// party's Roll. What it sends goes to the logs.
     ///
     /// `next` is the key that the authority's ring makes as its next. It is `LastGeneration` exactly where the newest
-    /// generation is 999. After a refusal the authority stands as before. All memory is taken before the first change.
+    /// generation is 999, but that `Memory` may come in place of it. After a refusal the authority stands as before. All
+    /// memory is taken before the first change.
     pub fn roll(&mut self, alloc: Global, next: &LmsPublic) -> Result<Unsigned, AuthorityRefusal>
         ensures row { StepsBy result self.old.state self.new.state (roll_row self.old.state next.now) }
         ensures check { self.new.check ≡ self.old.check }

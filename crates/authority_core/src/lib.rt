@@ -8,6 +8,8 @@
 //! the answers with the signatures in, and which keys are the authority's.
 //! `specs/State.antt` says where an authority stands and what is true of that, and `specs/Refusals.antt` what
 //! it refuses where a call below does.
+//!
+//! Its tests: `worked_examples`, module `authority_core_tests`, and `examples/play`.
 #![tactic(auto)]
 
 mod authority;

@@ -3,6 +3,8 @@
 //!
 //! `specs/Book.antt` says what is kept, `specs/Links.antt` when one change is linked behind another, `specs/Answers.antt`
 //! what a call answers and what is kept behind it, and `specs/Calls.antt` what it is to make calls one after the other.
+//!
+//! Its tests: `memory_tests`, and `examples/follow`.
 #![tactic(auto)]
 
 mod answers;

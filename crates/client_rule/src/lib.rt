@@ -12,6 +12,8 @@
 //! ```
 //!
 //! The caller `key_to_trust` of the crate `worked_examples` has the contract that goes with it.
+//!
+//! Its tests: `examples/check`, and `worked_examples`.
 #![tactic(auto)]
 
 mod checks;

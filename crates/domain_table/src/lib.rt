@@ -11,6 +11,8 @@
 //! comes in (`new_row`) or changes (`change_row`), and the tree follows (`tree`); `take` does so by the manner in
 //! which a change is judged; `ripe_rows` appends what is ripe; `listing` lists the entries by their keys; `row_copy`
 //! copies rows, and changes for the crates above.
+//!
+//! Its tests: `worked_examples`, module `domain_table_tests`, and `examples/play`.
 #![tactic(auto)]
 
 pub use fault::ApplyFault;

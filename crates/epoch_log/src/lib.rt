@@ -8,6 +8,8 @@
 //! what a call answers beside that, `specs/Telling.antt` where another log tells how an epoch ended,
 //! `specs/Plans.antt` what is planned before an epoch ends with what is counted, and `specs/Foreseeing.antt` what is told of
 //! that before a step. `laws` says that each call keeps what is kept.
+//!
+//! Its tests: `examples/play`.
 #![tactic(auto)]
 
 mod balloting;

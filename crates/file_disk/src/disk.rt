@@ -13,9 +13,12 @@ use std::os::unix::fs::FileExt;
 
 /// A file of the operating system, with a disk in memory that mirrors it.
 ///
-/// Each call fails where the system's fails, where the file gives other bytes or another length than the mirror, where there is
-/// no memory for the mirror, and after an earlier failure. Of a write or a cut that failed the mirror knows that it may have
-/// been made in part.
+/// A call fails where the system's fails, where there is no memory for the mirror, and after an earlier failure; `len` also where
+/// the file has another length than the mirror, and `read` where a byte that the file gives is another one than the mirror's.
+/// A disk that failed is dropped, and its file opened anew by `open`, once the system has dropped what it kept of it in memory.
+///
+/// Of a write or a cut that the file refuses the mirror makes the whole, so that a part of it is among what a crash may have
+/// left. No clause says this: it is to be read in the code.
 #[derive(Drop)]
 pub struct FileDisk {
     file: File,

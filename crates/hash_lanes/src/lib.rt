@@ -9,6 +9,8 @@
 //! `specs/Lanes.antt` says which bytes stand in a lane, and what a step hashes; `specs/Words.antt` when words are those
 //! of a block or of its schedule. `lanes` has the functions on words, `schedule` makes sixteen words from the sixteen
 //! before them, `rounds` works through them, and `compression` puts these together.
+//!
+//! Its tests: `base_tests`, module `lm_ots_tests`, and `vectors/`.
 #![tactic(auto)]
 
 pub use values::FourValues;

@@ -75,7 +75,7 @@ impl FourValues {
 
     /// A step in each lane that moves, as `step` has it; the values in the others stay.
     ///
-    /// All four are hashed and then chosen from, so what moves does not show in the time that a call takes.
+    /// All four are hashed and then chosen from, whatever moves.
     pub fn step_where(
         &mut self,
         id: &[u8; 16],

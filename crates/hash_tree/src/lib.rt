@@ -12,6 +12,8 @@
 //!
 //! `specs/Entries.antt` has the finite maps that the tree is over, `specs/Strings.antt` the strings that are
 //! hashed, and `specs/Path.antt` the path of a key.
+//!
+//! Its tests: `base_tests`, module `hash_tree_tests`.
 #![tactic(auto)]
 
 pub use bits::key_bit;

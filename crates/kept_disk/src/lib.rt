@@ -4,6 +4,8 @@
 //! `specs/Disk.antt` says what a write and a cut do, and what a crash makes of them, `specs/Moments.antt` what it is that a
 //! crash at any moment leaves only such files, and `specs/Fuel.antt` how much a disk still does where it tells that.
 //! `specs/Memory.antt` says what contracts see of a disk in memory.
+//!
+//! Its tests: none yet.
 #![tactic(auto)]
 
 pub use ar_io::Failed;

@@ -1,3 +1,4 @@
+pub mod Costs
 pub mod Loading
 pub mod Moments
 pub mod Opened

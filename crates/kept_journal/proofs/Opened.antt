@@ -1,8 +1,8 @@
 -- What a crash leaves of a file that is opened, and what it is then.
-use Rattle.std.proofs.Common.{◌≡◌, inl, inr, ℕ, ◌+◌, ◌-◌, ◌<◌, ◌≤◌, ◌^◌, min, List, [], ◌∷◌, ◌++◌, length, take, drop, refl, sym, ◌∙◌, ap, subst, arith, append_assoc, length-append}
+use Rattle.std.proofs.Common.{◌≡◌, ◌⊎◌, inl, inr, ⊎_elim, ℕ, ◌+◌, ◌-◌, ◌<◌, ◌≤◌, ◌^◌, min, List, [], ◌∷◌, ◌++◌, length, take, drop, refl, sym, ◌∙◌, ap, subst, arith, append_assoc, length-append}
 use Rattle.std.proofs.lemmas.List.{append-nil, drop_all, take_all}
 use Rattle.kept_disk.specs.Disk.{Cut, Holds, Only, Torn}
-use Rattle.kept_journal.specs.Journal.{AreShort, IsJournal, Stands, journal, records, recovered}
+use Rattle.kept_journal.specs.Journal.{AreShort, IsAsBefore, IsJournal, Stands, journal, records, recovered}
 use Rattle.kept_journal.specs.Loaded.{IsLoaded}
 use Rattle.kept_journal.specs.Settled.{IsSettled}
 use Rattle.kept_journal.specs.declared.standing.Standing.{Standing}
@@ -17,6 +17,14 @@ read_all file old new n size count is =
     let all : n ≡ length file = omega (arith, size, count) in
     is ∙ ap (λ (l : List ℕ). l ++ drop n old) (take_all n file (omega (arith, all)))
     ∙ ap (λ (l : List ℕ). file ++ l) (drop_all n old (omega (arith, all, size))) ∙ append-nil file
+
+-- what a crash leaves behind the read is what one before might have left
+pub as_before : (may_leave : List ℕ → Type 0) (mark seen file c : List ℕ) → file ≡ seen → may_leave seen
+    → (c ≡ file) ⊎ (Stands mark (recovered file) file × Stands mark (recovered file) c) → IsAsBefore may_leave mark seen c
+as_before may_leave mark seen file c same now how = ⊎_elim
+    (λ is. inl (subst may_leave (sym (is ∙ same)) now))
+    (λ both. inr (subst (λ (f : List ℕ). Stands mark (recovered f) f × Stands mark (recovered f) c) same both))
+    how
 
 -- ---- a file that is written anew
 

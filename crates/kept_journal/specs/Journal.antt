@@ -86,9 +86,9 @@ Stands mark texts file = AreShort texts × (((length file ≤ 9) × (texts ≡ [
 abbrev pub IsBeforeOrAfter : List ℕ → List (List ℕ) → List ℕ → List ℕ → Type 0
 IsBeforeOrAfter mark texts text file = Stands mark texts file ⊎ Stands mark (texts ++ text ∷ []) file
 
--- it is one that a crash before might have left, or stands for what the file had
+-- it is one that a crash before might have left; or the file stands for its texts, and this stands for the same
 abbrev pub IsAsBefore : (List ℕ → Type 0) → List ℕ → List ℕ → List ℕ → Type 0
-IsAsBefore may_leave mark file c = may_leave c ⊎ Stands mark (recovered file) c
+IsAsBefore may_leave mark file c = may_leave c ⊎ (Stands mark (recovered file) file × Stands mark (recovered file) c)
 
 -- a file of more than 9 bytes that does not begin with the mark
 abbrev pub IsNoJournal : List ℕ → List ℕ → Type 0

@@ -1,11 +1,12 @@
-ghost use Rattle.std.specs.Prelude.{◌≡◌, ◌≤◌, ◌+◌, ◌++◌, ◌∷◌, [], ℕ, List, true, false, length, IfOk, IfErr, OnOk, OnErr};
+ghost use Rattle.std.specs.Prelude.{◌≡◌, ◌≢◌, ◌≤◌, ◌+◌, ◌++◌, ◌∷◌, [], ℕ, List, true, false, length, IfOk, IfErr, OnOk, OnErr};
 ghost use Rattle.ar_base.specs.Faults.{HasRisen};
 ghost use Rattle.kept_disk.specs.Disk.{Only};
 ghost use Rattle.kept_disk.specs.Moments.{LeavesOnly};
 ghost use Rattle.kept_journal.specs.Appending.{SpendsAll, WantsAll, staged_text};
 ghost use Rattle.kept_journal.specs.Journal.{IsAsBefore, IsBeforeOrAfter, IsNoJournal, Stands, recovered};
-ghost use Rattle.kept_journal.specs.Replays.{IsBad, Replays};
 ghost use Rattle.kept_journal.specs.Fused.{with_fuse};
+ghost use Rattle.kept_journal.specs.Opening.{SpendsCost, WantsCost, opening};
+ghost use Rattle.kept_journal.specs.Replays.{IsBad, Replays};
 
 use crate::opening::prepare;
 use crate::standing::Standing;
@@ -58,6 +59,8 @@ impl<K: Disk> Journal<K> {
         disk: K,
         party: &mut P,
     ) -> Result<Journal<K>, (K, OpenFault)>
+        // What the file was: neither of `not_journal` nor of `bad`.
+        ensures stood { OnOk result (Stands mark.now (recovered (K.seen disk)) (K.seen disk)) }
         // What the party took.
         ensures replays { OnOk result (Replays P.takes party.old (recovered (K.seen disk)) party.new) }
         // What the journal is.
@@ -65,10 +68,17 @@ impl<K: Disk> Journal<K> {
             × (journal.mark ≡ mark.now) × (journal.stopped ≡ false)) }
         ensures durable { IfOk result (λ journal. Only (K.seen journal.disk) (K.may_leave journal.disk)
             × Stands mark.now (recovered (K.seen disk)) (K.seen journal.disk)) }
-        // A crash at any moment leaves what a crash before might have left, or the same texts.
+        // A crash at any moment leaves what a crash before might have left, or, of a file that stood for its texts, the same texts.
         ensures any_moment { IfOk result (λ journal. LeavesOnly K.moment K.left_since disk journal.disk (IsAsBefore (K.may_leave disk) mark.now (K.seen disk))) }
         ensures any_moment_err { IfErr result (λ e. LeavesOnly K.moment K.left_since disk e.0 (IsAsBefore (K.may_leave disk) mark.now (K.seen disk))) }
+        // A file that is refused stays, as does the count of faults.
+        ensures kept { IfErr result (λ e. e.1 ≢ OpenFault.DiskFault → K.seen e.0 ≡ K.seen disk) }
+        ensures uncounted_err { IfErr result (λ e. e.1 ≢ OpenFault.DiskFault → K.faults e.0 ≡ K.faults disk) }
+        // What it takes of the disk.
+        ensures spends { IfOk result (λ journal. SpendsCost (K.fuel disk) (K.fuel journal.disk) (opening (K.seen disk))) }
+        ensures uncounted { IfOk result (λ journal. K.faults journal.disk ≡ K.faults disk) }
         // When each error comes.
+        ensures wants { IfErr result (λ e. e.1 ≡ OpenFault.DiskFault → WantsCost (K.fuel disk) (opening (K.seen disk))) }
         ensures fault { IfErr result (λ e. e.1 ≡ OpenFault.DiskFault → HasRisen (K.faults disk) (K.faults e.0)) }
         ensures not_journal { IfErr result (λ e. e.1 ≡ OpenFault.NotJournal → IsNoJournal mark.now (K.seen disk)) }
         ensures bad { IfErr result (λ e. (place : ℕ) → e.1 ≡ OpenFault.BadRecord place → IsBad P.takes mark.now party.old (K.seen disk) place) }

@@ -7,6 +7,8 @@
 //! `Journal::append` puts a record behind the closed gate, makes it last, and then opens the gate and makes that last: a crash
 //! at any moment leaves the records from before, with the new one or without. `Journal::open` reads a file that a crash may have
 //! left, and has a party take what stands in it (`Replay`), one text behind the other.
+//!
+//! Its tests: `arpki_journal`, by its stored lines, and `tools/crash`.
 #![tactic(auto)]
 
 pub use fault::{OpenFault, ReplayFault};

@@ -4,6 +4,8 @@
 //! `specs/Book.antt` says what a book is, `specs/Entry.antt` which leaf it gives to a statement,
 //! `specs/Ring.antt` which keys a party has, and `laws` that no generation's leaf serves two statements.
 //! `specs/Rolls.antt` says which texts are Rolls, the statements that announce a next key.
+//!
+//! Its tests: `call_tests`, module `key_roll_tests`.
 #![tactic(auto)]
 
 pub use ar_statement::BookFault;

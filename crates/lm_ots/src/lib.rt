@@ -6,6 +6,8 @@
 //!
 //! The chains of a leaf do not wait for each other, so four of them go side by side (`walk`), in the lanes of
 //! `hash_lanes`; `Ways` says where a chain leads that is on its way.
+//!
+//! Its tests: `base_tests`, module `lm_ots_tests`.
 #![tactic(auto)]
 
 pub use candidate::ots_candidate;

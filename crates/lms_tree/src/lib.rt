@@ -14,6 +14,8 @@
 //! ```
 //!
 //! `verdict` is `Verdict::Valid` then, which the caller `sign_and_verify` of the crate `worked_examples` proves.
+//!
+//! Its tests: `base_tests`, module `lms_tree_tests`, and `vectors/` and `examples/sig`.
 #![tactic(auto)]
 
 pub use key::{KeyFault, LmsKey, type_to_make};

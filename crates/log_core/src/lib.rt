@@ -6,6 +6,8 @@
 //! what it does (`specs/Steps.antt`, `specs/Replies.antt`). What rows share stands in `log_sending`: the checks, whose
 //! signatures stand in a message, how a list of changes is judged, the walk over the queue, what is sent, with zero bytes
 //! where a signature of the log's own is due, and what follows where an epoch ends.
+//!
+//! Its tests: `examples/play`.
 #![tactic(auto)]
 
 mod balloting;

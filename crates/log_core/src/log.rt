@@ -167,8 +167,8 @@ impl Log {
     /// Makes the log's next key, enters its Roll, and takes the key into the log's own directory, which is not seen as a
     /// party's Roll. What it sends, to all logs, is signed by the key before it.
     ///
-    /// It takes as long as a key does. It is `LastGeneration` exactly where the newest generation is 999. After a refusal
-    /// the log stands as before, with the keys that it had.
+    /// It takes as long as a key does. It is `LastGeneration` exactly where the newest generation is 999, but that `Memory`
+    /// may come in place of it. After a refusal the log stands as before, with the keys that it had.
     pub fn roll(&mut self, alloc: Global) -> Result<Sent, LogRefusal>
         // The answer, signed, with the one key that is the next of the ring, and where the log stands then.
         ensures row { (next : KeyParts) → IsNext self.old.ring.keys next

@@ -56,7 +56,7 @@ impl LogCore {
     }
 
     /// Goes on to this key, which the log announces to all logs. It is `LastGeneration` exactly where the newest
-    /// generation is 999.
+    /// generation is 999, but that `Memory` may come in place of it.
     pub(crate) fn roll(&mut self, alloc: Global, next: &LmsPublic) -> Result<Unsigned, LogRefusal>
         ensures { IsStep result self.old self.new (rolling_row self.old next.now) }
     {

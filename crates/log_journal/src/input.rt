@@ -27,7 +27,7 @@ pub(crate) fn record_of_input(alloc: Global, input: &LogInput) -> Result<Record,
 }
 
 /// Tells a proof that an input is one that a program has. It does nothing.
-pub(crate) fn input_told(input: &LogInput)
+pub fn input_told(input: &LogInput)
     ensures { IsWhole (input_of input.now) }
 {
     match input {

@@ -6,6 +6,7 @@ ghost use Rattle.kept_disk.specs.Disk.{Only};
 ghost use Rattle.kept_disk.specs.Moments.{LeavesOnly};
 ghost use Rattle.kept_journal.specs.Appending.{SpendsAll, WantsAll, staged_text};
 ghost use Rattle.kept_journal.specs.Journal.{IsAsBefore, IsBeforeOrAfter, IsNoJournal, Stands, recovered};
+ghost use Rattle.kept_journal.specs.Opening.{SpendsCost, WantsCost, opening};
 ghost use Rattle.kept_journal.specs.Replays.{IsBad, Replays};
 ghost use Rattle.log_core.specs.Inputs.{input_of};
 ghost use Rattle.log_core.specs.Keyed.{AreBehind, IsOfNext, IsOwn, signed_answer};
@@ -43,7 +44,8 @@ fn kept_refusal(refusal: LogRefusal) -> KeptRefusal
 
 /// A log whose inputs stand in a journal before its replies leave.
 ///
-/// After a call of the disk that failed it answers `Reopen`: the disk is taken back (`into_disk`), and opened again.
+/// After a call of the disk that failed it answers `Reopen`: a disk in memory is taken back (`into_disk`), and what a crash leaves
+/// of it is opened; a file's disk fails for good, and is dropped, and the file opened anew (`file_disk` says when).
 #[derive(Drop)]
 pub struct KeptLog<K: Disk> {
     log: Log,
@@ -75,6 +77,8 @@ impl<K: Disk> KeptLog<K> {
         key: LmsKey,
         disk: K,
     ) -> Result<KeptLog<K>, (K, OpenFault)>
+        // What the file was: neither of `not_journal` nor of `bad`.
+        ensures stood { OnOk result (Stands mark (recovered (K.seen disk)) (K.seen disk)) }
         // Which log it is.
         ensures replays { IfOk result (λ kept. Replays takes (new_log number directory key) (recovered (K.seen disk)) (standing_of kept.log)) }
         ensures texts { IfOk result (λ kept. (kept.journal.texts ≡ recovered (K.seen disk)) × (kept.journal.count ≡ length (recovered (K.seen disk)))
@@ -82,10 +86,17 @@ impl<K: Disk> KeptLog<K> {
         // What its file is then.
         ensures durable { IfOk result (λ kept. Only (K.seen kept.journal.disk) (K.may_leave kept.journal.disk)
             × Stands mark (recovered (K.seen disk)) (K.seen kept.journal.disk)) }
-        // A crash at any moment leaves what a crash before might have left, or the same inputs.
+        // A crash at any moment leaves what a crash before might have left, or, of a file that stood for its inputs, the same inputs.
         ensures any_moment { IfOk result (λ kept. LeavesOnly K.moment K.left_since disk kept.journal.disk (IsAsBefore (K.may_leave disk) mark (K.seen disk))) }
         ensures any_moment_err { IfErr result (λ e. LeavesOnly K.moment K.left_since disk e.0 (IsAsBefore (K.may_leave disk) mark (K.seen disk))) }
+        // A file that is refused stays, as does the count of faults.
+        ensures kept { IfErr result (λ e. e.1 ≢ OpenFault.DiskFault → K.seen e.0 ≡ K.seen disk) }
+        ensures uncounted_err { IfErr result (λ e. e.1 ≢ OpenFault.DiskFault → K.faults e.0 ≡ K.faults disk) }
+        // What it takes of the disk.
+        ensures spends { IfOk result (λ kept. SpendsCost (K.fuel disk) (K.fuel kept.journal.disk) (opening (K.seen disk))) }
+        ensures uncounted { IfOk result (λ kept. K.faults kept.journal.disk ≡ K.faults disk) }
         // When each error comes.
+        ensures wants { IfErr result (λ e. e.1 ≡ OpenFault.DiskFault → WantsCost (K.fuel disk) (opening (K.seen disk))) }
         ensures fault { IfErr result (λ e. e.1 ≡ OpenFault.DiskFault → HasRisen (K.faults disk) (K.faults e.0)) }
         ensures not_journal { IfErr result (λ e. e.1 ≡ OpenFault.NotJournal → IsNoJournal mark (K.seen disk)) }
         ensures bad { IfErr result (λ e. (place : ℕ) → e.1 ≡ OpenFault.BadRecord place
@@ -114,6 +125,7 @@ impl<K: Disk> KeptLog<K> {
         // The answer, signed, and where the log stands then.
         ensures answer { IfOk result (λ sent. signed_answer self.new.log.ring.keys (row self.old.log.core (input_of input.now)) ≡ Ok (self.new.log.core, sent)) }
         ensures keys { OnOk result (AreBehind (input_of input.now) self.old.log.ring.keys self.new.log.ring.keys) }
+        ensures taken { OnOk result (takes (standing_of self.old.log) (input_text (input_of input.now)) (standing_of self.new.log)) }
         ensures few { IfOk result (λ sent. length sent.messages ≤ most_sent) }
         // What its file has then.
         ensures texts { OnOk result ((self.new.journal.texts ≡ self.old.journal.texts ++ input_text (input_of input.now) ∷ [])

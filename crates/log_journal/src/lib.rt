@@ -6,8 +6,11 @@
 //!
 //! After a crash at any moment the file has the inputs that were answered, in order, with at most the one more that was not
 //! (`specs/Lives.antt` says what that means over many runs).
+//!
+//! Its tests: `arpki_journal`, by its stored lines, and `tools/crash`.
 #![tactic(auto)]
 
+pub use input::input_told;
 pub use kept_disk::{Disk, MemDisk};
 pub use kept_journal::OpenFault;
 pub use kept_log::KeptLog;

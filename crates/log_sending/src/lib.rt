@@ -11,6 +11,8 @@
 //! - What follows where an epoch ends (`specs/Closings.antt`): what tells of it (`add_closing`), which fits into messages
 //!   (`specs/Sendable.antt`), and what is kept of the queue (`close`).
 //! - The walk over the queue (`specs/Walk.antt`, `walk`): what a log proposes.
+//!
+//! Its tests: `examples/play`.
 #![tactic(auto)]
 
 mod checks;

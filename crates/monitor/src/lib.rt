@@ -5,6 +5,8 @@
 //! `audit` finds them. In `specs/`, `Items` says which of the items are evidence, `Rules` when two statements of one party
 //! contradict each other, `Reports` what is reported, and `Standing` what it is that a party's statements stand in its book;
 //! `laws` has what a report shows.
+//!
+//! Its tests: `examples/audit`, and `play_tests`, module `evidence`.
 #![tactic(auto)]
 
 pub use auditing::audit;

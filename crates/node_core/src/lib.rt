@@ -7,6 +7,8 @@
 //! disk from which it is opened again, or a world in which it is one of many.
 //!
 //! `specs/History.antt` says what a core makes of a history, and which histories are legal.
+//!
+//! Its tests: `thread_tests`, module `shared_node_tests`.
 #![tactic(auto)]
 
 pub use core_trait::Core;

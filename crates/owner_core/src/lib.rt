@@ -24,6 +24,8 @@
 //! - *What does a signature cost?* A leaf of the key for each certificate that is handed over, and
 //!   one for each that is objected to. An owner's key does not roll: once its leaves are spent, it
 //!   signs nothing new.
+//!
+//! Its tests: `examples/play`.
 #![tactic(auto)]
 
 mod draft;

@@ -76,8 +76,8 @@ impl Owner {
     /// digest alone.
     ///
     /// Asked again, it gives the same bytes and takes no further leaf. `Spent` (O7) comes exactly
-    /// where each leaf of the key serves another statement. The signature is bare: it has no
-    /// generation in front.
+    /// where each leaf of the key serves another statement, but that `Memory` may come in place of
+    /// it. The signature is bare: it has no generation in front.
     #[tactic(auto, using(crate::proofs::Texts::signature_fits))]
     pub fn handover(&mut self, alloc: Global, digest: &[u8; 32]) -> Result<Vec<u8>, OwnerRefusal>
         ensures answer { Answers (λ signature. signature.items) self.old self.new result (handover_row self.old digest.now) }
@@ -99,7 +99,8 @@ impl Owner {
     /// certificate need not be a draft of the owner's.
     ///
     /// Asked again, it sends the same bytes and takes no further leaf. `Spent` (O7) comes exactly
-    /// where each leaf of the key serves another statement.
+    /// where each leaf of the key serves another statement, but that `Memory` may come in place of
+    /// it.
     pub fn object(&mut self, alloc: Global, cert: &Cert) -> Result<Sent, OwnerRefusal>
         ensures { Answers (λ s. s) self.old self.new result (object_row self.old cert.now) }
     {

@@ -12,6 +12,8 @@
 //! ```
 //!
 //! The caller `has_signed` of the crate `worked_examples` has the contract that goes with it.
+//!
+//! Its tests: `call_tests`, module `party_keys_tests`.
 #![tactic(auto)]
 
 mod directory;

@@ -5,6 +5,8 @@
 //! open exactly where its rule accepts a certificate and the answer is valid under that certificate's own key.
 //!
 //! In `specs/`, `Answering` says what a server signs, and `Connections` what a client makes of it.
+//!
+//! Its tests: `thread_tests`, module `possession_tests`, and `examples/serve`.
 #![tactic(auto)]
 
 pub use connection::{Connection, connect};

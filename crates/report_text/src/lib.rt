@@ -3,6 +3,8 @@
 //! `specs/Lines.antt` says what each line is, `Verdicts` what is said of a client's judgement, and `Held` what the types keep
 //! of a happening. `laws` says that no two
 //! happenings print one line.
+//!
+//! Its tests: `call_tests`, module `report_text_tests`.
 #![tactic(auto)]
 
 pub use happening::{Code, Happening, Kind, Said, Shown, Target, Unlearnt, Values, What};

@@ -6,6 +6,8 @@
 //!
 //! `specs/Audits.antt` says what `audit` reads and `Telling` what is written of its report, `Follows` what `follow` reads and
 //! what is told of it, and `Answers` what is answered.
+//!
+//! Its tests: `examples/audit` and `examples/follow`.
 #![tactic(auto)]
 
 pub use reviews::Review;

@@ -3,6 +3,8 @@
 //!
 //! In `specs/`, `Telling` says what is written of a run, and `Answers` what is answered to an input, and what a run of the
 //! program `arpki_messages` takes and writes.
+//!
+//! Its tests: `examples/messages.txt`, by the program `arpki_messages`.
 #![tactic(auto)]
 
 pub use program::messages_main;

@@ -1,4 +1,5 @@
+pub mod Collisions
 pub mod Counting
+pub mod Hashing
 pub mod Meaning
-pub mod Strings
 pub mod Ties

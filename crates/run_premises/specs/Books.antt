@@ -1,6 +1,6 @@
 -- Whose book has a text, and which claims are no forgeries, as tests; and the claims of a message in the parts in which they are
 -- gathered.
-use Rattle.std.specs.Prelude.{◌≡◌, ℕ, Bool, true, false, not, ◌||◌, is_ok, List, [], Contains}
+use Rattle.std.specs.Prelude.{ℕ, Bool, false, not, ◌||◌, is_ok, List, [], Contains}
 use Rattle.std.specs.List.{list_all, list_any}
 use Rattle.std.specs.Str.{bytes_eq}
 use Rattle.ar_claims.specs.Claimed.{claimed_in, claimed_in_bytes}
@@ -9,7 +9,6 @@ use Rattle.ar_message.specs.declared.message.Message.TheVariants.{EndorseAsk, En
 use Rattle.ar_safety.specs.Held.{Held, records_of}
 use Rattle.ar_safety.specs.Records.{IsHonest, Records, signed_by}
 use Rattle.ar_statement.specs.Claims.{has_party}
-use Rattle.ar_statement.specs.declared.party.Party.{Party}
 use Rattle.ar_statement.specs.declared.party.Role.{Role}
 use Rattle.ar_statement.specs.declared.party.Role.TheVariants.{LogServer, Authority, Owner, Client}
 use Rattle.key_roll.specs.Book.{RollBook}

@@ -1,35 +1,73 @@
-//! Whether strings collide.
+//! Whether two of the strings that are hashed in a run collide.
 
-ghost use Rattle.std.specs.Prelude.{◌≡◌, map};
-ghost use Rattle.std.specs.List.{list_all};
-ghost use Rattle.ar_base.specs.Apart.{are_apart, none_collide};
+ghost use Rattle.std.specs.Prelude.{◌≡◌, ◌++◌, List, ℕ, IfOk, OnOk, flat_map};
+ghost use Rattle.ar_base.specs.Apart.{none_collide};
+ghost use Rattle.ar_safety.specs.Hashed.{hashed, listed_tables};
+ghost use Rattle.ar_safety.specs.Held.{records_of};
+ghost use Rattle.domain_table.specs.Tree.{table_strings};
+ghost use Rattle.hashed_strings.specs.Index.{AreNoted};
+ghost use Rattle.hashed_strings.specs.Judged.{strings_in};
+ghost use Rattle.run_premises.specs.Hashing.{tables_of};
 
-use sha2::{Digest, Sha256};
+use crate::forging::{honest_below, log_at};
+use ar_records::{Judged, Records};
+use ar_statement::{Role, has_party};
+use hashed_strings::Noted;
+use std::alloc::{AllocError, Global};
 
-/// Whether two strings are one, or have two digests.
-fn are_apart(one: &[u8], other: &[u8]) -> bool
-    ensures { result ≡ are_apart one.now other.now }
+/// Notes the strings of the tables of a log, if it is honest.
+fn note_log(
+    alloc: Global,
+    noted: &mut Noted,
+    records: &Records,
+    number: u16,
+) -> Result<(), AllocError>
+    ensures { OnOk result ((others : List (List ℕ)) → AreNoted noted.old others
+        → AreNoted noted.new (flat_map table_strings (tables_of (records_of records.now) number) ++ others)) }
 {
-    Sha256::digest(one).as_slice() != Sha256::digest(other).as_slice() || one == other
+    if has_party(&records.dishonest, Role::LogServer.party(number)) {
+        return Ok(());
+    }
+    let place = honest_below(&records.dishonest, Role::LogServer, number);
+    match log_at(records, place) {
+        Some(record) => noted.note_log(alloc, record),
+        None => Ok(()),
+    }
 }
 
-/// Whether a string collides with none of these.
-fn is_apart(one: &[u8], strings: &[Vec<u8>]) -> bool
-    ensures { result ≡ list_all (λ other. are_apart one.now other.items) strings.now }
+/// Notes the strings of the tables of all honest logs.
+fn note_logs(alloc: Global, noted: &mut Noted, records: &Records) -> Result<(), AllocError>
+    ensures { OnOk result ((others : List (List ℕ)) → AreNoted noted.old others
+        → AreNoted noted.new (flat_map table_strings (listed_tables (records_of records.now)) ++ others)) }
 {
-    strings.iter().all(|other| are_apart(one, other.as_slice()))
+    let count = records.directory.logs() as u16;
+    for number in 0..count {
+        note_log(alloc, noted, records, number)?;
+    }
+    Ok(())
 }
 
-/// Whether each string collides with none of them.
-fn all_apart(strings: &[Vec<u8>]) -> bool
-    ensures { result ≡ list_all (λ one. list_all (λ other. are_apart one.items other.items) strings.now) strings.now }
+/// Notes the strings of what clients accepted.
+fn note_judged(alloc: Global, noted: &mut Noted, judged: &[Judged]) -> Result<(), AllocError>
+    ensures { OnOk result ((others : List (List ℕ)) → AreNoted noted.old others
+        → AreNoted noted.new (flat_map (λ t. strings_in t.bytes) judged.now ++ others)) }
 {
-    strings.iter().all(|one| is_apart(one.as_slice(), strings))
+    let mut i = judged.len();
+    while i > 0 {
+        i -= 1;
+        let accepted = &judged[i];
+        noted.note_confirmation(alloc, &accepted.bytes)?;
+    }
+    Ok(())
 }
 
-/// Whether no two of these strings, if they differ, have one digest under SHA-256. It compares each with each.
-pub fn none_collide(strings: &[Vec<u8>]) -> bool
-    ensures { result ≡ none_collide (map (λ s. s.items) strings.now) }
+/// Whether no two strings, if they differ, have one digest under SHA-256, of those that are hashed for the tables which honest
+/// logs voted for or decided, and by clients for what they accepted. The only error is want of memory.
+pub fn none_collide(alloc: Global, records: &Records) -> Result<bool, AllocError>
+    ensures { IfOk result (λ apart. apart ≡ none_collide (hashed (records_of records.now))) }
 {
-    all_apart(strings)
+    let mut noted = Noted::new(alloc);
+    note_judged(alloc, &mut noted, records.judged)?;
+    note_logs(alloc, &mut noted, records)?;
+    Ok(noted.is_apart())
 }

@@ -43,7 +43,7 @@ fn holds(book: &RollBook, text: &[u8]) -> bool
 
 /// How many parties of a role that have a number below this one are honest.
 #[tactic(auto, using(crate::proofs::Counting::counting_laws))]
-fn honest_below(dishonest: &[Party], role: Role, number: u16) -> usize
+pub(crate) fn honest_below(dishonest: &[Party], role: Role, number: u16) -> usize
     ensures { result ≡ honest_below (party role) dishonest.now number }
 {
     let mut count = 0;
@@ -56,7 +56,7 @@ fn honest_below(dishonest: &[Party], role: Role, number: u16) -> usize
 }
 
 /// The record at a place among those of the honest logs.
-fn log_at<'a>(records: &'a Records, place: usize) -> Option<&'a Record>
+pub(crate) fn log_at<'a>(records: &'a Records, place: usize) -> Option<&'a Record>
     ensures { option_map (λ kept. record_of kept.now) result ≡ slice_get records.now.logs place }
 {
     records.logs.get(place).copied()

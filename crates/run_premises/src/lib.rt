@@ -1,10 +1,13 @@
 //! Whether a run meets the premises of the safety theorem, as answers of calls.
 //!
 //! `few` says whether at most two parties are dishonest, and `is_unforged` whether each signature in given bytes that is
-//! valid under a key which clients know of an honest party is on what that party signed. `none_collide` says whether no two of
-//! some strings have one digest. `claims_in` has what logs and authorities are said to have signed in a message.
+//! valid under a key which clients know of an honest party is on what that party signed. `none_collide` says whether no two
+//! of the strings have one digest that are hashed for the tables of honest logs, and by clients for what they accepted.
+//! `claims_in` has what logs and authorities are said to have signed in a message.
 //!
 //! `specs/Books.antt` says whose book has which text, and when a claim is fair; `laws` say what the answers mean.
+//!
+//! Its tests: `examples/premises.txt`, by the program `arpki_premises`.
 #![tactic(auto)]
 
 pub use claiming::claims_in;

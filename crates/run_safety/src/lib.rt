@@ -7,6 +7,8 @@
 //! what each line of a script keeps, by which the records that the parties of a world hold are those of which the theorem of
 //! `ar_safety` speaks. `specs/Flushes.antt` has what is promised of a `flush`: that it goes to its end. `laws` has all of it,
 //! over the definitions of `ar_world` alone.
+//!
+//! It has laws alone, and no tests; `play_tests`, module `records`, shows records of a run.
 #![tactic(auto)]
 
 pub mod laws;

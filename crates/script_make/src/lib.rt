@@ -2,6 +2,8 @@
 //! and asks for each of them and for some names that are not there.
 //!
 //! `specs/Script.antt` says what the script is.
+//!
+//! Its tests: `base_tests`, module `script_make_tests`.
 #![tactic(auto)]
 
 pub use making::{last_epoch, make};

@@ -6,6 +6,8 @@
 //! answers.
 //!
 //! `play` plays a script whole. A `Stage` takes it line by line, for whoever has lines of its own beside those of a world.
+//!
+//! Its tests: `play_tests`, and `examples/`.
 #![tactic(auto)]
 
 pub use counts::Counts;

@@ -13,6 +13,8 @@
 //!
 //! In `specs/`, `Reading` says what is asked, `Serving` what is replied, `Workers` what a worker does, and `Answers` what the
 //! program writes, and with which status.
+//!
+//! Its tests: `thread_tests`, module `serve_run_tests`, and `examples/serve`.
 #![tactic(auto)]
 
 pub use gate::{Gate, OpenGate};

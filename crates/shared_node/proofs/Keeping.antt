@@ -11,11 +11,13 @@ use Rattle.ar_seats.proofs.TotalsLemmas.{total-set, total_split, total_join, two
 use Rattle.ar_seats.proofs.NumbersLemmas.{once_below-le-1}
 use Rattle.ar_seats.proofs.RisingLemmas.{times-merged, rising_merged}
 use Rattle.ar_base.proofs.Prefixes.{begins_on}
-use Rattle.ar_seats.proofs.PrefixLemmas.{longer_is_one}
+use Rattle.ar_seats.proofs.PrefixLemmas.{longer_is_one, longer_begins}
+use Rattle.ar_seats.specs.Prefixes.{longer}
 use Rattle.atomic_table.proofs.Lists.{at_set, at_snoc}
 use Rattle.node_core.specs.History.{IsLegal}
 use Rattle.shared_node.specs.Rule.{Fits, IsHome, Keeps}
 use Rattle.shared_node.specs.Steps.{left_view, given_view, joined_view, spent_view}
+use Rattle.shared_node.proofs.Shorter.{shorter_is_one}
 use Rattle.shared_node.specs.declared.held.Held.{Held}
 use Rattle.shared_node.specs.declared.node.Node.{Node}
 
@@ -26,6 +28,7 @@ module _ {S I N : Type 0} where
   fits_on first history after seat on holding fits = record {
     node = fits.node;
     seen = begins_on seat.seen history after on fits.seen;
+    shorter = fits.shorter;
     rising = fits.rising;
     holding = holding;
     idle = fits.idle;
@@ -35,6 +38,7 @@ module _ {S I N : Type 0} where
   spent_fits first history = record {
     node = λ some_share. absurd (omega arith);
     seen = (history, refl);
+    shorter = ([], refl);
     rising = tt;
     holding = λ holds. cc;
     idle = λ none. (refl, refl);
@@ -84,6 +88,7 @@ module _ {C S I N R : Type 0} (state : C → S) (next : S → I → N → R × S
       let left_fits : Fits first history (left_view v) = record {
         node = λ some_share. fits.node (omega arith);
         seen = fits.seen;
+        shorter = fits.shorter;
         rising = fits.rising;
         holding = fits.holding;
         idle = λ none. absurd (omega arith);
@@ -91,6 +96,7 @@ module _ {C S I N R : Type 0} (state : C → S) (next : S → I → N → R × S
       let given_fits : Fits first history (given_view v) = record {
         node = λ some_share. fits.node (omega arith);
         seen = fits.seen;
+        shorter = (v.seen, refl);
         rising = tt;
         holding = λ holds. cc;
         idle = λ none. (refl, refl);
@@ -130,6 +136,7 @@ module _ {C S I N R : Type 0} (state : C → S) (next : S → I → N → R × S
       let both_fits : Fits first history both = record {
         node = λ some_share. node;
         seen = longer_is_one v.seen w.seen (BeginsWith history) fits.seen others.seen;
+        shorter = let begins = longer_begins history v.seen w.seen fits.seen others.seen in shorter_is_one v.seen w.seen (BeginsWith (longer v.seen w.seen)) begins.0 begins.1;
         rising = rising_merged v.own w.own fits.rising others.rising once;
         holding = λ holds. cc;
         idle = λ none.

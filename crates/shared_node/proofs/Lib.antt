@@ -2,3 +2,4 @@ pub mod HistoryLemmas
 pub mod Keeping
 pub mod StepsKeep
 pub mod LawsKeep
+pub mod Shorter

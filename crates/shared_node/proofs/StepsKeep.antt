@@ -15,7 +15,7 @@ use Rattle.ar_base.specs.Prefixes.{BeginsWith}
 use Rattle.ar_seats.proofs.TotalsLemmas.{one-le-total}
 use Rattle.ar_seats.proofs.NumbersLemmas.{times-append, once_below-suc, once_below-le}
 use Rattle.ar_seats.proofs.RisingLemmas.{rising_snoc}
-use Rattle.ar_base.proofs.Prefixes.{begins_itself}
+use Rattle.ar_base.proofs.Prefixes.{begins_itself, begins_on}
 use Rattle.atomic_table.proofs.Lists.{at_snoc}
 use Rattle.atomic_table.specs.Table.{Allows, Final, Seen, opening}
 use Rattle.atomic_table.specs.Table.Act.{keeps, takes, gives}
@@ -48,6 +48,7 @@ module _ {C S I N R : Type 0} (state : C → S) (next : S → I → N → R × S
       let fits' : Fits first history w = record {
         node = fits.node;
         seen = begins_itself history;
+        shorter = begins_on me.0.shorter me.0.seen history fits.seen fits.shorter;
         rising = fits.rising;
         holding = λ holds. refl;
         idle = fits.idle;
@@ -83,6 +84,7 @@ module _ {C S I N R : Type 0} (state : C → S) (next : S → I → N → R × S
       same = refl;
       share = let one = one-le-total (λ (seat : Held S I N). seat.share) s.views id me.0 at in let all = kept.3.shares in omega arith;
       rising = (kept.3.fits id me.0 at).rising;
+      both = (kept.3.fits id me.0 at).shorter;
     },
   )
 
@@ -103,6 +105,7 @@ module _ {C S I N R : Type 0} (state : C → S) (next : S → I → N → R × S
       let fits' : Fits first history w = record {
         node = fits.node;
         seen = subst (λ h. BeginsWith history h) (sym is_home.history_is) (begins_itself history);
+        shorter = subst (λ h. BeginsWith h me.0.shorter) (sym is_home.history_is) (begins_on me.0.shorter me.0.seen history fits.seen fits.shorter);
         rising = fits.rising;
         holding = λ holds. is_home.history_is;
         idle = λ none. absurd (omega arith);
@@ -176,6 +179,7 @@ module _ {C S I N R : Type 0} (state : C → S) (next : S → I → N → R × S
       let fits' : Fits first after w = record {
         node = fits.node;
         seen = begins_itself after;
+        shorter = begins_on v.shorter v.seen after (call ∷ [], more) fits.shorter;
         rising = rising_snoc n v.own fits.rising (λ x stands.
             let all = one-le-total (λ (seat : Held S I N). times x seat.own) s.views id v at in
             let placed = kept.3.once x in
@@ -212,6 +216,7 @@ module _ {C S I N R : Type 0} (state : C → S) (next : S → I → N → R × S
       let fits' : Fits first history w = record {
         node = fits.node;
         seen = fits.seen;
+        shorter = fits.shorter;
         rising = fits.rising;
         holding = λ held. cc;
         idle = λ none. absurd (omega arith);
@@ -283,6 +288,7 @@ module _ {C S I N R : Type 0} (state : C → S) (next : S → I → N → R × S
       let view_fits : Fits first [] view = record {
         node = λ some_share. refl;
         seen = ([], refl);
+        shorter = ([], refl);
         rising = tt;
         holding = λ holds. cc;
         idle = λ none. absurd (omega arith);

@@ -14,11 +14,13 @@ use Rattle.node_core.specs.History.{IsLegal, state_after}
 use Rattle.shared_node.specs.declared.held.Held.{Held}
 use Rattle.shared_node.specs.declared.node.Node.{Node}
 
--- What a seat knows fits the history. The seat that has the core has seen it whole. A seat that was
+-- What a seat knows fits the history. What it has seen begins with both beginnings that it was joined of. The seat that has the core
+-- has seen the history whole. A seat that was
 -- joined into another has no share, no call and no core.
 pub record Fits {S I N : Type 0} (first : S) (history : List (I × N)) (seat : Held S I N) : Type 0 where
   pub node : 0 < seat.share → seat.first ≡ Some first
   pub seen : BeginsWith history seat.seen
+  pub shorter : BeginsWith seat.seen seat.shorter
   pub rising : IsRising seat.own
   pub holding : seat.holds ≡ true → seat.seen ≡ history
   pub idle : seat.share ≡ 0 → (seat.own ≡ []) × (seat.holds ≡ false)

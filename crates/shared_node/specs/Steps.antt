@@ -1,5 +1,5 @@
 -- What each atomic step tells, and how views are split and joined.
-use Rattle.std.specs.Prelude.{◌≡◌, ℕ, ◌+◌, ◌≤◌, ◌≢◌, true, false, Option, Some, None, List, [], ◌∷◌, ◌++◌, length}
+use Rattle.std.specs.Prelude.{◌≡◌, ℕ, ◌+◌, ◌≤◌, ◌≢◌, true, false, nat_lt, if◌then◌else◌, Option, Some, None, List, [], ◌∷◌, ◌++◌, length}
 use Rattle.ar_seats.specs.Shares.{given_of, left_of, whole}
 use Rattle.ar_seats.specs.Numbers.{IsRising, merged}
 use Rattle.ar_base.specs.Prefixes.{BeginsWith}
@@ -19,6 +19,10 @@ abbrev pub carried : {C I N : Type 0} → List (ℕ × Option (Node C I N)) → 
 carried [] = []
 carried (slot ∷ slots) = history_in slot.1
 
+-- the shorter of two lists
+abbrev pub shorter : {A : Type 0} → List A → List A → List A
+shorter one other = if nat_lt (length one) (length other) then one else other
+
 -- what a seat knows, and the slot that it has
 abbrev pub Mine : Type 0 → Type 0 → Type 0 → Type 0 → Type 0
 Mine C S I N = Me (Option (Node C I N)) (Held S I N)
@@ -31,11 +35,13 @@ module _ {C S I N : Type 0} where
     pub seat : after.0 ≡ record me.0 { seen = after.0.seen }
     pub slots : after.1 ≡ me.1
 
-  -- a load that leaves the view as it is: the share is no more than the whole, and the own calls rise
+  -- a load that leaves the view as it is: the share is no more than the whole, the own calls rise, and what the seat has seen
+  -- begins with both that were joined
   pub record Compares (me : Mine C S I N) (found : ℕ) (after : Mine C S I N) : Type 0 where
     pub same : after ≡ me
     pub share : me.0.share ≤ whole
     pub rising : IsRising me.0.own
+    pub both : BeginsWith me.0.seen me.0.shorter
 
   -- an addition to the length by the seat that has the core, with one more call beside it
   pub record Counts (me : Mine C S I N) (found : ℕ) (after : Mine C S I N) : Type 0 where
@@ -49,20 +55,20 @@ module _ {C S I N : Type 0} where
 module _ {S I N : Type 0} where
   -- what the first seat knows
   abbrev pub first_view : S → Held S I N
-  first_view first = record { first = Some first; seen = []; own = []; share = whole; holds = false }
+  first_view first = record { first = Some first; seen = []; shorter = []; own = []; share = whole; holds = false }
 
   abbrev pub left_view : Held S I N → Held S I N
   left_view seat = record seat { share = left_of seat.share }
 
   abbrev pub given_view : Held S I N → Held S I N
-  given_view seat = record { first = seat.first; seen = seat.seen; own = []; share = given_of seat.share; holds = false }
+  given_view seat = record { first = seat.first; seen = seat.seen; shorter = []; own = []; share = given_of seat.share; holds = false }
 
   abbrev pub joined_view : Held S I N → Held S I N → Held S I N
-  joined_view seat other = record seat { seen = longer seat.seen other.seen; own = merged seat.own other.own; share = seat.share + other.share }
+  joined_view seat other = record seat { seen = longer seat.seen other.seen; shorter = shorter seat.seen other.seen; own = merged seat.own other.own; share = seat.share + other.share }
 
   -- what a seat that was joined into another leaves behind
   abbrev pub spent_view : Held S I N
-  spent_view = record { first = None; seen = []; own = []; share = 0; holds = false }
+  spent_view = record { first = None; seen = []; shorter = []; own = []; share = 0; holds = false }
 
 module _ {C S I N R : Type 0} (state : C → S) (next : S → I → N → R × S) (legal : S → I → N → Type 0) where
   -- the core was taken out: the seat has seen the history beside it, which replays to it

@@ -10,6 +10,8 @@
 //! only one: with it the node is closed, and gives back the core and the history.
 //!
 //! What a core makes of a history of calls, and which histories are legal, is said by `node_core`.
+//!
+//! Its tests: `thread_tests`, module `shared_node_tests`.
 #![tactic(auto)]
 
 pub use answer::{Answer, Closed, Place};

@@ -122,8 +122,8 @@ impl<C: Core> SharedNode<C> {
         place
     }
 
-    /// Asks the core under the lock. The call is then the last of the history, and the reply is the one
-    /// that the core gives at its place.
+    /// Asks the core. The call is then the last of the history, and the reply is the one that the core
+    /// gives at its place. Meanwhile other calls wait for the node's lock; no clause speaks of it.
     ///
     /// The only error is want of memory: then the input comes back, and the call is not in the history.
     /// It waits for the lock, and returns if it gets it.
@@ -180,11 +180,12 @@ impl<C: Core> SharedNode<C> {
     }
 
     /// Takes in another seat of the node, with its share and its calls. The seat has then seen what
-    /// the one of the two that saw more has seen.
+    /// the one of the two that saw more has seen, which begins with what the other one has seen.
     pub fn join(&self, seat: &mut Seat<C>, other: Seat<C>)
         requires own { IsSeatOf self.now seat.old }
         requires other { IsSeatOf self.now other }
         ensures joined { seat.new ≡ joined_seat seat.old other }
+        ensures seen { BeginsWith seat.new.seen seat.old.seen × BeginsWith seat.new.seen other.seen }
         ensures rising { IsRising seat.new.own }
     {
         let Seat { token, share } = other;

@@ -9,6 +9,8 @@
 //! ```
 //!
 //! The caller `hand_over` of the crate `worked_examples` has the contract that goes with it.
+//!
+//! Its tests: `worked_examples`, `crate_docs`.
 #![tactic(auto)]
 
 pub use ar_statement::BookFault;

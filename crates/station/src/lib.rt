@@ -9,6 +9,8 @@
 //! what stays true of a station and its keys, and `specs/Worlds.antt` what it is that a station is a party
 //! of a world. The laws are those two: what a station replies can be signed, whatever was asked before,
 //! and a delivery in a world is a station's step.
+//!
+//! Its tests: none yet.
 #![tactic(auto)]
 
 mod asking;

@@ -4,6 +4,8 @@
 //! or its absence, `specs/Path.antt` what the path of a key in a set of entries shows, and `laws` that a
 //! made path is accepted, and that an accepted one tells the truth where no two strings that were
 //! hashed collide.
+//!
+//! Its tests: `base_tests`, module `tree_proof_tests`.
 #![tactic(auto)]
 
 pub use check::{check_absent, check_present};

@@ -5,6 +5,8 @@
 //! the numbers below a bound have a property, `specs/Ballots.antt` how many logs have a ballot for a value
 //! and which value has a quorum, `specs/Statuses.antt` which statuses exclude each root, and `laws` what
 //! follows: two quorums share at least three logs, and an excluded root gets no quorum.
+//!
+//! Its tests: `base_tests`, module `vote_quorum_tests`.
 #![tactic(auto)]
 
 pub use added::Added;

@@ -4,8 +4,8 @@
 #![tactic(auto)]
 
 #[cfg(test)]
-mod authorities;
+mod authority_core_tests;
 pub mod callers;
 pub mod crate_docs;
 #[cfg(test)]
-mod tables;
+mod domain_table_tests;

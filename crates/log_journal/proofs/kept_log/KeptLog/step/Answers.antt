@@ -81,3 +81,9 @@ returns-in-Ok-clause-wants g c failed =
     c.in_ok-record.ensures (sent_short c.step.new.self.ring.keys c.args.self.now.log.core c.step.new.self.core (input_of c.args.input.now) c.in-Ok.sent answer) in
     let plain : WantsAll (g.K.Disk.fuel c.args.self.now.journal.disk) 4 (length (staged_text c.in_ok-record.record) + 1) 4 = search rules in
     subst (λ (t : List ℕ). WantsAll (g.K.Disk.fuel c.args.self.now.journal.disk) 4 (length (staged_text t) + 1) 4) is plain
+
+pub returns-in-Ok-append-clause-taken : goal.returns-in-Ok-append-clause-taken
+returns-in-Ok-append-clause-taken g c =
+    let answer : signed_answer c.step.new.self.ring.keys (row c.args.self.now.log.core (input_of c.args.input.now)) ≡ Ok (c.step.new.self.core, c.in-Ok.sent) = search rules in
+    let behind : AreBehind (input_of c.args.input.now) c.args.self.now.log.ring.keys c.step.new.self.ring.keys = search rules in
+    taken c.args.self.now.log c.step.new.self (input_of c.args.input.now) c.in-Ok.sent c.input_told.ensures c.requires answer behind

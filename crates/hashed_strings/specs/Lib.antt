@@ -1,0 +1,4 @@
+pub mod Index
+pub mod Named
+pub mod Made
+pub mod Judged

@@ -1,0 +1,4 @@
+pub mod Books
+pub mod Inputs
+pub mod Restarted
+pub mod Running

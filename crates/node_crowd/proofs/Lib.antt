@@ -1,0 +1,4 @@
+pub mod AlongLemmas
+pub mod OneLemmas
+pub mod RowsLemmas
+pub mod StallsLemmas

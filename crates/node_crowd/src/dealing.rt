@@ -1,0 +1,48 @@
+ghost use Rattle.std.specs.Prelude.{◌≡◌, ◌+◌, ℕ, IfOk, OnOk, length};
+ghost use Rattle.std.specs.List.{AllByRecursion, AllZip};
+ghost use Rattle.ar_seats.specs.Totals.{total};
+ghost use Rattle.node_crowd.specs.Along.{Along};
+ghost use Rattle.node_crowd.specs.Stalls.{IsIdle, IsSplit, share_at};
+
+use crate::booth::Booth;
+use crate::row::Row;
+use crate::stall::{Stall, split};
+use node_core::Core;
+use std::alloc::{AllocError, Global};
+
+/// Deals a row: a stall at each node, each split from that of the base.
+fn deal_row<C: Core, F, T: Drop>(
+    alloc: Global,
+    booths: &[Booth<C, F>],
+    base: &mut [Stall<C, T>],
+) -> Result<Row<C, T>, AllocError>
+    requires { AllZip (λ booth stall. IsIdle booth.node stall) booths.now base.old }
+    ensures { IfOk result (λ row. Along (λ booth old new given. IsSplit booth.node old new given) booths.now base.old base.new row.stalls.items) }
+{
+    let mut stalls = Vec::new(alloc);
+    for place in 0..booths.len() {
+        stalls.push(split(alloc, &booths[place].node, &mut base[place])?)?;
+    }
+    Ok(Row { stalls })
+}
+
+/// Deals a row to each worker. The shares of all rows and of what is left in the base are together what the base had, at each node.
+pub fn deal<C: Core, F, T: Drop>(
+    alloc: Global,
+    booths: &[Booth<C, F>],
+    base: &mut [Stall<C, T>],
+    workers: usize,
+) -> Result<Vec<Row<C, T>>, AllocError>
+    requires { AllZip (λ booth stall. IsIdle booth.node stall) booths.now base.old }
+    ensures base { OnOk result (AllZip (λ booth stall. IsIdle booth.node stall) booths.now base.new) }
+    ensures many { IfOk result (λ rows. length rows.items ≡ workers) }
+    ensures rows { IfOk result (λ rows. AllByRecursion (λ row. AllZip (λ booth stall. IsIdle booth.node stall) booths.now row.stalls.items) rows.items) }
+    ensures shares { IfOk result (λ rows. (place : ℕ)
+        → share_at place base.new + total (λ row. share_at place row.stalls.items) rows.items ≡ share_at place base.old) }
+{
+    let mut rows = Vec::new(alloc);
+    for _ in 0..workers {
+        rows.push(deal_row(alloc, booths, base)?)?;
+    }
+    Ok(rows)
+}

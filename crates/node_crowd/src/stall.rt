@@ -1,0 +1,60 @@
+ghost use Rattle.std.specs.Prelude.{◌≡◌, IfOk, OnOk};
+ghost use Rattle.shared_node.specs.Seats.{IsSeatOf};
+ghost use Rattle.node_crowd.specs.Stalls.{IsIdle, IsJoined, IsSplit};
+
+use node_core::Core;
+use shared_node::{Seat, SharedNode};
+use std::alloc::{AllocError, Global};
+use std::marker::Model;
+
+/// A seat of a node, with the place and the finished reply of each of its calls.
+#[derive(Drop)]
+pub struct Stall<C: Core, T> {
+    pub(crate) seat: Seat<C>,
+    pub(crate) told: Vec<(u64, T)>,
+}
+
+// Clauses see the seat and what was told.
+impl<C: Core, T> Model for Stall<C, T> {
+    ghost use Rattle.node_crowd.specs.Stalls.{StallParts};
+
+    ghost Value = { StallParts C.State C.Input C.Note T };
+
+    ghost view = { λ s. record { seat = s.seat; told = s.told.items } };
+}
+
+/// Splits a stall at which nothing was done: the new one has half of its share. A share that is too small to be split is answered
+/// as want of memory.
+#[tactic(auto, using(crate::proofs::OneLemmas::is_split))]
+pub(crate) fn split<C: Core, T>(
+    alloc: Global,
+    node: &SharedNode<C>,
+    stall: &mut Stall<C, T>,
+) -> Result<Stall<C, T>, AllocError>
+    requires idle { IsIdle node.now stall.old }
+    ensures { IfOk result (λ given. IsSplit node.now stall.old stall.new given) }
+{
+    match node.split(alloc, &mut stall.seat) {
+        Ok(seat) => Ok(Stall {
+            seat,
+            told: Vec::new(alloc),
+        }),
+        Err(_) => Err(AllocError),
+    }
+}
+
+/// Takes in another stall of the node, with all that it was told.
+pub(crate) fn join<C: Core, T: Drop>(
+    node: &SharedNode<C>,
+    stall: &mut Stall<C, T>,
+    other: Stall<C, T>,
+) -> Result<(), AllocError>
+    requires own { IsSeatOf node.now stall.old.seat }
+    requires other { IsSeatOf node.now other.seat }
+    ensures { OnOk result (IsJoined C.next node.now stall.old other stall.new) }
+{
+    let Stall { seat, mut told } = other;
+    stall.told.append(&mut told)?;
+    node.join(&mut stall.seat, seat);
+    Ok(())
+}

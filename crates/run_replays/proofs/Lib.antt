@@ -1,0 +1,8 @@
+pub mod Asked
+pub mod Becoming
+pub mod Doing
+pub mod Lines
+pub mod Made
+pub mod Notes
+pub mod Runs
+pub mod Texts

@@ -1,0 +1,4 @@
+pub mod CarriesLemmas
+pub mod DealingLemmas
+pub mod Interleaves
+pub mod Subsequences

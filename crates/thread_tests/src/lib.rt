@@ -1,0 +1,12 @@
+//! Tests of what many threads share: of leaves that are drawn, of a core that is asked, of a server that answers challenges, and of
+//! the workers of `serve`. They stand here so that the crates of these are proved once. There is nothing to call.
+#![tactic(auto)]
+
+#[cfg(test)]
+mod leaf_book_tests;
+#[cfg(test)]
+mod possession_tests;
+#[cfg(test)]
+mod serve_run_tests;
+#[cfg(test)]
+mod shared_node_tests;
