@@ -35,7 +35,7 @@
  *   - No call is made from a signal handler, or in the child of a fork of a process that has threads.
  *   - The thread has 64 KiB of stack for the call, and 64 bytes more for each change of a pin: 512 KiB are enough for
  *     arpki_follow. (Of the calls that tools/c-library measures, that of a pin of 4,096 changes, the most that there
- *     can be, uses 268 KiB, and each other one less than 16 KiB.)
+ *     can be, uses 268 KiB, and each other one less than 32 KiB.)
  * Whether keys, entries and pins are the right ones is the caller's to know: who can write to them decides what is
  * believed.
  *
