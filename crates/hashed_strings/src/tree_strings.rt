@@ -35,11 +35,7 @@ pub(crate) fn put_text(
 ) -> Result<(), AllocError>
     ensures { OnOk result (strings.new.items ≡ strings.old.items ++ (kind ∷ text.now) ∷ []) }
 {
-    let mut string = Vec::new(alloc);
-    string.push(kind)?;
-    string.extend_from_slice(text)?;
-    strings.push(Items::from_vec(string))?;
-    Ok(())
+    put_string(alloc, strings, kind, text, &[])
 }
 
 /// Puts the strings of entries behind the others, whose keys agree in all bits before the depth. The only error is want of memory.

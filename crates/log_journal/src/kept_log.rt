@@ -67,7 +67,8 @@ impl<K: Disk> Model for KeptLog<K> {
 
 impl<K: Disk> KeptLog<K> {
     /// Opens a file that a crash may have left, and makes the log again that wrote it: the one with this number, directory and
-    /// first key that took the inputs in it. A roll makes its key again.
+    /// first key that took the inputs in it. A roll makes its key again. That these three are of the log which wrote the file is
+    /// the caller's to know: all logs have one mark, so the file of another one is refused only where one of its inputs is.
     ///
     /// It syncs first. A file of at most 9 bytes is written anew; a longer one is cut behind its first gate that is not open.
     pub fn open(

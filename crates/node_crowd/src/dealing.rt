@@ -8,14 +8,15 @@ use crate::booth::Booth;
 use crate::row::Row;
 use crate::stall::{Stall, split};
 use node_core::Core;
-use std::alloc::{AllocError, Global};
+use shared_node::SplitFault;
+use std::alloc::Global;
 
-/// Deals a row: a stall at each node, each split from that of the base.
+/// Deals a row: a stall at each node, each split from that of the base. It is `Narrow` where the share of one of these is 1.
 fn deal_row<C: Core, F, T: Drop>(
     alloc: Global,
     booths: &[Booth<C, F>],
     base: &mut [Stall<C, T>],
-) -> Result<Row<C, T>, AllocError>
+) -> Result<Row<C, T>, SplitFault>
     requires { AllZip (λ booth stall. IsIdle booth.node stall) booths.now base.old }
     ensures { IfOk result (λ row. Along (λ booth old new given. IsSplit booth.node old new given) booths.now base.old base.new row.stalls.items) }
 {
@@ -27,12 +28,15 @@ fn deal_row<C: Core, F, T: Drop>(
 }
 
 /// Deals a row to each worker. The shares of all rows and of what is left in the base are together what the base had, at each node.
+///
+/// It is `Narrow` where the base's share at a node is too small to be split once more: a share is halved for each worker. After an
+/// error the seats that were dealt are gone, with their shares, so that the nodes cannot be closed any more.
 pub fn deal<C: Core, F, T: Drop>(
     alloc: Global,
     booths: &[Booth<C, F>],
     base: &mut [Stall<C, T>],
     workers: usize,
-) -> Result<Vec<Row<C, T>>, AllocError>
+) -> Result<Vec<Row<C, T>>, SplitFault>
     requires { AllZip (λ booth stall. IsIdle booth.node stall) booths.now base.old }
     ensures base { OnOk result (AllZip (λ booth stall. IsIdle booth.node stall) booths.now base.new) }
     ensures many { IfOk result (λ rows. length rows.items ≡ workers) }

@@ -1,9 +1,10 @@
-ghost use Rattle.std.specs.Prelude.{◌≡◌, IfOk, OnOk};
+ghost use Rattle.std.specs.Prelude.{◌≡◌, ◌↔◌, Err, IfOk, OnErr, OnOk};
+ghost use Rattle.ar_seats.specs.declared.split_fault.SplitFault.TheVariants.{Narrow};
 ghost use Rattle.shared_node.specs.Seats.{IsSeatOf};
 ghost use Rattle.node_crowd.specs.Stalls.{IsIdle, IsJoined, IsSplit};
 
 use node_core::Core;
-use shared_node::{Seat, SharedNode};
+use shared_node::{Seat, SharedNode, SplitFault};
 use std::alloc::{AllocError, Global};
 use std::marker::Model;
 
@@ -23,24 +24,24 @@ impl<C: Core, T> Model for Stall<C, T> {
     ghost view = { λ s. record { seat = s.seat; told = s.told.items } };
 }
 
-/// Splits a stall at which nothing was done: the new one has half of its share. A share that is too small to be split is answered
-/// as want of memory.
+/// Splits a stall at which nothing was done: the new one has half of its share. It is `Narrow` exactly where the share is 1, and
+/// then the stall is as before.
 #[tactic(auto, using(crate::proofs::OneLemmas::is_split))]
 pub(crate) fn split<C: Core, T>(
     alloc: Global,
     node: &SharedNode<C>,
     stall: &mut Stall<C, T>,
-) -> Result<Stall<C, T>, AllocError>
+) -> Result<Stall<C, T>, SplitFault>
     requires idle { IsIdle node.now stall.old }
-    ensures { IfOk result (λ given. IsSplit node.now stall.old stall.new given) }
+    ensures split { IfOk result (λ given. IsSplit node.now stall.old stall.new given) }
+    ensures narrow { result ≡ Err Narrow ↔ (stall.old.seat.share ≡ 1) }
+    ensures err { OnErr result (stall.new ≡ stall.old) }
 {
-    match node.split(alloc, &mut stall.seat) {
-        Ok(seat) => Ok(Stall {
-            seat,
-            told: Vec::new(alloc),
-        }),
-        Err(_) => Err(AllocError),
-    }
+    let seat = node.split(alloc, &mut stall.seat)?;
+    Ok(Stall {
+        seat,
+        told: Vec::new(alloc),
+    })
 }
 
 /// Takes in another stall of the node, with all that it was told.

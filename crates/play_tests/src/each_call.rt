@@ -34,6 +34,17 @@ enum Input {
 }
 
 impl Input {
+    // The command that reads it.
+    fn word(self) -> &'static str {
+        match self {
+            Input::Signature => "sig",
+            Input::Question => "check",
+            Input::TwoQuestions => "follow",
+            Input::Statements => "audit",
+            Input::Script => "play",
+        }
+    }
+
     fn text(self, alloc: Global) -> Result<String, AllocError> {
         match self {
             Input::Signature => three_lines(alloc, "00000000"),
@@ -107,53 +118,49 @@ fn first_write_without_fault(
 
 #[test]
 fn each_read_and_each_write_fails_once(rt: HostRuntime) -> Result<(), Fail> {
-    // The words, what is read, the numbers of the first read and the first write that never come, and the SHA-256 of what
-    // another program writes.
-    let cases: [(&[&str], Input, u64, u64, &str); 5] = [
+    // What is read, the numbers of the first read and the first write that never come, and the SHA-256 of what another program
+    // writes.
+    let cases: [(Input, u64, u64, &str); 5] = [
         (
-            &["sig"],
             Input::Signature,
             51,
             2,
             "009d962905920ad0e3ff46c6987fad36418982deb81796fd1f58e326d167c268",
         ),
         (
-            &["check"],
             Input::Question,
             92,
             2,
             "47baad8c7e7b98350b1b038a53443405dffb8d202673d6429bed3582a9600de4",
         ),
         (
-            &["audit"],
             Input::Statements,
             121,
             3,
             "05ae3b519dace9135a4d6ee8b4a35ebf11f495a86b2c5fa1cf0ace270ed27d46",
         ),
         (
-            &["follow"],
             Input::TwoQuestions,
             174,
             3,
             "a67165cd8d418a51c011893450cef738852717c42d24231d6f26acc5373e68a2",
         ),
         (
-            &["play"],
             Input::Script,
             5,
             66,
             "faa6b1b3c4aff502daa2feee4c5bed870122c81cf01f09c703e84fe0383ce3f1",
         ),
     ];
-    for (words, input, no_read, no_write, digest) in cases {
+    for (input, no_read, no_write, digest) in cases {
+        let words = [input.word()];
         let text = input.text(rt.alloc())?;
-        let (status, hash) = whole_run(rt.alloc(), words, text.as_str())?;
+        let (status, hash) = whole_run(rt.alloc(), &words, text.as_str())?;
         assert_eq!(rt; status, 0, "{input:?}");
         assert_eq!(rt; hash.as_str(), digest, "{input:?}");
-        let read = first_read_without_fault(rt.alloc(), words, text.as_str())?;
+        let read = first_read_without_fault(rt.alloc(), &words, text.as_str())?;
         assert_eq!(rt; read, no_read, "{input:?}");
-        let write = first_write_without_fault(rt.alloc(), words, text.as_str())?;
+        let write = first_write_without_fault(rt.alloc(), &words, text.as_str())?;
         assert_eq!(rt; write, no_write, "{input:?}");
     }
     Ok(())

@@ -3,8 +3,8 @@ use Rattle.std.specs.Prelude.{ℕ, ◌+◌, ◌%◌, ◌==◌, ◌&&◌, Bool, i
 use Rattle.std.specs.List.{range_with_len}
 
 module _ {D : Type 0} (workers : ℕ) (here : D → Bool) where
-  -- the numbers of those things of a worker that go here, where the first of all has this number: a thing is the worker's whose
-  -- number its own leaves by the number of workers
+  -- The numbers of those things of a worker that go here, where the first of all has this number. The workers take things in turn:
+  -- a thing is that worker's whose number is the remainder of its own by the number of workers.
   abbrev pub dealt_from : ℕ → ℕ → List D → List ℕ
   dealt_from number worker [] = []
   dealt_from number worker (thing ∷ things) =
