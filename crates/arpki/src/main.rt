@@ -7,8 +7,7 @@
 
 use ar_io::{StdSink, StdSource, words};
 use arpki_play::arpki_main;
-use owner_check::BookCheck;
-use std::alloc::{AllocError, Global};
+use owner_check::empty_books;
 use std::process::ExitCode;
 
 /// The status where there is no memory for the words and the checks.
@@ -17,17 +16,8 @@ const OUT_OF_MEMORY: u8 = 6;
 /// The most authorities of a script.
 const MOST_AUTHORITIES: usize = 16;
 
-/// A check with an empty book for each authority that there may be.
-fn checks(alloc: Global) -> Result<Vec<BookCheck>, AllocError> {
-    let mut checks = Vec::with_capacity(alloc, MOST_AUTHORITIES)?;
-    for _ in 0..MOST_AUTHORITIES {
-        checks.push(BookCheck::new(alloc))?;
-    }
-    Ok(checks)
-}
-
 fn main(rt: HostRuntime) -> ExitCode {
-    let (Ok(words), Ok(checks)) = (words(&rt), checks(rt.alloc())) else {
+    let (Ok(words), Ok(checks)) = (words(&rt), empty_books(rt.alloc(), MOST_AUTHORITIES)) else {
         return ExitCode::from(OUT_OF_MEMORY);
     };
     let mut source = StdSource::new(rt.stdin());

@@ -5,9 +5,8 @@
 #![tactic(auto)]
 
 use ar_io::{StdSink, StdSource, words};
-use owner_check::BookCheck;
+use owner_check::empty_books;
 use run_messages::messages_main;
-use std::alloc::{AllocError, Global};
 use std::process::ExitCode;
 
 /// The status where there is no memory for the words and the checks.
@@ -16,17 +15,8 @@ const OUT_OF_MEMORY: u8 = 6;
 /// The most authorities of a script.
 const MOST_AUTHORITIES: usize = 16;
 
-/// A check with an empty book for each authority that there may be.
-fn checks(alloc: Global) -> Result<Vec<BookCheck>, AllocError> {
-    let mut checks = Vec::with_capacity(alloc, MOST_AUTHORITIES)?;
-    for _ in 0..MOST_AUTHORITIES {
-        checks.push(BookCheck::new(alloc))?;
-    }
-    Ok(checks)
-}
-
 fn main(rt: HostRuntime) -> ExitCode {
-    let (Ok(words), Ok(checks)) = (words(&rt), checks(rt.alloc())) else {
+    let (Ok(words), Ok(checks)) = (words(&rt), empty_books(rt.alloc(), MOST_AUTHORITIES)) else {
         return ExitCode::from(OUT_OF_MEMORY);
     };
     let mut source = StdSource::new(rt.stdin());

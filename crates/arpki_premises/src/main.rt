@@ -14,7 +14,7 @@ use ar_io::{QuietSink, Sink, Source, StdSink, StdSource, words};
 use ar_records::Records;
 use ar_run::{Fault, read_input, status, write_line};
 use ar_world::World;
-use owner_check::{BookCheck, OwnerCheck};
+use owner_check::{OwnerCheck, empty_books};
 use run_premises::{few, is_unforged, none_collide};
 use script_play::play;
 use std::alloc::{AllocError, Global};
@@ -31,15 +31,6 @@ const OUT_OF_MEMORY: u8 = 6;
 
 /// The most authorities of a script.
 const MOST_AUTHORITIES: usize = 16;
-
-/// A check with an empty book for each authority that there may be.
-fn checks(alloc: Global) -> Result<Vec<BookCheck>, AllocError> {
-    let mut checks = Vec::with_capacity(alloc, MOST_AUTHORITIES)?;
-    for _ in 0..MOST_AUTHORITIES {
-        checks.push(BookCheck::new(alloc))?;
-    }
-    Ok(checks)
-}
 
 /// Whether a message is there and has a forgery.
 fn is_forged<C: OwnerCheck>(
@@ -120,7 +111,7 @@ fn answer<C: OwnerCheck, S: Source, K: Sink>(
 }
 
 fn main(rt: HostRuntime) -> ExitCode {
-    let (Ok(words), Ok(checks)) = (words(&rt), checks(rt.alloc())) else {
+    let (Ok(words), Ok(checks)) = (words(&rt), empty_books(rt.alloc(), MOST_AUTHORITIES)) else {
         return ExitCode::from(OUT_OF_MEMORY);
     };
     let mut source = StdSource::new(rt.stdin());

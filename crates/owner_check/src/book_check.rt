@@ -1,4 +1,4 @@
-ghost use Rattle.std.specs.Prelude.{◌≡◌, [], Some, OnOk, OnErr};
+ghost use Rattle.std.specs.Prelude.{◌≡◌, [], Some, IfOk, OnOk, OnErr, replicate};
 ghost use Rattle.owner_check.specs.Answers.{with_answer};
 ghost use Rattle.owner_check.specs.Book.{with_pair, without_pair};
 ghost use Rattle.owner_check.specs.declared.answer.Outcome.TheVariants.{Failed};
@@ -63,6 +63,18 @@ impl BookCheck {
     {
         keep(alloc, &mut self.answers, name, key, Outcome::Failed)
     }
+}
+
+/// So many checks with empty books, as one for each authority that there may be. The only error is want of memory.
+pub fn empty_books(alloc: Global, count: usize) -> Result<Vec<BookCheck>, AllocError>
+    ensures { IfOk result (λ checks.
+        checks.items ≡ replicate count (record { book = []; answers = [] })) }
+{
+    let mut checks = Vec::with_capacity(alloc, count)?;
+    for _ in 0..count {
+        checks.push(BookCheck::new(alloc))?;
+    }
+    Ok(checks)
 }
 
 impl OwnerCheck for BookCheck {

@@ -15,7 +15,7 @@
 #![tactic(auto)]
 
 pub use answer::{Answer, Outcome};
-pub use book_check::BookCheck;
+pub use book_check::{BookCheck, empty_books};
 pub use boxed::Boxed;
 pub use check::OwnerCheck;
 pub use failing_check::FailingCheck;
