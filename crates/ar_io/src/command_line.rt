@@ -1,3 +1,5 @@
+ghost use Rattle.std.specs.Prelude.{◌≡◌, drop};
+
 use std::alloc::AllocError;
 use std::env;
 use std::io::ErrorKind;
@@ -8,8 +10,18 @@ use std::rt::Env;
 pub fn words(rt: &(impl Env + AllocGlobal)) -> Result<Vec<String>, AllocError> {
     let alloc = rt.alloc();
     match env::args(rt) {
-        Ok(args) => args.skip(1).collect(alloc),
+        Ok(args) => Ok(behind_name(args.collect(alloc)?)),
         Err(error) if error.kind() == ErrorKind::InvalidData => Ok(Vec::new(alloc)),
         Err(_) => Err(AllocError),
     }
+}
+
+/// All words but the first, in their order.
+fn behind_name(mut args: Vec<String>) -> Vec<String>
+    ensures { result.items ≡ drop 1 args.items }
+{
+    if !args.is_empty() {
+        let _name = args.remove(0);
+    }
+    args
 }

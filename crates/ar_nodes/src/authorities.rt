@@ -12,7 +12,7 @@ use crate::codes::authority_code;
 use crate::fault::WorldFault;
 use crate::parties::HonestAuthority;
 use crate::replying::Reply;
-use authority_core::AuthorityRefusal;
+use authority_core::{AuthorityRefusal, answer};
 use owner_check::OwnerCheck;
 use std::alloc::Global;
 
@@ -29,7 +29,7 @@ impl<C: OwnerCheck> HonestAuthority<C> {
         ensures row { RepliesBySome result self.old self.new (λ says. authority_took says self.old bytes.now) }
         ensures few { IfOk result (λ reply. IfOk reply (λ sent. length sent.messages ≤ most_sent)) }
     {
-        match self.authority.step(alloc, bytes) {
+        match answer(&mut self.authority, alloc, bytes) {
             Ok(sent) => Ok(Ok(sent)),
             Err(AuthorityRefusal::Memory) => Err(WorldFault::Memory),
             Err(refusal) => Ok(Err(authority_code(refusal))),

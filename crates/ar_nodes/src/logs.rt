@@ -16,7 +16,7 @@ use crate::event::LogEvent;
 use crate::fault::WorldFault;
 use crate::parties::HonestLog;
 use crate::replying::Reply;
-use log_core::{LogInput, LogRefusal};
+use log_core::{LogInput, LogRefusal, answer};
 use std::alloc::{AllocError, Global};
 
 impl HonestLog {
@@ -50,7 +50,7 @@ impl HonestLog {
         ensures few { IfOk result (λ reply. IfOk reply (λ sent. length sent.messages ≤ most_sent)) }
     {
         self.taken.reserve(1)?;
-        match self.log.step(alloc, input) {
+        match answer(&mut self.log, alloc, input) {
             Ok(sent) => {
                 self.taken.push_reserved(event);
                 Ok(Ok(sent))

@@ -45,9 +45,9 @@ impl<C: OwnerCheck> Model for HonestAuthority<C> {
     ghost Value = { AuthorityNode };
 
     ghost view = { λ a. record {
-      state = a.authority.state;
+      state = a.authority.core.state;
       keys = a.authority.ring.keys;
-      check = option_map (check_told C.told C.answers) a.authority.check;
+      check = option_map (check_told C.told C.answers) a.authority.core.check;
     } };
 
     ghost invariant = { λ a. 0 < length a.authority.ring.keys };

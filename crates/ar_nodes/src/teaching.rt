@@ -36,7 +36,7 @@ pub fn is_checking<C: OwnerCheck>(authorities: &[Option<HonestAuthority<C>>], nu
     ensures { result ≡ is_some (checking_in authorities.now number) }
 {
     match honest(authorities, number) {
-        Some(node) => !node.authority.retired(),
+        Some(node) => !node.authority.core.retired(),
         None => false,
     }
 }
@@ -53,7 +53,8 @@ fn teach<C: OwnerCheck>(
     ensures ok { OnOk result (node.new ≡ record node.old { check = option_map (retelling (learnt name.now key.now)) node.old.check }) }
     ensures err { OnErr result (node.new ≡ node.old) }
 {
-    node.authority.teach(alloc, name, key)
+    let authority = &mut node.authority;
+    authority.core.teach(alloc, name, key)
 }
 
 /// The check of an authority forgets that the name has the key.
@@ -62,7 +63,8 @@ fn forget<C: OwnerCheck>(node: &mut HonestAuthority<C>, name: &[u8], key: &[u8; 
     requires { is_some node.old.check ≡ true }
     ensures { node.new ≡ record node.old { check = option_map (retelling (forgotten name.now key.now)) node.old.check } }
 {
-    node.authority.forget(name, key);
+    let authority = &mut node.authority;
+    authority.core.forget(name, key);
 }
 
 /// The check of an authority takes a lesson on the name and the key. After an error it is as before.
@@ -90,7 +92,8 @@ fn instruct<C: OwnerCheck>(
 fn retire<C: OwnerCheck>(node: &mut HonestAuthority<C>)
     ensures { node.new ≡ record node.old { check = None } }
 {
-    node.authority.retire();
+    let authority = &mut node.authority;
+    authority.core.retire();
 }
 
 /// The check of an authority that is there takes a lesson on the name and the key. After an error it is as before.

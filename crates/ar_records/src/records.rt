@@ -70,7 +70,7 @@ fn put_log<'a>(records: &mut Vec<&'a Record>, node: &'a Option<HonestLog>) -> Re
         ≡ map (λ log. record_of log.now) records.old.items ++ filter_map (λ node. option_map (λ n. n.core.log.past) node) (node.now ∷ [])) }
 {
     if let Some(node) = node {
-        records.push(node.log.record())?;
+        records.push(node.log.core.record())?;
     }
     Ok(())
 }
@@ -96,7 +96,7 @@ fn put_authority<'a, C: OwnerCheck>(
         ≡ map (λ authority. authority.now) records.old.items ++ filter_map (λ node. option_map (λ n. n.state.past) node) (node.now ∷ [])) }
 {
     if let Some(node) = node {
-        records.push(node.authority.record())?;
+        records.push(node.authority.core.state.record())?;
     }
     Ok(())
 }

@@ -1,6 +1,6 @@
 -- The world in which the logs and authorities are there.
 use Rattle.std.proofs.Common.{refl, ap, subst, ◌∙◌, sym, ◌≡◌, ℕ, List, []}
-use Rattle.std.specs.Prelude.{true, nat_le, map, Option, Err, Ok, Result}
+use Rattle.std.specs.Prelude.{true, map, Option, Err, Ok, Result}
 use Rattle.ar_base.specs.Chaining.{◌>>=◌}
 use Rattle.ar_statement.specs.declared.party.Role.TheVariants.{Authority}
 use Rattle.key_roll.specs.Ring.{RingParts}
@@ -12,7 +12,7 @@ use Rattle.ar_founding.specs.FirstKeys.{first_ring, keys_made, keys_for}
 use Rattle.ar_founding.specs.Founded.{Founded, authorities_of, founded_of, founded_with, fresh_states, log_rings, logs_of}
 use Rattle.ar_founding.specs.Founding.{fresh_logs, genesis_of}
 use Rattle.ar_founding.proofs.FirstParties.{logs-from, authorities-from}
-use Rattle.ar_world.specs.Founding.{authorities_line, led_to, may_come, peopled, place_of, with_parties}
+use Rattle.ar_world.specs.Founding.{authorities_line, is_peopled, led_to, may_come, peopled, with_parties}
 use Rattle.ar_world.specs.State.{Moved, World}
 use Rattle.ar_world.specs.declared.phase.Phase.{Phase}
 use Rattle.ar_world.specs.declared.phase.Phase.TheVariants as phase
@@ -29,7 +29,7 @@ logs-made phase.AuthoritiesMade comes = absurd cc
 logs-made phase.DishonestTold comes = absurd cc
 logs-made phase.Running comes = absurd cc
 
-pub came : (now : Phase) → may_come now phase.DishonestTold ≡ true → nat_le 4 (place_of now) ≡ true
+pub came : (now : Phase) → may_come now phase.DishonestTold ≡ true → is_peopled now ≡ true
 came phase.Beginning comes = absurd cc
 came phase.SecretTold comes = absurd cc
 came phase.KeysTold comes = absurd cc

@@ -1,5 +1,5 @@
 -- A line that is none of the setup leaves the phase as it is; that it came is noted by the step.
-use Rattle.std.proofs.Common.{◌≡◌, ℕ, List, [], ◌∷◌, ◌++◌, refl, ap, ◌∙◌, subst, true, Bool, false, nat_le, Option, Some, IfOk}
+use Rattle.std.proofs.Common.{◌≡◌, ℕ, List, [], ◌∷◌, ◌++◌, refl, ap, ◌∙◌, subst, true, Bool, false, Option, IfOk}
 use Rattle.std.specs.Prelude.{is_none, Result, Ok, Err, OnOk, nat_lt}
 use Rattle.ar_base.specs.Chaining.{need}
 use Rattle.ar_cert.specs.Certificate.{Certificate, digest_of}
@@ -16,8 +16,8 @@ use Rattle.report_text.specs.declared.happening.Happening.{Happening}
 use Rattle.report_text.specs.declared.happening.Happening.TheVariants.{Forgot, Taught}
 use Rattle.report_text.specs.declared.happening.What.{What}
 use Rattle.report_text.specs.declared.happening.What.TheVariants as whats
-use Rattle.script_text.specs.declared.line.Line.{Line}
-use Rattle.script_text.specs.declared.line.Line.TheVariants as line
+use Rattle.script_text.specs.declared.line.EventLine.{EventLine}
+use Rattle.script_text.specs.declared.line.EventLine.TheVariants as event
 use Rattle.script_text.specs.declared.line.PolicyWords.{PolicyWords}
 use Rattle.ar_world.specs.Asking.{ask_line}
 use Rattle.ar_world.specs.Delivering.{Taker, a_log, an_authority, an_owner, can_deliver, delivery}
@@ -26,7 +26,7 @@ use Rattle.ar_world.specs.Finding.{authority_at, checking_at, draft_at, existing
 use Rattle.ar_nodes.specs.Finding.{named}
 use Rattle.ar_world.specs.Forging.{composed_in, inject_line, receiver_in, sign_line, signing_if}
 use Rattle.lms_tree.specs.LmsKind.{leaves_of}
-use Rattle.ar_world.specs.Founding.{place_of}
+use Rattle.ar_world.specs.Founding.{is_peopled}
 use Rattle.ar_world.specs.Judging.{judge_line, judged_number}
 use Rattle.ar_nodes.specs.Parties.{next_of}
 use Rattle.ar_world.specs.Ordering.{log_order, roll_of}
@@ -34,13 +34,12 @@ use Rattle.ar_world.specs.Owning.{check_line}
 use Rattle.ar_nodes.specs.Parties.{Forger}
 use Rattle.ar_world.specs.Records.{HasParties}
 use Rattle.ar_world.specs.State.{Drafted, Moved, World}
-use Rattle.ar_world.specs.Step.{StepsBySome, effect, leads_to}
+use Rattle.ar_world.specs.Step.{StepsBySome, event_effect}
 use Rattle.ar_world.specs.Submitting.{handed, handover_line, object_line, submit_line}
 use Rattle.ar_nodes.specs.declared.event.LogEvent.{LogEvent}
 use Rattle.ar_nodes.specs.declared.event.LogEvent.TheVariants as events
 use Rattle.ar_nodes.specs.declared.fault.WorldFault.{WorldFault}
 use Rattle.ar_nodes.specs.declared.fault.WorldFault.TheVariants.{Absent}
-use Rattle.ar_world.specs.declared.phase.Phase.TheVariants as phase
 use Rattle.ar_world.proofs.OwnerReplies.{attached-by-alone}
 use Rattle.ar_base.proofs.Shown.{if-chained}
 
@@ -160,41 +159,34 @@ inject-stays w who pieces =
     if-chained (receiver_in w who) _ (Stays w) (λ to same.
     if-chained (composed_in w pieces) _ (Stays w) (λ bytes there. refl))
 
-effect-stays : (says : Outcome) (w : World) (l : Line) → leads_to l ≡ Some phase.Running → IfOk (effect says w l) (Stays w)
-unfolding effect
-effect-stays says w (line.Secret secret) leads = absurd cc
-effect-stays says w (line.Keys lms ots) leads = absurd cc
-effect-stays says w (line.Logs n q) leads = absurd cc
-effect-stays says w (line.Authorities m) leads = absurd cc
-effect-stays says w (line.Dishonest party) leads = absurd cc
-effect-stays says w (line.Owner owner) leads = if-chained (need (is_none (owner_at w owner)) (Absent 1)) _ (Stays w) (λ free same. refl)
-effect-stays says w (line.Teach authority name owner) leads = check-stays w authority owner (learnt name) (Taught authority)
-effect-stays says w (line.Forget authority name owner) leads = check-stays w authority owner (forgotten name) (Forgot authority)
-effect-stays says w (line.Retire authority) leads = if-chained (named 1 (checking_at w authority)) _ (Stays w) (λ found same. refl)
-effect-stays says w (line.Register owner name policy asks) leads = register-stays w owner name policy asks
-effect-stays says w (line.Update owner draft policy asks) leads = update-stays w owner draft policy asks
-effect-stays says w (line.Revoke owner draft asks) leads = revoke-stays w owner draft asks
-effect-stays says w (line.Handover owner draft) leads = handover-stays w owner draft
-effect-stays says w (line.Object owner draft) leads = object-stays w owner draft
-effect-stays says w (line.Submit draft) leads = submit-stays w draft
-effect-stays says w (line.Propose log) leads = order-stays w log whats.Propose events.Propose log_input.proposes
-effect-stays says w (line.Pass log) leads = order-stays w log whats.Pass events.Pass log_input.passes
-effect-stays says w (line.Roll party) leads = roll-stays w party.role party.number
-effect-stays says w (line.Learn message) leads = if-chained (named 1 (message_at w message)) _ (Stays w) (λ p same. refl)
-effect-stays says w (line.Ask log name first second client) leads = ask-stays w log name first second client
-effect-stays says w (line.Deliver message party) leads =
+event-stays : (says : Outcome) (w : World) (l : EventLine) → IfOk (event_effect says w l) (Stays w)
+unfolding event_effect
+event-stays says w (event.Owner owner) = if-chained (need (is_none (owner_at w owner)) (Absent 1)) _ (Stays w) (λ free same. refl)
+event-stays says w (event.Teach authority name owner) = check-stays w authority owner (learnt name) (Taught authority)
+event-stays says w (event.Forget authority name owner) = check-stays w authority owner (forgotten name) (Forgot authority)
+event-stays says w (event.Retire authority) = if-chained (named 1 (checking_at w authority)) _ (Stays w) (λ found same. refl)
+event-stays says w (event.Register owner name policy asks) = register-stays w owner name policy asks
+event-stays says w (event.Update owner draft policy asks) = update-stays w owner draft policy asks
+event-stays says w (event.Revoke owner draft asks) = revoke-stays w owner draft asks
+event-stays says w (event.Handover owner draft) = handover-stays w owner draft
+event-stays says w (event.Object owner draft) = object-stays w owner draft
+event-stays says w (event.Submit draft) = submit-stays w draft
+event-stays says w (event.Propose log) = order-stays w log whats.Propose events.Propose log_input.proposes
+event-stays says w (event.Pass log) = order-stays w log whats.Pass events.Pass log_input.passes
+event-stays says w (event.Roll party) = roll-stays w party.role party.number
+event-stays says w (event.Learn message) = if-chained (named 1 (message_at w message)) _ (Stays w) (λ p same. refl)
+event-stays says w (event.Ask log name first second client) = ask-stays w log name first second client
+event-stays says w (event.Deliver message party) =
     if-chained (can_deliver w message party) _ (Stays w) (λ taker same. delivery-stays says w message party.number taker)
-effect-stays says w line.Flush leads = refl
-effect-stays says w (line.Judge message name now age) leads = judge-stays w message name now age
-effect-stays says w (line.Sign party pieces) leads = sign-stays w party pieces
-effect-stays says w (line.Inject to pieces) leads = inject-stays w to pieces
-effect-stays says w line.Burst leads = tt
-effect-stays says w line.End leads = tt
+event-stays says w event.Flush = refl
+event-stays says w (event.Judge message name now age) = judge-stays w message name now age
+event-stays says w (event.Sign party pieces) = sign-stays w party pieces
+event-stays says w (event.Inject to pieces) = inject-stays w to pieces
 
 -- authorities that are there stay there
-pub still-peopled : (result : Result (List Happening) WorldFault) (w v : World) (l : Line) → leads_to l ≡ Some phase.Running
-    → StepsBySome result w v (λ says. effect says w l) → HasParties w → OnOk result (HasParties v)
-still-peopled (Ok said) w v l leads made there =
-    let same : v.phase ≡ w.phase = subst (λ e. IfOk e (Stays w)) made.steps (effect-stays made.says w l leads)
-    in ap (λ p. nat_le 4 (place_of p)) same ∙ there
-still-peopled (Err fault) w v l leads made there = tt
+pub still-peopled : (result : Result (List Happening) WorldFault) (w v : World) (l : EventLine)
+    → StepsBySome result w v (λ says. event_effect says w l) → HasParties w → OnOk result (HasParties v)
+still-peopled (Ok said) w v l made there =
+    let same : v.phase ≡ w.phase = subst (λ e. IfOk e (Stays w)) made.steps (event-stays made.says w l)
+    in ap is_peopled same ∙ there
+still-peopled (Err fault) w v l made there = tt

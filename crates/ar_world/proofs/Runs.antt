@@ -1,7 +1,7 @@
 -- What holds of each step and each delivery holds of a whole script; and what it prints of messages is its pool.
 use Rattle.std.proofs.Common.{◌≡◌, ℕ, zero, suc, ◌+◌, List, [], ◌∷◌, ◌++◌, refl, sym, ◌∙◌, Bool, true, false, nat_lt, Option, Some, None, IfOk}
 use Rattle.std.specs.Prelude.{if◌then◌else◌, Result, Ok, Err}
-use Rattle.ar_base.specs.Chaining.{need}
+use Rattle.ar_base.specs.Chaining.{◌>>=◌, need}
 use Rattle.ar_lines.specs.Lines.{lines_of}
 use Rattle.ar_lines.specs.declared.refusal.Reason.{Reason}
 use Rattle.ar_lines.specs.declared.refusal.Reason.TheVariants as reason
@@ -13,21 +13,26 @@ use Rattle.report_text.specs.declared.happening.Happening.{Happening}
 use Rattle.report_text.specs.declared.happening.Happening.TheVariants.{Forgot, Taught}
 use Rattle.report_text.specs.declared.happening.What.TheVariants as whats
 use Rattle.script_text.specs.Rows.{read_of}
+use Rattle.script_text.specs.declared.line.EventLine.{EventLine}
+use Rattle.script_text.specs.declared.line.EventLine.TheVariants as event
 use Rattle.script_text.specs.declared.line.Line.{Line}
 use Rattle.script_text.specs.declared.line.Line.TheVariants as line
+use Rattle.script_text.specs.declared.line.SetupLine.{SetupLine}
+use Rattle.script_text.specs.declared.line.SetupLine.TheVariants as setup
 use Rattle.ar_world.specs.Delivering.{Taker, can_deliver, deliver_line, delivery, next_due, taker_at}
 use Rattle.ar_world.specs.Finding.{Effect, message_at, room}
-use Rattle.ar_world.specs.Founding.{may_come}
+use Rattle.ar_world.specs.Founding.{in_order, led_to, may_come}
 use Rattle.ar_nodes.specs.Parties.{CheckParts}
 use Rattle.ar_nodes.specs.Pool.{Pooled, entries_from}
 use Rattle.ar_world.specs.Printed.{Tells, TellsPool, entries_in}
 use Rattle.ar_world.specs.Run.{Course, Progress, Saying, at_line, delivering, flushed, follows, line_taken, most_deliveries, most_lines, progress_of, refusing, run, run_from, taken_as, then_if}
-use Rattle.ar_world.specs.State.{World, first_world}
-use Rattle.ar_world.specs.Step.{effect, leads_to, step, stepped}
+use Rattle.ar_world.specs.State.{Moved, World, first_world}
+use Rattle.ar_world.specs.Step.{event_effect, leads_to, setup_effect, step}
 use Rattle.ar_world.specs.declared.cause.Cause.TheVariants.{Unread}
 use Rattle.ar_nodes.specs.declared.event.LogEvent.TheVariants as events
 use Rattle.ar_nodes.specs.declared.fault.WorldFault.TheVariants.{Order}
 use Rattle.ar_world.specs.declared.phase.Phase.{Phase}
+use Rattle.ar_world.specs.declared.phase.Phase.TheVariants as phase
 use Rattle.ar_world.proofs.Deliveries.{can-take}
 use Rattle.ar_world.proofs.Lines.{ask-tells, authorities-tells, check-line-tells, deliver-tells, delivery-tells, dishonest-tells, handover-tells, inject-tells, judge-tells, keys-tells, learn-tells, log-order-tells, logs-tells, object-tells, owner-line-tells, quiet, register-tells, retire-tells, revoke-tells, roll-tells, sign-tells, submit-tells, update-tells}
 use Rattle.ar_world.proofs.Pools.{entries-alike, tells-both}
@@ -35,43 +40,62 @@ use Rattle.ar_base.proofs.Shown.{if-chained}
 
 -- ---- a step
 
-effect-tells : (says : Outcome) (w : World) (l : Line) → IfOk (effect says w l) (Tells w.pool)
-unfolding effect
-effect-tells says w (line.Secret secret) = quiet w.pool [] refl
-effect-tells says w (line.Keys lms ots) = keys-tells w lms ots
-effect-tells says w (line.Logs n q) = logs-tells w n q
-effect-tells says w (line.Authorities m) = authorities-tells w m
-effect-tells says w (line.Dishonest party) = dishonest-tells w party
-effect-tells says w (line.Owner owner) = owner-line-tells w owner
-effect-tells says w (line.Teach authority name owner) = check-line-tells w authority owner (learnt name) (Taught authority) refl
-effect-tells says w (line.Forget authority name owner) = check-line-tells w authority owner (forgotten name) (Forgot authority) refl
-effect-tells says w (line.Retire authority) = retire-tells w authority
-effect-tells says w (line.Register owner name policy asks) = register-tells w owner name policy asks
-effect-tells says w (line.Update owner draft policy asks) = update-tells w owner draft policy asks
-effect-tells says w (line.Revoke owner draft asks) = revoke-tells w owner draft asks
-effect-tells says w (line.Handover owner draft) = handover-tells w owner draft
-effect-tells says w (line.Object owner draft) = object-tells w owner draft
-effect-tells says w (line.Submit draft) = submit-tells w draft
-effect-tells says w (line.Propose log) = log-order-tells w log whats.Propose events.Propose proposes
-effect-tells says w (line.Pass log) = log-order-tells w log whats.Pass events.Pass passes
-effect-tells says w (line.Roll party) = roll-tells w party
-effect-tells says w (line.Learn message) = learn-tells w message
-effect-tells says w (line.Ask log name first second client) = ask-tells w log name first second client
-effect-tells says w (line.Deliver message party) = deliver-tells says w message party
-effect-tells says w line.Flush = quiet w.pool [] refl
-effect-tells says w (line.Judge message name now age) = judge-tells w message name now age
-effect-tells says w (line.Sign party pieces) = sign-tells w party pieces
-effect-tells says w (line.Inject to pieces) = inject-tells w to pieces
-effect-tells says w line.Burst = tt
-effect-tells says w line.End = tt
+setup-tells : (w : World) (l : SetupLine) → IfOk (setup_effect w l) (Tells w.pool)
+unfolding setup_effect
+setup-tells w (setup.Secret secret) = quiet w.pool [] refl
+setup-tells w (setup.Keys lms ots) = keys-tells w lms ots
+setup-tells w (setup.Logs n q) = logs-tells w n q
+setup-tells w (setup.Authorities m) = authorities-tells w m
+setup-tells w (setup.Dishonest party) = dishonest-tells w party
 
-stepped-tells : (w : World) (next : Option Phase) (made : Effect) → IfOk made (Tells w.pool) → IfOk (stepped w next made) (Tells w.pool)
-stepped-tells w None made tells = tt
-stepped-tells w (Some next) (Ok m) tells = if-chained (need (may_come w.phase next) Order) _ (Tells w.pool) (λ comes same. tells)
-stepped-tells w (Some next) (Err why) tells = if-chained (need (may_come w.phase next) Order) _ (Tells w.pool) (λ comes same. tt)
+event-tells : (says : Outcome) (w : World) (l : EventLine) → IfOk (event_effect says w l) (Tells w.pool)
+unfolding event_effect
+event-tells says w (event.Owner owner) = owner-line-tells w owner
+event-tells says w (event.Teach authority name owner) = check-line-tells w authority owner (learnt name) (Taught authority) refl
+event-tells says w (event.Forget authority name owner) = check-line-tells w authority owner (forgotten name) (Forgot authority) refl
+event-tells says w (event.Retire authority) = retire-tells w authority
+event-tells says w (event.Register owner name policy asks) = register-tells w owner name policy asks
+event-tells says w (event.Update owner draft policy asks) = update-tells w owner draft policy asks
+event-tells says w (event.Revoke owner draft asks) = revoke-tells w owner draft asks
+event-tells says w (event.Handover owner draft) = handover-tells w owner draft
+event-tells says w (event.Object owner draft) = object-tells w owner draft
+event-tells says w (event.Submit draft) = submit-tells w draft
+event-tells says w (event.Propose log) = log-order-tells w log whats.Propose events.Propose proposes
+event-tells says w (event.Pass log) = log-order-tells w log whats.Pass events.Pass passes
+event-tells says w (event.Roll party) = roll-tells w party
+event-tells says w (event.Learn message) = learn-tells w message
+event-tells says w (event.Ask log name first second client) = ask-tells w log name first second client
+event-tells says w (event.Deliver message party) = deliver-tells says w message party
+event-tells says w event.Flush = quiet w.pool [] refl
+event-tells says w (event.Judge message name now age) = judge-tells w message name now age
+event-tells says w (event.Sign party pieces) = sign-tells w party pieces
+event-tells says w (event.Inject to pieces) = inject-tells w to pieces
+
+-- what holds of what a line makes that may come, in the phase to which it leads, holds of the line
+in_order-holds : (P : Moved → Type 0) (w : World) (next : Phase) (made : Effect)
+    → (may_come w.phase next ≡ true → IfOk made (λ m. P (record m.0 { phase = next }, m.1))) → IfOk (in_order w next made) P
+in_order-holds P w next made holds = by (may_come w.phase next) refl
+  where
+    led : (made : Effect) → IfOk made (λ m. P (record m.0 { phase = next }, m.1)) → IfOk (led_to next made) P
+    led (Ok m) holds = holds
+    led (Err why) holds = tt
+
+    by : (b : Bool) → may_come w.phase next ≡ b → IfOk (need b Order >>= λ comes. led_to next made) P
+    by true comes = led made (holds comes)
+    by false comes = tt
+
+-- so of each step, where it holds of what each line makes that may come
+pub step-holds : (P : Moved → Type 0) (says : Outcome) (w : World)
+    → ((l : SetupLine) → may_come w.phase (leads_to l) ≡ true → IfOk (setup_effect w l) (λ m. P (record m.0 { phase = leads_to l }, m.1)))
+    → ((l : EventLine) → may_come w.phase phase.Running ≡ true → IfOk (event_effect says w l) (λ m. P (record m.0 { phase = phase.Running }, m.1)))
+    → (l : Line) → IfOk (step says w l) P
+step-holds P says w sets does (line.Setup l) = in_order-holds P w (leads_to l) (setup_effect w l) (sets l)
+step-holds P says w sets does (line.Event l) = in_order-holds P w phase.Running (event_effect says w l) (does l)
+step-holds P says w sets does line.Burst = tt
+step-holds P says w sets does line.End = tt
 
 pub step-tells : (says : Outcome) (w : World) (l : Line) → IfOk (step says w l) (Tells w.pool)
-step-tells says w l = stepped-tells w (leads_to l) (effect says w l) (effect-tells says w l)
+step-tells says w = step-holds (Tells w.pool) says w (λ l comes. setup-tells w l) (λ l comes. event-tells says w l)
 
 -- ---- what holds of a run
 
@@ -119,7 +143,7 @@ flushed-goes R holds (suc more) says number w =
     delivering-goes R holds (says number) w (next_due w) (flushed more says (number + 1)) (flushed-goes R holds more says (number + 1))
 
 follows-goes : (R : World → World → List Happening → Type 0) → HoldsOfSteps R → (says : ℕ → Outcome) (l : Line) (w : World) → Goes R w (follows says l w)
-follows-goes R holds says line.Flush w = flushed-goes R holds most_deliveries says 0 w
+follows-goes R holds says (line.Event event.Flush) w = flushed-goes R holds most_deliveries says 0 w
 follows-goes R holds says _ w = holds.still w
 
 taken-goes : (R : World → World → List Happening → Type 0) → HoldsOfSteps R → (says : ℕ → Outcome) (w : World) (read : Result (Option Line) Reason) → Goes R w (taken_as says w read)

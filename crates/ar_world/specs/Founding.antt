@@ -32,13 +32,17 @@ place_of phase.AuthoritiesMade = 4
 place_of phase.DishonestTold = 5
 place_of phase.Running = 6
 
+-- whether the logs and authorities are there
+abbrev pub is_peopled : Phase → Bool
+is_peopled now = nat_le (place_of phase.AuthoritiesMade) (place_of now)
+
 -- Whether a line that leads to the second phase may come in the first. `secret`, `keys` and `logs` come in this order, each
 -- at most once; `authorities` comes directly behind `logs`; then come the lines `dishonest`, where there are any, and then all
 -- others.
 abbrev pub may_come : Phase → Phase → Bool
-may_come now phase.AuthoritiesMade = place_of now == 3
-may_come now phase.DishonestTold = is_from_to 4 5 (place_of now)
-may_come now phase.Running = nat_le 4 (place_of now)
+may_come now phase.AuthoritiesMade = place_of now == place_of phase.LogsMade
+may_come now phase.DishonestTold = is_from_to (place_of phase.AuthoritiesMade) (place_of phase.DishonestTold) (place_of now)
+may_come now phase.Running = is_peopled now
 may_come now next = nat_lt (place_of now) (place_of next)
 
 -- what a line makes that leads to a phase

@@ -1,10 +1,10 @@
 -- What the program's world keeps beside what its lines speak of: the keys of the logs before these are there, and that each
 -- directory is there in time.
-use Rattle.std.specs.Prelude.{◌≡◌, ◌<◌, ◌^◌, nat_le, true, List, length, All, Option, Some, None, is_some}
+use Rattle.std.specs.Prelude.{◌≡◌, ◌<◌, ◌^◌, true, List, length, All, Option, Some, None, is_some}
 use Rattle.ar_statement.specs.declared.party.Role.TheVariants.{LogServer}
 use Rattle.party_keys.specs.Directory.{Directory}
 use Rattle.ar_founding.specs.FirstKeys.{FirstKeys, first_of}
-use Rattle.ar_world.specs.Founding.{place_of}
+use Rattle.ar_world.specs.Founding.{is_peopled}
 use Rattle.ar_nodes.specs.Parties.{LogNode}
 use Rattle.ar_world.specs.State.{Drafted, no_directory}
 use Rattle.ar_founding.specs.FirstKeys.{Setup, keys_for}
@@ -25,6 +25,6 @@ clients_in (Some d) = d.clients
 -- serial above the number of drafts before it; and each log has a number that a party can have.
 pub record IsKeptWorld (phase : Phase) (setup : Setup) (log_keys : FirstKeys) (directories : Option Directories) (drafts : List Drafted) (logs : List (Option LogNode)) : Type 0 where
   pub keys : phase ≡ LogsMade → log_keys ≡ first_of (keys_for setup LogServer setup.logs)
-  pub known : nat_le 4 (place_of phase) ≡ true → is_some directories ≡ true
+  pub known : is_peopled phase ≡ true → is_some directories ≡ true
   pub serials : All (λ d. d.cert.serial < length drafts) drafts
   pub few : length logs < 2 ^ 16

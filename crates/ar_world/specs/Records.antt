@@ -1,5 +1,5 @@
 -- What honest parties and clients of a world hold, of which the theorem speaks; and which messages and steps are told of it.
-use Rattle.std.specs.Prelude.{◌≡◌, ℕ, List, All, nat_le, true, Option, Some}
+use Rattle.std.specs.Prelude.{◌≡◌, ℕ, List, All, true, Option, Some}
 use Rattle.std.specs.Option.{option_map}
 use Rattle.ar_base.specs.Bytes.{AreBytes}
 use Rattle.ar_safety.specs.Held.{Held}
@@ -7,7 +7,7 @@ use Rattle.epoch_log.specs.Record.{LogRecord}
 use Rattle.party_keys.specs.Directory.{IsDirectory}
 use Rattle.ar_world.specs.Finding.{authority_at, log_at, message_at}
 use Rattle.ar_records.specs.Records.{AuthorityKeepsRecord, LogKeepsRecord, held_by}
-use Rattle.ar_world.specs.Founding.{place_of}
+use Rattle.ar_world.specs.Founding.{is_peopled}
 use Rattle.ar_nodes.specs.Parties.{AuthorityNode, LogNode}
 use Rattle.ar_world.specs.State.{World}
 use Rattle.ar_nodes.specs.declared.event.LogEvent.{LogEvent}
@@ -18,7 +18,7 @@ held_of w = held_by w.clients w.forgers w.logs w.authorities w.judged w.learned
 
 -- the logs and authorities are there
 abbrev pub HasParties : World → Type 0
-HasParties w = nat_le 4 (place_of w.phase) ≡ true
+HasParties w = is_peopled w.phase ≡ true
 
 -- What each party keeps of itself: the clients' directory is one; the record of each honest log and authority is an honest
 -- one's; and what clients accepted are bytes.

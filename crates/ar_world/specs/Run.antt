@@ -3,6 +3,7 @@
 use Rattle.std.specs.Prelude.{◌*◌, ℕ, zero, suc, ◌+◌, nat_lt, if◌then◌else◌, List, [], ◌∷◌, ◌++◌, codes, map, Option, Some, None, Result, Ok, Err}
 use Rattle.std.specs.Option.{option_map}
 use Rattle.std.specs.Fmt.{decimal}
+use Rattle.std.specs.List.{concat}
 use Rattle.ar_lines.specs.Lines.{lines_of}
 use Rattle.ar_lines.specs.Refusals.{reason_text, refused_as}
 use Rattle.ar_lines.specs.declared.refusal.Reason.{Reason}
@@ -12,6 +13,7 @@ use Rattle.owner_check.specs.declared.answer.Outcome.{Outcome}
 use Rattle.report_text.specs.Lines.{line_of}
 use Rattle.report_text.specs.declared.happening.Happening.{Happening}
 use Rattle.script_text.specs.Rows.{read_of}
+use Rattle.script_text.specs.declared.line.EventLine.TheVariants as event
 use Rattle.script_text.specs.declared.line.Line.{Line}
 use Rattle.script_text.specs.declared.line.Line.TheVariants as line
 use Rattle.ar_world.specs.Delivering.{deliver_line, next_due}
@@ -91,7 +93,7 @@ most_deliveries = 16 * (most_messages + 64)
 
 -- what follows a line: behind a `flush` the deliveries
 abbrev pub follows : (ℕ → Outcome) → Line → World → Progress
-follows says line.Flush w = flushed most_deliveries says 0 w
+follows says (line.Event event.Flush) w = flushed most_deliveries says 0 w
 follows says _ w = unmoved w
 
 -- ---- lines
@@ -155,3 +157,7 @@ refused_lines (Some refusal) = refused_text refusal ∷ []
 -- all lines that are written of a run, each with its newline
 abbrev pub lines_of_run : Run → List (List ℕ)
 lines_of_run r = map line_of r.said ++ refused_lines r.refused
+
+-- all that is written of a run
+abbrev pub text_of_run : Run → List ℕ
+text_of_run r = concat (lines_of_run r)

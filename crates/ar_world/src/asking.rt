@@ -48,7 +48,8 @@ fn post_one(
     outgoing: Outgoing,
 ) -> Result<Items<Happening>, AllocError>
     ensures pool { OnOk result (pool.new.messages ≡ pool.old.messages ++ map (pooled_from sender) (outgoing ∷ [])) }
-    ensures said { IfOk result (λ said. said ≡ entries_from (length pool.old.messages + 1) (map (pooled_from sender) (outgoing ∷ []))) }
+    ensures said { IfOk result (λ said. said
+        ≡ entries_from (length pool.old.messages + 1) (map (pooled_from sender) (outgoing ∷ []))) }
     ensures err { OnErr result (pool.new.messages ≡ pool.old.messages) }
 {
     let mut said = reserve(alloc, pool, 1)?;
@@ -66,9 +67,11 @@ fn ask(
     client: u16,
 ) -> Result<Items<Happening>, AllocError>
     ensures pool { OnOk result (pool.new.messages
-        ≡ pool.old.messages ++ map (pooled_from (client_party client)) (question log name.now authorities.0 authorities.1 client).messages) }
+        ≡ pool.old.messages
+        ++ map (pooled_from (client_party client)) (question log name.now authorities.0 authorities.1 client).messages) }
     ensures said { IfOk result (λ said. said
-        ≡ entries_from (length pool.old.messages + 1) (map (pooled_from (client_party client)) (question log name.now authorities.0 authorities.1 client).messages)) }
+        ≡ entries_from (length pool.old.messages + 1)
+        (map (pooled_from (client_party client)) (question log name.now authorities.0 authorities.1 client).messages)) }
     ensures err { OnErr result (pool.new.messages ≡ pool.old.messages) }
 {
     let (first, second) = authorities;

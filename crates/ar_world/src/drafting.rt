@@ -125,7 +125,8 @@ fn enter_draft(
 /// An owner makes a certificate its draft, and asks authorities to endorse it.
 fn begin(owner: &mut Owner, alloc: Global, cert: Cert, asks: &[u16]) -> Result<Sent, WorldFault>
     ensures owner { IfOk result (λ sent. owner.new ≡ record owner.old { drafts = begun_draft owner.old.drafts cert }) }
-    ensures sent { IfOk result (λ sent. map (pooled_from (owner_party owner.old.number)) sent.messages ≡ asked owner.old cert asks.now) }
+    ensures sent { IfOk result (λ sent. map (pooled_from (owner_party owner.old.number)) sent.messages
+        ≡ asked owner.old cert asks.now) }
     ensures len { IfOk result (λ sent. length sent.messages ≡ length asks.now) }
     ensures err { IfErr result (λ fault. (fault ≡ Memory) × (owner.new ≡ owner.old)) }
 {
@@ -146,7 +147,8 @@ fn draft(
 ) -> Result<Items<Happening>, WorldFault>
     requires { length asks.now ≤ 16 }
     ensures owner { IfOk result (λ said. owner.new ≡ record owner.old { drafts = begun_draft owner.old.drafts cert }) }
-    ensures drafts { IfOk result (λ said. drafts.new.items ≡ drafts.old.items ++ record { owner = owner.old.number; cert = cert } ∷ []) }
+    ensures drafts { IfOk result (λ said. drafts.new.items
+        ≡ drafts.old.items ++ record { owner = owner.old.number; cert = cert } ∷ []) }
     ensures pool { IfOk result (λ said. pool.new.messages ≡ pool.old.messages ++ asked owner.old cert asks.now) }
     ensures said { IfOk result (λ said. said ≡ Draft (length drafts.old.items + 1) (digest_of cert)
         ∷ entries_from (length pool.old.messages + 1) (asked owner.old cert asks.now)) }
@@ -192,7 +194,8 @@ impl<C: OwnerCheck> World<C> {
         requires place { place < length self.old.owners }
         requires serial { cert.serial ≤ length self.old.drafts }
         requires asks { All (λ number. number < 65536) asks.now }
-        ensures { (me : OwnerState) → me ≡ slice_index_or self.old.owners place me → position (is_owner me.number) self.old.owners ≡ Some place
+        ensures { (me : OwnerState) → me ≡ slice_index_or self.old.owners place me
+            → position (is_owner me.number) self.old.owners ≡ Some place
             → StepsBy result self.old self.new (Ok (drafted self.old me cert asks.now)) }
     {
         let asks = narrow(alloc, asks)?;
@@ -223,7 +226,8 @@ impl<C: OwnerCheck> World<C> {
         ensures wait { OnOk result (may_wait policy.now.wait ≡ true) }
         ensures asks { OnOk result (known_asks self.now 8 asks.now ≡ Ok tt) }
         ensures room { OnOk result (draft_room self.now ≡ Ok tt) }
-        ensures err { (name : List ℕ) → IfErr result (λ fault. register_line self.now owner name policy.now asks.now ≡ Err fault) }
+        ensures err { (name : List ℕ) → IfErr result
+            (λ fault. register_line self.now owner name policy.now asks.now ≡ Err fault) }
     {
         let place = self.owner_named(1, owner)?;
         need_policy(3, policy)?;

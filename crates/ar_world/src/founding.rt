@@ -143,7 +143,8 @@ impl<C: OwnerCheck> World<C> {
 /// Takes the log with a number away: its first key.
 fn take_log(logs: &mut Vec<Option<HonestLog>>, number: u16) -> Option<LmsKey>
     ensures key { result ≡ option_and_then (λ node. first_key node.keys) (honest_in logs.old.items number) }
-    ensures items { MatchOption result (logs.new.items ≡ logs.old.items) (λ _. logs.new.items ≡ slice_set logs.old.items number None) }
+    ensures items { MatchOption result (logs.new.items ≡ logs.old.items)
+        (λ _. logs.new.items ≡ slice_set logs.old.items number None) }
     ensures len { length logs.new.items ≡ length logs.old.items }
 {
     let node = logs.get_mut(number as usize)?.take()?;
@@ -157,7 +158,8 @@ fn take_authority<C: OwnerCheck>(
     number: u16,
 ) -> Option<LmsKey>
     ensures key { result ≡ option_and_then (λ node. first_key node.keys) (honest_in authorities.old.items number) }
-    ensures items { MatchOption result (authorities.new.items ≡ authorities.old.items) (λ _. authorities.new.items ≡ slice_set authorities.old.items number None) }
+    ensures items { MatchOption result (authorities.new.items ≡ authorities.old.items)
+        (λ _. authorities.new.items ≡ slice_set authorities.old.items number None) }
 {
     let node = authorities.get_mut(number as usize)?.take()?;
     let (_core, ring) = node.authority.split();

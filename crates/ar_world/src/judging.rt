@@ -86,7 +86,8 @@ fn judge(
     number: u64,
     t: &Judged,
 ) -> Result<(Items<Happening>, bool), AllocError>
-    ensures said { IfOk result (λ made. made.0 ≡ happening.Judged number (said_of t.entry.now.name (verdict_on clients.now t.entry.now)) ∷ []) }
+    ensures said { IfOk result (λ made. made.0
+        ≡ happening.Judged number (said_of t.entry.now.name (verdict_on clients.now t.entry.now)) ∷ []) }
     ensures accepted { IfOk result (λ made. made.1 ≡ is_accepted (verdict_on clients.now t.entry.now)) }
 {
     let name = t.name.view().to_name(alloc)?;

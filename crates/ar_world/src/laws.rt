@@ -1,11 +1,14 @@
 //! Laws on the definitions of `specs/`: each is the contract of a function with an empty body.
-ghost use Rattle.std.specs.Prelude.{◌≡◌, ◌≢◌, ℕ, List, [], nat_lt, true, Some, Err, IfOk};
+ghost use Rattle.std.specs.Prelude.{◌≡◌, ℕ, List, [], false, Some, Err, IfOk};
 ghost use Rattle.owner_check.specs.declared.answer.Outcome.{Outcome};
+ghost use Rattle.script_text.specs.declared.line.EventLine.{EventLine};
 ghost use Rattle.script_text.specs.declared.line.Line.{Line};
+ghost use Rattle.script_text.specs.declared.line.Line.TheVariants as line;
+ghost use Rattle.script_text.specs.declared.line.SetupLine.{SetupLine};
 ghost use Rattle.ar_world.specs.Examples.{no_logs, told_twice, too_early, unread};
 ghost use Rattle.ar_world.specs.Delivering.{a_log, an_authority, delivery};
 ghost use Rattle.ar_world.specs.Finding.{log_at, message_at};
-ghost use Rattle.ar_world.specs.Founding.{place_of};
+ghost use Rattle.ar_world.specs.Founding.{is_peopled};
 ghost use Rattle.ar_nodes.specs.Parties.{AuthorityNode, CheckParts, LogNode};
 ghost use Rattle.ar_nodes.specs.Pool.{Pooled, entries_from};
 ghost use Rattle.ar_world.specs.Printed.{Tells, entries_in};
@@ -15,30 +18,38 @@ ghost use Rattle.ar_world.specs.Settling.{authority_apart, authority_settled, lo
 ghost use Rattle.ar_world.specs.State.{World, first_world, no_directory};
 ghost use Rattle.ar_world.specs.Step.{leads_to, step};
 ghost use Rattle.ar_nodes.specs.declared.fault.WorldFault.TheVariants.{Order};
-ghost use Rattle.ar_world.specs.declared.phase.Phase.{Phase};
 ghost use Rattle.ar_world.specs.declared.phase.Phase.TheVariants.{Running};
 
 /// Lines of the setup come before all others, and the others behind the authorities. A line that is taken leads to its
 /// phase.
 pub fn the_setup_comes_first()
-    ensures setup { (says : Outcome) (w : World) (l : Line) (next : Phase) → w.phase ≡ Running → leads_to l ≡ Some next → next ≢ Running → step says w l ≡ Err Order }
-    ensures others { (says : Outcome) (w : World) (l : Line) → nat_lt (place_of w.phase) 4 ≡ true → leads_to l ≡ Some Running → step says w l ≡ Err Order }
-    ensures reached { (says : Outcome) (w : World) (l : Line) → IfOk (step says w l) (λ made. leads_to l ≡ Some made.0.phase) }
+    ensures setup { (says : Outcome) (w : World) (l : SetupLine) → w.phase ≡ Running → step says w (line.Setup l) ≡ Err Order }
+    ensures others { (says : Outcome) (w : World) (l : EventLine) → is_peopled w.phase ≡ false
+        → step says w (line.Event l) ≡ Err Order }
+    ensures reached { (says : Outcome) (w : World) (l : SetupLine)
+        → IfOk (step says w (line.Setup l)) (λ made. made.0.phase ≡ leads_to l) }
+    ensures running { (says : Outcome) (w : World) (l : EventLine)
+        → IfOk (step says w (line.Event l)) (λ made. made.0.phase ≡ Running) }
 {}
 
 /// The pool only grows, and each message is printed once, with its number, where it enters: by each line, and of a whole
 /// script, whose printed messages are those of its pool, numbered from 1.
 pub fn the_printed_messages_are_the_pool()
     ensures line { (says : Outcome) (w : World) (l : Line) → IfOk (step says w l) (Tells w.pool) }
-    ensures script { (saying : Saying) (checks : List CheckParts) (input : List ℕ) → entries_in (run saying checks input).said ≡ entries_from 1 (run saying checks input).world.pool }
+    ensures script { (saying : Saying) (checks : List CheckParts) (input : List ℕ)
+        → entries_in (run saying checks input).said ≡ entries_from 1 (run saying checks input).world.pool }
 {}
 
 /// Small scripts that stop at their first wrong line write that line's number, and why it is wrong.
 pub fn small_scripts_stop_where_they_should()
-    ensures early { (saying : Saying) (checks : List CheckParts) → lines_of_run (run saying checks too_early.script) ≡ too_early.written }
-    ensures twice { (saying : Saying) (checks : List CheckParts) → lines_of_run (run saying checks told_twice.script) ≡ told_twice.written }
-    ensures no_logs { (saying : Saying) (checks : List CheckParts) → lines_of_run (run saying checks no_logs.script) ≡ no_logs.written }
-    ensures unread { (saying : Saying) (checks : List CheckParts) → lines_of_run (run saying checks unread.script) ≡ unread.written }
+    ensures early { (saying : Saying) (checks : List CheckParts)
+        → lines_of_run (run saying checks too_early.script) ≡ too_early.written }
+    ensures twice { (saying : Saying) (checks : List CheckParts)
+        → lines_of_run (run saying checks told_twice.script) ≡ told_twice.written }
+    ensures no_logs { (saying : Saying) (checks : List CheckParts)
+        → lines_of_run (run saying checks no_logs.script) ≡ no_logs.written }
+    ensures unread { (saying : Saying) (checks : List CheckParts)
+        → lines_of_run (run saying checks unread.script) ≡ unread.written }
 {}
 
 /// Before the first line nobody holds anything. Of a message that is there the bytes are told, and of an honest log what it
@@ -56,5 +67,6 @@ pub fn a_delivery_is_a_reply_that_is_settled()
     ensures log { (says : Outcome) (w : World) (message number : ℕ) (node : LogNode) → log_at w number ≡ Some node
         → delivery says w message number (a_log node) ≡ log_settled w message number (log_apart w message node) }
     ensures authority { (says : Outcome) (w : World) (message number : ℕ) (node : AuthorityNode)
-        → delivery says w message number (an_authority node) ≡ authority_settled w message number (authority_apart says w message node) }
+        → delivery says w message number (an_authority node)
+        ≡ authority_settled w message number (authority_apart says w message node) }
 {}

@@ -119,11 +119,13 @@ fn learn_there(
     bytes: &[u8],
 ) -> Result<Items<Happening>, AllocError>
     requires { is_some known.old ≡ true }
-    ensures said { IfOk result (λ said. said ≡ Learnt number (refused_by (clients_in known.old) (note_of (message_in bytes.now))) ∷ []) }
+    ensures said { IfOk result (λ said. said
+        ≡ Learnt number (refused_by (clients_in known.old) (note_of (message_in bytes.now))) ∷ []) }
     ensures there { is_some known.new ≡ true }
     ensures genesis { genesis_in known.new ≡ genesis_in known.old }
     ensures clients { OnOk result (clients_in known.new ≡ knows_by (clients_in known.old) (note_of (message_in bytes.now))) }
-    ensures rolls { OnOk result (rolls.new.items ≡ rolls_by (clients_in known.old) rolls.old.items (note_of (message_in bytes.now))) }
+    ensures rolls { OnOk result (rolls.new.items
+        ≡ rolls_by (clients_in known.old) rolls.old.items (note_of (message_in bytes.now))) }
     ensures err { OnErr result ((clients_in known.new ≡ clients_in known.old) × (rolls.new.items ≡ rolls.old.items)) }
 {
     match known {

@@ -1,24 +1,22 @@
 //! In which order the lines of a script may come.
 
 ghost use Rattle.std.specs.Prelude.{◌≡◌};
-ghost use Rattle.ar_world.specs.Founding.{may_come, place_of};
+ghost use Rattle.ar_world.specs.Founding.{is_peopled, may_come, place_of};
 ghost use Rattle.ar_world.specs.Step.{leads_to};
 
 use crate::Phase;
-use script_text::Line;
+use script_text::SetupLine;
 
-/// The phase to which a line leads; `None` for a line of a burst.
-pub(crate) fn leads_to(line: &Line) -> Option<Phase>
+/// The phase to which a line of the setup leads.
+pub(crate) fn leads_to(line: &SetupLine) -> Phase
     ensures { result ≡ leads_to line.now }
 {
     match line {
-        Line::Secret { .. } => Some(Phase::SecretTold),
-        Line::Keys { .. } => Some(Phase::KeysTold),
-        Line::Logs { .. } => Some(Phase::LogsMade),
-        Line::Authorities { .. } => Some(Phase::AuthoritiesMade),
-        Line::Dishonest { .. } => Some(Phase::DishonestTold),
-        Line::Burst | Line::End => None,
-        _ => Some(Phase::Running),
+        SetupLine::Secret { .. } => Phase::SecretTold,
+        SetupLine::Keys { .. } => Phase::KeysTold,
+        SetupLine::Logs { .. } => Phase::LogsMade,
+        SetupLine::Authorities { .. } => Phase::AuthoritiesMade,
+        SetupLine::Dishonest { .. } => Phase::DishonestTold,
     }
 }
 
@@ -26,17 +24,23 @@ pub(crate) fn leads_to(line: &Line) -> Option<Phase>
 pub(crate) fn may_come(now: Phase, next: Phase) -> bool
     ensures { result ≡ may_come now next }
 {
-    let place = place_of(now);
     match next {
-        Phase::AuthoritiesMade => place == 3,
-        Phase::DishonestTold => (4..=5).contains(&place),
-        Phase::Running => 4 <= place,
-        _ => place < place_of(next),
+        Phase::AuthoritiesMade => matches!(now, Phase::LogsMade),
+        Phase::DishonestTold => matches!(now, Phase::AuthoritiesMade | Phase::DishonestTold),
+        Phase::Running => is_peopled(now),
+        _ => place_of(now) < place_of(next),
     }
 }
 
+/// Whether the logs and authorities are there.
+pub(crate) fn is_peopled(now: Phase) -> bool
+    ensures { result ≡ is_peopled now }
+{
+    place_of(Phase::AuthoritiesMade) <= place_of(now)
+}
+
 /// How far a phase is.
-pub(crate) fn place_of(phase: Phase) -> u8
+fn place_of(phase: Phase) -> u8
     ensures { result ≡ place_of phase }
 {
     phase as u8

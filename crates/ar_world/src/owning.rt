@@ -57,7 +57,8 @@ fn add_owner(
     number: u16,
 ) -> Result<Items<Happening>, AllocError>
     ensures owners { OnOk result (owners.new.items
-        ≡ owners.old.items ++ first_owner number genesis.now (owner_key secret.now number) (leaves_of (owner_key secret.now number).lms) ∷ []) }
+        ≡ owners.old.items
+        ++ first_owner number genesis.now (owner_key secret.now number) (leaves_of (owner_key secret.now number).lms) ∷ []) }
     ensures said { IfOk result (λ said. said ≡ key_made (owner_party number) (owner_key secret.now number) ∷ []) }
     ensures err { OnErr result (owners.new.items ≡ owners.old.items) }
 {

@@ -1,10 +1,10 @@
 //! What honest parties and clients of a world hold, of which the theorem speaks.
 
-ghost use Rattle.std.specs.Prelude.{◌≡◌, IfOk, nat_le};
-ghost use Rattle.ar_world.specs.Founding.{place_of};
+ghost use Rattle.std.specs.Prelude.{◌≡◌, IfOk};
+ghost use Rattle.ar_world.specs.Founding.{is_peopled};
 ghost use Rattle.ar_world.specs.Records.{HasParties, held_of};
 
-use crate::order::place_of;
+use crate::order::is_peopled;
 use crate::world::World;
 use ar_records::{Judged, Records};
 use owner_check::OwnerCheck;
@@ -20,9 +20,9 @@ impl<C: OwnerCheck> World<C> {
 
     /// Whether the logs and authorities are there: since the line `authorities` was taken.
     pub fn has_parties(&self) -> bool
-        ensures { result ≡ nat_le 4 (place_of self.now.phase) }
+        ensures { result ≡ is_peopled self.now.phase }
     {
-        place_of(self.phase) >= 4
+        is_peopled(self.phase)
     }
 
     /// All that honest parties and clients hold of which the safety theorem speaks: the records of all honest logs and

@@ -1,9 +1,11 @@
 //! The step of a line.
 
-ghost use Rattle.std.specs.Prelude.{◌≡◌, ◌≢◌, true, Some, OnOk};
+ghost use Rattle.std.specs.Prelude.{◌≡◌, true, OnOk};
+ghost use Rattle.ar_base.specs.Chaining.{need};
+ghost use Rattle.ar_nodes.specs.declared.fault.WorldFault.TheVariants.{Order};
 ghost use Rattle.ar_world.specs.Founding.{led_to, may_come};
 ghost use Rattle.ar_world.specs.Records.{HasParties};
-ghost use Rattle.ar_world.specs.Step.{StepsBySome, effect, leads_to, step};
+ghost use Rattle.ar_world.specs.Step.{StepsBy, StepsBySome, event_effect, leads_to, setup_effect, step};
 ghost use Rattle.ar_world.specs.declared.phase.Phase.TheVariants as phases;
 
 use crate::order::{leads_to, may_come};
@@ -13,15 +15,103 @@ use ar_base::Items;
 use ar_nodes::{Lesson, WorldFault};
 use owner_check::OwnerCheck;
 use report_text::Happening;
-use script_text::Line;
+use script_text::{EventLine, Line, SetupLine};
 use std::alloc::Global;
 
 impl<C: OwnerCheck> World<C> {
-    /// Whether a line that leads to this phase may come now.
-    fn may_come(&self, next: Phase) -> bool
-        ensures { result ≡ may_come self.now.phase next }
+    /// Refuses a line that leads to this phase where it may not come now.
+    fn need_order(&self, next: Phase) -> Result<(), WorldFault>
+        ensures order { result ≡ need (may_come self.now.phase next) Order }
+        ensures comes { OnOk result (may_come self.now.phase next ≡ true) }
     {
-        may_come(self.phase, next)
+        if !may_come(self.phase, next) {
+            return Err(WorldFault::Order);
+        }
+        Ok(())
+    }
+
+    /// A line of the setup, which may come now.
+    #[tactic(auto, unfolding(crate::specs::Step::setup_effect))]
+    fn setup_line(
+        &mut self,
+        alloc: Global,
+        line: &SetupLine,
+    ) -> Result<Items<Happening>, WorldFault>
+        requires { may_come self.old.phase (leads_to line.now) ≡ true }
+        ensures { StepsBy result self.old self.new (led_to (leads_to line.now) (setup_effect self.old line.now)) }
+    {
+        match line {
+            SetupLine::Secret { secret } => self.secret_line(alloc, *secret),
+            SetupLine::Keys { lms, ots } => self.keys_line(alloc, *lms, *ots),
+            SetupLine::Logs { n, q } => self.logs_line(alloc, *n, *q),
+            SetupLine::Authorities { m } => self.authorities_line(alloc, *m),
+            SetupLine::Dishonest { party } => self.dishonest_line(alloc, *party),
+        }
+    }
+
+    /// A line that is none of the setup, which may come now. It leaves the phase as it is.
+    #[tactic(auto, using(crate::proofs::Stepping::some_check))]
+    fn event_line(
+        &mut self,
+        alloc: Global,
+        line: &EventLine,
+    ) -> Result<Items<Happening>, WorldFault>
+        requires { HasParties self.old }
+        ensures { StepsBySome result self.old self.new (λ says. event_effect says self.old line.now) }
+    {
+        match line {
+            EventLine::Owner { owner } => self.owner_line(alloc, *owner),
+            EventLine::Teach {
+                authority,
+                name,
+                owner,
+            } => self.lesson_line(alloc, Lesson::Learn, *authority, name, *owner),
+            EventLine::Forget {
+                authority,
+                name,
+                owner,
+            } => self.lesson_line(alloc, Lesson::Forget, *authority, name, *owner),
+            EventLine::Retire { authority } => self.retire_line(alloc, *authority),
+            EventLine::Register {
+                owner,
+                name,
+                policy,
+                asks,
+            } => self.register_line(alloc, *owner, name, policy, asks),
+            EventLine::Update {
+                owner,
+                draft,
+                policy,
+                asks,
+            } => self.update_line(alloc, *owner, *draft, policy, asks),
+            EventLine::Revoke { owner, draft, asks } => self.revoke_line(
+                alloc, *owner, *draft, asks,
+            ),
+            EventLine::Handover { owner, draft } => self.handover_line(alloc, *owner, *draft),
+            EventLine::Object { owner, draft } => self.object_line(alloc, *owner, *draft),
+            EventLine::Submit { draft } => self.submit_line(alloc, *draft),
+            EventLine::Propose { log } => self.propose_line(alloc, *log),
+            EventLine::Pass { log } => self.pass_line(alloc, *log),
+            EventLine::Roll { party } => self.roll_line(alloc, *party),
+            EventLine::Learn { message } => self.learn_line(alloc, *message),
+            EventLine::Ask {
+                log,
+                name,
+                first,
+                second,
+                client,
+            } => self.ask_line(alloc, *log, name, (*first, *second), *client),
+            EventLine::Deliver { message, party } => self.deliver(alloc, *message, *party),
+            EventLine::Flush => Ok(Items::new(alloc)),
+            EventLine::Judge {
+                message,
+                name,
+                now,
+                age,
+            } => self.judge_line(alloc, *message, name, *now, *age),
+            EventLine::Sign { party, pieces } => self.sign_line(alloc, *party, pieces),
+            EventLine::Inject { to, pieces } => self.inject_line(alloc, *to, pieces),
+        }
     }
 
     /// No line of the setup may come from here on.
@@ -32,144 +122,37 @@ impl<C: OwnerCheck> World<C> {
         self.phase = Phase::Running;
     }
 
-    /// A line of the setup, where it may come.
-    fn setup_line(
-        &mut self,
-        alloc: Global,
-        line: &Line,
-        next: Phase,
-    ) -> Result<Items<Happening>, WorldFault>
-        requires leads { leads_to line.now ≡ Some next }
-        requires setup { next ≢ phases.Running }
-        requires comes { may_come self.old.phase next ≡ true }
-        ensures { StepsBySome result self.old self.new (λ says. led_to next (effect says self.old line.now)) }
-    {
-        match line {
-            Line::Secret { secret } => self.secret_line(alloc, *secret),
-            Line::Keys { lms, ots } => self.keys_line(alloc, *lms, *ots),
-            Line::Logs { n, q } => self.logs_line(alloc, *n, *q),
-            Line::Authorities { m } => self.authorities_line(alloc, *m),
-            Line::Dishonest { party } => self.dishonest_line(alloc, *party),
-            _ => unreachable!(),
-        }
-    }
-
-    /// A line that is none of the setup.
-    #[tactic(auto, using(crate::proofs::Stepping::some_check))]
-    fn later_line(&mut self, alloc: Global, line: &Line) -> Result<Items<Happening>, WorldFault>
-        requires leads { leads_to line.now ≡ Some phases.Running }
-        requires peopled { HasParties self.old }
-        ensures { StepsBySome result self.old self.new (λ says. effect says self.old line.now) }
-    {
-        match line {
-            Line::Owner { owner } => self.owner_line(alloc, *owner),
-            Line::Teach {
-                authority,
-                name,
-                owner,
-            } => self.lesson_line(alloc, Lesson::Learn, *authority, name, *owner),
-            Line::Forget {
-                authority,
-                name,
-                owner,
-            } => self.lesson_line(alloc, Lesson::Forget, *authority, name, *owner),
-            Line::Retire { authority } => self.retire_line(alloc, *authority),
-            Line::Register {
-                owner,
-                name,
-                policy,
-                asks,
-            } => self.register_line(alloc, *owner, name, policy, asks),
-            Line::Update {
-                owner,
-                draft,
-                policy,
-                asks,
-            } => self.update_line(alloc, *owner, *draft, policy, asks),
-            Line::Revoke { owner, draft, asks } => self.revoke_line(alloc, *owner, *draft, asks),
-            Line::Handover { owner, draft } => self.handover_line(alloc, *owner, *draft),
-            Line::Object { owner, draft } => self.object_line(alloc, *owner, *draft),
-            Line::Submit { draft } => self.submit_line(alloc, *draft),
-            Line::Propose { log } => self.propose_line(alloc, *log),
-            Line::Pass { log } => self.pass_line(alloc, *log),
-            Line::Roll { party } => self.roll_line(alloc, *party),
-            Line::Learn { message } => self.learn_line(alloc, *message),
-            Line::Ask {
-                log,
-                name,
-                first,
-                second,
-                client,
-            } => self.ask_line(alloc, *log, name, (*first, *second), *client),
-            Line::Deliver { message, party } => self.deliver(alloc, *message, *party),
-            Line::Flush => Ok(Items::new(alloc)),
-            Line::Judge {
-                message,
-                name,
-                now,
-                age,
-            } => self.judge_line(alloc, *message, name, *now, *age),
-            Line::Sign { party, pieces } => self.sign_line(alloc, *party, pieces),
-            Line::Inject { to, pieces } => self.inject_line(alloc, *to, pieces),
-            _ => unreachable!(),
-        }
-    }
-
-    /// The same: the authorities are still there.
-    fn event_line(&mut self, alloc: Global, line: &Line) -> Result<Items<Happening>, WorldFault>
-        requires leads { leads_to line.now ≡ Some phases.Running }
-        requires peopled { HasParties self.old }
-        ensures steps { StepsBySome result self.old self.new (λ says. effect says self.old line.now) }
-        ensures peopled { OnOk result (HasParties self.new) }
-    {
-        self.later_line(alloc, line)
-    }
-
-    /// The same; no line of the setup may come from then on.
-    fn run_line(&mut self, alloc: Global, line: &Line) -> Result<Items<Happening>, WorldFault>
-        requires leads { leads_to line.now ≡ Some phases.Running }
-        requires peopled { HasParties self.old }
-        ensures { StepsBySome result self.old self.new (λ says. led_to phases.Running (effect says self.old line.now)) }
+    /// A line that is none of the setup, which may come now. No line of the setup may come behind it.
+    fn run_line(&mut self, alloc: Global, line: &EventLine) -> Result<Items<Happening>, WorldFault>
+        requires { HasParties self.old }
+        ensures { StepsBySome result self.old self.new (λ says. led_to phases.Running (event_effect says self.old line.now)) }
     {
         let said = self.event_line(alloc, line)?;
         self.run();
         Ok(said)
     }
 
-    /// The line where it may come, which leads to this phase.
-    fn next_line(
-        &mut self,
-        alloc: Global,
-        line: &Line,
-        next: Phase,
-    ) -> Result<Items<Happening>, WorldFault>
-        requires leads { leads_to line.now ≡ Some next }
-        requires comes { may_come self.old.phase next ≡ true }
-        ensures { StepsBySome result self.old self.new (λ says. led_to next (effect says self.old line.now)) }
-    {
-        match next {
-            Phase::Running => self.run_line(alloc, line),
-            next => self.setup_line(alloc, line, next),
-        }
-    }
-
     /// Takes a line of a script: what happens, in order.
     ///
     /// A line is refused as `Order` where it may not come now; the lines of a burst always are. It is refused as `Absent`
     /// for the first word that names nothing of its kind, and as `Limit` where there is no room for what it makes. `Memory`
-    /// may stand in the place of each answer but `Order`. A refused line changes nothing. A party that refuses a step does
-    /// not refuse the line: it is told among what happens. A `flush` itself does nothing: its deliveries are those that
-    /// `next_due` names until there is none, each made by `deliver`.
+    /// may stand in the place of each answer. A refused line changes nothing. A party that refuses a step does not refuse
+    /// the line: it is told among what happens. A `flush` itself does nothing but end the setup: its deliveries are those
+    /// that `next_due` names until there is none, each made by `deliver`.
     #[tactic(auto, using(crate::proofs::Stepping::in_its_order))]
     pub fn step(&mut self, alloc: Global, line: &Line) -> Result<Items<Happening>, WorldFault>
         ensures { StepsBySome result self.old self.new (λ says. step says self.old line.now) }
     {
-        let Some(next) = leads_to(line) else {
-            return Err(WorldFault::Order);
-        };
-        if !self.may_come(next) {
-            return Err(WorldFault::Order);
+        match line {
+            Line::Setup(line) => {
+                self.need_order(leads_to(line))?;
+                self.setup_line(alloc, line)
+            }
+            Line::Event(line) => {
+                self.need_order(Phase::Running)?;
+                self.run_line(alloc, line)
+            }
+            Line::Burst | Line::End => Err(WorldFault::Order),
         }
-        self.next_line(alloc, line, next)
     }
 }

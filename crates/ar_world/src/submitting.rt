@@ -115,7 +115,8 @@ impl<C: OwnerCheck> World<C> {
         digest: &[u8; 32],
     ) -> Result<Items<Happening>, WorldFault>
         requires { place < length self.old.owners }
-        ensures { (me : OwnerState) (found : DraftParts) → me ≡ slice_index_or self.old.owners place me → position (is_owner number) self.old.owners ≡ Some place
+        ensures { (me : OwnerState) (found : DraftParts) → me ≡ slice_index_or self.old.owners place me
+            → position (is_owner number) self.old.owners ≡ Some place
             → found.owner ≡ holder → digest_of found.cert ≡ digest.now
             → StepsBy result self.old self.new (Ok (handed self.old number draft found (handover_row me digest.now))) }
     {

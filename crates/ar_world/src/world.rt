@@ -124,7 +124,7 @@ impl<C: OwnerCheck> World<C> {
         ensures { option_map (λ kept. record_of kept.now) result ≡ past_at self.now log }
     {
         let node = honest(&self.logs, log)?;
-        Some(node.log.record())
+        Some(node.log.core.record())
     }
 
     /// What the setup said, of which `make_key` of `ar_founding` makes the first key of a log or an authority again.

@@ -24,7 +24,8 @@ use Rattle.ar_lines.proofs.Spelled.{bytes_of_hex-encode, decimal_is_word, hex_is
 use Rattle.ar_lines.proofs.TextLaws.{is_word, words_of-first, text_joined, word_is_text}
 use Rattle.ar_lines.proofs.RowsRead.{before, named_is_text, start_of-text, two_fields_read, value_reads, word_reads}
 use Rattle.script_text.specs.Written.{text_of_line}
-use Rattle.script_text.specs.declared.line.Line.TheVariants.{Authorities, Logs}
+use Rattle.script_text.specs.declared.line.Line.TheVariants.{Setup}
+use Rattle.script_text.specs.declared.line.SetupLine.TheVariants.{Authorities, Logs}
 
 -- ---- the question of `sig`
 
@@ -60,7 +61,7 @@ keys_read (key ∷ keys) next ahead h =
     let behind : next + 1 + length keys ≡ next + suc (length keys) = omega arith in
     rw (first, others, behind) refl
 
-logs_read : (count quorum next : ℕ) (ahead : List (List ℕ)) → is_party_count count ≡ true → is_quorum quorum count ≡ true → count < 2 ^ 64 → quorum < 2 ^ 64 → logs_at (before next (text_of_line (Logs count quorum) ∷ ahead)) ≡ Ok ((count, quorum), before (next + 1) ahead)
+logs_read : (count quorum next : ℕ) (ahead : List (List ℕ)) → is_party_count count ≡ true → is_quorum quorum count ≡ true → count < 2 ^ 64 → quorum < 2 ^ 64 → logs_at (before next (text_of_line (Setup (Logs count quorum)) ∷ ahead)) ≡ Ok ((count, quorum), before (next + 1) ahead)
 unfolding logs_at party_count_of quorum_of
 logs_read count quorum next ahead c q n m =
     rw (two_fields_read (codes "logs") (decimal count) (decimal quorum) next ahead refl (decimal_is_word count n) (decimal_is_word quorum m), number_of-decimal count n, c, number_of-decimal quorum m, q) refl
@@ -69,7 +70,7 @@ count_spelled : (count : ℕ) → is_party_count count ≡ true → count < 2 ^ 
 unfolding party_count_of
 count_spelled count c n = rw (number_of-decimal count n, c) refl
 
-authorities_read : (count next : ℕ) (ahead : List (List ℕ)) → is_party_count count ≡ true → count < 2 ^ 64 → authorities_at (before next (text_of_line (Authorities count) ∷ ahead)) ≡ Ok (count, before (next + 1) ahead)
+authorities_read : (count next : ℕ) (ahead : List (List ℕ)) → is_party_count count ≡ true → count < 2 ^ 64 → authorities_at (before next (text_of_line (Setup (Authorities count)) ∷ ahead)) ≡ Ok (count, before (next + 1) ahead)
 authorities_read count next ahead c n = value_reads (codes "authorities") (decimal count) party_count_of count next ahead refl (decimal_is_word count n) (count_spelled count c n)
 
 name_reads : (name : List ℕ) (next : ℕ) (ahead : List (List ℕ)) → IsName name → name_at (before next ((codes "name " ++ name) ∷ ahead)) ≡ Ok (name, before (next + 1) ahead)
@@ -118,8 +119,8 @@ directory_reads : (asking : Asking) (ahead : List (List ℕ)) → HasBounds aski
 unfolding first_keys_at
 directory_reads asking ahead d l a =
     let authority_lines = map key_line asking.authorities ++ ahead in
-    let behind = text_of_line (Authorities (length asking.authorities)) ∷ authority_lines in
-    let joined : map key_line asking.logs ++ (text_of_line (Authorities (length asking.authorities)) ∷ map key_line asking.authorities) ++ ahead ≡ map key_line asking.logs ++ behind = append_assoc (map key_line asking.logs) (text_of_line (Authorities (length asking.authorities)) ∷ map key_line asking.authorities) ahead in
+    let behind = text_of_line (Setup (Authorities (length asking.authorities))) ∷ authority_lines in
+    let joined : map key_line asking.logs ++ (text_of_line (Setup (Authorities (length asking.authorities))) ∷ map key_line asking.authorities) ++ ahead ≡ map key_line asking.logs ++ behind = append_assoc (map key_line asking.logs) (text_of_line (Setup (Authorities (length asking.authorities))) ∷ map key_line asking.authorities) ahead in
     let logs = logs_read (length asking.logs) asking.quorum 1 (map key_line asking.logs ++ behind) (party_count _ d.logs_least d.logs_most) (quorum_test _ _ d.quorum_least d.quorum_most) (omega (arith, d.logs_most)) (omega (arith, d.logs_most, d.quorum_most)) in
     let log_keys = keys_read asking.logs (1 + 1) behind l in
     let authorities = authorities_read (length asking.authorities) (1 + 1 + length asking.logs) authority_lines (party_count _ d.authorities_least d.authorities_most) (omega (arith, d.authorities_most)) in
@@ -137,9 +138,9 @@ directory_is_text asking d l a =
     let count = decimal_is_word (length asking.logs) (omega (arith, d.logs_most)) in
     let quorum = decimal_is_word asking.quorum (omega (arith, d.logs_most, d.quorum_most)) in
     let both = named_is_text (decimal (length asking.logs)) (decimal asking.quorum) count quorum in
-    let logs : is_text (text_of_line (Logs (length asking.logs) asking.quorum)) ≡ true = text_joined (codes "logs") (decimal (length asking.logs) ++ (32 ∷ decimal asking.quorum)) refl both in
-    let authorities : is_text (text_of_line (Authorities (length asking.authorities))) ≡ true = named_is_text (codes "authorities") (decimal (length asking.authorities)) refl (decimal_is_word (length asking.authorities) (omega (arith, d.authorities_most))) in
-    let parts = list_all-append is_text (map key_line asking.logs) (text_of_line (Authorities (length asking.authorities)) ∷ map key_line asking.authorities) in
+    let logs : is_text (text_of_line (Setup (Logs (length asking.logs) asking.quorum))) ≡ true = text_joined (codes "logs") (decimal (length asking.logs) ++ (32 ∷ decimal asking.quorum)) refl both in
+    let authorities : is_text (text_of_line (Setup (Authorities (length asking.authorities)))) ≡ true = named_is_text (codes "authorities") (decimal (length asking.authorities)) refl (decimal_is_word (length asking.authorities) (omega (arith, d.authorities_most))) in
+    let parts = list_all-append is_text (map key_line asking.logs) (text_of_line (Setup (Authorities (length asking.authorities))) ∷ map key_line asking.authorities) in
     rw (logs, parts, key_lines_are_text asking.logs l, authorities, key_lines_are_text asking.authorities a) refl
 
 asked_are_text : (asking : Asking) → IsAsking asking → list_all is_text (asked_lines asking.inquiry) ≡ true

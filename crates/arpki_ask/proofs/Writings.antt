@@ -20,7 +20,8 @@ use Rattle.arpki_ask.specs.Written.{Asking, IsLearnt, inquiry_lines, key_line, l
 use Rattle.ar_lines.proofs.RowsWritten.{behind, field_is, hex_writes, no_line_is, no_row_is, spelled_some, two_fields_are, value_is, word_is}
 use Rattle.ar_lines.proofs.Respelled.{key_hex_own, name_own, number_own}
 use Rattle.script_text.specs.Written.{text_of_line}
-use Rattle.script_text.specs.declared.line.Line.TheVariants.{Authorities, Logs}
+use Rattle.script_text.specs.declared.line.Line.TheVariants.{Setup}
+use Rattle.script_text.specs.declared.line.SetupLine.TheVariants.{Authorities, Logs}
 
 -- ---- the question of `sig`
 
@@ -55,10 +56,10 @@ number_is name at new n h = value_is name number_of decimal at new n number_own 
 confirmation_is : (at new : LineCursor) (bytes : List ℕ) → confirmation_at at ≡ Ok (bytes, new) → at.ahead ≡ named (codes "confirmation") (encode_lower bytes) ∷ new.ahead
 confirmation_is at new bytes h = value_is (codes "confirmation") bytes_of_hex encode_lower at new bytes hex_writes h
 
-authorities_are : (at new : LineCursor) (count : ℕ) → authorities_at at ≡ Ok (count, new) → at.ahead ≡ text_of_line (Authorities count) ∷ new.ahead
+authorities_are : (at new : LineCursor) (count : ℕ) → authorities_at at ≡ Ok (count, new) → at.ahead ≡ text_of_line (Setup (Authorities count)) ∷ new.ahead
 authorities_are at new count h = value_is (codes "authorities") party_count_of decimal at new count party_count_writes h
 
-logs_are : (at new : LineCursor) (logs : ℕ × ℕ) → logs_at at ≡ Ok (logs, new) → at.ahead ≡ text_of_line (Logs logs.0 logs.1) ∷ new.ahead
+logs_are : (at new : LineCursor) (logs : ℕ × ℕ) → logs_at at ≡ Ok (logs, new) → at.ahead ≡ text_of_line (Setup (Logs logs.0 logs.1)) ∷ new.ahead
 unfolding logs_at
 logs_are at new logs h =
     let fields = bind_ok (two_fields_at (codes "logs") at) _ (logs, new) h in
@@ -71,7 +72,7 @@ logs_are at new logs h =
     two_fields_are (codes "logs") at fields.0.1 fields.0.0 fields.1
     ∙ ap (λ (t : List ℕ). named (codes "logs") (named t two.text) ∷ fields.0.1.ahead) (sym first)
     ∙ ap (λ (t : List ℕ). named (codes "logs") (named (decimal count.0) t) ∷ fields.0.1.ahead) (sym second)
-    ∙ ap (λ (x : (ℕ × ℕ) × LineCursor). text_of_line (Logs x.0.0 x.0.1) ∷ x.1.ahead) (ok_is ((count.0, quorum.0), fields.0.1) (logs, new) quorum.2)
+    ∙ ap (λ (x : (ℕ × ℕ) × LineCursor). text_of_line (Setup (Logs x.0.0 x.0.1)) ∷ x.1.ahead) (ok_is ((count.0, quorum.0), fields.0.1) (logs, new) quorum.2)
 
 keys_are : (count : ℕ) (at new : LineCursor) (keys : List LmsPublic) → keys_at count at ≡ Ok (keys, new) → (at.ahead ≡ map key_line keys ++ new.ahead) × (length keys ≡ count)
 unfolding keys_at
@@ -91,13 +92,13 @@ keys_are (suc count) at new keys h =
 -- the lines of a directory of these keys, with these lines behind them
 abbrev roster_lines : List LmsPublic → List LmsPublic → ℕ → List (List ℕ) → List (List ℕ)
 roster_lines logs authorities quorum rest =
-    text_of_line (Logs (length logs) quorum)
-    ∷ (map key_line logs ++ (text_of_line (Authorities (length authorities)) ∷ map key_line authorities)) ++ rest
+    text_of_line (Setup (Logs (length logs) quorum))
+    ∷ (map key_line logs ++ (text_of_line (Setup (Authorities (length authorities))) ∷ map key_line authorities)) ++ rest
 
 -- the lines of a directory, one part behind the other
-directory_joined : (logs authorities : List LmsPublic) (quorum n m : ℕ) (whole log_keys behind_logs authority_keys rest : List (List ℕ)) → whole ≡ text_of_line (Logs n quorum) ∷ log_keys → log_keys ≡ map key_line logs ++ behind_logs → length logs ≡ n → behind_logs ≡ text_of_line (Authorities m) ∷ authority_keys → authority_keys ≡ map key_line authorities ++ rest → length authorities ≡ m → whole ≡ roster_lines logs authorities quorum rest
+directory_joined : (logs authorities : List LmsPublic) (quorum n m : ℕ) (whole log_keys behind_logs authority_keys rest : List (List ℕ)) → whole ≡ text_of_line (Setup (Logs n quorum)) ∷ log_keys → log_keys ≡ map key_line logs ++ behind_logs → length logs ≡ n → behind_logs ≡ text_of_line (Setup (Authorities m)) ∷ authority_keys → authority_keys ≡ map key_line authorities ++ rest → length authorities ≡ m → whole ≡ roster_lines logs authorities quorum rest
 directory_joined logs authorities quorum n m whole log_keys behind_logs authority_keys rest a b e c d f =
-    let parts = append_assoc (map key_line logs) (text_of_line (Authorities (length authorities)) ∷ map key_line authorities) rest in
+    let parts = append_assoc (map key_line logs) (text_of_line (Setup (Authorities (length authorities))) ∷ map key_line authorities) rest in
     rw (a, b, c, d, parts, e, f) refl
 
 -- a directory is read from the lines of its keys

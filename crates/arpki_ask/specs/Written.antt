@@ -10,7 +10,8 @@ use Rattle.arpki_ask.specs.Inquiries.{Inquiry, most_rolls}
 use Rattle.arpki_ask.specs.Notes.{learnt_from}
 use Rattle.arpki_ask.specs.Questions.{Question}
 use Rattle.script_text.specs.Written.{text_of_line}
-use Rattle.script_text.specs.declared.line.Line.TheVariants.{Authorities, Logs}
+use Rattle.script_text.specs.declared.line.Line.TheVariants.{Setup}
+use Rattle.script_text.specs.declared.line.SetupLine.TheVariants.{Authorities, Logs}
 
 -- ---- the question of `sig`
 
@@ -75,9 +76,9 @@ key_line key = codes "key " ++ hex_of_key key
 -- line for each key; and then the authorities so
 abbrev pub directory_lines : Asking → List (List ℕ)
 directory_lines asking =
-    text_of_line (Logs (length asking.logs) asking.quorum)
+    text_of_line (Setup (Logs (length asking.logs) asking.quorum))
     ∷ (map key_line asking.logs
-    ++ (text_of_line (Authorities (length asking.authorities)) ∷ map key_line asking.authorities))
+    ++ (text_of_line (Setup (Authorities (length asking.authorities))) ∷ map key_line asking.authorities))
 
 -- `roll <hex of a RollNote>`
 abbrev pub roll_line : List ℕ → List ℕ

@@ -12,15 +12,14 @@ use Rattle.ar_run.specs.declared.fault.Fault.{Fault}
 use Rattle.ar_run.specs.declared.fault.Fault.TheVariants as fault
 use Rattle.owner_check.specs.declared.answer.Outcome.TheVariants.{Failed}
 use Rattle.ar_nodes.specs.Parties.{CheckParts}
-use Rattle.ar_world.specs.Run.{Saying}
+use Rattle.ar_world.specs.Run.{Saying, text_of_run}
 use Rattle.run_safety.specs.Headline.{IsSafeRun}
 use Rattle.run_safety.proofs.Safe.{safe-run}
-use Rattle.script_play.specs.Played.{IsPlayed, Plays, PlaysFront, RefusesLong, run_with}
-use Rattle.script_play.specs.Playing as playing
+use Rattle.script_play.specs.Played.{IsPlayed, Plays, PlaysFront, PlaysWhole, RefusesLong, run_with}
 use Rattle.script_play.specs.Playing.{Played}
 use Rattle.script_play.proofs.Inputs.{input-front, input-sink, input-taken, input-whole, long-played, script-same}
 use Rattle.arpki_play.specs.Made.{summed}
-use Rattle.arpki_play.specs.Program.{Answers, RunsFront, RunsWhole, Stops, Sums}
+use Rattle.arpki_play.specs.Program.{RunsFront, RunsWhole, Stops, Sums}
 use Rattle.arpki_play.specs.declared.request.Request.TheVariants.{Play}
 
 -- ---- an input
@@ -43,7 +42,7 @@ each-safe : (checks : List CheckParts) (input : List ℕ) (saying : Saying) → 
 each-safe checks input saying few = safe-run saying checks input
 
 pub input-answered : {K : Type 0} (faults : K → ℕ) (wrote : K → List ℕ → Type 0) (a b : K) (checks : List CheckParts) (input : List ℕ) (old new : Option (List ℕ)) (result : Result ℕ Fault)
-    → TakesAll old new input → IsPlayed (run_with checks) faults wrote a b input result → IfOk result (λ status. Answers checks (Some Play) old new wrote a b status)
+    → TakesAll old new input → IsPlayed (run_with checks) faults wrote a b input result → IfOk result (λ status. PlaysWhole (run_with checks) IsSafeRun old new wrote a b status)
 input-answered faults wrote a b checks input old new result takes plays =
     input-whole (run_with checks) IsSafeRun faults wrote a b input old new result (each-safe checks input) takes plays
 
@@ -68,7 +67,7 @@ pub quiet-sums : {K : Type 0} (faults : K → ℕ) (wrote : K → List ℕ → T
     → IfOk result (Sums checks domains text)
 quiet-sums faults wrote a b checks domains text output p (Ok told) none plays digest sums =
     let r = run_with checks text plays.choice in
-    let bytes = playing.written_of r in
+    let bytes = text_of_run r in
     let is = digest bytes (plays.written.whole [] none) in
     record {
       saying = plays.choice;

@@ -8,7 +8,7 @@ use Rattle.ar_nodes.specs.Parties.{CheckParts}
 use Rattle.ar_world.specs.Run as world
 use Rattle.script_make.specs.Script.{last_epoch, script}
 use Rattle.ar_world.specs.declared.cause.Cause.{Cause}
-use Rattle.script_play.specs.Playing.{Played, played_of, written_of}
+use Rattle.script_play.specs.Playing.{Played, played_of}
 use Rattle.script_play.specs.declared.counts.Counts.{Counts}
 
 -- how many domains, messages and epochs there are, how many judgements accept, hold that there is no certificate, and refuse, and
@@ -28,7 +28,7 @@ summed domains p output (Some refusal) = record { lines = world.refused_text ref
 abbrev pub made_of : world.Saying → List CheckParts → ℕ → List ℕ → Answer
 made_of saying checks domains text =
     let r = world.run saying checks text
-    in summed domains (played_of r) (sha256 (written_of r)) r.refused
+    in summed domains (played_of r) (sha256 (world.text_of_run r)) r.refused
 
 -- what is answered where the script for so many domains is made and played
 abbrev pub made_answer : world.Saying → List CheckParts → ℕ → Answer

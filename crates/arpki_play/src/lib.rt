@@ -2,8 +2,8 @@
 //!
 //! `specs/` says what is answered: `Words` which words are of a form, `Made` what is written, and with which status, where a
 //! script is made and played, and `Program` what a run takes and writes, by three families with a line for each request. What
-//! `play` answers is in `script_play`, what `sig` and `check` answer in `arpki_ask`, and what the commands answer that
-//! `review_named` names in `review`.
+//! `play` answers is in `script_play`, what `restart` answers in `run_restart`, what `sig` and `check` answer in `arpki_ask`, and
+//! what the commands answer that `review_named` names in `review`.
 //!
 //! Its tests: `play_tests`, and `examples/`.
 #![tactic(auto)]

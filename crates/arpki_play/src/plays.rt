@@ -7,9 +7,9 @@ ghost use Rattle.ar_run.specs.Runs.{IsInput, TakesAtMost, most_bytes};
 ghost use Rattle.ar_nodes.specs.Parties.{checks_told};
 ghost use Rattle.run_safety.specs.Headline.{IsSafeRun};
 ghost use Rattle.script_make.specs.Script.{script};
-ghost use Rattle.script_play.specs.Played.{IsPlayed, PlaysFront, run_with};
+ghost use Rattle.script_play.specs.Played.{IsPlayed, PlaysFront, PlaysWhole, run_with};
 ghost use Rattle.arpki_play.specs.Made.{summary_line, summed};
-ghost use Rattle.arpki_play.specs.Program.{Answers, RunsFront, RunsWhole, Stops, Sums};
+ghost use Rattle.arpki_play.specs.Program.{RunsFront, RunsWhole, Stops, Sums};
 ghost use Rattle.arpki_play.specs.declared.request.Request.TheVariants.{Play};
 
 use crate::request::Domains;
@@ -65,8 +65,8 @@ pub(crate) fn play_input<C: OwnerCheck, S: Source, K: Sink>(
     source: &mut S,
     sink: &mut K,
 ) -> Result<u8, Fault>
-    ensures ok { IfOk result (λ status. Answers (checks_told C.told C.answers checks.items) (Some Play) (S.left source.old) (S.left source.new)
-        K.wrote sink.old sink.new status) }
+    ensures ok { IfOk result (λ status. PlaysWhole (run_with (checks_told C.told C.answers checks.items)) IsSafeRun
+        (S.left source.old) (S.left source.new) K.wrote sink.old sink.new status) }
     ensures bound { IfOk result (λ status. status < 4) }
     ensures source { result ≡ Err Fault.Source → HasRisen (S.faults source.old) (S.faults source.new)
         × Unchanged K.wrote sink.old sink.new }

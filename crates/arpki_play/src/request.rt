@@ -5,6 +5,7 @@ ghost use Rattle.script_make.specs.Script.{script};
 use ar_lines::number_of;
 use arpki_ask::Command;
 use review::Review;
+use run_restart::Restart;
 use script_make::make;
 use std::alloc::{AllocError, Global};
 use std::marker::Model;
@@ -68,6 +69,8 @@ pub enum Request {
     Make(Domains),
     /// `play`: what happens where the input is played as a script.
     Play,
+    /// `restart <log> <k>`: one of the script's logs, twice, with a journal on a disk that fails behind so many calls.
+    Restart(Restart),
     /// What a command that judges without a script, as `audit`, makes of the input.
     Review(Review),
     /// `make <number> run`: that script played, and a summary of it. No input is read.
@@ -97,6 +100,9 @@ impl Request {
             [name] => Request::named(name.as_str()),
             [name, number] if name.as_str() == "make" => {
                 Domains::of(number.as_bytes()).map(Request::Make)
+            }
+            [name, log, calls] if name.as_str() == "restart" => {
+                Restart::of(log.as_bytes(), calls.as_bytes()).map(Request::Restart)
             }
             [name, number, last] if name.as_str() == "make" && last.as_str() == "run" => {
                 Domains::of(number.as_bytes()).map(Request::Run)

@@ -1,5 +1,6 @@
 -- Each row leaves an honest authority.
 use Rattle.std.proofs.Common.{◌≡◌, ℕ, ◌≤◌, List, Bool, true, false, Result, Ok, Err, refl, sym, subst}
+use Rattle.std.specs.Prelude.{IsOk}
 use Rattle.ar_base.specs.Bytes.{AreBytes, IsDigest}
 use Rattle.ar_base.proofs.Giving.{order-first, order-then}
 use Rattle.ar_cert.specs.Certificate.{Certificate, digest_of}
@@ -18,7 +19,8 @@ use Rattle.lms_tree.specs.PublicKey.{HasWidths, key_text}
 use Rattle.lms_tree.specs.declared.public_key.LmsPublic.{LmsPublic}
 use Rattle.owner_check.specs.declared.answer.Outcome.{Outcome}
 use Rattle.owner_check.specs.declared.answer.Outcome.TheVariants.{Failed, No, Yes}
-use Rattle.party_keys.specs.Learning.{Announced, learned}
+use Rattle.party_keys.specs.Directory.{Directory}
+use Rattle.party_keys.specs.Learning.{Announced, after_adopting, after_learning, learned}
 use Rattle.ar_statement.specs.Claims.{authority_party}
 use Rattle.party_keys.specs.declared.fault.LearnFault.{LearnFault}
 use Rattle.party_keys.specs.declared.learning.Learned.{Learned}
@@ -29,9 +31,10 @@ use Rattle.ar_message.specs.Filling.{nothing}
 use Rattle.authority_core.specs.Confirming.{confirming_checks, confirming_with, parties_of, vote_count}
 use Rattle.authority_core.specs.EndorseRow.{asked_of, endorse_due, endorse_row, endorsing}
 use Rattle.authority_core.specs.Honest.{HasAsked}
-use Rattle.authority_core.specs.RollRows.{learning, roll_by, roll_note_by, roll_note_row, roll_row, rolling}
+use Rattle.authority_core.specs.Record.{AuthorityRecord}
+use Rattle.authority_core.specs.RollRows.{LearnsBy, RollsBy, learning, roll_by, roll_note_by, roll_note_row, roll_row, rolling}
 use Rattle.authority_core.specs.Row.{message_row, row}
-use Rattle.authority_core.specs.State.{Answer, AuthorityState, IsAuthority, StepsBy}
+use Rattle.authority_core.specs.State.{Answer, AuthorityState, EntersBy, IsAuthority, StepsBy}
 use Rattle.authority_core.specs.declared.refusal.AuthorityRefusal.{AuthorityRefusal}
 use Rattle.authority_core.specs.declared.entries.Asked.{Asked}
 use Rattle.authority_core.proofs.Growing.{asked-has}
@@ -141,3 +144,30 @@ half-row-many s part first_signature later sent e =
 pub steps-keep : (result : Result Unsigned AuthorityRefusal) (old new : AuthorityState) (answer : Answer) → IsAuthority old → StepsBy result old new answer → Leaves answer → IsAuthority new
 steps-keep (Ok sent) old new answer is steps leaves = leaves new sent steps
 steps-keep (Err refusal) old new answer is steps leaves = subst IsAuthority (sym steps.0) is
+
+-- so does one that enters what is due, where the record that it is to be is an honest one's
+pub entered-keeps : (s : AuthorityState) (made : Result DueParts AuthorityRefusal) (later : AuthorityRecord) (expected : Result DueParts AuthorityRefusal) (after : AuthorityRecord) → IsAuthority s
+    → EntersBy made s.past later expected after → IsAuthority (record s { past = after }) → IsAuthority (record s { past = later })
+entered-keeps s (Ok due) later expected after is e next = subst (λ (past : AuthorityRecord). IsAuthority (record s { past = past })) (sym e.1) next
+entered-keeps s (Err refusal) later expected after is e next = subst (λ (past : AuthorityRecord). IsAuthority (record s { past = past })) (sym e.0) is
+
+pub learnt-keeps : (s : AuthorityState) (result : Result (Unit {0}) AuthorityRefusal) (later : AuthorityRecord) (keys : Directory) (a : Announced) → IsAuthority s
+    → LearnsBy result s.past later s.keys keys a → IsAuthority (record s { keys = keys; past = later })
+learnt-keeps s (Ok u) later keys a is e =
+    subst (λ (k : Directory). IsAuthority (record s { keys = k; past = later })) (sym e.2)
+    (subst (λ (past : AuthorityRecord). IsAuthority (record s { keys = after_learning s.keys a; past = past })) (sym e.1) (by (learned s.keys a) refl e.0))
+  where
+    by : (r : Result Learned LearnFault) → learned s.keys a ≡ r → IsOk r → IsAuthority (learning s a)
+    by (Ok l) at ok = note-keeps s a l is at
+    by (Err fault) at ok = absurd cc
+learnt-keeps s (Err refusal) later keys a is e =
+    subst (λ (k : Directory). IsAuthority (record s { keys = k; past = later })) (sym e.1) (subst (λ (past : AuthorityRecord). IsAuthority (record s { past = past })) (sym e.0) is)
+
+pub rolled-keeps : (s : AuthorityState) (made : Result DueParts AuthorityRefusal) (later : AuthorityRecord) (keys : Directory) (next : LmsPublic) → IsAuthority s
+    → IsKeyText (key_text next) → HasWidths next → RollsBy made s.past later s.keys keys s.me next → IsAuthority (record s { keys = keys; past = later })
+rolled-keeps s (Ok due) later keys next is text widths e =
+    subst (λ (k : Directory). IsAuthority (record s { keys = k; past = later })) (sym e.2)
+    (subst (λ (past : AuthorityRecord). IsAuthority (record s { keys = after_adopting s.keys (authority_party s.me) s.past.signed.newest next; past = past })) (sym e.1)
+    (roll-keeps s next due is e.0 text widths))
+rolled-keeps s (Err refusal) later keys next is text widths e =
+    subst (λ (k : Directory). IsAuthority (record s { keys = k; past = later })) (sym e.1) (subst (λ (past : AuthorityRecord). IsAuthority (record s { past = past })) (sym e.0) is)

@@ -22,19 +22,14 @@ use Rattle.authority_core.specs.declared.refusal.AuthorityRefusal.{AuthorityRefu
 
 -- ---- by the answer of the record
 
-pub sent_steps : (s : AuthorityState) (seen : List SeenText) (k : Kept) (p : Prepared) (due : DueParts) (later : AuthorityRecord)
-    → EntersBy (Ok due) s.past later (entering s.past (kept_claim (authority_party s.me) k)) (confirming s.me s.past seen k)
-    → confirming_with s seen k p ≡ Ok (record s { past = later }, sent_with p due)
+pub entered_steps : (s : AuthorityState) (seen : List SeenText) (k : Kept) (p : Prepared) (made : Result DueParts AuthorityRefusal) (later : AuthorityRecord)
+    → EntersBy made s.past later (entering s.past (kept_claim (authority_party s.me) k)) (confirming s.me s.past seen k)
+    → StepsBy (if_due made (sent_with p)) s (record s { past = later }) (confirming_with s seen k p)
 unfolding confirming_with
-sent_steps s seen k p due later e =
+entered_steps s seen k p (Ok due) later e =
     subst (λ (r : Result DueParts AuthorityRefusal). if_due {A = AuthorityState × Unsigned} r (λ d. (record s { past = confirming s.me s.past seen k }, sent_with p d)) ≡ Ok (record s { past = later }, sent_with p due)) (sym e.0)
     (ap (λ (q : AuthorityRecord). Ok (record s { past = q }, sent_with p due)) (sym e.1))
-
-pub refused_steps : (s : AuthorityState) (seen : List SeenText) (k : Kept) (p : Prepared) (refusal : AuthorityRefusal) (later : AuthorityRecord)
-    → EntersBy (Err refusal) s.past later (entering s.past (kept_claim (authority_party s.me) k)) (confirming s.me s.past seen k)
-    → StepsBy (Err refusal) s (record s { past = later }) (confirming_with s seen k p)
-unfolding confirming_with
-refused_steps s seen k p refusal later e = (
+entered_steps s seen k p (Err refusal) later e = (
   ap (λ (q : AuthorityRecord). record s { past = q }) e.0,
   elim e.1 [
     | inl wants ↦ inl wants
@@ -53,7 +48,7 @@ same_parts : (s : AuthorityState) (seen seen' : List SeenText) (k k' : Kept) (p 
 same_parts s seen seen' k k' p p' a b d =
     ap (λ (l : List SeenText). confirming_with s l k p) a ∙ (ap (λ (x : Kept). confirming_with s seen' x p) b ∙ ap (λ (x : Prepared). confirming_with s seen' k' x) d)
 
-pub log_row_is : (s : AuthorityState) (part : Confirming) (seen : List SeenText) (k : Kept) (p : Prepared) → k ≡ kept_of part
+log_row_is : (s : AuthorityState) (part : Confirming) (seen : List SeenText) (k : Kept) (p : Prepared) → k ≡ kept_of part
     → result_and (confirming_checks s part.first (parties_of part part.second) (log_claims part) part) (Ok (map seen_in (log_claims part))) ≡ Ok seen
     → p ≡ prepared s.signature_len (One (authority_party part.second)) (message_text (HalfConfirmed part (zeros s.signature_len)))
     → confirming_with s seen k p ≡ log_confirmed_row s part
@@ -63,7 +58,7 @@ log_row_is s part seen k p kept-is checked p-is =
     let both = passed (confirming_checks s part.first (parties_of part part.second) (log_claims part) part) (map seen_in (log_claims part)) seen (confirming_with s (map seen_in (log_claims part)) (kept_of part) ready) checked in
     same_parts s seen (map seen_in (log_claims part)) k (kept_of part) p ready both.1 kept-is p-is ∙ both.0
 
-pub half_row_is : (s : AuthorityState) (part : Confirming) (first_signature : List ℕ) (seen : List SeenText) (k : Kept) (p : Prepared) → k ≡ kept_of part
+half_row_is : (s : AuthorityState) (part : Confirming) (first_signature : List ℕ) (seen : List SeenText) (k : Kept) (p : Prepared) → k ≡ kept_of part
     → result_and (confirming_checks s part.second (parties_of part part.first) (half_claims part first_signature) part) (Ok (map seen_in (half_claims part first_signature))) ≡ Ok seen
     → p ≡ prepared s.signature_len (One (client_party part.client)) (message_text (confirmation_with part first_signature (zeros s.signature_len)))
     → confirming_with s seen k p ≡ half_confirmed_row s part first_signature
@@ -72,3 +67,39 @@ half_row_is s part first_signature seen k p kept-is checked p-is =
     let ready : Prepared = prepared s.signature_len (One (client_party part.client)) (message_text (confirmation_with part first_signature (zeros s.signature_len))) in
     let both = passed (confirming_checks s part.second (parties_of part part.first) (half_claims part first_signature) part) (map seen_in (half_claims part first_signature)) seen (confirming_with s (map seen_in (half_claims part first_signature)) (kept_of part) ready) checked in
     same_parts s seen (map seen_in (half_claims part first_signature)) k (kept_of part) p ready both.1 kept-is p-is ∙ both.0
+
+-- ---- the whole of a confirmation, by what the record made of it
+
+-- what is sent is by that
+sends_so : (s : AuthorityState) (made : Result DueParts AuthorityRefusal) (later : AuthorityRecord) (seen : List SeenText) (k : Kept) (p : Prepared) (result : Result Unsigned AuthorityRefusal) (answer : Answer)
+    → EntersBy made s.past later (entering s.past (kept_claim (authority_party s.me) k)) (confirming s.me s.past seen k)
+    → result ≡ if_due made (sent_with p) → confirming_with s seen k p ≡ answer → StepsBy result s (record s { past = later }) answer
+sends_so s made later seen k p result answer e is row =
+    subst (λ (r : Result Unsigned AuthorityRefusal). StepsBy r s (record s { past = later }) answer) (sym is)
+    (subst (λ (a : Answer). StepsBy (if_due made (sent_with p)) s (record s { past = later }) a) row (entered_steps s seen k p made later e))
+
+pub log_steps : (s now : AuthorityState) (part : Confirming) (seen : List SeenText) (k : Kept) (p : Prepared) (made : Result DueParts AuthorityRefusal) (later : AuthorityRecord) (result : Result Unsigned AuthorityRefusal)
+    → s ≡ now → k ≡ kept_of part
+    → result_and (confirming_checks now part.first (parties_of part part.second) (log_claims part) part) (Ok (map seen_in (log_claims part))) ≡ Ok seen
+    → p ≡ prepared now.signature_len (One (authority_party part.second)) (message_text (HalfConfirmed part (zeros now.signature_len)))
+    → EntersBy made s.past later (entering s.past (kept_claim (authority_party s.me) k)) (confirming s.me s.past seen k)
+    → result ≡ if_due made (sent_with p) → StepsBy result now (record s { past = later }) (log_confirmed_row now part)
+log_steps s now part seen k p made later result same kept-is checked p-is e is =
+    subst (λ (n : AuthorityState).
+    result_and (confirming_checks n part.first (parties_of part part.second) (log_claims part) part) (Ok (map seen_in (log_claims part))) ≡ Ok seen
+    → p ≡ prepared n.signature_len (One (authority_party part.second)) (message_text (HalfConfirmed part (zeros n.signature_len)))
+    → StepsBy result n (record s { past = later }) (log_confirmed_row n part)) same
+    (λ checked p-is. sends_so s made later seen k p result (log_confirmed_row s part) e is (log_row_is s part seen k p kept-is checked p-is)) checked p-is
+
+pub half_steps : (s now : AuthorityState) (part : Confirming) (first_signature : List ℕ) (seen : List SeenText) (k : Kept) (p : Prepared) (made : Result DueParts AuthorityRefusal) (later : AuthorityRecord)
+    (result : Result Unsigned AuthorityRefusal) → s ≡ now → k ≡ kept_of part
+    → result_and (confirming_checks now part.second (parties_of part part.first) (half_claims part first_signature) part) (Ok (map seen_in (half_claims part first_signature))) ≡ Ok seen
+    → p ≡ prepared now.signature_len (One (client_party part.client)) (message_text (confirmation_with part first_signature (zeros now.signature_len)))
+    → EntersBy made s.past later (entering s.past (kept_claim (authority_party s.me) k)) (confirming s.me s.past seen k)
+    → result ≡ if_due made (sent_with p) → StepsBy result now (record s { past = later }) (half_confirmed_row now part first_signature)
+half_steps s now part first_signature seen k p made later result same kept-is checked p-is e is =
+    subst (λ (n : AuthorityState).
+    result_and (confirming_checks n part.second (parties_of part part.first) (half_claims part first_signature) part) (Ok (map seen_in (half_claims part first_signature))) ≡ Ok seen
+    → p ≡ prepared n.signature_len (One (client_party part.client)) (message_text (confirmation_with part first_signature (zeros n.signature_len)))
+    → StepsBy result n (record s { past = later }) (half_confirmed_row n part first_signature)) same
+    (λ checked p-is. sends_so s made later seen k p result (half_confirmed_row s part first_signature) e is (half_row_is s part first_signature seen k p kept-is checked p-is)) checked p-is

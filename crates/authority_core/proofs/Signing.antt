@@ -1,6 +1,6 @@
 -- The keys of an authority sign what its rows leave blank, and a row leaves the keys its own.
 use Rattle.std.proofs.Common.{◌≡◌, ℕ, ◌+◌, ◌-◌, ◌≤◌, ◌==◌, List, [], ◌∷◌, ◌++◌, map, length, Bool, true, false, cond, Option, Some, None, Result, Ok, Err, refl, sym, subst, arith}
-use Rattle.std.specs.Prelude.{All, option_and_then, slice_get}
+use Rattle.std.specs.Prelude.{All, IfOk, option_and_then, slice_get}
 use Rattle.std.specs.Result.{result_and}
 use Rattle.std.specs.Int.{w8, w16, w32}
 use Rattle.std.specs.Option.{ok_or, option_map}
@@ -25,8 +25,10 @@ use Rattle.ar_statement.specs.declared.text.SeenText.{SeenText}
 use Rattle.key_roll.specs.Book.{IsRollBook, RollBook, texts_of}
 use Rattle.key_roll.specs.Due.{DueParts}
 use Rattle.key_roll.specs.Entry.{after_at, after_entry, due_at, entered, has_room, roll_text}
-use Rattle.key_roll.specs.Ring.{AreKeysOf, IsNext, Owes}
-use Rattle.key_roll.proofs.Rings.{next_keys, owed_by, same_keys}
+use Rattle.key_roll.specs.Ring.{IsNext, Owes}
+use Rattle.keyed_core.specs.Signing as signing
+use Rattle.keyed_core.proofs.Signed as signed
+use Rattle.key_roll.proofs.Rings.{next_keys, owed_by}
 use Rattle.key_roll.proofs.Books.{IsSameBook, due_for, entry-same}
 use Rattle.ar_statement.specs.declared.fault.BookFault.TheVariants.{Spent}
 use Rattle.key_roll.specs.declared.fault.RollFault.TheVariants.{Last}
@@ -45,14 +47,16 @@ use Rattle.authority_core.specs.ConfirmRows.{confirmation_with, half_claims, hal
 use Rattle.authority_core.specs.Confirming.{confirming_checks, confirming_too, confirming_with, kept_of, parties_of}
 use Rattle.party_keys.specs.Signers.{seen_in}
 use Rattle.authority_core.specs.EndorseRow.{asked_of, endorse_due, endorse_row, endorsed_message, endorsing}
-use Rattle.authority_core.specs.Keyed.{IsRingOf}
+use Rattle.authority_core.specs.Keyed.{IsRingOf, SendsBy}
 use Rattle.authority_core.specs.Refusals.{of_book}
 use Rattle.authority_core.specs.RollRows.{learning, roll_by, roll_message, roll_note_by, roll_note_row, roll_row, rolling}
 use Rattle.authority_core.specs.Row.{message_row, row}
-use Rattle.authority_core.specs.State.{Answer, AuthorityState, entering, if_due, sends}
+use Rattle.authority_core.specs.State.{Answer, AuthorityState, StepsBy, entering, if_due, most_sent, sends}
 use Rattle.authority_core.specs.declared.entries.Asked.{Asked}
 use Rattle.authority_core.specs.declared.entries.Kept.{Kept}
 use Rattle.authority_core.specs.declared.refusal.AuthorityRefusal.{AuthorityRefusal}
+use Rattle.authority_core.specs.declared.refusal.AuthorityRefusal.TheVariants.{Memory}
+use Rattle.authority_core.proofs.Few.{rolling-few}
 
 -- ---- the signature's bytes are the last ones of a message
 
@@ -155,8 +159,7 @@ pub record IsSameKeys (s later : AuthorityState) : Type 0 where
 
 pub keys-stay : (s later : AuthorityState) (keys : List KeyParts) → IsRingOf s keys → IsSameKeys s later → IsRingOf later keys
 keys-stay s later keys is same =
-    subst (λ n. AreKeysOf later.past.signed n keys) (sym same.len)
-    (same_keys s.past.signed later.past.signed s.signature_len keys same.book.leaves same.book.newest is)
+    signed.keys-stay s.past.signed later.past.signed keys s.signature_len later.signature_len same.book same.len is
 
 -- the keys sign what an answer leaves blank, and stay the authority's own
 pub record IsSignedBy (s : AuthorityState) (keys : List KeyParts) (later : AuthorityState) (sent : Unsigned) : Type 0 where
@@ -290,8 +293,27 @@ roll-signs s keys next later sent is e = by (s.past.signed.newest == 999) e
 
 -- the keys with the next behind them sign what a roll leaves blank, and are those of the authority that rolled
 pub rolled-signs : (s : AuthorityState) (keys more : List KeyParts) (next : KeyParts) (later : AuthorityState) (sent : Unsigned) → IsRingOf s keys → IsNext keys next → more ≡ keys ++ next ∷ []
-    → roll_row s (public_of next) ≡ Ok (later, sent) → CanFill more sent × IsRingOf later more
+    → roll_row s (public_of next) ≡ Ok (later, sent) → signing.IsSignedBy more later.past.signed later.signature_len sent
 rolled-signs s keys more next later sent is behind-newest more-are e =
     let ring : IsRingOf (rolling s (public_of next)) (keys ++ next ∷ []) = rolled-ring s keys next is behind-newest in
     let rolled : IsRolledBy s (keys ++ next ∷ []) (public_of next) later sent = roll-signs s (keys ++ next ∷ []) (public_of next) later sent ring e in
-    (subst (λ (l : List KeyParts). CanFill l sent) (sym more-are) rolled.fills, subst (λ (l : List KeyParts). IsRingOf later l) (sym more-are) (subst (λ (a : AuthorityState). IsRingOf a (keys ++ next ∷ [])) (sym rolled.is) ring))
+    subst (λ (l : List KeyParts). signing.IsSignedBy l later.past.signed later.signature_len sent) (sym more-are)
+    (record { fills = rolled.fills; stays = subst (λ (a : AuthorityState). IsRingOf a (keys ++ next ∷ [])) (sym rolled.is) ring })
+
+-- ---- a call that rolls
+
+pub rolls-signed : (result : Result Unsigned AuthorityRefusal) (s later : AuthorityState) (key : LmsPublic) (keys : List KeyParts) (next : KeyParts) → StepsBy result s later (roll_row s key)
+    → IsRingOf s keys → IsNext keys next → key ≡ public_of next → IfOk result (λ unsigned. signing.IsSignedBy (keys ++ next ∷ []) later.past.signed later.signature_len unsigned)
+rolls-signed (Ok unsigned) s later key keys next steps are behind is =
+    rolled-signs s keys (keys ++ next ∷ []) next later unsigned are behind refl (subst (λ (k : LmsPublic). roll_row s k ≡ Ok (later, unsigned)) is steps)
+rolls-signed (Err refusal) s later key keys next steps are behind is = tt
+
+pub roll-sends : (keys : List KeyParts) (result : Result Unsigned AuthorityRefusal) (s later : AuthorityState) (key : LmsPublic) → StepsBy result s later (roll_row s key)
+    → SendsBy keys (signing.signed keys result) s later (roll_row s key)
+roll-sends keys result s later key steps =
+    signed.signed-sends Memory (λ new sent. (new, sent)) (λ a. a) (λ new sent. refl) keys result s later (roll_row s key) steps
+
+pub roll-few : (result : Result Unsigned AuthorityRefusal) (s later : AuthorityState) (key : LmsPublic) → StepsBy result s later (roll_row s key)
+    → IfOk result (λ unsigned. length unsigned.sent.messages ≤ most_sent)
+roll-few (Ok unsigned) s later key steps = rolling-few s key later unsigned steps
+roll-few (Err refusal) s later key steps = tt

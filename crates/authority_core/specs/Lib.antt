@@ -1,4 +1,5 @@
 pub mod Calls
+pub mod Checked
 pub mod ConfirmRows
 pub mod Confirming
 pub mod EndorseRow

@@ -1,12 +1,13 @@
-ghost use Rattle.std.specs.Prelude.{◌≡◌, true, IfOk, IfSome, Err, None, Ok, is_none, is_some, OnOk, OnErr};
+ghost use Rattle.std.specs.Prelude.{◌≡◌, true, IfOk, Err, None, Some, Ok, is_none, is_some, OnOk, OnErr};
 ghost use Rattle.std.specs.Option.{option_map};
-ghost use Rattle.ar_base.specs.Faults.{HasRisen};
 ghost use Rattle.ar_base.specs.Gives.{GivesUnless, with_error};
 ghost use Rattle.ar_message.specs.Messages.{IsMessage, message_in};
-ghost use Rattle.authority_core.specs.EndorseRow.{SaysAsTold, answers_after, asked_of, endorse_row, outcome_by};
+ghost use Rattle.authority_core.specs.Checked.{FailsByFault, IsAsTold, KeepsAnswer, KeepsAnswers, TellsAsBefore, TellsBy};
+ghost use Rattle.authority_core.specs.EndorseRow.{asked_of, endorse_row, outcome_by};
+ghost use Rattle.authority_core.specs.Keyed.{SendsBy};
 ghost use Rattle.authority_core.specs.RollRows.{roll_row};
-ghost use Rattle.authority_core.specs.Row.{answers_behind, asked_in, message_row, row};
-ghost use Rattle.authority_core.specs.State.{StepsBy};
+ghost use Rattle.authority_core.specs.Row.{asked_in, message_row, row};
+ghost use Rattle.authority_core.specs.State.{StepsBy, most_sent};
 ghost use Rattle.owner_check.specs.Answers.{forgotten, learnt};
 ghost use Rattle.authority_core.specs.declared.refusal.AuthorityRefusal.TheVariants as refusal;
 
@@ -16,6 +17,7 @@ use ar_bytes::are_bytes;
 use ar_cert::Cert;
 use ar_message::laws::only_texts_are_read;
 use ar_message::{Message, Unsigned};
+use keyed_core::Keyless;
 use lms_tree::LmsPublic;
 use owner_check::OwnerCheck;
 use std::alloc::{AllocError, Global};
@@ -56,10 +58,10 @@ impl<C: OwnerCheck> AuthorityCore<C> {
     ) -> Result<Unsigned, AuthorityRefusal>
         ensures row { StepsBy result self.old.state self.new.state (endorse_row self.old.state (is_none self.old.check) owner cert (outcome_by result)) }
         ensures retired { is_none self.new.check ≡ is_none self.old.check }
-        ensures answers { IfSome self.old.check (λ old. IfSome self.new.check (λ new. C.answers new ≡ answers_after (C.answers old) (asked_of cert) result)) }
-        ensures told { IfSome self.old.check (λ old. IfSome self.new.check (λ new. C.told new ≡ C.told old)) }
-        ensures by { IfSome self.old.check (λ old. SaysAsTold (C.told old) (C.answers old) (asked_of cert) result) }
-        ensures fault { result ≡ Err refusal.CheckFault → IfSome self.old.check (λ old. IfSome self.new.check (λ new. HasRisen (C.faults old) (C.faults new))) }
+        ensures answers { KeepsAnswer C.answers self.old.check self.new.check (Some (asked_of cert)) result }
+        ensures told { TellsAsBefore C.told self.old.check self.new.check }
+        ensures by { IsAsTold C.told C.answers self.old.check (Some (asked_of cert)) result }
+        ensures fault { FailsByFault C.faults self.old.check self.new.check result }
     {
         match &mut self.check {
             None => Err(AuthorityRefusal::NotForAuthority),
@@ -73,10 +75,10 @@ impl<C: OwnerCheck> AuthorityCore<C> {
         requires { IsMessage message }
         ensures row { StepsBy result self.old.state self.new.state (message_row self.old.state (is_none self.old.check) message (outcome_by result)) }
         ensures retired { is_none self.new.check ≡ is_none self.old.check }
-        ensures answers { IfSome self.old.check (λ old. IfSome self.new.check (λ new. C.answers new ≡ answers_behind (C.answers old) (asked_in (Ok message)) result)) }
-        ensures told { IfSome self.old.check (λ old. IfSome self.new.check (λ new. C.told new ≡ C.told old)) }
-        ensures by { IfSome self.old.check (λ old. IfSome (asked_in (Ok message)) (λ a. SaysAsTold (C.told old) (C.answers old) a result)) }
-        ensures fault { result ≡ Err refusal.CheckFault → IfSome self.old.check (λ old. IfSome self.new.check (λ new. HasRisen (C.faults old) (C.faults new))) }
+        ensures answers { KeepsAnswer C.answers self.old.check self.new.check (asked_in (Ok message)) result }
+        ensures told { TellsAsBefore C.told self.old.check self.new.check }
+        ensures by { IsAsTold C.told C.answers self.old.check (asked_in (Ok message)) result }
+        ensures fault { FailsByFault C.faults self.old.check self.new.check result }
     {
         match message {
             Message::EndorseAsk { owner, cert } => self.endorse(alloc, owner, cert),
@@ -98,12 +100,12 @@ impl<C: OwnerCheck> AuthorityCore<C> {
         // The check is there where it was.
         ensures retired { is_none self.new.check ≡ is_none self.old.check }
         // Its list has this answer behind it where it was asked, and what it tells stays.
-        ensures answers { IfSome self.old.check (λ old. IfSome self.new.check (λ new. C.answers new ≡ answers_behind (C.answers old) (asked_in (message_in bytes.now)) result)) }
-        ensures told { IfSome self.old.check (λ old. IfSome self.new.check (λ new. C.told new ≡ C.told old)) }
+        ensures answers { KeepsAnswer C.answers self.old.check self.new.check (asked_in (message_in bytes.now)) result }
+        ensures told { TellsAsBefore C.told self.old.check self.new.check }
         // The answer is by what the check tells.
-        ensures by { IfSome self.old.check (λ old. IfSome (asked_in (message_in bytes.now)) (λ a. SaysAsTold (C.told old) (C.answers old) a result)) }
+        ensures by { IsAsTold C.told C.answers self.old.check (asked_in (message_in bytes.now)) result }
         // When it failed.
-        ensures fault { result ≡ Err refusal.CheckFault → IfSome self.old.check (λ old. IfSome self.new.check (λ new. HasRisen (C.faults old) (C.faults new))) }
+        ensures fault { FailsByFault C.faults self.old.check self.new.check result }
     {
         let message = read(alloc, bytes)?;
         self.take(alloc, message)
@@ -129,9 +131,9 @@ impl<C: OwnerCheck> AuthorityCore<C> {
         requires { is_some self.old.check ≡ true }
         ensures state { self.new.state ≡ self.old.state }
         ensures retired { is_none self.new.check ≡ is_none self.old.check }
-        ensures ok { OnOk result (IfSome self.old.check (λ old. IfSome self.new.check (λ new. C.told new ≡ option_map (learnt name.now key.now) (C.told old)))) }
-        ensures err { OnErr result (IfSome self.old.check (λ old. IfSome self.new.check (λ new. C.told new ≡ C.told old))) }
-        ensures answers { IfSome self.old.check (λ old. IfSome self.new.check (λ new. C.answers new ≡ C.answers old)) }
+        ensures ok { OnOk result (TellsBy (option_map (learnt name.now key.now)) C.told self.old.check self.new.check) }
+        ensures err { OnErr result (TellsAsBefore C.told self.old.check self.new.check) }
+        ensures answers { KeepsAnswers C.answers self.old.check self.new.check }
     {
         match &mut self.check {
             Some(check) => check.learn(alloc, name, key),
@@ -146,13 +148,39 @@ impl<C: OwnerCheck> AuthorityCore<C> {
         requires { is_some self.old.check ≡ true }
         ensures state { self.new.state ≡ self.old.state }
         ensures retired { is_none self.new.check ≡ is_none self.old.check }
-        ensures told { IfSome self.old.check (λ old. IfSome self.new.check (λ new. C.told new ≡ option_map (forgotten name.now key.now) (C.told old))) }
-        ensures answers { IfSome self.old.check (λ old. IfSome self.new.check (λ new. C.answers new ≡ C.answers old)) }
+        ensures told { TellsBy (option_map (forgotten name.now key.now)) C.told self.old.check self.new.check }
+        ensures answers { KeepsAnswers C.answers self.old.check self.new.check }
     {
         match &mut self.check {
             Some(check) => check.forget(name, key),
             None => unreachable!(),
         }
+    }
+}
+
+impl<C: OwnerCheck> Keyless for AuthorityCore<C> {
+    type Refusal = AuthorityRefusal;
+
+    ghost book = { λ c. c.state.past.signed };
+
+    ghost signature_len = { λ c. c.state.signature_len };
+
+    ghost most_sent = { most_sent };
+
+    ghost goes_on = { λ keys result old new key. SendsBy keys result old.state new.state (roll_row old.state key) };
+
+    ghost keeps = { λ old new. new.check ≡ old.check };
+
+    fn no_memory(&self) -> AuthorityRefusal {
+        AuthorityRefusal::Memory
+    }
+
+    fn enter_roll(
+        &mut self,
+        alloc: Global,
+        next: &LmsPublic,
+    ) -> Result<Unsigned, AuthorityRefusal> {
+        self.roll(alloc, next)
     }
 }
 

@@ -14,7 +14,6 @@
 
 mod authority;
 mod confirming;
-mod desk;
 mod entries;
 mod keyless;
 pub mod laws;
@@ -23,8 +22,9 @@ mod record;
 mod refusal;
 mod reply;
 mod state;
+mod stepping;
 
-pub use authority::Authority;
+pub use authority::{Authority, answer, new_authority};
 pub use entries::{Asked, Kept};
 pub use keyless::AuthorityCore;
 pub use record::AuthorityRecord;

@@ -1,7 +1,8 @@
 ghost use Rattle.std.specs.Prelude.{◌≡◌, IfOk};
 ghost use Rattle.ar_message.specs.Messages.{message_text};
-ghost use Rattle.authority_core.specs.State.{prepared, sent_with};
+ghost use Rattle.authority_core.specs.State.{if_due, prepared, sent_with};
 
+use crate::refusal::AuthorityRefusal;
 use ar_base::Items;
 use ar_message::{Address, Blank, Message, Outgoing, Sent, Unsigned};
 use key_roll::RollDue;
@@ -83,4 +84,20 @@ pub(crate) fn discard(ready: Prepared) {
         at: _,
     } = ready;
     blanks.destroy_empty();
+}
+
+/// The message with the signature that is due, or why none is; the message is then given up.
+pub(crate) fn send_entered(
+    ready: Prepared,
+    entered: Result<RollDue, AuthorityRefusal>,
+) -> Result<Unsigned, AuthorityRefusal>
+    ensures { result ≡ if_due entered (sent_with ready) }
+{
+    match entered {
+        Ok(due) => Ok(send(ready, due)),
+        Err(refusal) => {
+            discard(ready);
+            Err(refusal)
+        }
+    }
 }

@@ -272,30 +272,36 @@ fn a_comment_is_skipped_whatever_its_bytes_are(rt: HostRuntime) -> Result<(), Fa
 #[test]
 fn lines_of_the_setup_and_of_owners_are_read(rt: HostRuntime) -> Result<(), Fail> {
     let lines = [
-        ("keys 7 3", "Ok(Some(Keys { lms: 7, ots: 3 }))"),
-        ("keys 6 4", "Ok(Some(Keys { lms: 6, ots: 4 }))"),
-        ("logs 16 16", "Ok(Some(Logs { n: 16, q: 16 }))"),
-        ("logs 3 3", "Ok(Some(Logs { n: 3, q: 3 }))"),
-        ("authorities 3", "Ok(Some(Authorities { m: 3 }))"),
+        ("keys 7 3", "Ok(Some(Setup(Keys { lms: 7, ots: 3 })))"),
+        ("keys 6 4", "Ok(Some(Setup(Keys { lms: 6, ots: 4 })))"),
+        ("logs 16 16", "Ok(Some(Setup(Logs { n: 16, q: 16 })))"),
+        ("logs 3 3", "Ok(Some(Setup(Logs { n: 3, q: 3 })))"),
+        ("authorities 3", "Ok(Some(Setup(Authorities { m: 3 })))"),
         (
             "dishonest L65535",
-            "Ok(Some(Dishonest { party: Party { role: LogServer, number: 65535 } }))",
+            "Ok(Some(Setup(Dishonest { party: Party { role: LogServer, number: 65535 } })))",
         ),
-        ("owner D511", "Ok(Some(Owner { owner: 511 }))"),
+        ("owner D511", "Ok(Some(Event(Owner { owner: 511 })))"),
         (
             "teach A15 a.b D65535",
-            "Ok(Some(Teach { authority: 15, name: NameView { text: [97, 46, 98] }, owner: 65535 }))",
+            "Ok(Some(Event(Teach { authority: 15, name: NameView { text: [97, 46, 98] }, owner: 65535 })))",
         ),
         (
             "forget A0 a-1.b D512",
-            "Ok(Some(Forget { authority: 0, name: NameView { text: [97, 45, 49, 46, 98] }, owner: 512 }))",
+            "Ok(Some(Event(Forget { authority: 0, name: NameView { text: [97, 45, 49, 46, 98] }, owner: 512 })))",
         ),
-        ("retire A3", "Ok(Some(Retire { authority: 3 }))"),
-        ("handover D3 0", "Ok(Some(Handover { owner: 3, draft: 0 }))"),
-        ("object D4 9", "Ok(Some(Object { owner: 4, draft: 9 }))"),
+        ("retire A3", "Ok(Some(Event(Retire { authority: 3 })))"),
+        (
+            "handover D3 0",
+            "Ok(Some(Event(Handover { owner: 3, draft: 0 })))",
+        ),
+        (
+            "object D4 9",
+            "Ok(Some(Event(Object { owner: 4, draft: 9 })))",
+        ),
         (
             "submit 18446744073709551615",
-            "Ok(Some(Submit { draft: 18446744073709551615 }))",
+            "Ok(Some(Event(Submit { draft: 18446744073709551615 })))",
         ),
     ];
     expect_read(&rt, rt.alloc(), &lines)
@@ -304,42 +310,42 @@ fn lines_of_the_setup_and_of_owners_are_read(rt: HostRuntime) -> Result<(), Fail
 #[test]
 fn lines_of_logs_clients_and_messages_are_read(rt: HostRuntime) -> Result<(), Fail> {
     let lines = [
-        ("propose L4", "Ok(Some(Propose { log: 4 }))"),
-        ("pass L0", "Ok(Some(Pass { log: 0 }))"),
+        ("propose L4", "Ok(Some(Event(Propose { log: 4 })))"),
+        ("pass L0", "Ok(Some(Event(Pass { log: 0 })))"),
         (
             "roll A2",
-            "Ok(Some(Roll { party: Party { role: Authority, number: 2 } }))",
+            "Ok(Some(Event(Roll { party: Party { role: Authority, number: 2 } })))",
         ),
-        ("learn 7", "Ok(Some(Learn { message: 7 }))"),
+        ("learn 7", "Ok(Some(Event(Learn { message: 7 })))"),
         (
             "ask L1 b A2 A3 C65535",
-            "Ok(Some(Ask { log: 1, name: NameView { text: [98] }, first: 2, second: 3, client: 65535 }))",
+            "Ok(Some(Event(Ask { log: 1, name: NameView { text: [98] }, first: 2, second: 3, client: 65535 })))",
         ),
         (
             "judge last b 1 0",
-            "Ok(Some(Judge { message: None, name: NameView { text: [98] }, now: 1, age: 0 }))",
+            "Ok(Some(Event(Judge { message: None, name: NameView { text: [98] }, now: 1, age: 0 })))",
         ),
         (
             "judge 5 b 18446744073709551615 4",
-            "Ok(Some(Judge { message: Some(5), name: NameView { text: [98] }, now: 18446744073709551615, age: 4 }))",
+            "Ok(Some(Event(Judge { message: Some(5), name: NameView { text: [98] }, now: 18446744073709551615, age: 4 })))",
         ),
         (
             "deliver 12 D3",
-            "Ok(Some(Deliver { message: 12, party: Party { role: Owner, number: 3 } }))",
+            "Ok(Some(Event(Deliver { message: 12, party: Party { role: Owner, number: 3 } })))",
         ),
         (
             "sign A1 x m1:0:4",
-            "Ok(Some(Sign { party: Party { role: Authority, number: 1 }, pieces: Pieces { text: [120, 32, 109, 49, 58, 48, 58, 52] } }))",
+            "Ok(Some(Event(Sign { party: Party { role: Authority, number: 1 }, pieces: Pieces { text: [120, 32, 109, 49, 58, 48, 58, 52] } })))",
         ),
         (
             "inject logs x",
-            "Ok(Some(Inject { to: None, pieces: Pieces { text: [120] } }))",
+            "Ok(Some(Event(Inject { to: None, pieces: Pieces { text: [120] } })))",
         ),
         (
             "inject C0 x00",
-            "Ok(Some(Inject { to: Some(Party { role: Client, number: 0 }), pieces: Pieces { text: [120, 48, 48] } }))",
+            "Ok(Some(Event(Inject { to: Some(Party { role: Client, number: 0 }), pieces: Pieces { text: [120, 48, 48] } })))",
         ),
-        ("flush", "Ok(Some(Flush))"),
+        ("flush", "Ok(Some(Event(Flush)))"),
         ("burst", "Ok(Some(Burst))"),
         ("end", "Ok(Some(End))"),
     ];

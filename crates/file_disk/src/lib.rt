@@ -21,7 +21,7 @@
 //!
 //! The mirror holds the whole file in memory, and what each write stood over since the file was opened.
 //!
-//! Its tests: `arpki_journal`, by its stored lines, and `tools/crash`.
+//! Its tests: `disk_tests`, module `file_disk_tests`, and `tools/crash`.
 #![tactic(auto)]
 
 pub use disk::FileDisk;

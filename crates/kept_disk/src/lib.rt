@@ -5,7 +5,7 @@
 //! crash at any moment leaves only such files, and `specs/Fuel.antt` how much a disk still does where it tells that.
 //! `specs/Memory.antt` says what contracts see of a disk in memory.
 //!
-//! Its tests: none yet.
+//! Its tests: `disk_tests`, module `kept_disk_tests`.
 #![tactic(auto)]
 
 pub use ar_io::Failed;

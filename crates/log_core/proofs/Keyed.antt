@@ -1,6 +1,6 @@
 -- The keys of a log stay those of its book: a step leaves the book its keys, and a Roll has one more.
-use Rattle.std.proofs.Common.{◌≡◌, ℕ, ◌+◌, List, [], ◌∷◌, ◌++◌, Bool, true, false, cond, Option, Some, None, Result, Ok, Err, refl, sym, ap, ◌∙◌, subst}
-use Rattle.std.specs.Prelude.{OnOk, map}
+use Rattle.std.proofs.Common.{◌≡◌, ℕ, ◌≤◌, length, ◌+◌, List, [], ◌∷◌, ◌++◌, Bool, true, false, cond, Option, Some, None, Result, Ok, Err, refl, sym, ap, ◌∙◌, subst}
+use Rattle.std.specs.Prelude.{IfOk, OnOk, map}
 use Rattle.ar_cert.specs.Changes.{Change}
 use Rattle.ar_council.proofs.Readable.{readable}
 use Rattle.ar_message.specs.Filling.{CanFill}
@@ -9,8 +9,8 @@ use Rattle.ar_message.specs.declared.sent.Sent.{Sent}
 use Rattle.ar_message.specs.declared.unsigned.Unsigned.{Unsigned}
 use Rattle.key_roll.specs.Book.{RollBook}
 use Rattle.key_roll.specs.Entry.{after_entry, roll_text}
-use Rattle.key_roll.specs.Ring.{AreKeysOf, IsNext}
-use Rattle.key_roll.proofs.Rings.{next_keys, same_keys}
+use Rattle.key_roll.specs.Ring.{IsNext}
+use Rattle.key_roll.proofs.Rings.{next_keys}
 use Rattle.key_roll.proofs.Books.{IsSameBook, entry-same}
 use Rattle.lms_tree.specs.Key.{public_of}
 use Rattle.lms_tree.specs.KeyParts.{KeyParts}
@@ -31,7 +31,10 @@ use Rattle.ar_statement.specs.Ranges.{IsKeyText}
 use Rattle.log_core.specs.Balloted.{ballot_checks, ballot_reply, ballot_row}
 use Rattle.log_core.specs.Confirming.{Asked, confirm_checks, confirm_reply, confirm_row}
 use Rattle.log_core.specs.Decided.{Decision, decision_checks, decision_reply, decision_row, plain_votes}
-use Rattle.log_core.specs.Keyed.{IsOfNext, IsOwn, IsPlain, IsRingOf, SendsBy}
+use Rattle.keyed_core.specs.Signing.{IsSignedBy, signed}
+use Rattle.keyed_core.proofs.Signed.{signed-sends}
+use Rattle.keyed_core.proofs.Signed as signing
+use Rattle.log_core.specs.Keyed.{IsOfNext, IsOwn, IsPlain, IsRingOf, SendsBy, parts_of}
 use Rattle.log_core.specs.Kept.{IsKeptCore}
 use Rattle.log_core.specs.Learning.{roll_note_checks, roll_note_reply, roll_note_row}
 use Rattle.log_core.specs.Passing.{passing_checks, passing_reply, passing_row}
@@ -40,13 +43,16 @@ use Rattle.log_core.specs.Proposing.{proposal, proposed_value, proposing_checks,
 use Rattle.log_core.specs.Rolling.{rolling_checks, rolling_reply, rolling_row}
 use Rattle.log_core.specs.Row.{IsInput, row}
 use Rattle.log_core.specs.Skipped.{signed_statuses, skip_checks, skip_reply, skip_row}
-use Rattle.log_core.specs.State.{Answer, CoreState, Input, Reply, rolls}
+use Rattle.log_core.specs.State.{Answer, CoreState, Input, Reply, most_sent, rolls}
+use Rattle.log_core.specs.Steps.{IsStep}
 use Rattle.log_core.specs.Stated.{status_checks, status_reply, status_row}
 use Rattle.log_sending.specs.Queued.{is_queued}
 use Rattle.log_core.specs.Submit.{queueing, submit_checks, submit_reply, submit_row}
 use Rattle.log_sending.specs.declared.refusal.LogRefusal.{LogRefusal}
+use Rattle.log_sending.specs.declared.refusal.LogRefusal.TheVariants.{Memory}
 use Rattle.log_sending.proofs.Blanks.{composed-fill}
 use Rattle.log_core.proofs.EachRow.{plain-gives}
+use Rattle.log_core.proofs.Few.{rolling-few}
 use Rattle.log_core.proofs.Passed.{passed}
 use Rattle.log_core.proofs.Composed.{row-composed}
 use Rattle.log_core.proofs.KeptEndings.{kept-row}
@@ -216,13 +222,7 @@ row-same s input reply plain answer = plain-gives (Same s) s (record {
 
 keys-stay : (s later : CoreState) (keys : List KeyParts) → IsRingOf s keys → IsSameKeys s later → IsRingOf later keys
 keys-stay s later keys is same =
-    subst (λ n. AreKeysOf later.log.past.signed n keys) (sym same.len)
-    (same_keys s.log.past.signed later.log.past.signed s.signature_len keys same.book.leaves same.book.newest is)
-
--- the keys sign what a step leaves blank, and are those of the log behind it
-pub record IsSignedBy (keys : List KeyParts) (later : CoreState) (unsigned : Unsigned) : Type 0 where
-  pub fills : CanFill keys unsigned
-  pub stays : IsRingOf later keys
+    signing.keys-stay s.log.past.signed later.log.past.signed keys s.signature_len later.signature_len same.book same.len is
 
 abbrev reply-of : Unsigned → CoreState → Reply
 reply-of unsigned later = record { unsigned = unsigned; after = later }
@@ -235,7 +235,7 @@ row-fills s input keys later unsigned kept is answer are =
 
 -- a step with no other key
 pub plain-signs : (s : CoreState) (input : Input) (keys : List KeyParts) (later : CoreState) (unsigned : Unsigned) → IsKeptCore s → IsInput input → IsPlain input
-    → IsRingOf s keys → row s input ≡ Ok (record { unsigned = unsigned; after = later }) → IsSignedBy keys later unsigned
+    → IsRingOf s keys → row s input ≡ Ok (record { unsigned = unsigned; after = later }) → IsSignedBy keys later.log.past.signed later.signature_len unsigned
 plain-signs s input keys later unsigned kept is plain are answer =
     let stays : IsRingOf later keys = keys-stay s later keys are (row-same s input (reply-of unsigned later) plain answer) in
     record { fills = row-fills s input keys later unsigned kept is answer stays; stays = stays }
@@ -254,17 +254,42 @@ rolls-row : (s : CoreState) (key : LmsPublic) → row s (rolls key) ≡ rolling_
 unfolding row
 rolls-row s key = refl
 
--- the order to roll, with the keys that have the next behind them
+-- ---- the order to roll, with the keys that have the next behind them
+
 pub rolled-signs : (s : CoreState) (keys more : List KeyParts) (next : KeyParts) (later : CoreState) (unsigned : Unsigned) → IsKeptCore s
     → IsInput (rolls (public_of next)) → IsRingOf s keys → IsNext keys next → more ≡ keys ++ next ∷ []
-    → rolling_row s (public_of next) ≡ Ok (record { unsigned = unsigned; after = later }) → IsSignedBy more later unsigned
+    → rolling_row s (public_of next) ≡ Ok (record { unsigned = unsigned; after = later }) → IsSignedBy more later.log.past.signed later.signature_len unsigned
 rolled-signs s keys more next later unsigned kept is are behind more-is answer =
     let after : IsRingOf (rolling_reply s (public_of next)).after (keys ++ next ∷ []) = rolled-ring s (public_of next) keys next are behind in
     let stays : IsRingOf later (keys ++ next ∷ []) =
     subst (λ (r : Reply). IsRingOf r.after (keys ++ next ∷ [])) (rolled-is s (public_of next) (reply-of unsigned later) answer) after in
     let fills : CanFill (keys ++ next ∷ []) unsigned =
     row-fills s (rolls (public_of next)) (keys ++ next ∷ []) later unsigned kept is (rolls-row s (public_of next) ∙ answer) stays in
-    subst (λ (k : List KeyParts). IsSignedBy k later unsigned) (sym more-is) (record { fills = fills; stays = stays })
+    subst (λ (k : List KeyParts). IsSignedBy k later.log.past.signed later.signature_len unsigned) (sym more-is) (record { fills = fills; stays = stays })
+
+pub roll-signs : (result : Result Unsigned LogRefusal) (s later : CoreState) (key : LmsPublic) (keys : List KeyParts) (next : KeyParts) → IsKeptCore s → IsInput (rolls key)
+    → IsStep result s later (rolling_row s key) → IsRingOf s keys → IsNext keys next → key ≡ public_of next
+    → IfOk result (λ unsigned. IsSignedBy (keys ++ next ∷ []) later.log.past.signed later.signature_len unsigned)
+roll-signs (Ok unsigned) s later key keys next kept input step are behind is =
+    let input : IsInput (rolls (public_of next)) = subst (λ (k : LmsPublic). IsInput (rolls k)) is input in
+    let answer : rolling_row s (public_of next) ≡ Ok (reply-of unsigned later) = subst (λ (k : LmsPublic). rolling_row s k ≡ Ok (reply-of unsigned later)) is step in
+    rolled-signs s keys (keys ++ next ∷ []) next later unsigned kept input are behind refl answer
+roll-signs (Err refusal) s later key keys next kept input step are behind is = tt
+
+pub roll-sends : (keys : List KeyParts) (result : Result Unsigned LogRefusal) (s later : CoreState) (key : LmsPublic) → IsStep result s later (rolling_row s key)
+    → SendsBy keys (signed keys result) s later (rolling_row s key)
+roll-sends keys result s later key step =
+    signed-sends Memory (λ after unsigned. record { unsigned = unsigned; after = after }) parts_of (λ after unsigned. refl) keys result s later (rolling_row s key) step
+
+pub roll-few : (result : Result Unsigned LogRefusal) (s later : CoreState) (key : LmsPublic) → IsStep result s later (rolling_row s key)
+    → IfOk result (λ unsigned. length unsigned.sent.messages ≤ most_sent)
+roll-few (Ok unsigned) s later key step = rolling-few s key (reply-of unsigned later) step
+roll-few (Err refusal) s later key step = tt
+
+-- the queue is as it was
+pub roll-keeps : (result : Result Unsigned LogRefusal) (s later : CoreState) (key : LmsPublic) → IsStep result s later (rolling_row s key) → later.queue ≡ s.queue
+roll-keeps (Ok unsigned) s later key step = ap (λ (r : Reply). r.after.queue) (sym (rolled-is s key (reply-of unsigned later) step))
+roll-keeps (Err refusal) s later key step = ap (λ (c : CoreState). c.queue) step.0
 
 -- the order to roll as an input: the key is that of the next one
 pub rolls-sends : (keys later : List KeyParts) (input : Input) (key : LmsPublic) (old new : CoreState) (result : Result Sent LogRefusal) → input ≡ rolls key → IsOwn keys input

@@ -1,30 +1,26 @@
 -- A log with its keys, and its answers with its signatures in them.
-use Rattle.std.specs.Prelude.{◌≡◌, ◌⊎◌, List, [], ◌∷◌, ◌++◌, Result, Ok, Err}
-use Rattle.std.specs.Result.{result_map_both}
-use Rattle.ar_message.specs.Filling.{filled}
+use Rattle.std.specs.Prelude.{◌≡◌, List, [], ◌∷◌, ◌++◌, Result}
 use Rattle.ar_message.specs.declared.sent.Sent.{Sent}
-use Rattle.key_roll.specs.Ring.{AreKeysOf, IsNext, RingParts}
-use Rattle.lms_tree.specs.Key.{public_of}
+use Rattle.ar_message.specs.declared.unsigned.Unsigned.{Unsigned}
+use Rattle.key_roll.specs.Ring.{AreKeysOf, IsNext}
+use Rattle.keyed_core.specs.Signing as signing
 use Rattle.lms_tree.specs.KeyParts.{KeyParts}
 use Rattle.lms_tree.specs.declared.public_key.LmsPublic.{LmsPublic}
-use Rattle.log_core.specs.State.{Answer, CoreState, Input, passes, proposes, rolls, takes}
+use Rattle.log_core.specs.State.{Answer, CoreState, Input, Reply, passes, proposes, rolls, takes}
 use Rattle.log_sending.specs.declared.refusal.LogRefusal.{LogRefusal}
 use Rattle.log_sending.specs.declared.refusal.LogRefusal.TheVariants.{Memory}
 
 -- what stands under a lock, and its keys
-pub record LogParts : Type 0 where
-  pub core : CoreState
-  pub ring : RingParts
+abbrev pub LogParts : Type 0
+LogParts = signing.KeyedParts CoreState
 
 -- the keys are those of the log's book
 abbrev pub IsRingOf : CoreState → List KeyParts → Type 0
 IsRingOf s keys = AreKeysOf s.log.past.signed s.signature_len keys
 
 -- a key is that of the next one of the keys
-pub record IsOfNext (keys : List KeyParts) (key : LmsPublic) : Type 0 where
-  pub next : KeyParts
-  pub is_next : IsNext keys next
-  pub is : key ≡ public_of next
+abbrev pub IsOfNext : List KeyParts → LmsPublic → Type 0
+IsOfNext keys key = signing.IsOfNext keys key
 
 -- where a log is asked to go on to a key, it is that of its next one
 abbrev pub IsOwn : List KeyParts → Input → Type 0
@@ -47,12 +43,15 @@ AreBehind proposes keys later = later ≡ keys
 AreBehind passes keys later = later ≡ keys
 AreBehind (rolls key) keys later = (next : KeyParts) → IsNext keys next → later ≡ keys ++ next ∷ []
 
+-- where a log stands behind a reply, and what it sends
+abbrev pub parts_of : Reply → CoreState × Unsigned
+parts_of reply = (reply.after, reply.unsigned)
+
 -- the answer with the log's signatures in what it sends
 abbrev pub signed_answer : List KeyParts → Answer → Result (CoreState × Sent) LogRefusal
-signed_answer keys answer = result_map_both (λ reply. (reply.after, filled keys reply.unsigned)) (λ refusal. refusal) answer
+signed_answer keys answer = signing.signed_answer parts_of keys answer
 
 -- A call answered as the row does, signed with these keys, and the log stands where the row says; or it refused so, or wanted
 -- memory, and the log stands as before.
 abbrev pub SendsBy : List KeyParts → Result Sent LogRefusal → CoreState → CoreState → Answer → Type 0
-SendsBy keys (Ok sent) old new answer = signed_answer keys answer ≡ Ok (new, sent)
-SendsBy keys (Err refusal) old new answer = (new ≡ old) × ((refusal ≡ Memory) ⊎ (answer ≡ Err refusal))
+SendsBy keys result old new answer = signing.SendsBy Memory parts_of keys result old new answer

@@ -26,7 +26,7 @@ mod step;
 mod submitting;
 mod verifying;
 
-pub use log::Log;
+pub use log::{Log, answer, new_log};
 pub use log_core::LogCore;
 pub use log_sending::LogRefusal;
 pub use step::LogInput;

@@ -5,15 +5,21 @@ ghost use Rattle.epoch_log.specs.Honest.{HonestLog};
 ghost use Rattle.epoch_log.specs.Log.{record_of};
 ghost use Rattle.epoch_log.specs.State.{epoch_of};
 ghost use Rattle.log_core.specs.Kept.{IsKeptCore};
+ghost use Rattle.log_core.specs.Keyed.{SendsBy};
 ghost use Rattle.log_core.specs.Learning.{roll_note_row};
+ghost use Rattle.log_core.specs.Rolling.{rolling_row};
+ghost use Rattle.log_core.specs.State.{most_sent};
 ghost use Rattle.log_core.specs.Steps.{IsStep, ended_epoch, learn_refusal, noted};
 
 use crate::LogRefusal;
+use crate::rolling::next_told;
 use ar_cert::Change;
 use ar_message::Unsigned;
 use ar_statement::Party;
 use ar_statement::fields::LAST_EPOCH;
 use epoch_log::{EpochLog, Record};
+use keyed_core::Keyless;
+use lms_tree::LmsPublic;
 use party_keys::{Announced, Directory, LearnFault, Learned};
 use std::alloc::Global;
 use std::marker::Model;
@@ -143,5 +149,29 @@ impl LogCore {
     {
         let learned = self.log.learn(alloc, announced);
         noted(alloc, learned, announced.party, announced.generation)
+    }
+}
+
+impl Keyless for LogCore {
+    type Refusal = LogRefusal;
+
+    ghost book = { λ c. c.log.past.signed };
+
+    ghost signature_len = { λ c. c.signature_len };
+
+    ghost most_sent = { most_sent };
+
+    ghost goes_on = { λ keys result old new key. SendsBy keys result old new (rolling_row old key) };
+
+    ghost keeps = { λ old new. new.queue ≡ old.queue };
+
+    fn no_memory(&self) -> LogRefusal {
+        LogRefusal::Memory
+    }
+
+    fn enter_roll(&mut self, alloc: Global, next: &LmsPublic) -> Result<Unsigned, LogRefusal> {
+        self.told();
+        next_told(next);
+        self.roll(alloc, next)
     }
 }

@@ -3,6 +3,8 @@
 ghost use Rattle.std.specs.Prelude.{◌≡◌, Err, IfOk};
 ghost use Rattle.log_core.specs.Rolling.{roll_draft, rolling_row};
 ghost use Rattle.log_sending.specs.Sending.{none_composed, with_draft};
+ghost use Rattle.log_core.specs.Row.{IsInput};
+ghost use Rattle.log_core.specs.State.{rolls};
 ghost use Rattle.log_core.specs.Steps.{IsStep, roll_refusal};
 
 use crate::LogRefusal;
@@ -23,6 +25,14 @@ fn roll_refusal(fault: RollFault) -> LogRefusal
         RollFault::Last => LogRefusal::LastGeneration,
         RollFault::Memory => LogRefusal::Memory,
     }
+}
+
+/// Tells a proof that a log can be asked to go on to a key. It does nothing.
+#[tactic(auto, using(crate::proofs::Keyed::next_is_input))]
+pub(crate) fn next_told(key: &LmsPublic)
+    ensures { IsInput (rolls key.now) }
+{
+    key_told(key);
 }
 
 impl LogCore {

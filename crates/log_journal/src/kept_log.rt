@@ -26,7 +26,7 @@ use epoch_log::Record;
 use kept_disk::{Disk, MemDisk};
 use kept_journal::{Journal, OpenFault};
 use lms_tree::{LmsKey, LmsPublic};
-use log_core::{Log, LogInput, LogRefusal};
+use log_core::{Log, LogInput, LogRefusal, answer, new_log};
 use party_keys::Directory;
 use std::alloc::{AllocError, Global};
 use std::marker::Model;
@@ -103,7 +103,7 @@ impl<K: Disk> KeptLog<K> {
         ensures bad { IfErr result (λ e. (place : ℕ) → e.1 ≡ OpenFault.BadRecord place
             → IsBad takes mark (new_log number directory key) (K.seen disk) place) }
     {
-        let log = match Log::new(alloc, number, directory, key) {
+        let log = match new_log(alloc, number, directory, key) {
             Ok(log) => log,
             Err(_) => return Err((disk, OpenFault::Memory)),
         };
@@ -155,7 +155,7 @@ impl<K: Disk> KeptLog<K> {
         }
         input_told(input);
         let record = record_of_input(alloc, input)?;
-        match self.log.step(alloc, input) {
+        match answer(&mut self.log, alloc, input) {
             Ok(sent) => match self.journal.append(&record) {
                 Ok(()) => {
                     self.journal.told();
@@ -180,7 +180,7 @@ impl<K: Disk> KeptLog<K> {
         ensures value { record_of result.now ≡ self.now.log.core.log.past }
         ensures honest { HonestLog self.now.log.core.log.council self.now.log.core.log.me self.now.log.core.log.past }
     {
-        self.log.record()
+        self.log.core.record()
     }
 
     /// How many inputs its file had when it was opened, with those that were answered since.

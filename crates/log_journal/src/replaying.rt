@@ -11,7 +11,7 @@ ghost use Rattle.log_journal.specs.Steps.{LogStanding, Steps, standing_of, takes
 use crate::input::{Said, read_text};
 use kept_journal::{Replay, ReplayFault};
 use lms_tree::LmsPublic;
-use log_core::{Log, LogInput, LogRefusal};
+use log_core::{Log, LogInput, LogRefusal, answer};
 use std::alloc::Global;
 use std::marker::Model;
 
@@ -49,7 +49,7 @@ fn take_again(alloc: Global, log: &mut Log, input: &LogInput) -> Result<(), Repl
     ensures taken { OnOk result (Steps (standing_of log.old) (input_of input.now) (standing_of log.new)) }
     ensures stuck { IsErrOf result ReplayFault.Stuck → (later : LogStanding) → ¬ Steps (standing_of log.old) (input_of input.now) later }
 {
-    match log.step(alloc, input) {
+    match answer(log, alloc, input) {
         Ok(_) => Ok(()),
         Err(refusal) => Err(fault_of(refusal)),
     }

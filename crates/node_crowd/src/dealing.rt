@@ -22,7 +22,9 @@ fn deal_row<C: Core, F, T: Drop>(
 {
     let mut stalls = Vec::new(alloc);
     for place in 0..booths.len() {
-        stalls.push(split(alloc, &booths[place].node, &mut base[place])?)?;
+        let given = split(alloc, &booths[place].node, &mut base[place])?;
+        stalls.reserve(1)?;
+        stalls.push_reserved(given);
     }
     Ok(Row { stalls })
 }
@@ -46,7 +48,9 @@ pub fn deal<C: Core, F, T: Drop>(
 {
     let mut rows = Vec::new(alloc);
     for _ in 0..workers {
-        rows.push(deal_row(alloc, booths, base)?)?;
+        let row = deal_row(alloc, booths, base)?;
+        rows.reserve(1)?;
+        rows.push_reserved(row);
     }
     Ok(rows)
 }

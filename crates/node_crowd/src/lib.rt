@@ -8,13 +8,20 @@
 #![tactic(auto)]
 
 mod booth;
+mod bringing;
 mod dealing;
+mod errand;
+mod finish;
+mod gate;
 mod joining;
 mod row;
 mod stall;
 
 pub use booth::Booth;
 pub use dealing::deal;
+pub use errand::Errand;
+pub use finish::Finish;
+pub use gate::{Gate, OpenGate};
 pub use joining::join_row;
 pub use row::Row;
 pub use stall::Stall;

@@ -6,7 +6,7 @@ use std::alloc::{AllocError, Global};
 use std::test::Fail;
 
 // One domain, from its first endorsement to a browser that accepts it.
-const ORDINARY: &str = "logs 5 4
+pub(crate) const ORDINARY: &str = "logs 5 4
 authorities 4
 owner D0
 teach A0 a.example D0
@@ -31,17 +31,19 @@ enum Input {
     TwoQuestions,
     Statements,
     Script,
+    Restart,
 }
 
 impl Input {
-    // The command that reads it.
-    fn word(self) -> &'static str {
+    // The words of the command that reads it.
+    fn words(self) -> &'static [&'static str] {
         match self {
-            Input::Signature => "sig",
-            Input::Question => "check",
-            Input::TwoQuestions => "follow",
-            Input::Statements => "audit",
-            Input::Script => "play",
+            Input::Signature => &["sig"],
+            Input::Question => &["check"],
+            Input::TwoQuestions => &["follow"],
+            Input::Statements => &["audit"],
+            Input::Script => &["play"],
+            Input::Restart => &["restart", "1", "6"],
         }
     }
 
@@ -51,7 +53,7 @@ impl Input {
             Input::Question => inquiry(alloc, "9"),
             Input::TwoQuestions => two_questions(alloc),
             Input::Statements => statements(alloc),
-            Input::Script => String::from_str(alloc, ORDINARY),
+            Input::Script | Input::Restart => String::from_str(alloc, ORDINARY),
         }
     }
 }
@@ -120,7 +122,7 @@ fn first_write_without_fault(
 fn each_read_and_each_write_fails_once(rt: HostRuntime) -> Result<(), Fail> {
     // What is read, the numbers of the first read and the first write that never come, and the SHA-256 of what another program
     // writes.
-    let cases: [(Input, u64, u64, &str); 5] = [
+    let cases: [(Input, u64, u64, &str); 6] = [
         (
             Input::Signature,
             51,
@@ -151,16 +153,22 @@ fn each_read_and_each_write_fails_once(rt: HostRuntime) -> Result<(), Fail> {
             66,
             "faa6b1b3c4aff502daa2feee4c5bed870122c81cf01f09c703e84fe0383ce3f1",
         ),
+        (
+            Input::Restart,
+            5,
+            2,
+            "e89aa1fb7184670b210386acd5ff695ee3d2ee75c8702963dd44437b1e540f28",
+        ),
     ];
     for (input, no_read, no_write, digest) in cases {
-        let words = [input.word()];
         let text = input.text(rt.alloc())?;
-        let (status, hash) = whole_run(rt.alloc(), &words, text.as_str())?;
+        let words = input.words();
+        let (status, hash) = whole_run(rt.alloc(), words, text.as_str())?;
         assert_eq!(rt; status, 0, "{input:?}");
         assert_eq!(rt; hash.as_str(), digest, "{input:?}");
-        let read = first_read_without_fault(rt.alloc(), &words, text.as_str())?;
+        let read = first_read_without_fault(rt.alloc(), words, text.as_str())?;
         assert_eq!(rt; read, no_read, "{input:?}");
-        let write = first_write_without_fault(rt.alloc(), &words, text.as_str())?;
+        let write = first_write_without_fault(rt.alloc(), words, text.as_str())?;
         assert_eq!(rt; write, no_write, "{input:?}");
     }
     Ok(())

@@ -1,5 +1,5 @@
 //! Tests of the program's top call, which stand here so that its crate is proved once: answers over inputs, each read and each
-//! write failing in turn, scripts that are made and played, the records of a world, and an audit of all that its honest parties
+//! write failing in turn, scripts that are made and played, the records of a world, the disks of a log that restarts, and an audit of all that its honest parties
 //! signed. There is nothing to call.
 #![tactic(auto)]
 
@@ -13,6 +13,8 @@ mod failing_checks;
 mod fitted;
 #[cfg(test)]
 mod records;
+#[cfg(test)]
+mod restarts;
 #[cfg(test)]
 mod runs;
 #[cfg(test)]

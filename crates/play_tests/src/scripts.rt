@@ -1,4 +1,4 @@
-use crate::runs::{no_checks, run, words_of};
+use crate::runs::{no_checks, no_disks, run, words_of};
 use ar_io::{MemSink, QuietSink, QuietSource};
 use arpki_play::arpki_main;
 use owner_check::BookCheck;
@@ -10,7 +10,8 @@ fn status_of(alloc: Global, words: &[&str]) -> Result<u8, AllocError> {
     let words = words_of(alloc, words)?;
     let mut source = QuietSource::new(Vec::new(alloc));
     let mut sink = QuietSink::new();
-    Ok(arpki_main(alloc, &words, &mut source, &mut sink, no_checks(alloc)))
+    let (checks, mut disks) = (no_checks(alloc), no_disks(alloc));
+    Ok(arpki_main(alloc, &words, &mut source, &mut sink, checks, &mut disks))
 }
 
 // A check with an empty book for each authority of a script.
@@ -28,7 +29,8 @@ fn played_run(alloc: Global, words: &[&str]) -> Result<(u8, MemSink), AllocError
     let mut source = QuietSource::new(Vec::new(alloc));
     let mut sink = MemSink::new(alloc, Vec::new(alloc));
     sink.reserve(alloc, 200)?;
-    let status = arpki_main(alloc, &words, &mut source, &mut sink, empty_books(alloc)?);
+    let (checks, mut disks) = (empty_books(alloc)?, no_disks(alloc));
+    let status = arpki_main(alloc, &words, &mut source, &mut sink, checks, &mut disks);
     Ok((status, sink))
 }
 

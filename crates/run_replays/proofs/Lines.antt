@@ -1,5 +1,5 @@
 -- What each line makes of the logs.
-use Rattle.std.proofs.Common.{◌≡◌, ◌∙◌, ℕ, ◌+◌, List, [], ◌∷◌, ◌++◌, refl, sym, ap, subst, arith, Bool, true, false, Option, Some, None, Ok, Err, IfOk, is_none}
+use Rattle.std.proofs.Common.{◌≡◌, ◌∙◌, ℕ, ◌+◌, List, [], ◌∷◌, ◌++◌, refl, sym, ap, subst, arith, Bool, true, false, Option, Some, Ok, Err, IfOk, is_none}
 use Rattle.std.specs.Prelude.{nat_le, nat_lt}
 use Rattle.ar_base.proofs.Shown.{if-chained, needed}
 use Rattle.ar_base.specs.Chaining.{need}
@@ -30,7 +30,7 @@ use Rattle.ar_world.specs.Learning.{learn_line}
 use Rattle.ar_world.specs.Ordering.{log_order, roll_of}
 use Rattle.ar_world.specs.Owning.{check_line, owner_line, retire_line}
 use Rattle.ar_world.specs.State.{Drafted, World}
-use Rattle.ar_world.specs.Step.{effect, leads_to}
+use Rattle.ar_world.specs.Step.{event_effect, leads_to, setup_effect}
 use Rattle.ar_world.specs.Submitting.{handed, handover_line, object_line, submit_line}
 use Rattle.ar_world.specs.declared.phase.Phase.{Phase}
 use Rattle.ar_world.specs.declared.phase.Phase.TheVariants as phase
@@ -49,8 +49,10 @@ use Rattle.report_text.specs.declared.happening.Happening.{Happening}
 use Rattle.report_text.specs.declared.happening.Happening.TheVariants.{Forgot, Taught}
 use Rattle.report_text.specs.declared.happening.What.{What}
 use Rattle.report_text.specs.declared.happening.What.TheVariants as whats
-use Rattle.script_text.specs.declared.line.Line.{Line}
-use Rattle.script_text.specs.declared.line.Line.TheVariants as line
+use Rattle.script_text.specs.declared.line.EventLine.{EventLine}
+use Rattle.script_text.specs.declared.line.EventLine.TheVariants as event
+use Rattle.script_text.specs.declared.line.SetupLine.{SetupLine}
+use Rattle.script_text.specs.declared.line.SetupLine.TheVariants as setup
 use Rattle.script_text.specs.declared.line.PolicyWords.{PolicyWords}
 use Rattle.run_replays.proofs.Doing.{IsThere, answered-does, rolled-does}
 use Rattle.run_replays.proofs.Notes.{Notes, put-notes, quiet-notes, without-notes}
@@ -245,11 +247,6 @@ pub data Leads (next : Phase) (w v : World) : Type 0 where
   by_founding : next ≡ phase.AuthoritiesMade → Founds w v → Leads next w v
   by_preparing : nat_le 4 (place_of next) ≡ false → v.logs ≡ w.logs → Leads next w v
 
--- the same of what a line makes
-abbrev pub LeadsTo : Option Phase → World → World → Type 0
-LeadsTo None w v = Unit {0}
-LeadsTo (Some next) w v = Leads next w v
-
 noting : (w : World) (next : Phase) (made : Effect) → IfOk made (λ m. Notes w m.0) → IfOk made (λ m. Leads next w m.0)
 noting w next (Ok m) does = by_notes does
 noting w next (Err why) does = tt
@@ -262,32 +259,33 @@ preparing : (w : World) (next : Phase) (made : Effect) → nat_le 4 (place_of ne
 preparing w next (Ok m) early same = by_preparing early same
 preparing w next (Err why) early same = tt
 
-pub effect-leads : (says : Outcome) (w : World) (l : Line) → IfOk (effect says w l) (λ made. LeadsTo (leads_to l) w made.0)
-unfolding effect
-effect-leads says w (line.Secret secret) = by_preparing refl refl
-effect-leads says w (line.Keys lms ots) = preparing w phase.KeysTold _ refl (keys-same w lms ots)
-effect-leads says w (line.Logs n q) = preparing w phase.LogsMade _ refl (logs-same w n q)
-effect-leads says w (line.Authorities m) = founding w _ (founds w m)
-effect-leads says w (line.Dishonest party) = noting w phase.DishonestTold _ (dishonest-notes w party)
-effect-leads says w (line.Owner owner) = noting w phase.Running _ (owner-line-notes w owner)
-effect-leads says w (line.Teach authority name owner) = noting w phase.Running _ (check-line-notes w authority owner (learnt name) (Taught authority))
-effect-leads says w (line.Forget authority name owner) = noting w phase.Running _ (check-line-notes w authority owner (forgotten name) (Forgot authority))
-effect-leads says w (line.Retire authority) = noting w phase.Running _ (retire-notes w authority)
-effect-leads says w (line.Register owner name policy asks) = noting w phase.Running _ (register-notes w owner name policy asks)
-effect-leads says w (line.Update owner draft policy asks) = noting w phase.Running _ (update-notes w owner draft policy asks)
-effect-leads says w (line.Revoke owner draft asks) = noting w phase.Running _ (revoke-notes w owner draft asks)
-effect-leads says w (line.Handover owner draft) = noting w phase.Running _ (handover-notes w owner draft)
-effect-leads says w (line.Object owner draft) = noting w phase.Running _ (object-notes w owner draft)
-effect-leads says w (line.Submit draft) = noting w phase.Running _ (submit-notes w draft)
-effect-leads says w (line.Propose log) = noting w phase.Running _ (order-notes w log whats.Propose events.Propose log_state.proposes tt tt (λ newest. refl))
-effect-leads says w (line.Pass log) = noting w phase.Running _ (order-notes w log whats.Pass events.Pass log_state.passes tt tt (λ newest. refl))
-effect-leads says w (line.Roll party) = noting w phase.Running _ (roll-notes w party.role party.number)
-effect-leads says w (line.Learn message) = noting w phase.Running _ (learn-notes w message)
-effect-leads says w (line.Ask log name first second client) = noting w phase.Running _ (ask-notes w log name first second client)
-effect-leads says w (line.Deliver message party) = noting w phase.Running _ (deliver-notes says w message party)
-effect-leads says w line.Flush = by_notes (quiet-notes w w refl refl refl)
-effect-leads says w (line.Judge message name now age) = noting w phase.Running _ (judge-notes w message name now age)
-effect-leads says w (line.Sign party pieces) = noting w phase.Running _ (sign-notes w party pieces)
-effect-leads says w (line.Inject to pieces) = noting w phase.Running _ (inject-notes w to pieces)
-effect-leads says w line.Burst = tt
-effect-leads says w line.End = tt
+pub setup-leads : (w : World) (l : SetupLine) → IfOk (setup_effect w l) (λ made. Leads (leads_to l) w made.0)
+unfolding setup_effect
+setup-leads w (setup.Secret secret) = by_preparing refl refl
+setup-leads w (setup.Keys lms ots) = preparing w phase.KeysTold _ refl (keys-same w lms ots)
+setup-leads w (setup.Logs n q) = preparing w phase.LogsMade _ refl (logs-same w n q)
+setup-leads w (setup.Authorities m) = founding w _ (founds w m)
+setup-leads w (setup.Dishonest party) = noting w phase.DishonestTold _ (dishonest-notes w party)
+
+pub event-notes : (says : Outcome) (w : World) (l : EventLine) → IfOk (event_effect says w l) (λ made. Notes w made.0)
+unfolding event_effect
+event-notes says w (event.Owner owner) = owner-line-notes w owner
+event-notes says w (event.Teach authority name owner) = check-line-notes w authority owner (learnt name) (Taught authority)
+event-notes says w (event.Forget authority name owner) = check-line-notes w authority owner (forgotten name) (Forgot authority)
+event-notes says w (event.Retire authority) = retire-notes w authority
+event-notes says w (event.Register owner name policy asks) = register-notes w owner name policy asks
+event-notes says w (event.Update owner draft policy asks) = update-notes w owner draft policy asks
+event-notes says w (event.Revoke owner draft asks) = revoke-notes w owner draft asks
+event-notes says w (event.Handover owner draft) = handover-notes w owner draft
+event-notes says w (event.Object owner draft) = object-notes w owner draft
+event-notes says w (event.Submit draft) = submit-notes w draft
+event-notes says w (event.Propose log) = order-notes w log whats.Propose events.Propose log_state.proposes tt tt (λ newest. refl)
+event-notes says w (event.Pass log) = order-notes w log whats.Pass events.Pass log_state.passes tt tt (λ newest. refl)
+event-notes says w (event.Roll party) = roll-notes w party.role party.number
+event-notes says w (event.Learn message) = learn-notes w message
+event-notes says w (event.Ask log name first second client) = ask-notes w log name first second client
+event-notes says w (event.Deliver message party) = deliver-notes says w message party
+event-notes says w event.Flush = quiet-notes w w refl refl refl
+event-notes says w (event.Judge message name now age) = judge-notes w message name now age
+event-notes says w (event.Sign party pieces) = sign-notes w party pieces
+event-notes says w (event.Inject to pieces) = inject-notes w to pieces

@@ -1,37 +1,35 @@
 -- In each world through which a run goes each honest log is what its inputs make of a new one.
 use Rattle.std.proofs.Common.{◌≡◌, ◌∙◌, inl, inr, ℕ, zero, suc, ◌+◌, List, [], ◌∷◌, refl, sym, ap, subst, Bool, true, false, Option, Some, None, Ok, Err, IfOk}
 use Rattle.std.specs.Prelude.{nat_le}
-use Rattle.ar_base.proofs.Shown.{if-chained}
-use Rattle.ar_base.specs.Chaining.{need}
+use Rattle.std.proofs.lemmas.Result.{IfOk-weaker}
 use Rattle.ar_lines.specs.Lines.{lines_of}
 use Rattle.ar_nodes.specs.Finding.{honest_in}
 use Rattle.ar_nodes.specs.Parties.{CheckParts, LogNode}
 use Rattle.ar_nodes.specs.Pool.{Pooled}
-use Rattle.ar_nodes.specs.declared.fault.WorldFault.TheVariants.{Order}
 use Rattle.ar_statement.specs.declared.party.Party.{Party}
 use Rattle.ar_world.proofs.Lines.{delivery-tells}
-use Rattle.ar_world.proofs.Runs.{HoldsOfSteps, deliver-goes, line-goes, step-tells}
+use Rattle.ar_world.proofs.Runs.{HoldsOfSteps, deliver-goes, line-goes, step-holds, step-tells}
 use Rattle.ar_world.specs.Delivering.{Taker, deliver_line, delivery, next_due, taker_at}
 use Rattle.ar_world.specs.Finding.{Effect, log_at, message_at}
-use Rattle.ar_world.specs.Founding.{led_to, may_come, place_of}
+use Rattle.ar_world.specs.Founding.{may_come, place_of}
 use Rattle.ar_world.specs.Printed.{Tells}
 use Rattle.ar_world.specs.Records.{HasParties}
 use Rattle.ar_world.specs.Run.{Course, Progress, Saying, at_line, delivering, flushed, line_taken, progress_of, run, run_from, then_if}
 use Rattle.ar_world.specs.State.{Moved, World, first_world}
-use Rattle.ar_world.specs.Step.{effect, leads_to, step, stepped}
+use Rattle.ar_world.specs.Step.{event_effect, leads_to, setup_effect, step}
 use Rattle.ar_world.specs.declared.phase.Phase.{Phase}
 use Rattle.ar_world.specs.declared.phase.Phase.TheVariants as phase
 use Rattle.owner_check.specs.declared.answer.Outcome.{Outcome}
+use Rattle.script_text.specs.declared.line.EventLine.TheVariants as event
 use Rattle.script_text.specs.declared.line.Line.{Line}
 use Rattle.script_text.specs.declared.line.Line.TheVariants as line
 use Rattle.run_replays.proofs.Becoming.{first-stays}
-use Rattle.run_replays.proofs.Lines.{Founds, Leads, LeadsTo, by_founding, by_notes, by_preparing, delivery-notes, effect-leads}
+use Rattle.run_replays.proofs.Lines.{Founds, Leads, by_founding, by_notes, by_preparing, delivery-notes, event-notes, setup-leads}
 use Rattle.run_replays.proofs.Made.{IsMade, KeepsBytes, did-made, fresh-made, grown-keeps, later-made, made-newest}
 use Rattle.run_replays.proofs.Notes.{CameBy, Notes}
 use Rattle.run_replays.proofs.Texts.{as-texts, whole-inputs}
 use Rattle.run_replays.specs.Inputs.{first_key_of, inputs_of}
 use Rattle.run_replays.specs.Replayed.{IsReplayed, first_standing, standing_in}
-use Rattle.run_safety.proofs.Chains.{need-holds}
 use Rattle.run_safety.proofs.KeptLines.{same-phase}
 use Rattle.run_safety.proofs.Runs.{stays-early}
 use Rattle.run_safety.proofs.Shown.{IsEarly}
@@ -99,21 +97,20 @@ tells-keeps pool made tells = grown-keeps pool made.0.pool tells.more tells.grow
 abbrev Steps : World → Moved → Type 0
 Steps w made = Tells w.pool made → Made w → Made made.0
 
-stepped-made : (w : World) (o : Option Phase) (made : Effect) → IfOk made (λ m. LeadsTo o w m.0) → IfOk (stepped w o made) (Steps w)
-stepped-made w None made leads = tt
-stepped-made w (Some next) made leads =
-    if-chained (need (may_come w.phase next) Order) _ (Steps w) (λ u same. by (need-holds (may_come w.phase next) Order u same) made leads)
-  where
-    by : may_come w.phase next ≡ true → (made : Effect) → IfOk made (λ m. Leads next w m.0) → IfOk (led_to next made) (Steps w)
-    by comes (Ok m) leads = λ tells. led-made w m.0 next comes (tells-keeps w.pool (record m.0 { phase = next }, m.1) tells) leads
-    by comes (Err why) leads = tt
+step-leads : (says : Outcome) (w : World) (l : Line) → IfOk (step says w l) (Steps w)
+step-leads says w =
+    step-holds (Steps w) says w
+    (λ l comes. IfOk-weaker (setup_effect w l) (λ m. Leads (leads_to l) w m.0) _
+    (λ m leads tells. led-made w m.0 (leads_to l) comes (tells-keeps w.pool (record m.0 { phase = leads_to l }, m.1) tells) leads) (setup-leads w l))
+    (λ l comes. IfOk-weaker (event_effect says w l) (λ m. Notes w m.0) _
+    (λ m notes tells. led-made w m.0 phase.Running comes (tells-keeps w.pool (record m.0 { phase = phase.Running }, m.1) tells) (by_notes notes)) (event-notes says w l))
 
 told : (w : World) (made : Effect) → IfOk made (Tells w.pool) → IfOk made (Steps w) → IfOk made (λ m. Made w → Made m.0)
 told w (Ok m) tells steps = steps tells
 told w (Err why) tells steps = tt
 
 step-made : (says : Outcome) (w : World) (l : Line) → IfOk (step says w l) (λ made. Made w → Made made.0)
-step-made says w l = told w (step says w l) (step-tells says w l) (stepped-made w (leads_to l) (effect says w l) (effect-leads says w l))
+step-made says w l = told w (step says w l) (step-tells says w l) (step-leads says w l)
 
 delivered-made : (says : Outcome) (w : World) (message : ℕ) (p : Pooled) (who : Party) (taker : Taker) → message_at w message ≡ Some p → taker_at w who ≡ Some taker
     → Made w → Made (delivery says w message who.number taker).0
@@ -165,9 +162,9 @@ flushed-made (suc more) says number w made =
 
 with-made : (before : ℕ) (says : ℕ → Outcome) (w : World) → Made w → Made (flush_with before says w).world
 with-made before says w made =
-    let e = step (says 0) w line.Flush in
+    let e = step (says 0) w (line.Event event.Flush) in
     let p = progress_of w e in
-    if-made p.refused p (flushed before says 0) (effect-made w e (step-made (says 0) w line.Flush) made) (flushed-made before says 0)
+    if-made p.refused p (flushed before says 0) (effect-made w e (step-made (says 0) w (line.Event event.Flush)) made) (flushed-made before says 0)
 
 passing-made : (saying : Saying) (checks : List CheckParts) (input : List ℕ) (w : World) → GoesThrough saying checks input w → Made w
 passing-made saying checks input w (inl behind) = subst Made behind.is (from-made saying 1 (first_world checks) behind.front (first-made checks))

@@ -33,7 +33,7 @@ use Rattle.ar_world.specs.Finding.{authority_at, message_at, room}
 use Rattle.ar_world.specs.Founding.{led_to, may_come}
 use Rattle.ar_world.specs.Run.{Saying, run}
 use Rattle.ar_world.specs.State.{Moved, World}
-use Rattle.ar_world.specs.Step.{effect, step}
+use Rattle.ar_world.specs.Step.{event_effect, step}
 use Rattle.ar_world.specs.declared.phase.Phase.TheVariants.{Running}
 use Rattle.authority_core.specs.ConfirmRows.{half_confirmed_row}
 use Rattle.authority_core.specs.Row.{message_row}
@@ -45,6 +45,7 @@ use Rattle.key_roll.proofs.Rings.{at-place}
 use Rattle.key_roll.specs.Ring.{ring_signature_len}
 use Rattle.lms_tree.specs.KeyParts.{KeyParts}
 use Rattle.owner_check.specs.declared.answer.Outcome.{Outcome}
+use Rattle.script_text.specs.declared.line.EventLine.TheVariants as event
 use Rattle.script_text.specs.declared.line.Line.TheVariants as line
 use Rattle.run_safety.specs.Confirmed.{AsksForIt, ConfirmsToo}
 use Rattle.run_safety.specs.Kept.{KeepsAuthority, KeepsWorld}
@@ -164,8 +165,8 @@ deliver-sends says w message number node part first_signature sent made kept c m
 
 -- the same of a line
 step-sends : (says : Outcome) (w : World) (message number : ℕ) (node : AuthorityNode) (part : Confirming) (first_signature : List ℕ) (sent : Unsigned) (made : Moved) → KeepsWorld w
-    → ConfirmsToo w message number node part first_signature sent → step says w (line.Deliver message (authority_party number)) ≡ Ok made → IsSent made.0 node sent
-unfolding effect
+    → ConfirmsToo w message number node part first_signature sent → step says w (line.Event (event.Deliver message (authority_party number))) ≡ Ok made → IsSent made.0 node sent
+unfolding event_effect
 step-sends says w message number node part first_signature sent made kept c makes =
     let delivers = deliver_line says w message (authority_party number) in
     let comes = bind_ok (need (may_come w.phase Running) Order) (λ u. led_to Running delivers) made makes in

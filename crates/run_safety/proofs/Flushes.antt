@@ -15,10 +15,11 @@ use Rattle.ar_world.specs.Founding.{led_to, may_come}
 use Rattle.ar_nodes.specs.Pool.{Pooled, bytes_in, numbered, set_numbered}
 use Rattle.ar_world.specs.Run.{Progress, delivering, flushed, most_deliveries, progress_of, taken, then_on}
 use Rattle.ar_world.specs.State.{World, silent}
-use Rattle.ar_world.specs.Step.{effect}
+use Rattle.ar_world.specs.Step.{event_effect}
 use Rattle.ar_nodes.specs.declared.fault.WorldFault.TheVariants.{Limit, Order}
 use Rattle.ar_world.specs.declared.phase.Phase.TheVariants.{Running}
 use Rattle.owner_check.specs.declared.answer.Outcome.{Outcome}
+use Rattle.script_text.specs.declared.line.EventLine.TheVariants as event
 use Rattle.script_text.specs.declared.line.Line.TheVariants as line
 use Rattle.run_safety.specs.Flushes.{LeavesNothingDue}
 use Rattle.run_safety.proofs.Chains.{need-holds}
@@ -135,8 +136,8 @@ flush-ends says w few =
     })
 
 -- the same of the line
-pub flush-line-ends : (says : ℕ → Outcome) (w : World) → length w.logs ≤ 16 → LeavesNothingDue (taken says w line.Flush)
-unfolding effect
+pub flush-line-ends : (says : ℕ → Outcome) (w : World) → length w.logs ≤ 16 → LeavesNothingDue (taken says w (line.Event event.Flush))
+unfolding event_effect
 flush-line-ends says w few = by (may_come w.phase Running)
   where
     by : (comes : Bool) → LeavesNothingDue (then_on (progress_of w (need comes Order >>= λ u. led_to Running (Ok (silent w)))) (flushed most_deliveries says 0))

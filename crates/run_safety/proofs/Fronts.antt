@@ -15,6 +15,7 @@ use Rattle.ar_world.specs.declared.cause.Cause.{Cause}
 use Rattle.ar_world.specs.declared.cause.Cause.TheVariants.{Unread}
 use Rattle.owner_check.specs.declared.answer.Outcome.{Outcome}
 use Rattle.script_text.specs.Rows.{read_of}
+use Rattle.script_text.specs.declared.line.EventLine.TheVariants as event
 use Rattle.script_text.specs.declared.line.Line.{Line}
 use Rattle.script_text.specs.declared.line.Line.TheVariants as line
 use Rattle.ar_world.proofs.Runs.{deliver-goes}
@@ -54,7 +55,7 @@ flushed-leads (suc more) says number w =
     delivering-leads (says number) w (next_due w) (flushed more says (number + 1)) (flushed-leads more says (number + 1))
 
 follows-leads : (says : ℕ → Outcome) (l : Line) (w : World) → Leads w (follows says l w)
-follows-leads says line.Flush w = flushed-leads most_deliveries says 0 w
+follows-leads says (line.Event event.Flush) w = flushed-leads most_deliveries says 0 w
 follows-leads says _ w = still w
 
 taken-leads : (says : ℕ → Outcome) (w : World) (read : Result (Option Line) Reason) → Leads w (taken_as says w read)

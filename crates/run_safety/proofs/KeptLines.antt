@@ -1,9 +1,8 @@
 -- Each line, and each delivery of a `flush`, keeps all nodes, messages and the clients' directory.
-use Rattle.std.proofs.Common.{◌≡◌, ◌∙◌, ℕ, zero, suc, ◌+◌, ◌<◌, ◌≤◌, List, [], ◌∷◌, ◌++◌, All, refl, sym, ap, subst, arith, Bool, true, false, Option, Some, None, Ok, Err, IfOk, IfSome, is_none}
+use Rattle.std.proofs.Common.{Result, ◌≡◌, ◌∙◌, ℕ, zero, suc, ◌+◌, ◌<◌, ◌≤◌, List, [], ◌∷◌, ◌++◌, All, sym, ap, subst, arith, Bool, true, false, Option, Some, None, Ok, Err, IfOk, IfSome, is_none}
 use Rattle.std.specs.Prelude.{if◌then◌else◌, map, nat_le, nat_lt, slice_get, slice_set}
 use Rattle.std.specs.List.{range_with_len}
 use Rattle.std.proofs.lemmas.List.Elements.{All-cons, All-nil, All-push, All-set}
-use Rattle.std.proofs.lemmas.Option.{same_Some}
 use Rattle.ar_base.proofs.Shown.{gave, if-chained, needed}
 use Rattle.ar_base.specs.Bytes.{AreBytes}
 use Rattle.ar_base.specs.Chaining.{need}
@@ -23,7 +22,7 @@ use Rattle.ar_nodes.specs.Pool.{Pooled, numbered}
 use Rattle.ar_nodes.specs.Teaching.{retold}
 use Rattle.ar_nodes.specs.declared.event.LogEvent.{LogEvent}
 use Rattle.ar_nodes.specs.declared.event.LogEvent.TheVariants as events
-use Rattle.ar_nodes.specs.declared.fault.WorldFault.TheVariants.{Absent, Order}
+use Rattle.ar_nodes.specs.declared.fault.WorldFault.TheVariants.{Absent}
 use Rattle.ar_safety.specs.Held.{Taken, verdict_on}
 use Rattle.ar_statement.specs.Claims.{authority_party, client_party, log_party, owner_party}
 use Rattle.ar_statement.specs.declared.party.Party.{Party}
@@ -32,13 +31,13 @@ use Rattle.ar_statement.specs.declared.party.Role.TheVariants as role
 use Rattle.ar_world.proofs.FirstParties.{came}
 use Rattle.ar_world.proofs.OwnerReplies.{attached-by-alone}
 use Rattle.ar_world.proofs.Remembered.{kept-at}
-use Rattle.ar_world.proofs.Runs.{HoldsOfSteps, run-holds}
+use Rattle.ar_world.proofs.Runs.{step-holds, HoldsOfSteps, run-holds}
 use Rattle.ar_world.specs.Asking.{ask_line, question}
 use Rattle.ar_world.specs.Delivering.{Taker, a_log, an_authority, an_owner, can_deliver, deliver_line, delivery, taker_at, taker_in}
 use Rattle.ar_world.specs.Drafting.{begun, draft_if, draft_room, first_certificate, next_certificate, policy_of, register_line, revoke_line, update_line}
-use Rattle.ar_world.specs.Finding.{Effect, authority_at, checking_at, draft_at, existing, forger_at, known_asks, log_at, message_at, owner_at, room, with_owner}
+use Rattle.ar_world.specs.Finding.{authority_at, checking_at, draft_at, existing, forger_at, known_asks, log_at, message_at, owner_at, room, with_owner}
 use Rattle.ar_world.specs.Forging.{composed_in, inject_line, receiver_in, sign_line, signing_if}
-use Rattle.ar_world.specs.Founding.{authorities_line, dishonest_line, honest_key, keys_line, led_to, logs_line, may_come, peopled, place_of, without}
+use Rattle.ar_world.specs.Founding.{authorities_line, dishonest_line, honest_key, keys_line, logs_line, may_come, peopled, place_of, without}
 use Rattle.ar_world.specs.Judging.{accepted_with, is_accepted, judge_line, judged_number}
 use Rattle.ar_world.specs.Learning.{learn_line}
 use Rattle.ar_world.specs.Ordering.{log_order, roll_of}
@@ -47,10 +46,9 @@ use Rattle.ar_world.specs.Records.{HasParties, KeepsRecords}
 use Rattle.ar_world.specs.Run.{Saying, run}
 use Rattle.ar_world.specs.Sending.{authority_made, log_made, owner_made, posted}
 use Rattle.ar_world.specs.State.{Drafted, Moved, World, first_world}
-use Rattle.ar_world.specs.Step.{effect, leads_to, stepped}
+use Rattle.ar_world.specs.Step.{event_effect, leads_to, setup_effect, step}
 use Rattle.ar_world.specs.Submitting.{handed, handover_line, object_line, submit_line}
 use Rattle.ar_world.specs.declared.phase.Phase.{Phase}
-use Rattle.ar_world.specs.declared.phase.Phase.TheVariants as phase
 use Rattle.authority_core.specs.RollRows.{roll_row}
 use Rattle.client_rule.specs.Notes.{note_of}
 use Rattle.client_rule.specs.declared.judgement.Judgement.{Judgement}
@@ -72,18 +70,19 @@ use Rattle.report_text.specs.declared.happening.Happening.TheVariants.{Forgot, T
 use Rattle.report_text.specs.declared.happening.Target.TheVariants.{Nobody}
 use Rattle.report_text.specs.declared.happening.What.{What}
 use Rattle.report_text.specs.declared.happening.What.TheVariants as whats
+use Rattle.script_text.specs.declared.line.EventLine.{EventLine}
+use Rattle.script_text.specs.declared.line.EventLine.TheVariants as event
 use Rattle.script_text.specs.declared.line.Line.{Line}
-use Rattle.script_text.specs.declared.line.Line.TheVariants as line
+use Rattle.script_text.specs.declared.line.SetupLine.{SetupLine}
+use Rattle.script_text.specs.declared.line.SetupLine.TheVariants as setup
 use Rattle.script_text.specs.declared.line.PolicyWords.{PolicyWords}
 use Rattle.run_safety.specs.Kept.{KeepsAll, KeepsAuthority, KeepsLog, KeepsWorld}
-use Rattle.run_safety.proofs.Chains.{need-holds}
 use Rattle.run_safety.proofs.Founded.{genesis-long, known-there, made-of}
 use Rattle.run_safety.proofs.KeptNodes.{authority-rolls-kept, authority-took-kept, check-kept, fresh-log-kept, log-does-kept, log-rolls-kept, new-authority-kept}
 use Rattle.run_safety.proofs.KeptPool.{IsBytes, behind-bytes, delivered-bytes, message-bytes, noted-bytes, raw-bytes, reply-bytes}
 use Rattle.run_safety.proofs.Learns.{knows-directory}
 use Rattle.ar_world.proofs.Deliveries.{can-take}
 use Rattle.run_safety.proofs.Lines.{authority-takes, checking-there, delivery-makes, log-takes}
-use Rattle.run_safety.proofs.Runs.{Comes}
 
 -- what is kept of a world, from the line `authorities` on or before it
 abbrev pub Keeps : Bool → World → Type 0
@@ -433,10 +432,6 @@ inject-kept {late} w who pieces kept =
 abbrev is-late : Phase → Bool
 is-late p = nat_le 4 (place_of p)
 
-abbrev IsLedTo : Option Phase → World → Type 0
-IsLedTo None w = Unit {0}
-IsLedTo (Some next) w = Keeps (is-late next) w
-
 -- before the line `authorities` nothing is said of the directory
 early-kept : {late : Bool} (w : World) → Keeps late w → Keeps false w
 early-kept w kept = record { directory = λ is. absurd cc; each_log = kept.each_log; each_authority = kept.each_authority; each_message = kept.each_message; each_judged = kept.each_judged }
@@ -445,49 +440,51 @@ early-kept w kept = record { directory = λ is. absurd cc; each_log = kept.each_
 late-kept : (w : World) → is-late w.phase ≡ true → KeepsWorld w → Keeps true w
 late-kept w late kept = subst (λ b. Keeps b w) late kept
 
-effect-kept : (says : Outcome) (w : World) (l : Line) → Comes w (leads_to l) → KeepsWorld w → IfOk (effect says w l) (λ made. IsLedTo (leads_to l) made.0)
-unfolding effect
-effect-kept says w (line.Secret secret) comes kept = early-kept w kept
-effect-kept says w (line.Keys lms ots) comes kept = keys-kept w lms ots (early-kept w kept)
-effect-kept says w (line.Logs n q) comes kept = logs-kept w n q (early-kept w kept)
-effect-kept says w (line.Authorities m) comes kept = authorities-kept w m kept
-effect-kept says w (line.Dishonest party) comes kept = dishonest-kept w party (late-kept w (came w.phase (comes phase.DishonestTold refl)) kept)
-effect-kept says w (line.Owner owner) comes kept = owner-line-kept w owner (late-kept w (comes phase.Running refl) kept)
-effect-kept says w (line.Teach authority name owner) comes kept = check-line-kept w authority owner (learnt name) (Taught authority) (late-kept w (comes phase.Running refl) kept)
-effect-kept says w (line.Forget authority name owner) comes kept = check-line-kept w authority owner (forgotten name) (Forgot authority) (late-kept w (comes phase.Running refl) kept)
-effect-kept says w (line.Retire authority) comes kept = retire-kept w authority (late-kept w (comes phase.Running refl) kept)
-effect-kept says w (line.Register owner name policy asks) comes kept = register-kept w owner name policy asks (late-kept w (comes phase.Running refl) kept)
-effect-kept says w (line.Update owner draft policy asks) comes kept = update-kept w owner draft policy asks (late-kept w (comes phase.Running refl) kept)
-effect-kept says w (line.Revoke owner draft asks) comes kept = revoke-kept w owner draft asks (late-kept w (comes phase.Running refl) kept)
-effect-kept says w (line.Handover owner draft) comes kept = handover-kept w owner draft (late-kept w (comes phase.Running refl) kept)
-effect-kept says w (line.Object owner draft) comes kept = object-kept w owner draft (late-kept w (comes phase.Running refl) kept)
-effect-kept says w (line.Submit draft) comes kept = submit-kept w draft (late-kept w (comes phase.Running refl) kept)
-effect-kept says w (line.Propose log) comes kept = log-order-kept w log whats.Propose events.Propose log_state.proposes tt tt (late-kept w (comes phase.Running refl) kept)
-effect-kept says w (line.Pass log) comes kept = log-order-kept w log whats.Pass events.Pass log_state.passes tt tt (late-kept w (comes phase.Running refl) kept)
-effect-kept says w (line.Roll party) comes kept = roll-of-kept w party.role party.number (late-kept w (comes phase.Running refl) kept)
-effect-kept says w (line.Learn message) comes kept = learn-kept w message (late-kept w (comes phase.Running refl) kept)
-effect-kept says w (line.Ask log name first second client) comes kept = ask-kept w log name first second client (late-kept w (comes phase.Running refl) kept)
-effect-kept says w (line.Deliver message party) comes kept = deliver-kept says w message party (late-kept w (comes phase.Running refl) kept)
-effect-kept says w line.Flush comes kept = late-kept w (comes phase.Running refl) kept
-effect-kept says w (line.Judge message name now age) comes kept = judge-kept w message name now age (late-kept w (comes phase.Running refl) kept)
-effect-kept says w (line.Sign party pieces) comes kept = sign-kept w party pieces (late-kept w (comes phase.Running refl) kept)
-effect-kept says w (line.Inject to pieces) comes kept = inject-kept w to pieces (late-kept w (comes phase.Running refl) kept)
-effect-kept says w line.Burst comes kept = tt
-effect-kept says w line.End comes kept = tt
+setup-kept : (w : World) (l : SetupLine) → may_come w.phase (leads_to l) ≡ true → KeepsWorld w → IfOk (setup_effect w l) (λ made. Keeps (is-late (leads_to l)) made.0)
+unfolding setup_effect
+setup-kept w (setup.Secret secret) comes kept = early-kept w kept
+setup-kept w (setup.Keys lms ots) comes kept = keys-kept w lms ots (early-kept w kept)
+setup-kept w (setup.Logs n q) comes kept = logs-kept w n q (early-kept w kept)
+setup-kept w (setup.Authorities m) comes kept = authorities-kept w m kept
+setup-kept w (setup.Dishonest party) comes kept = dishonest-kept w party (late-kept w (came w.phase comes) kept)
+
+event-kept : (says : Outcome) (w : World) (l : EventLine) → Keeps true w → IfOk (event_effect says w l) (λ made. Keeps true made.0)
+unfolding event_effect
+event-kept says w (event.Owner owner) kept = owner-line-kept w owner kept
+event-kept says w (event.Teach authority name owner) kept = check-line-kept w authority owner (learnt name) (Taught authority) kept
+event-kept says w (event.Forget authority name owner) kept = check-line-kept w authority owner (forgotten name) (Forgot authority) kept
+event-kept says w (event.Retire authority) kept = retire-kept w authority kept
+event-kept says w (event.Register owner name policy asks) kept = register-kept w owner name policy asks kept
+event-kept says w (event.Update owner draft policy asks) kept = update-kept w owner draft policy asks kept
+event-kept says w (event.Revoke owner draft asks) kept = revoke-kept w owner draft asks kept
+event-kept says w (event.Handover owner draft) kept = handover-kept w owner draft kept
+event-kept says w (event.Object owner draft) kept = object-kept w owner draft kept
+event-kept says w (event.Submit draft) kept = submit-kept w draft kept
+event-kept says w (event.Propose log) kept = log-order-kept w log whats.Propose events.Propose log_state.proposes tt tt kept
+event-kept says w (event.Pass log) kept = log-order-kept w log whats.Pass events.Pass log_state.passes tt tt kept
+event-kept says w (event.Roll party) kept = roll-of-kept w party.role party.number kept
+event-kept says w (event.Learn message) kept = learn-kept w message kept
+event-kept says w (event.Ask log name first second client) kept = ask-kept w log name first second client kept
+event-kept says w (event.Deliver message party) kept = deliver-kept says w message party kept
+event-kept says w event.Flush kept = kept
+event-kept says w (event.Judge message name now age) kept = judge-kept w message name now age kept
+event-kept says w (event.Sign party pieces) kept = sign-kept w party pieces kept
+event-kept says w (event.Inject to pieces) kept = inject-kept w to pieces kept
+
+-- what holds of a result under a premise
+pub if-given : {A E : Type 0} (K : Type 0) (P : A → Type 0) (r : Result A E) → (K → IfOk r P) → IfOk r (λ x. K → P x)
+if-given K P (Ok x) given = given
+if-given K P (Err why) given = tt
 
 -- what a line comes to, in its phase too
 abbrev StillKept : World → Moved → Type 0
 StillKept w made = KeepsWorld w → KeepsWorld made.0
 
-stepped-kept : (w : World) (o : Option Phase) (made : Effect) → (Comes w o → KeepsWorld w → IfOk made (λ m. IsLedTo o m.0)) → IfOk (stepped w o made) (StillKept w)
-stepped-kept w None made keeps = tt
-stepped-kept w (Some next) made keeps = if-chained (need (may_come w.phase next) Order) _ (StillKept w) (λ u same.
-    let comes = need-holds (may_come w.phase next) Order u same in
-    by made (keeps (λ other is. subst (λ p. may_come w.phase p ≡ true) (same_Some next other is) comes)))
-  where
-    by : (made : Effect) → (KeepsWorld w → IfOk made (λ m. IsLedTo (Some next) m.0)) → IfOk (led_to next made) (StillKept w)
-    by (Ok m) keeps = λ kept. keeps kept
-    by (Err why) keeps = tt
+step-kept : (says : Outcome) (w : World) (l : Line) → IfOk (step says w l) (StillKept w)
+step-kept says w =
+    step-holds (StillKept w) says w
+    (λ l comes. if-given (KeepsWorld w) (λ m. Keeps (is-late (leads_to l)) m.0) (setup_effect w l) (setup-kept w l comes))
+    (λ l comes. if-given (KeepsWorld w) (λ m. Keeps true m.0) (event_effect says w l) (λ kept. event-kept says w l (late-kept w comes kept)))
 
 -- ---- a script
 
@@ -504,7 +501,7 @@ pub kept-of-steps : HoldsOfSteps (λ w v said. KeepsWorld w → KeepsWorld v)
 kept-of-steps = record {
   still = λ w kept. kept;
   both = λ u v w said later first second kept. second (first kept);
-  steps = λ says w l. stepped-kept w (leads_to l) (effect says w l) (effect-kept says w l);
+  steps = step-kept;
   delivers = λ says w message p who taker has takes. delivered-kept says w message who taker takes;
 }
 

@@ -205,7 +205,7 @@ authority-rolls-kept node next kept there = by (roll_row node.state (public_of n
         let rolled = authority.roll-signs s more (public_of next) answer.0 answer.1 (authority.rolled-ring s node.keys next kept.book behind) at in
         record {
           state = roll-row-keeps s (public_of next) kept.state (public-text next) (public-widths next) answer.0 answer.1 at;
-          book = (authority.rolled-signs s node.keys more next answer.0 answer.1 kept.book behind refl at).1;
+          book = (authority.rolled-signs s node.keys more next answer.0 answer.1 kept.book behind refl at).stays;
           ring = ring-more node.keys next kept.ring behind;
           rolls = subst (λ (x : authority_state.AuthorityState). HasRolls (authority_party x.me) x.past.signed more) (sym rolled.is)
               (rolls-next (authority_party s.me) s.past.signed node.keys next kept.book.many kept.rolls);

@@ -1,27 +1,25 @@
 -- Where no claim of a run is forged by the keys that clients know at its end, these are real.
-use Rattle.std.proofs.Common.{◌≡◌, ◌∙◌, ◌⊎◌, inl, inr, ℕ, List, [], ◌∷◌, append-nil, refl, sym, subst, Bool, true, false, Option, Some, None, Result, Ok, Err, IfOk}
-use Rattle.std.specs.Prelude.{Contains, nat_le}
-use Rattle.std.proofs.lemmas.Option.{same_Some}
+use Rattle.std.proofs.Common.{◌≡◌, ◌∙◌, ◌⊎◌, inl, inr, ℕ, List, [], ◌∷◌, append-nil, refl, sym, subst, Bool, true, false, Some, Result, Ok, Err, IfOk}
+use Rattle.std.specs.Prelude.{Contains}
+use Rattle.std.proofs.lemmas.Result.{IfOk-weaker}
 use Rattle.ar_base.proofs.Prefixes.{begins_itself, begins_on}
-use Rattle.ar_base.proofs.Shown.{if-chained}
-use Rattle.ar_base.specs.Chaining.{need}
 use Rattle.ar_base.specs.Prefixes.{BeginsWith}
 use Rattle.ar_council.proofs.Seeing.{one_party}
 use Rattle.ar_nodes.specs.Parties.{CheckParts}
-use Rattle.ar_nodes.specs.declared.fault.WorldFault.TheVariants.{Order}
 use Rattle.ar_statement.specs.Claims.{is_party, text_of}
 use Rattle.ar_statement.specs.declared.party.Party.{Party}
-use Rattle.ar_world.proofs.Runs.{HoldsOfSteps, run-holds}
+use Rattle.ar_world.proofs.Runs.{HoldsOfSteps, run-holds, step-holds}
 use Rattle.ar_world.specs.Delivering.{delivery}
 use Rattle.ar_world.specs.Finding.{Effect}
-use Rattle.ar_world.specs.Founding.{led_to, may_come, place_of}
+use Rattle.ar_world.specs.Founding.{is_peopled}
 use Rattle.ar_world.specs.Records.{HasParties}
 use Rattle.ar_world.specs.Run.{Saying, run}
 use Rattle.ar_world.specs.State.{World, first_world}
-use Rattle.ar_world.specs.Step.{effect, leads_to, step, stepped}
+use Rattle.ar_world.specs.Step.{event_effect, leads_to, setup_effect, step}
 use Rattle.ar_world.specs.declared.phase.Phase.{Phase}
 use Rattle.ar_world.specs.declared.phase.Phase.TheVariants as phase
 use Rattle.key_roll.specs.Book.{texts_of}
+use Rattle.owner_check.specs.declared.answer.Outcome.{Outcome}
 use Rattle.party_keys.proofs.Touching.{learning_stays, new_is_last}
 use Rattle.party_keys.specs.Directory.{Directory, keys_of}
 use Rattle.party_keys.specs.Learning.{Announced, after_learning, learned, learning, roll_claim}
@@ -30,18 +28,18 @@ use Rattle.party_keys.specs.Signers.{Claimed}
 use Rattle.party_keys.specs.declared.fault.LearnFault.{LearnFault}
 use Rattle.party_keys.specs.declared.learning.Learned.{Learned}
 use Rattle.party_keys.specs.declared.learning.Learned.TheVariants.{Again, New}
+use Rattle.script_text.specs.declared.line.Line.{Line}
 use Rattle.run_safety.specs.Own.{IsOwned, IsValidBy, KnowsReal, PartyParts}
 use Rattle.run_safety.specs.Seats.{IsSeated, KnowsFirst}
 use Rattle.run_safety.specs.Unforged.{messages_of, parts_of, shown}
-use Rattle.run_safety.proofs.Chains.{need-holds}
 use Rattle.run_safety.proofs.Forged.{first-real}
 use Rattle.run_safety.proofs.Founds.{Founds, first-begins}
+use Rattle.run_safety.proofs.KeptLines.{if-given}
 use Rattle.run_safety.proofs.Lasting.{Goes, Holds, Later, first-holds, founds-in, genesis-knows, goes-of-steps, later-itself, later-on, moves-in, stood}
-use Rattle.run_safety.proofs.MovedLines.{MovesTo, delivery-moves, effect-moves}
+use Rattle.run_safety.proofs.MovedLines.{MovesTo, delivery-moves, event-moves, setup-moves}
 use Rattle.run_safety.proofs.Moves.{Moves}
 use Rattle.run_safety.proofs.PartySteps.{Learns}
 use Rattle.run_safety.proofs.RealKeys.{other-party, signed-real, under-real}
-use Rattle.run_safety.proofs.Runs.{Comes}
 use Rattle.run_safety.proofs.Shown.{shown-later}
 
 -- ---- the end of a run
@@ -154,21 +152,16 @@ founds-know w v late founds = inr (λ f ends. subst (KnowsReal (parts_of f)) (sy
         first-begins (keys_of v.genesis who) p.ring (founds.one who)
         (subst (λ (d : Directory). KnowsFirst (keys_of d who) p.ring) (ends.later.genesis late) (genesis-knows f who.role who.number p ends.fair.seated is))
 
-moved-know : (w m : World) (next : Phase) → MovesTo (Some next) w m → Knows w (record m { phase = next })
+moved-know : (w m : World) (next : Phase) → MovesTo next w m → Knows w (record m { phase = next })
 moved-know w m next (inl moves) = moves-know w (record m { phase = next }) (moves-in w m next moves)
-moved-know w m next (inr f) =
-    let same : phase.AuthoritiesMade ≡ next = same_Some phase.AuthoritiesMade next (sym f.1) in
-    founds-know w (record m { phase = next }) (subst (λ (p : Phase). nat_le 4 (place_of p) ≡ true) same refl) (founds-in w m next f.0)
+moved-know w m next (inr f) = founds-know w (record m { phase = next }) (subst (λ (p : Phase). is_peopled p ≡ true) (sym f.1) refl) (founds-in w m next f.0)
 
-stepped-know : (w : World) (o : Option Phase) (made : Effect) → (Comes w o → Holds w → IfOk made (λ m. MovesTo o w m.0)) → IfOk (stepped w o made) (λ m. Holds w → Knows w m.0)
-stepped-know w None made gives = tt
-stepped-know w (Some next) made gives = if-chained (need (may_come w.phase next) Order) _ (λ m. Holds w → Knows w m.0) (λ u same.
-    let comes = need-holds (may_come w.phase next) Order u same in
-    by made (gives (λ other is. subst (λ p. may_come w.phase p ≡ true) (same_Some next other is) comes)))
-  where
-    by : (made : Effect) → (Holds w → IfOk made (λ m. MovesTo (Some next) w m.0)) → IfOk (led_to next made) (λ m. Holds w → Knows w m.0)
-    by (Ok m) gives = λ h. moved-know w m.0 next (gives h)
-    by (Err why) gives = tt
+step-know : (says : Outcome) (w : World) (l : Line) → IfOk (step says w l) (λ m. Holds w → Knows w m.0)
+step-know says w =
+    step-holds (λ m. Holds w → Knows w m.0) says w
+    (λ l comes. IfOk-weaker (setup_effect w l) (λ m. MovesTo (leads_to l) w m.0) _ (λ m moves h. moved-know w m.0 (leads_to l) moves) (setup-moves w l))
+    (λ l comes. IfOk-weaker (event_effect says w l) (λ m. Holds w → Moves w m.0) _ (λ m moves h. moved-know w m.0 phase.Running (inl (moves h)))
+    (if-given (Holds w) (λ m. Moves w m.0) (event_effect says w l) (λ h. event-moves says w l (stood w h))))
 
 -- ---- a run
 
@@ -188,8 +181,7 @@ knowing-of-steps = record {
       let a = first h in
       let b = second a.goes.held in
       record { goes = goes-of-steps.both u v w said more (λ _. a.goes) (λ _. b.goes) h; knows = knows-on u v w b.goes.later a.knows b.knows };
-  steps = λ says w l. joined w (step says w l) (goes-of-steps.steps says w l)
-      (stepped-know w (leads_to l) (effect says w l) (λ comes h. effect-moves says w l comes (stood w h)));
+  steps = λ says w l. joined w (step says w l) (goes-of-steps.steps says w l) (step-know says w l);
   delivers = λ says w message p who taker has takes h. record {
     goes = goes-of-steps.delivers says w message p who taker has takes h;
     knows = moves-know w (delivery says w message who.number taker).0

@@ -4,45 +4,43 @@ use Rattle.std.proofs.Common.{◌≡◌, ◌∙◌, ◌⊎◌, inl, inr, ℕ, Li
 use Rattle.std.specs.Prelude.{Contains, nat_le}
 use Rattle.std.specs.Option.{option_map}
 use Rattle.std.proofs.lemmas.Option.{same_Some}
+use Rattle.std.proofs.lemmas.Result.{IfOk-weaker}
 use Rattle.ar_base.proofs.Prefixes.{begins_itself, begins_on}
-use Rattle.ar_base.proofs.Shown.{if-chained}
-use Rattle.ar_base.specs.Chaining.{need}
 use Rattle.ar_base.specs.Prefixes.{BeginsWith}
 use Rattle.ar_nodes.specs.Parties.{AuthorityNode, CheckParts, LogNode}
-use Rattle.ar_nodes.specs.declared.fault.WorldFault.TheVariants.{Order}
 use Rattle.ar_safety.specs.Held.{Taken}
 use Rattle.ar_statement.specs.Claims.{party}
 use Rattle.ar_statement.specs.declared.party.Role.{Role}
 use Rattle.ar_statement.specs.declared.party.Role.TheVariants as role
-use Rattle.ar_world.proofs.Runs.{HoldsOfSteps, run-holds}
+use Rattle.ar_world.proofs.Runs.{HoldsOfSteps, run-holds, step-holds}
 use Rattle.ar_nodes.specs.Pool.{Pooled}
 use Rattle.ar_statement.specs.declared.party.Party.{Party}
 use Rattle.owner_check.specs.declared.answer.Outcome.{Outcome}
 use Rattle.ar_world.specs.Delivering.{Taker, delivery, taker_at}
 use Rattle.ar_world.specs.Finding.{Effect, authority_at, log_at, message_at}
-use Rattle.ar_world.specs.Founding.{led_to, may_come, place_of}
+use Rattle.ar_world.specs.Founding.{is_peopled, may_come, place_of}
 use Rattle.ar_world.specs.Records.{HasParties}
 use Rattle.ar_world.specs.Run.{Saying, run}
 use Rattle.ar_world.specs.State.{World, first_world}
-use Rattle.ar_world.specs.Step.{effect, leads_to, step, stepped}
+use Rattle.ar_world.specs.Step.{event_effect, leads_to, setup_effect, step}
 use Rattle.ar_world.specs.declared.phase.Phase.{Phase}
 use Rattle.ar_world.specs.declared.phase.Phase.TheVariants as phase
 use Rattle.party_keys.specs.Directory.{Directory, keys_of}
 use Rattle.party_keys.specs.Signers.{Claimed}
+use Rattle.script_text.specs.declared.line.Line.{Line}
 use Rattle.run_safety.specs.Kept.{KeepsWorld}
 use Rattle.run_safety.specs.Own.{Grows, KnowsReal, PartyParts, SawSigned}
 use Rattle.run_safety.specs.Seats.{IsSeated, KnowsFirst}
 use Rattle.run_safety.specs.Unforged.{authority_parts, log_parts, messages_of, parts_in, parts_of, shown}
-use Rattle.run_safety.proofs.Chains.{need-holds}
 use Rattle.run_safety.proofs.Founds.{Founds, first-begins}
-use Rattle.run_safety.proofs.KeptLines.{authority-at-kept, first-kept, kept-of-steps, log-at-kept, same-phase}
-use Rattle.run_safety.proofs.MovedLines.{Stood, delivery-moves, effect-moves, MovesTo}
+use Rattle.run_safety.proofs.KeptLines.{authority-at-kept, first-kept, if-given, kept-of-steps, log-at-kept, same-phase}
+use Rattle.run_safety.proofs.MovedLines.{MovesTo, Stood, delivery-moves, event-moves, setup-moves}
 use Rattle.run_safety.proofs.Moves.{CameFrom, Moves}
 use Rattle.run_safety.proofs.Parts.{Keeps, Stands, part_of, seated}
 use Rattle.run_safety.proofs.PartySteps.{IsEnd, IsReal, later-party, learns-real, same-party, steps-real}
 use Rattle.run_safety.proofs.RealKeys.{claim-signed}
 use Rattle.run_safety.proofs.Shown.{IsEarly, Seen, bytes-later, founds-seen, moves-seen, shown-later}
-use Rattle.run_safety.proofs.Runs.{Comes, early, first-stands, keeps-of-steps, stays-early}
+use Rattle.run_safety.proofs.Runs.{early, first-stands, keeps-of-steps, stays-early}
 
 -- ---- from one world to a later one
 
@@ -250,22 +248,18 @@ moves-in w m next moves = record { messages = moves.messages; genesis = moves.ge
 pub founds-in : (w m : World) (next : Phase) → Founds w m → Founds w (record m { phase = next })
 founds-in w m next founds = record { messages = founds.messages; clients = founds.clients; learned = founds.learned; judged = founds.judged; one = founds.one; knows = founds.knows; saw = founds.saw }
 
-moved : (w m : World) (next : Phase) → may_come w.phase next ≡ true → MovesTo (Some next) w m → Holds w → Stepped w (record m { phase = next })
+moved : (w m : World) (next : Phase) → may_come w.phase next ≡ true → MovesTo next w m → Holds w → Stepped w (record m { phase = next })
 moved w m next comes (inl moves) h = goes-on w (record m { phase = next }) (stays-early w.phase next comes) (moves-in w m next moves) h
 moved w m next comes (inr f) h =
-    let same : phase.AuthoritiesMade ≡ next = same_Some phase.AuthoritiesMade next (sym f.1) in
-    let before : IsEarly w = early w.phase (subst (λ (p : Phase). may_come w.phase p ≡ true) (sym same) comes) in
-    founded w (record m { phase = next }) before (subst (λ (p : Phase). nat_le 4 (place_of p) ≡ true) same refl) (founds-in w m next f.0)
+    let before : IsEarly w = early w.phase (subst (λ (p : Phase). may_come w.phase p ≡ true) f.1 comes) in
+    founded w (record m { phase = next }) before (subst (λ (p : Phase). is_peopled p ≡ true) (sym f.1) refl) (founds-in w m next f.0)
 
-stepped-goes : (w : World) (o : Option Phase) (made : Effect) → (Comes w o → Holds w → IfOk made (λ m. MovesTo o w m.0)) → IfOk (stepped w o made) (λ m. Holds w → Stepped w m.0)
-stepped-goes w None made gives = tt
-stepped-goes w (Some next) made gives = if-chained (need (may_come w.phase next) Order) _ (λ m. Holds w → Stepped w m.0) (λ u same.
-    let comes = need-holds (may_come w.phase next) Order u same in
-    by comes made (gives (λ other is. subst (λ p. may_come w.phase p ≡ true) (same_Some next other is) comes)))
-  where
-    by : may_come w.phase next ≡ true → (made : Effect) → (Holds w → IfOk made (λ m. MovesTo (Some next) w m.0)) → IfOk (led_to next made) (λ m. Holds w → Stepped w m.0)
-    by comes (Ok m) gives = λ h. moved w m.0 next comes (gives h) h
-    by comes (Err why) gives = tt
+step-goes : (says : Outcome) (w : World) (l : Line) → IfOk (step says w l) (λ m. Holds w → Stepped w m.0)
+step-goes says w =
+    step-holds (λ m. Holds w → Stepped w m.0) says w
+    (λ l comes. IfOk-weaker (setup_effect w l) (λ m. MovesTo (leads_to l) w m.0) _ (λ m. moved w m.0 (leads_to l) comes) (setup-moves w l))
+    (λ l comes. IfOk-weaker (event_effect says w l) (λ m. Holds w → Moves w m.0) _ (λ m moves h. moved w m.0 phase.Running comes (inl (moves h)) h)
+    (if-given (Holds w) (λ m. Moves w m.0) (event_effect says w l) (λ h. event-moves says w l (stood w h))))
 
 delivered-goes : (says : Outcome) (w : World) (message : ℕ) (p : Pooled) (who : Party) (taker : Taker) → message_at w message ≡ Some p → taker_at w who ≡ Some taker → Holds w
     → Stepped w (delivery says w message who.number taker).0
@@ -300,8 +294,7 @@ goes-of-steps = record {
       let a = first h in
       let b = second a.held in
       record { held = b.held; later = later-on u v w a.later b.later; seen = λ s. b.seen (a.seen s); real = λ f final on r. b.real f final on (a.real f final (later-on v w f b.later on) r) };
-  steps = λ says w l. joined w (step says w l) (kept-of-steps.steps says w l) (keeps-of-steps.steps says w l)
-      (stepped-goes w (leads_to l) (effect says w l) (λ comes h. effect-moves says w l comes (stood w h)));
+  steps = λ says w l. joined w (step says w l) (kept-of-steps.steps says w l) (keeps-of-steps.steps says w l) (step-goes says w l);
   delivers = λ says w message p who taker has takes. joined w (Ok (delivery says w message who.number taker)) (kept-of-steps.delivers says w message p who taker has takes)
       (keeps-of-steps.delivers says w message p who taker has takes) (delivered-goes says w message p who taker has takes);
 }

@@ -82,14 +82,15 @@ use Rattle.run_safety.proofs.Lines.{authority-takes, checking-there, log-takes}
 use Rattle.std.proofs.Common.{arith}
 use Rattle.ar_nodes.specs.declared.event.LogEvent.TheVariants as events
 use Rattle.ar_world.specs.Finding.{Effect}
-use Rattle.ar_world.specs.Step.{effect, leads_to}
+use Rattle.ar_world.specs.Step.{event_effect, leads_to, setup_effect}
 use Rattle.ar_world.specs.declared.phase.Phase.{Phase}
 use Rattle.ar_world.specs.declared.phase.Phase.TheVariants as phase
 use Rattle.owner_check.specs.Answers.{forgotten}
 use Rattle.report_text.specs.declared.happening.Happening.TheVariants.{Forgot, Taught}
-use Rattle.script_text.specs.declared.line.Line.{Line}
-use Rattle.script_text.specs.declared.line.Line.TheVariants as line
-use Rattle.run_safety.proofs.Runs.{Comes}
+use Rattle.script_text.specs.declared.line.EventLine.{EventLine}
+use Rattle.script_text.specs.declared.line.EventLine.TheVariants as event
+use Rattle.script_text.specs.declared.line.SetupLine.{SetupLine}
+use Rattle.script_text.specs.declared.line.SetupLine.TheVariants as setup
 use Rattle.run_safety.proofs.Founds.{Founds, authorities-founds}
 
 -- ---- owners and drafts
@@ -383,43 +384,44 @@ inject-moves w who pieces =
 -- ---- a line
 
 -- what a line makes that leads to a phase: the line `authorities` founds, and each other moves
-abbrev pub MovesTo : Option Phase → World → World → Type 0
-MovesTo o w v = Moves w v ⊎ (Founds w v × (o ≡ Some phase.AuthoritiesMade))
+abbrev pub MovesTo : Phase → World → World → Type 0
+MovesTo next w v = Moves w v ⊎ (Founds w v × (next ≡ phase.AuthoritiesMade))
 
-plainly : (w : World) (o : Option Phase) (made : Effect) → IfOk made (λ m. Moves w m.0) → IfOk made (λ m. MovesTo o w m.0)
-plainly w o (Ok m) moves = inl moves
-plainly w o (Err why) moves = tt
+plainly : (w : World) (next : Phase) (made : Effect) → IfOk made (λ m. Moves w m.0) → IfOk made (λ m. MovesTo next w m.0)
+plainly w next (Ok m) moves = inl moves
+plainly w next (Err why) moves = tt
 
-founding : (w : World) (made : Effect) → IfOk made (λ m. Founds w m.0) → IfOk made (λ m. MovesTo (Some phase.AuthoritiesMade) w m.0)
+founding : (w : World) (made : Effect) → IfOk made (λ m. Founds w m.0) → IfOk made (λ m. MovesTo phase.AuthoritiesMade w m.0)
 founding w (Ok m) founds = inr (founds, refl)
 founding w (Err why) founds = tt
 
-pub effect-moves : (says : Outcome) (w : World) (l : Line) → Comes w (leads_to l) → Stood w → IfOk (effect says w l) (λ made. MovesTo (leads_to l) w made.0)
-unfolding effect
-effect-moves says w (line.Secret secret) comes stood = inl (quiet-moves w _ refl refl refl refl refl refl refl)
-effect-moves says w (line.Keys lms ots) comes stood = plainly w _ _ (keys-moves w lms ots)
-effect-moves says w (line.Logs n q) comes stood = plainly w _ _ (logs-moves w n q)
-effect-moves says w (line.Authorities m) comes stood = founding w _ (authorities-founds w m)
-effect-moves says w (line.Dishonest party) comes stood = plainly w _ _ (dishonest-moves w party)
-effect-moves says w (line.Owner owner) comes stood = plainly w _ _ (owner-line-moves w owner)
-effect-moves says w (line.Teach authority name owner) comes stood = plainly w _ _ (check-line-moves w authority owner (learnt name) (Taught authority))
-effect-moves says w (line.Forget authority name owner) comes stood = plainly w _ _ (check-line-moves w authority owner (forgotten name) (Forgot authority))
-effect-moves says w (line.Retire authority) comes stood = plainly w _ _ (retire-moves w authority)
-effect-moves says w (line.Register owner name policy asks) comes stood = plainly w _ _ (register-moves w owner name policy asks)
-effect-moves says w (line.Update owner draft policy asks) comes stood = plainly w _ _ (update-moves w owner draft policy asks)
-effect-moves says w (line.Revoke owner draft asks) comes stood = plainly w _ _ (revoke-moves w owner draft asks)
-effect-moves says w (line.Handover owner draft) comes stood = plainly w _ _ (handover-moves w owner draft)
-effect-moves says w (line.Object owner draft) comes stood = plainly w _ _ (object-moves w owner draft)
-effect-moves says w (line.Submit draft) comes stood = plainly w _ _ (submit-moves w draft)
-effect-moves says w (line.Propose log) comes stood = plainly w _ _ (log-order-moves w log whats.Propose events.Propose log_state.proposes stood tt tt (no-claims w))
-effect-moves says w (line.Pass log) comes stood = plainly w _ _ (log-order-moves w log whats.Pass events.Pass log_state.passes stood tt tt (no-claims w))
-effect-moves says w (line.Roll party) comes stood = plainly w _ _ (roll-of-moves w party.role party.number stood)
-effect-moves says w (line.Learn message) comes stood = plainly w _ _ (learn-moves w message stood)
-effect-moves says w (line.Ask log name first second client) comes stood = plainly w _ _ (ask-moves w log name first second client)
-effect-moves says w (line.Deliver message party) comes stood = plainly w _ _ (deliver-moves says w message party stood)
-effect-moves says w line.Flush comes stood = inl (quiet-moves w w refl refl refl refl refl refl refl)
-effect-moves says w (line.Judge message name now age) comes stood = plainly w _ _ (judge-moves w message name now age)
-effect-moves says w (line.Sign party pieces) comes stood = plainly w _ _ (sign-moves w party pieces)
-effect-moves says w (line.Inject to pieces) comes stood = plainly w _ _ (inject-moves w to pieces)
-effect-moves says w line.Burst comes stood = tt
-effect-moves says w line.End comes stood = tt
+pub setup-moves : (w : World) (l : SetupLine) → IfOk (setup_effect w l) (λ made. MovesTo (leads_to l) w made.0)
+unfolding setup_effect
+setup-moves w (setup.Secret secret) = inl (quiet-moves w _ refl refl refl refl refl refl refl)
+setup-moves w (setup.Keys lms ots) = plainly w phase.KeysTold _ (keys-moves w lms ots)
+setup-moves w (setup.Logs n q) = plainly w phase.LogsMade _ (logs-moves w n q)
+setup-moves w (setup.Authorities m) = founding w _ (authorities-founds w m)
+setup-moves w (setup.Dishonest party) = plainly w phase.DishonestTold _ (dishonest-moves w party)
+
+pub event-moves : (says : Outcome) (w : World) (l : EventLine) → Stood w → IfOk (event_effect says w l) (λ made. Moves w made.0)
+unfolding event_effect
+event-moves says w (event.Owner owner) stood = owner-line-moves w owner
+event-moves says w (event.Teach authority name owner) stood = check-line-moves w authority owner (learnt name) (Taught authority)
+event-moves says w (event.Forget authority name owner) stood = check-line-moves w authority owner (forgotten name) (Forgot authority)
+event-moves says w (event.Retire authority) stood = retire-moves w authority
+event-moves says w (event.Register owner name policy asks) stood = register-moves w owner name policy asks
+event-moves says w (event.Update owner draft policy asks) stood = update-moves w owner draft policy asks
+event-moves says w (event.Revoke owner draft asks) stood = revoke-moves w owner draft asks
+event-moves says w (event.Handover owner draft) stood = handover-moves w owner draft
+event-moves says w (event.Object owner draft) stood = object-moves w owner draft
+event-moves says w (event.Submit draft) stood = submit-moves w draft
+event-moves says w (event.Propose log) stood = log-order-moves w log whats.Propose events.Propose log_state.proposes stood tt tt (no-claims w)
+event-moves says w (event.Pass log) stood = log-order-moves w log whats.Pass events.Pass log_state.passes stood tt tt (no-claims w)
+event-moves says w (event.Roll party) stood = roll-of-moves w party.role party.number stood
+event-moves says w (event.Learn message) stood = learn-moves w message stood
+event-moves says w (event.Ask log name first second client) stood = ask-moves w log name first second client
+event-moves says w (event.Deliver message party) stood = deliver-moves says w message party stood
+event-moves says w event.Flush stood = quiet-moves w w refl refl refl refl refl refl refl
+event-moves says w (event.Judge message name now age) stood = judge-moves w message name now age
+event-moves says w (event.Sign party pieces) stood = sign-moves w party pieces
+event-moves says w (event.Inject to pieces) stood = inject-moves w to pieces

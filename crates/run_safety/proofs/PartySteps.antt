@@ -16,7 +16,7 @@ use Rattle.party_keys.specs.Directory.{Directory}
 use Rattle.party_keys.specs.Learning.{Announced, after_adopting, after_learning, roll_claim}
 use Rattle.party_keys.specs.Seen.{seen_of}
 use Rattle.party_keys.specs.Signers.{Claimed}
-use Rattle.run_safety.specs.Own.{Grows, IsNoted, IsOwned, KnowsReal, NoneForged, Parties, PartyParts, SawSigned}
+use Rattle.run_safety.specs.Own.{Grows, HonestParties, IsNoted, IsOwned, KnowsReal, NoneForged, PartyParts, SawSigned}
 use Rattle.run_safety.proofs.RealKeys.{adopting-real, claim-signed, learning-real}
 use Rattle.run_safety.proofs.RollTexts.{texts-later}
 
@@ -74,21 +74,21 @@ still-steps party claims p = record { grows = same-party p; sees = λ t there. i
 -- ---- what stays real
 
 -- all that a party knows and saw is real
-pub record IsReal (own : Parties) (p : PartyParts) : Type 0 where
+pub record IsReal (own : HonestParties) (p : PartyParts) : Type 0 where
   pub knows : KnowsReal own p.knows
   pub saw : SawSigned own p.saw
 
 -- who is honest in the end, whose claims are not forged
-pub record IsEnd (own : Parties) (all : List Claimed) : Type 0 where
+pub record IsEnd (own : HonestParties) (all : List Claimed) : Type 0 where
   pub none : NoneForged own all
   pub each : (party : Party) (p : PartyParts) → own party ≡ Some p → IsOwned party p
 
-pub learns-real : (own : Parties) (all claims : List Claimed) (keys later : Directory) → IsEnd own all → ((c : Claimed) → Contains claims c → Contains all c) → Learns claims keys later
+pub learns-real : (own : HonestParties) (all claims : List Claimed) (keys later : Directory) → IsEnd own all → ((c : Claimed) → Contains claims c → Contains all c) → Learns claims keys later
     → KnowsReal own keys → KnowsReal own later
 learns-real own all claims keys later end within l knows =
     subst (KnowsReal own) (sym l.is) (learning-real own all claims keys l.note end.none within end.each l.noted l.claimed knows)
 
-pub steps-real : (own : Parties) (all claims : List Claimed) (party : Party) (old new : PartyParts) → IsEnd own all → ((c : Claimed) → Contains claims c → Contains all c) → Steps party claims old new
+pub steps-real : (own : HonestParties) (all claims : List Claimed) (party : Party) (old new : PartyParts) → IsEnd own all → ((c : Claimed) → Contains claims c → Contains all c) → Steps party claims old new
     → ((p : PartyParts) → own party ≡ Some p → Grows new p) → IsReal own old → IsReal own new
 steps-real own all claims party old new end within step later real = record {
   knows = knows step.knows;

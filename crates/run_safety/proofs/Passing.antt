@@ -17,6 +17,7 @@ use Rattle.ar_world.specs.declared.cause.Cause.{Cause}
 use Rattle.ar_world.specs.declared.cause.Cause.TheVariants.{Unread}
 use Rattle.owner_check.specs.declared.answer.Outcome.{Outcome}
 use Rattle.script_text.specs.Rows.{read_of}
+use Rattle.script_text.specs.declared.line.EventLine.TheVariants as event
 use Rattle.script_text.specs.declared.line.Line.{Line}
 use Rattle.script_text.specs.declared.line.Line.TheVariants as line
 use Rattle.run_safety.specs.Passing.{ComesTo, Delivers, DeliversByLine, DeliversInFlush, GoesThrough, IsInFlush, flush_with}
@@ -121,8 +122,8 @@ deliveries-on says (suc before) more number u none = due-or-not (deliveries-on s
 -- what follows a `flush` with so many deliveries
 with-leads : (before : ℕ) (says : ℕ → Outcome) (w : World) → Leads w (flush_with before says w)
 with-leads before says w =
-    let p = progress_of w (step (says 0) w line.Flush) in
-    if-leads w p.refused p (flushed before says 0) (effect-leads w (step (says 0) w line.Flush) (goes-of-steps.steps (says 0) w line.Flush)) (flushed-leads before says 0)
+    let p = progress_of w (step (says 0) w (line.Event event.Flush)) in
+    if-leads w p.refused p (flushed before says 0) (effect-leads w (step (says 0) w (line.Event event.Flush)) (goes-of-steps.steps (says 0) w (line.Event event.Flush))) (flushed-leads before says 0)
 
 front-holds : (saying : Saying) (checks : List CheckParts) (front : List (List ℕ)) → Holds (run_from saying 1 (first_world checks) front).world
 front-holds saying checks front = (from-leads saying 1 (first_world checks) front (first-holds checks)).held
@@ -132,7 +133,7 @@ line-holds saying checks input number l w comes = subst Holds comes.is (front-ho
 
 flush-holds : (saying : Saying) (checks : List CheckParts) (input : List ℕ) (number before : ℕ) (w : World) → IsInFlush saying checks input number before w → Holds w
 flush-holds saying checks input number before w f =
-    subst Holds f.is (with-leads before (saying number) f.from (line-holds saying checks input number line.Flush f.from f.line)).held
+    subst Holds f.is (with-leads before (saying number) f.from (line-holds saying checks input number (line.Event event.Flush) f.from f.line)).held
 
 -- all that a run keeps holds in each world through which it goes
 pub passing-holds : (saying : Saying) (checks : List CheckParts) (input : List ℕ) (w : World) → GoesThrough saying checks input w → Holds w
@@ -178,7 +179,7 @@ by-line : (saying : Saying) (checks : List CheckParts) (input : List ℕ) (w : W
     → DeliversByLine saying checks input w message who made → Goes made.0 (run saying checks input).world
 by-line saying checks input w message who made d =
     let says = saying d.number in
-    let l : Line = line.Deliver message who in
+    let l : Line = line.Event (event.Deliver message who) in
     line-ends saying checks input d.number l w made.0 d.line
     (subst (λ (e : Effect). Leads made.0 (then_on (progress_of w e) (follows says l))) (sym d.makes) (still made.0))
     (made-holds w (step (says 0) w l) made d.makes (goes-of-steps.steps (says 0) w l) (line-holds saying checks input d.number l w d.line))
@@ -216,8 +217,8 @@ in-flush : (saying : Saying) (checks : List CheckParts) (input : List ℕ) (w : 
 in-flush saying checks input w message who made d =
     let f = d.flush in
     let says = saying d.number in
-    line-ends saying checks input d.number line.Flush f.from made.0 f.line
-    (flush-goes says d.before w message who made (progress_of f.from (step (says 0) f.from line.Flush)) d.more f.none f.is d.due d.makes)
+    line-ends saying checks input d.number (line.Event event.Flush) f.from made.0 f.line
+    (flush-goes says d.before w message who made (progress_of f.from (step (says 0) f.from (line.Event event.Flush))) d.more f.none f.is d.due d.makes)
     (made-holds w (deliver_line (says d.before) w message who) made d.makes (deliver-goes (λ w v said. Holds w → Goes w v) goes-of-steps (says d.before) w message who)
     (flush-holds saying checks input d.number d.before w f))
 

@@ -35,7 +35,7 @@ use Rattle.party_keys.specs.Signers.{Claimed}
 use Rattle.party_keys.specs.declared.fault.LearnFault.{LearnFault}
 use Rattle.party_keys.specs.declared.learning.Learned.{Learned}
 use Rattle.party_keys.specs.declared.learning.Learned.TheVariants.{Again, New}
-use Rattle.run_safety.specs.Own.{IsNoted, IsOwned, KnowsReal, NoneForged, Parties, PartyParts, real_keys}
+use Rattle.run_safety.specs.Own.{HonestParties, IsNoted, IsOwned, KnowsReal, NoneForged, PartyParts, real_keys}
 use Rattle.run_safety.proofs.Rings.{public-text, public-widths}
 use Rattle.run_safety.proofs.RollTexts.{rolled-is-next}
 
@@ -60,7 +60,7 @@ under-real real known party text signature begins is =
     subst (λ (keys : List LmsPublic). answer_under keys party text signature ≡ Ok tt) (sym begins.1) (under-more known begins.0 party text signature is)
 
 -- so what is verified of an honest party, where none is forged, stands in its book
-pub claim-signed : (own : Parties) (all claims : List Claimed) (keys : Directory) (t : SeenText) (p : PartyParts) → NoneForged own all → ((c : Claimed) → Contains claims c → Contains all c)
+pub claim-signed : (own : HonestParties) (all claims : List Claimed) (keys : Directory) (t : SeenText) (p : PartyParts) → NoneForged own all → ((c : Claimed) → Contains claims c → Contains all c)
     → KnowsReal own keys → own t.party ≡ Some p → IsVerifiedIn keys claims t → Contains (texts_of p.book) t.text
 unfolding verified
 claim-signed own all claims keys t p none within knows is v =
@@ -157,7 +157,7 @@ other-party one other not same =
     absurd cc
 
 -- what a directory learns, of whomever, leaves it real, where an honest party signed what says so of it
-pub signed-real : (own : Parties) (claims : List Claimed) (keys : Directory) (a : Announced) → ((p : PartyParts) → own a.party ≡ Some p → Contains (texts_of p.book) (text_of (roll_claim a)))
+pub signed-real : (own : HonestParties) (claims : List Claimed) (keys : Directory) (a : Announced) → ((p : PartyParts) → own a.party ≡ Some p → Contains (texts_of p.book) (text_of (roll_claim a)))
     → ((party : Party) (p : PartyParts) → own party ≡ Some p → IsOwned party p) → IsNoted a → IsVerifiedIn keys claims (seen_of a.party (roll_claim a)) → KnowsReal own keys
     → KnowsReal own (after_learning keys a)
 unfolding verified
@@ -181,7 +181,7 @@ signed-real own claims keys a signed each noted v knows party p is = by (is_part
         subst (Real (after_learning keys a)) (sym one) (learns its (learned keys a) refl (knows a.party p its))
 
 -- so where no claim is forged
-pub learning-real : (own : Parties) (all claims : List Claimed) (keys : Directory) (a : Announced) → NoneForged own all → ((c : Claimed) → Contains claims c → Contains all c)
+pub learning-real : (own : HonestParties) (all claims : List Claimed) (keys : Directory) (a : Announced) → NoneForged own all → ((c : Claimed) → Contains claims c → Contains all c)
     → ((party : Party) (p : PartyParts) → own party ≡ Some p → IsOwned party p) → IsNoted a → IsVerifiedIn keys claims (seen_of a.party (roll_claim a)) → KnowsReal own keys
     → KnowsReal own (after_learning keys a)
 learning-real own all claims keys a none within each noted v knows =
@@ -189,7 +189,7 @@ learning-real own all claims keys a none within each noted v knows =
 
 -- ---- what a party takes as its own next key
 
-pub adopting-real : (own : Parties) (keys : Directory) (who : Party) (g : ℕ) (key : KeyParts) → ((p : PartyParts) → own who ≡ Some p → slice_get p.ring (g + 1) ≡ Some key) → KnowsReal own keys
+pub adopting-real : (own : HonestParties) (keys : Directory) (who : Party) (g : ℕ) (key : KeyParts) → ((p : PartyParts) → own who ≡ Some p → slice_get p.ring (g + 1) ≡ Some key) → KnowsReal own keys
     → KnowsReal own (after_adopting keys who g (public_of key))
 adopting-real own keys who g key next knows party p is = by (is_party party who) refl
   where

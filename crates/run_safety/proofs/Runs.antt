@@ -1,45 +1,39 @@
 -- What a step, the deliveries of a `flush` and a whole script keep: who sits where, and what clients hold.
-use Rattle.std.proofs.Common.{◌≡◌, ◌∙◌, ◌≤◌, ℕ, List, [], arith, refl, sym, ap, subst, true, false, Option, Some, None, Ok, Err, IfOk}
+use Rattle.std.proofs.Common.{◌≡◌, ◌∙◌, ◌≤◌, ℕ, List, [], arith, refl, sym, ap, subst, true, false, IfOk}
 use Rattle.std.specs.Prelude.{length, map, nat_le, nat_lt, ◌==◌}
 use Rattle.std.specs.List.{filter_map}
 use Rattle.std.proofs.lemmas.Bool.{false_from_ne_true, leb-true, ltb-true}
 use Rattle.std.proofs.lemmas.List.Elements.{All-nil}
-use Rattle.std.proofs.lemmas.Option.{same_Some}
-use Rattle.ar_base.specs.Chaining.{need}
+use Rattle.std.proofs.lemmas.Result.{IfOk-weaker}
 use Rattle.ar_safety.specs.Held.{IsTaken, verdict_on}
-use Rattle.ar_world.specs.Finding.{Effect}
-use Rattle.ar_world.specs.Founding.{led_to, may_come, place_of}
+use Rattle.ar_world.specs.Founding.{is_peopled, may_come, place_of}
 use Rattle.ar_nodes.specs.Parties.{CheckParts}
 use Rattle.ar_world.specs.Records.{held_of}
 use Rattle.ar_world.specs.Run.{Saying, run}
 use Rattle.ar_world.specs.State.{Moved, World, first_world, no_directory}
-use Rattle.ar_world.specs.Step.{effect, leads_to, step, stepped}
+use Rattle.ar_world.specs.Step.{event_effect, leads_to, setup_effect, step}
 use Rattle.ar_nodes.specs.declared.event.LogEvent.TheVariants as events
-use Rattle.ar_nodes.specs.declared.fault.WorldFault.TheVariants.{Order}
 use Rattle.ar_world.specs.declared.phase.Phase.{Phase}
 use Rattle.ar_world.specs.declared.phase.Phase.TheVariants as phase
 use Rattle.ar_world.proofs.FirstParties.{came}
-use Rattle.ar_world.proofs.Runs.{HoldsOfSteps, run-holds}
+use Rattle.ar_world.proofs.Runs.{HoldsOfSteps, run-holds, step-holds}
 use Rattle.log_core.specs.State.{passes, proposes}
 use Rattle.owner_check.specs.Answers.{forgotten, learnt}
 use Rattle.owner_check.specs.declared.answer.Outcome.{Outcome}
 use Rattle.report_text.specs.declared.happening.Happening.TheVariants.{Forgot, Taught}
 use Rattle.report_text.specs.declared.happening.What.TheVariants as whats
+use Rattle.script_text.specs.declared.line.EventLine.{EventLine}
+use Rattle.script_text.specs.declared.line.EventLine.TheVariants as event
 use Rattle.script_text.specs.declared.line.Line.{Line}
-use Rattle.script_text.specs.declared.line.Line.TheVariants as line
+use Rattle.script_text.specs.declared.line.SetupLine.{SetupLine}
+use Rattle.script_text.specs.declared.line.SetupLine.TheVariants as setup
 use Rattle.run_safety.specs.Headline.{accepted_in, dishonest_in, said_by}
 use Rattle.run_safety.specs.Seats.{IsSeated}
-use Rattle.run_safety.proofs.Chains.{need-holds}
 use Rattle.run_safety.proofs.Founded.{authorities-makes}
 use Rattle.run_safety.proofs.Lines.{ask-makes, check-line-makes, deliver-makes, delivery-makes, dishonest-makes, handover-makes, inject-makes, judge-makes, keys-makes, learn-makes, log-order-makes, logs-makes, object-makes, owner-line-makes, register-makes, retire-makes, revoke-makes, roll-makes, sign-makes, submit-makes, update-makes}
 use Rattle.run_safety.proofs.Parts.{Keeps, Makes, Stands, both, part_of, seated, still}
-use Rattle.ar_base.proofs.Shown.{if-chained}
 
 -- ---- a step
-
--- the line may come where it leads
-abbrev pub Comes : World → Option Phase → Type 0
-Comes w o = (next : Phase) → o ≡ Some next → may_come w.phase next ≡ true
 
 -- before the line `authorities` all is bare
 pub early : (p : Phase) → (place_of p == 3) ≡ true → nat_le 4 (place_of p) ≡ false
@@ -51,35 +45,36 @@ early phase.AuthoritiesMade h = absurd cc
 early phase.DishonestTold h = absurd cc
 early phase.Running h = absurd cc
 
-effect-makes : (says : Outcome) (w : World) (l : Line) → Comes w (leads_to l) → IfOk (effect says w l) (Makes w)
-unfolding effect
-effect-makes says w (line.Secret secret) comes = still _ _ [] refl refl
-effect-makes says w (line.Keys lms ots) comes = keys-makes w lms ots
-effect-makes says w (line.Logs n q) comes = logs-makes w n q
-effect-makes says w (line.Authorities m) comes = authorities-makes w m (λ s. s.bare (early w.phase (comes phase.AuthoritiesMade refl)))
-effect-makes says w (line.Dishonest party) comes = dishonest-makes w party (came w.phase (comes phase.DishonestTold refl))
-effect-makes says w (line.Owner owner) comes = owner-line-makes w owner
-effect-makes says w (line.Teach authority name owner) comes = check-line-makes w authority owner (learnt name) (Taught authority) refl
-effect-makes says w (line.Forget authority name owner) comes = check-line-makes w authority owner (forgotten name) (Forgot authority) refl
-effect-makes says w (line.Retire authority) comes = retire-makes w authority
-effect-makes says w (line.Register owner name policy asks) comes = register-makes w owner name policy asks
-effect-makes says w (line.Update owner draft policy asks) comes = update-makes w owner draft policy asks
-effect-makes says w (line.Revoke owner draft asks) comes = revoke-makes w owner draft asks
-effect-makes says w (line.Handover owner draft) comes = handover-makes w owner draft
-effect-makes says w (line.Object owner draft) comes = object-makes w owner draft
-effect-makes says w (line.Submit draft) comes = submit-makes w draft
-effect-makes says w (line.Propose log) comes = log-order-makes w log whats.Propose events.Propose proposes
-effect-makes says w (line.Pass log) comes = log-order-makes w log whats.Pass events.Pass passes
-effect-makes says w (line.Roll party) comes = roll-makes w party
-effect-makes says w (line.Learn message) comes = learn-makes w message
-effect-makes says w (line.Ask log name first second client) comes = ask-makes w log name first second client
-effect-makes says w (line.Deliver message party) comes = deliver-makes says w message party
-effect-makes says w line.Flush comes = still _ _ [] refl refl
-effect-makes says w (line.Judge message name now age) comes = judge-makes w message name now age (comes phase.Running refl)
-effect-makes says w (line.Sign party pieces) comes = sign-makes w party pieces
-effect-makes says w (line.Inject to pieces) comes = inject-makes w to pieces
-effect-makes says w line.Burst comes = tt
-effect-makes says w line.End comes = tt
+setup-makes : (w : World) (l : SetupLine) → may_come w.phase (leads_to l) ≡ true → IfOk (setup_effect w l) (Makes w)
+unfolding setup_effect
+setup-makes w (setup.Secret secret) comes = still _ _ [] refl refl
+setup-makes w (setup.Keys lms ots) comes = keys-makes w lms ots
+setup-makes w (setup.Logs n q) comes = logs-makes w n q
+setup-makes w (setup.Authorities m) comes = authorities-makes w m (λ s. s.bare (early w.phase comes))
+setup-makes w (setup.Dishonest party) comes = dishonest-makes w party (came w.phase comes)
+
+event-makes : (says : Outcome) (w : World) (l : EventLine) → is_peopled w.phase ≡ true → IfOk (event_effect says w l) (Makes w)
+unfolding event_effect
+event-makes says w (event.Owner owner) late = owner-line-makes w owner
+event-makes says w (event.Teach authority name owner) late = check-line-makes w authority owner (learnt name) (Taught authority) refl
+event-makes says w (event.Forget authority name owner) late = check-line-makes w authority owner (forgotten name) (Forgot authority) refl
+event-makes says w (event.Retire authority) late = retire-makes w authority
+event-makes says w (event.Register owner name policy asks) late = register-makes w owner name policy asks
+event-makes says w (event.Update owner draft policy asks) late = update-makes w owner draft policy asks
+event-makes says w (event.Revoke owner draft asks) late = revoke-makes w owner draft asks
+event-makes says w (event.Handover owner draft) late = handover-makes w owner draft
+event-makes says w (event.Object owner draft) late = object-makes w owner draft
+event-makes says w (event.Submit draft) late = submit-makes w draft
+event-makes says w (event.Propose log) late = log-order-makes w log whats.Propose events.Propose proposes
+event-makes says w (event.Pass log) late = log-order-makes w log whats.Pass events.Pass passes
+event-makes says w (event.Roll party) late = roll-makes w party
+event-makes says w (event.Learn message) late = learn-makes w message
+event-makes says w (event.Ask log name first second client) late = ask-makes w log name first second client
+event-makes says w (event.Deliver message party) late = deliver-makes says w message party
+event-makes says w event.Flush late = still _ _ [] refl refl
+event-makes says w (event.Judge message name now age) late = judge-makes w message name now age late
+event-makes says w (event.Sign party pieces) late = sign-makes w party pieces
+event-makes says w (event.Inject to pieces) late = inject-makes w to pieces
 
 -- what a line comes to keeps all, in its phase too
 abbrev KeptBy : World → Moved → Type 0
@@ -99,8 +94,8 @@ stays-early now phase.AuthoritiesMade comes before = absurd cc
 stays-early now phase.DishonestTold comes before = absurd cc
 stays-early now phase.Running comes before = absurd cc
 
-led-keeps : (w : World) (next : Phase) (made : Moved) → may_come w.phase next ≡ true → Makes w made → KeptBy w (record made.0 { phase = next }, made.1)
-led-keeps w next made comes makes = record {
+led-keeps : (w : World) (next : Phase) → may_come w.phase next ≡ true → (made : Moved) → Makes w made → KeptBy w (record made.0 { phase = next }, made.1)
+led-keeps w next comes made makes = record {
   stands = λ s.
       let was = makes.keeps.stands s in
       record {
@@ -115,18 +110,11 @@ led-keeps w next made comes makes = record {
   named = makes.keeps.named;
 }
 
-stepped-keeps : (w : World) (o : Option Phase) (made : Effect) → (Comes w o → IfOk made (Makes w)) → IfOk (stepped w o made) (KeptBy w)
-stepped-keeps w None made makes = tt
-stepped-keeps w (Some next) made makes = if-chained (need (may_come w.phase next) Order) _ (KeptBy w) (λ u same.
-    let comes = need-holds (may_come w.phase next) Order u same in
-    by comes made (makes (λ other is. subst (λ p. may_come w.phase p ≡ true) (same_Some next other is) comes)))
-  where
-    by : may_come w.phase next ≡ true → (made : Effect) → IfOk made (Makes w) → IfOk (led_to next made) (KeptBy w)
-    by comes (Ok m) makes = led-keeps w next m comes makes
-    by comes (Err why) makes = tt
-
 step-keeps : (says : Outcome) (w : World) (l : Line) → IfOk (step says w l) (KeptBy w)
-step-keeps says w l = stepped-keeps w (leads_to l) (effect says w l) (effect-makes says w l)
+step-keeps says w =
+    step-holds (KeptBy w) says w
+    (λ l comes. IfOk-weaker (setup_effect w l) (Makes w) _ (led-keeps w (leads_to l) comes) (setup-makes w l comes))
+    (λ l comes. IfOk-weaker (event_effect says w l) (Makes w) _ (led-keeps w phase.Running comes) (event-makes says w l comes))
 
 -- ---- a script
 

@@ -3,10 +3,10 @@ use Rattle.std.proofs.Common.{◌≡◌, ◌∙◌, ◌⊎◌, inl, inr, ℕ, Li
 use Rattle.std.specs.Prelude.{map}
 use Rattle.std.specs.List.{concat}
 use Rattle.std.proofs.lemmas.List.Folds.{concat-append}
-use Rattle.ar_world.specs.Run.{Run, refused_lines}
+use Rattle.ar_world.specs.Run.{Run, refused_lines, text_of_run}
 use Rattle.report_text.specs.Lines.{line_of}
 use Rattle.report_text.specs.declared.happening.Happening.{Happening}
-use Rattle.run_safety.specs.Headline.{IsCut, written_of}
+use Rattle.run_safety.specs.Headline.{IsCut}
 
 -- a front ends within the first of two lists, or it has all of that, and ends within the second
 abbrev EndsWithin : List ℕ → List ℕ → List ℕ → List ℕ → Type 0
@@ -41,6 +41,6 @@ said-cut (h ∷ said) refusal bytes others is =
           }
     ]
 
-pub written-cut : (r : Run) (bytes others : List ℕ) → written_of r ≡ bytes ++ others → IsCut r.said (refused_lines r.refused) bytes
+pub written-cut : (r : Run) (bytes others : List ℕ) → text_of_run r ≡ bytes ++ others → IsCut r.said (refused_lines r.refused) bytes
 written-cut r bytes others is =
     said-cut r.said (refused_lines r.refused) bytes others (sym (concat-append (map line_of r.said) (refused_lines r.refused)) ∙ is)

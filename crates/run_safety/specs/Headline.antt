@@ -13,7 +13,7 @@ use Rattle.ar_safety.specs.Theorem.{Few, NoCollision, NoForgery}
 use Rattle.report_text.specs.Lines.{line_of}
 use Rattle.report_text.specs.Verdicts.{said_of}
 use Rattle.ar_world.specs.Records.{HasParties, held_of}
-use Rattle.ar_world.specs.Run.{Run, lines_of_run, refused_lines}
+use Rattle.ar_world.specs.Run.{Run, refused_lines, text_of_run}
 use Rattle.ar_world.specs.State.{World}
 use Rattle.run_safety.specs.Unforged.{AllReal, AllShown, Unforged}
 
@@ -40,10 +40,6 @@ abbrev pub said_by : Held → Taken → Said
 said_by h t = said_of t.name (verdict_on h.directory t)
 
 -- ---- what is written, byte by byte
-
--- All that is written of a run.
-abbrev pub written_of : Run → List ℕ
-written_of r = concat (lines_of_run r)
 
 -- the bytes begin the line of what happened next, and are not all of it; behind all that happened they begin what tells which line
 -- was refused
@@ -82,4 +78,4 @@ pub record IsSafeRun (r : Run) : Type 0 where
   pub written : filter_map accepted_in r.said ≡ map (said_by (held_of r.world)) (held_of r.world).judged
   pub fronts : (front rest : List Happening) → r.said ≡ front ++ rest → BeginsWith (map (said_by (held_of r.world)) (held_of r.world).judged) (filter_map accepted_in front)
   pub dishonest : filter_map dishonest_in r.said ≡ (held_of r.world).dishonest
-  pub cut : (bytes others : List ℕ) → written_of r ≡ bytes ++ others → IsCut r.said (refused_lines r.refused) bytes
+  pub cut : (bytes others : List ℕ) → text_of_run r ≡ bytes ++ others → IsCut r.said (refused_lines r.refused) bytes

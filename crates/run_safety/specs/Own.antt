@@ -25,8 +25,8 @@ pub record PartyParts : Type 0 where
   pub book : RollBook
 
 -- the honest parties, as a function: none where a party is dishonest, or no log and no authority
-abbrev pub Parties : Type 0
-Parties = Party → Option PartyParts
+abbrev pub HonestParties : Type 0
+HonestParties = Party → Option PartyParts
 
 -- a party's real keys: the public key of each key of its own, by generation
 abbrev pub real_keys : PartyParts → List LmsPublic
@@ -63,13 +63,13 @@ IsValidBy keys c = answer_under keys c.party c.text c.signature ≡ Ok tt
 
 -- No claim is forged: where its signature is valid under its party's real keys, and the party is honest, the party's book has
 -- its text.
-abbrev pub NoneForged : Parties → List Claimed → Type 0
+abbrev pub NoneForged : HonestParties → List Claimed → Type 0
 NoneForged own claims = (c : Claimed) (p : PartyParts) → own c.party ≡ Some p → Contains claims c → IsValidBy (real_keys p) c → Contains (texts_of p.book) c.text
 
 -- of each honest party's keys a directory has none but real ones, by generation
-abbrev pub KnowsReal : Parties → Directory → Type 0
+abbrev pub KnowsReal : HonestParties → Directory → Type 0
 KnowsReal own keys = (party : Party) (p : PartyParts) → own party ≡ Some p → BeginsWith (real_keys p) (keys_of keys party)
 
 -- of what was seen of honest parties, each text stands in the party's book
-abbrev pub SawSigned : Parties → List SeenText → Type 0
+abbrev pub SawSigned : HonestParties → List SeenText → Type 0
 SawSigned own seen = (t : SeenText) (p : PartyParts) → own t.party ≡ Some p → Contains seen t → Contains (texts_of p.book) t.text

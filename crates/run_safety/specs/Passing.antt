@@ -9,8 +9,9 @@ use Rattle.ar_world.specs.State.{Moved, World, first_world}
 use Rattle.ar_world.specs.Step.{step}
 use Rattle.owner_check.specs.declared.answer.Outcome.{Outcome}
 use Rattle.script_text.specs.Rows.{read_of}
+use Rattle.script_text.specs.declared.line.EventLine.TheVariants.{Deliver, Flush}
 use Rattle.script_text.specs.declared.line.Line.{Line}
-use Rattle.script_text.specs.declared.line.Line.TheVariants.{Deliver, Flush}
+use Rattle.script_text.specs.declared.line.Line.TheVariants.{Event}
 
 -- ---- worlds
 
@@ -35,12 +36,12 @@ pub record ComesTo (saying : Saying) (checks : List CheckParts) (input : List �
 
 -- what a `flush` comes to in a world with so many deliveries, or fewer where no more are due
 abbrev pub flush_with : ℕ → (ℕ → Outcome) → World → Progress
-flush_with most says w = then_on (progress_of w (step (says 0) w Flush)) (flushed most says 0)
+flush_with most says w = then_on (progress_of w (step (says 0) w (Event Flush))) (flushed most says 0)
 
 -- the world stands behind so many deliveries of the `flush` with this number, none of which was refused
 pub record IsInFlush (saying : Saying) (checks : List CheckParts) (input : List ℕ) (number before : ℕ) (w : World) : Type 0 where
   pub from : World
-  pub line : ComesTo saying checks input number Flush from
+  pub line : ComesTo saying checks input number (Event Flush) from
   pub few : before ≤ most_deliveries
   pub none : (flush_with before (saying number) from).refused ≡ None
   pub is : (flush_with before (saying number) from).world ≡ w
@@ -55,8 +56,8 @@ GoesThrough saying checks input w =
 -- the line `deliver` takes this message to this party in this world, and makes this of it
 pub record DeliversByLine (saying : Saying) (checks : List CheckParts) (input : List ℕ) (w : World) (message : ℕ) (who : Party) (made : Moved) : Type 0 where
   pub number : ℕ
-  pub line : ComesTo saying checks input number (Deliver message who) w
-  pub makes : step (saying number 0) w (Deliver message who) ≡ Ok made
+  pub line : ComesTo saying checks input number (Event (Deliver message who)) w
+  pub makes : step (saying number 0) w (Event (Deliver message who)) ≡ Ok made
 
 -- a `flush` does, by the delivery that is due then
 pub record DeliversInFlush (saying : Saying) (checks : List CheckParts) (input : List ℕ) (w : World) (message : ℕ) (who : Party) (made : Moved) : Type 0 where

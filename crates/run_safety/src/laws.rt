@@ -36,11 +36,12 @@ ghost use Rattle.run_safety.specs.Flushes.{LeavesNothingDue};
 ghost use Rattle.run_safety.specs.Headline.{IsSafeRun, accepted_in, dishonest_in, said_by};
 ghost use Rattle.run_safety.specs.Kept.{KeepsWorld};
 ghost use Rattle.run_safety.specs.Lasting.{Lasts};
-ghost use Rattle.run_safety.specs.Own.{IsNoted, IsOwned, KnowsReal, NoneForged, Parties, PartyParts};
+ghost use Rattle.run_safety.specs.Own.{HonestParties, IsNoted, IsOwned, KnowsReal, NoneForged, PartyParts};
 ghost use Rattle.run_safety.specs.Passing.{Delivers, GoesThrough};
 ghost use Rattle.run_safety.specs.Seats.{IsSeated};
 ghost use Rattle.run_safety.specs.Unforged.{AllReal, AllShown, Unforged, messages_of};
-ghost use Rattle.script_text.specs.declared.line.Line.TheVariants.{Flush};
+ghost use Rattle.script_text.specs.declared.line.EventLine.TheVariants.{Flush};
+ghost use Rattle.script_text.specs.declared.line.Line.TheVariants.{Event};
 
 /// Whatever lines a script has: each honest log and authority is the one with the number of its place, by one council; the
 /// place of each other is empty, and it is one of the dishonest parties; and what clients hold they accepted, by their
@@ -53,7 +54,8 @@ pub fn a_run_keeps_its_parties()
 /// verdict, in order; and whom the written lines tell to be dishonest are those that are, in order.
 pub fn what_is_written_as_accepted_is_held()
     ensures accepted { (saying : Saying) (checks : List CheckParts) (input : List ℕ)
-        → filter_map accepted_in (run saying checks input).said ≡ map (said_by (held_of (run saying checks input).world)) (held_of (run saying checks input).world).judged }
+        → filter_map accepted_in (run saying checks input).said
+        ≡ map (said_by (held_of (run saying checks input).world)) (held_of (run saying checks input).world).judged }
     ensures dishonest { (saying : Saying) (checks : List CheckParts) (input : List ℕ)
         → filter_map dishonest_in (run saying checks input).said ≡ (held_of (run saying checks input).world).dishonest }
 {}
@@ -77,7 +79,8 @@ pub fn a_run_keeps_its_nodes()
 /// front of its lines, and its book, its keys and what it saw have only grown since; and each message of then is there,
 /// with its bytes.
 pub fn what_is_signed_stays_signed()
-    ensures { (saying : Saying) (checks : List CheckParts) (input : List ℕ) (front rest : List (List ℕ)) → lines_of input ≡ front ++ rest
+    ensures { (saying : Saying) (checks : List CheckParts) (input : List ℕ) (front rest : List (List ℕ))
+        → lines_of input ≡ front ++ rest
         → Lasts (run_from saying 1 (first_world checks) front).world (run saying checks input).world }
 {}
 
@@ -85,13 +88,14 @@ pub fn what_is_signed_stays_signed()
 /// that it learns of one, by a note that is one of the claims and that it verified, is the party's own next one, and so is
 /// one that a party takes as its own. And what it verified of an honest party stands in that party's book.
 pub fn what_is_learnt_stays_real()
-    ensures learnt { (own : Parties) (claims : List Claimed) (keys : Directory) (a : Announced) → NoneForged own claims
+    ensures learnt { (own : HonestParties) (claims : List Claimed) (keys : Directory) (a : Announced) → NoneForged own claims
         → ((party : Party) (p : PartyParts) → own party ≡ Some p → IsOwned party p) → IsNoted a
         → IsVerifiedIn keys claims (seen_of a.party (roll_claim a)) → KnowsReal own keys → KnowsReal own (after_learning keys a) }
-    ensures adopted { (own : Parties) (keys : Directory) (who : Party) (generation : ℕ) (key : KeyParts)
+    ensures adopted { (own : HonestParties) (keys : Directory) (who : Party) (generation : ℕ) (key : KeyParts)
         → ((p : PartyParts) → own who ≡ Some p → slice_get p.ring (generation + 1) ≡ Some key) → KnowsReal own keys
         → KnowsReal own (after_adopting keys who generation (public_of key)) }
-    ensures seen { (own : Parties) (claims : List Claimed) (keys : Directory) (t : SeenText) (p : PartyParts) → NoneForged own claims
+    ensures seen { (own : HonestParties) (claims : List Claimed) (keys : Directory) (t : SeenText) (p : PartyParts)
+        → NoneForged own claims
         → KnowsReal own keys → own t.party ≡ Some p → IsVerifiedIn keys claims t → Contains (texts_of p.book) t.text }
 {}
 
@@ -126,32 +130,39 @@ pub fn a_run_is_safe()
 pub fn what_a_run_confirms_is_accepted()
     ensures ring { (saying : Saying) (checks : List CheckParts) (input : List ℕ) (w : World) (number : ℕ) (node : AuthorityNode)
         → GoesThrough saying checks input w → authority_at w number ≡ Some node → IsWithRing node.state node.keys }
-    ensures accepted { (saying : Saying) (checks : List CheckParts) (input : List ℕ) (w : World) (message number : ℕ) (node : AuthorityNode)
+    ensures accepted { (saying : Saying) (checks : List CheckParts) (input : List ℕ) (w : World)
+        (message number : ℕ) (node : AuthorityNode)
         (part : Confirming) (first_signature : List ℕ) (sent : Unsigned) (asked : Asked) (certificate : Certificate)
         → GoesThrough saying checks input w → ConfirmsToo w message number node part first_signature sent
         → AsksForIt node part first_signature asked → shown_in part.body ≡ present certificate
         → judgement asked (bytes_at (filled node.keys sent).messages 0)
         ≡ Accepted certificate (digest_of certificate) part.epoch part.root }
-    ensures absent { (saying : Saying) (checks : List CheckParts) (input : List ℕ) (w : World) (message number : ℕ) (node : AuthorityNode)
+    ensures absent { (saying : Saying) (checks : List CheckParts) (input : List ℕ) (w : World)
+        (message number : ℕ) (node : AuthorityNode)
         (part : Confirming) (first_signature : List ℕ) (sent : Unsigned) (asked : Asked) (bottom : Bottom)
         → GoesThrough saying checks input w → ConfirmsToo w message number node part first_signature sent
         → AsksForIt node part first_signature asked → shown_in part.body ≡ absent bottom
         → judgement asked (bytes_at (filled node.keys sent).messages 0) ≡ Absent part.epoch part.root }
-    ensures sent { (saying : Saying) (checks : List CheckParts) (input : List ℕ) (w : World) (message number : ℕ) (node : AuthorityNode)
+    ensures sent { (saying : Saying) (checks : List CheckParts) (input : List ℕ) (w : World)
+        (message number : ℕ) (node : AuthorityNode)
         (part : Confirming) (first_signature : List ℕ) (sent : Unsigned) (made : Moved)
         → Delivers saying checks input w message (authority_party number) made
         → ConfirmsToo w message number node part first_signature sent
         → Contains (messages_of (run saying checks input).world.pool) (bytes_at (filled node.keys sent).messages 0) }
-    ensures delivered { (saying : Saying) (checks : List CheckParts) (input : List ℕ) (w : World) (message : ℕ) (who : Party) (made : Moved)
+    ensures delivered { (saying : Saying) (checks : List CheckParts) (input : List ℕ) (w : World)
+        (message : ℕ) (who : Party) (made : Moved)
         → Delivers saying checks input w message who made → GoesThrough saying checks input w }
-    ensures ended { (saying : Saying) (checks : List CheckParts) (input : List ℕ) → GoesThrough saying checks input (run saying checks input).world }
+    ensures ended { (saying : Saying) (checks : List CheckParts) (input : List ℕ)
+        → GoesThrough saying checks input (run saying checks input).world }
 {}
 
 /// A `flush` goes to its end, whatever checks of owners say: of at most 16 logs nothing is due behind its deliveries, unless
 /// one of them was refused. A world has no more logs, whatever lines a script has: so it is of each `flush` of a script.
 pub fn a_flush_goes_to_its_end()
-    ensures deliveries { (says : ℕ → Outcome) (w : World) → length w.logs ≤ 16 → LeavesNothingDue (flushed most_deliveries says 0 w) }
-    ensures logs { (saying : Saying) (checks : List CheckParts) (input : List ℕ) → length (run saying checks input).world.logs ≤ 16 }
+    ensures deliveries { (says : ℕ → Outcome) (w : World) → length w.logs ≤ 16
+        → LeavesNothingDue (flushed most_deliveries says 0 w) }
+    ensures logs { (saying : Saying) (checks : List CheckParts) (input : List ℕ)
+        → length (run saying checks input).world.logs ≤ 16 }
     ensures line { (saying : Saying) (checks : List CheckParts) (input : List ℕ) (says : ℕ → Outcome)
-        → LeavesNothingDue (taken says (run saying checks input).world Flush) }
+        → LeavesNothingDue (taken says (run saying checks input).world (Event Flush)) }
 {}

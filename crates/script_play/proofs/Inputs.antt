@@ -7,10 +7,9 @@ use Rattle.ar_run.specs.Runs.{TakesAll, TakesAtMost, most_bytes}
 use Rattle.ar_run.specs.Writing.{Writes}
 use Rattle.ar_run.specs.declared.fault.Fault.{Fault}
 use Rattle.ar_run.specs.declared.fault.Fault.TheVariants as fault
-use Rattle.ar_world.specs.Run.{Run}
+use Rattle.ar_world.specs.Run.{Run, text_of_run}
 use Rattle.arpki_ask.specs.Answers.{refused_line, too_long}
 use Rattle.script_play.specs.Played.{IsPlayed, Plays, PlaysFront, PlaysWhole, RefusesLong, answer_by, run_answer, run_status}
-use Rattle.script_play.specs.Playing as playing
 use Rattle.script_play.specs.Playing.{Played, WritesUpTo}
 use Rattle.script_play.proofs.Written.{failing, line-written, wrote-no_more, written-answered, written-failed}
 
@@ -67,7 +66,7 @@ module _ {S : List ℕ → Type 0} (runs : (input : List ℕ) → S input → Ru
       → Plays runs faults wrote a b input (Ok p) → length input ≤ most_bytes → status ≡ run_status p.refused → IsPlayed runs faults wrote a b input (Ok status)
   short-done faults wrote a b input p status plays few is =
       let whole = sym (short-answer input plays.choice few) in
-      let bytes = playing.written_of (runs input plays.choice) in
+      let bytes = text_of_run (runs input plays.choice) in
       record {
         choice = plays.choice;
         status = is ∙ ap (λ (q : Played). run_status q.refused) plays.played ∙ ap (λ (x : Answer). x.status) whole;
@@ -78,7 +77,7 @@ module _ {S : List ℕ → Type 0} (runs : (input : List ℕ) → S input → Ru
       → Plays runs faults wrote a b input (Err f) → length input ≤ most_bytes → IsPlayed runs faults wrote a b input (Err f)
   short-broken faults wrote a b input f plays few =
       let whole = sym (short-answer input plays.choice few) in
-      let bytes = playing.written_of (runs input plays.choice) in
+      let bytes = text_of_run (runs input plays.choice) in
       record {
         choice = plays.choice;
         status = tt;

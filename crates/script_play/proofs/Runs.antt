@@ -11,12 +11,12 @@ use Rattle.owner_check.specs.declared.answer.Outcome.{Outcome}
 use Rattle.owner_check.specs.declared.answer.Outcome.TheVariants.{Failed}
 use Rattle.report_text.specs.Lines.{line_of}
 use Rattle.ar_nodes.specs.Parties.{CheckParts}
-use Rattle.ar_world.specs.Run.{Progress, Run, Saying, at_line, line_taken, refused_lines, run_from, then_on}
+use Rattle.ar_world.specs.Run.{Progress, Run, Saying, at_line, line_taken, refused_lines, run_from, text_of_run, then_on}
 use Rattle.ar_world.specs.State.{World}
 use Rattle.ar_world.specs.declared.cause.Cause.{Cause}
 use Rattle.script_play.specs.Counts.{counted_from, no_counts}
 use Rattle.script_play.specs.Played.{Plays, run_with}
-use Rattle.script_play.specs.Playing.{Played, PlaysAll, PlaysPart, PlaysSome, Stand, WritesUpTo, begun, refusal_told, told, written_of}
+use Rattle.script_play.specs.Playing.{Played, PlaysAll, PlaysPart, PlaysSome, Stand, WritesUpTo, begun, refusal_told, told}
 use Rattle.script_play.specs.declared.counts.Counts.{Counts}
 use Rattle.script_play.proofs.Deliveries.{said-later, said-there, then-same, with_said_at}
 use Rattle.script_play.proofs.Parts.{plays-nothing, then-broken, then-plays, then-refused}
@@ -174,12 +174,12 @@ on-line-none faults wrote begun here s t first at on none =
 
 -- ---- the line that is refused
 
-written-so : (r : Run) → written_of r ≡ told r.said ++ concat (refused_lines r.refused)
+written-so : (r : Run) → text_of_run r ≡ told r.said ++ concat (refused_lines r.refused)
 written-so r = concat-append (map line_of r.said) (refused_lines r.refused)
 
 written-all : {K T : Type 0} (faults : K → ℕ) (wrote : K → List ℕ → Type 0) (a b c : K) (r : Run) (refusal : Option (ℕ × Cause)) (result : Result T Fault)
     → refusal ≡ r.refused → WritesUpTo faults wrote a b (told r.said) (Ok refusal) → WritesUpTo faults wrote b c (refusal_told refusal) result
-    → WritesUpTo faults wrote a c (written_of r) result
+    → WritesUpTo faults wrote a c (text_of_run r) result
 written-all faults wrote a b c r refusal result is first later =
     subst (λ (bytes : List ℕ). WritesUpTo faults wrote a c bytes result)
     (ap (λ (refused : Option (ℕ × Cause)). told r.said ++ concat (refused_lines refused)) is ∙ sym (written-so r))
@@ -195,13 +195,13 @@ all-told faults wrote a b c s t run refusal lines later =
       plays = record {
         refused = lines.plays.refused;
         stands = lines.plays.stands;
-        written = written-answered faults wrote a c (written_of r) (tt {0}) refusal (written-all faults wrote a b c r refusal done lines.plays.refused lines.plays.written later);
+        written = written-answered faults wrote a c (text_of_run r) (tt {0}) refusal (written-all faults wrote a b c r refusal done lines.plays.refused lines.plays.written later);
       };
     }
 
 -- it broke off
 failed-all : {K S : Type 0} (faults : K → ℕ) (wrote : K → List ℕ → Type 0) (a b : K) (s t : Stand) (run : S → Run) (says : S) (f : Fault)
-    → WritesUpTo faults wrote a b (written_of (run says)) (failing (Option (ℕ × Cause)) f) → PlaysAll faults wrote a b s t run (Err f)
+    → WritesUpTo faults wrote a b (text_of_run (run says)) (failing (Option (ℕ × Cause)) f) → PlaysAll faults wrote a b s t run (Err f)
 failed-all faults wrote a b s t run says f written = record { says = says; plays = record { refused = tt; stands = tt; written = written } }
 
 pub all-untold : {K S : Type 0} (faults : K → ℕ) (wrote : K → List ℕ → Type 0) (a b c : K) (s t : Stand) (run : S → Run) (refusal : Option (ℕ × Cause)) (f : Fault)
@@ -209,7 +209,7 @@ pub all-untold : {K S : Type 0} (faults : K → ℕ) (wrote : K → List ℕ →
 all-untold faults wrote a b c s t run refusal f lines later =
     let r = run lines.says in
     failed-all faults wrote a c s t run lines.says f
-    (written-failed faults wrote a c (written_of r) f (written-all faults wrote a b c r refusal (failing (Unit {0}) f) lines.plays.refused lines.plays.written later))
+    (written-failed faults wrote a c (text_of_run r) f (written-all faults wrote a b c r refusal (failing (Unit {0}) f) lines.plays.refused lines.plays.written later))
 
 pub all-broken : {K S : Type 0} (faults : K → ℕ) (wrote : K → List ℕ → Type 0) (a b : K) (s t : Stand) (run : S → Run) (f : Fault)
     → PlaysSome faults wrote a b s t run (Err f) → PlaysAll faults wrote a b s t run (Err f)
@@ -238,13 +238,13 @@ script-done runs faults wrote a b s t input refused p none is all =
           ∙ ap (λ (v : Stand). record { world = v.world; counts = v.counts; refused = refused }) all.plays.stands
           ∙ ap (λ (n : Counts). record { world = r.world; counts = counted_from n r.said; refused = refused }) none
           ∙ ap (λ (b : Option (ℕ × Cause)). record { world = r.world; counts = counted_from no_counts r.said; refused = b }) all.plays.refused;
-      written = written-answered faults wrote a b (written_of r) refused p all.plays.written;
+      written = written-answered faults wrote a b (text_of_run r) refused p all.plays.written;
     }
 
 pub script-broken : {S : List ℕ → Type 0} (runs : (input : List ℕ) → S input → Run) {K : Type 0} (faults : K → ℕ) (wrote : K → List ℕ → Type 0) (a b : K) (s t : Stand) (input : List ℕ) (f : Fault)
     → PlaysAll faults wrote a b s t (runs input) (Err f) → Plays runs faults wrote a b input (Err f)
 script-broken runs faults wrote a b s t input f all =
-    record { choice = all.says; played = tt; written = written-failed faults wrote a b (written_of (runs input all.says)) f all.plays.written }
+    record { choice = all.says; played = tt; written = written-failed faults wrote a b (text_of_run (runs input all.says)) f all.plays.written }
 
 -- the same where it began with the first world
 pub play-done : {K : Type 0} (faults : K → ℕ) (wrote : K → List ℕ → Type 0) (a b : K) (checks : List CheckParts) (s t : Stand) (input : List ℕ) (refused : Option (ℕ × Cause)) (p : Played)

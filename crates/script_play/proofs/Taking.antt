@@ -1,5 +1,5 @@
 -- A line that is taken, and what follows it.
-use Rattle.std.proofs.Common.{◌≡◌, ℕ, ◌<◌, ◌≤◌, List, refl, sym, ap, ◌∙◌, subst, arith, Bool, true, false, nat_lt, Option, Some, None, Result, Ok, Err}
+use Rattle.std.proofs.Common.{◌≡◌, ℕ, ◌<◌, ◌≤◌, List, refl, sym, ap, ◌∙◌, subst, arith, Bool, true, false, nat_lt, Option, Some, None, Result, Ok, Err, ◌⊎◌, inl, inr}
 use Rattle.std.specs.Prelude.{if◌then◌else◌}
 use Rattle.std.proofs.lemmas.Bool.Decides.{nat_tests}
 use Rattle.ar_lines.specs.declared.refusal.Reason.{Reason}
@@ -8,11 +8,14 @@ use Rattle.ar_run.specs.declared.fault.Fault.{Fault}
 use Rattle.owner_check.specs.declared.answer.Outcome.{Outcome}
 use Rattle.owner_check.specs.declared.answer.Outcome.TheVariants.{Failed}
 use Rattle.script_text.specs.Rows.{read_of}
+use Rattle.script_text.specs.declared.line.EventLine.{EventLine}
+use Rattle.script_text.specs.declared.line.EventLine.TheVariants as event
 use Rattle.script_text.specs.declared.line.Line.{Line}
+use Rattle.script_text.specs.declared.line.SetupLine.{SetupLine}
 use Rattle.script_text.specs.declared.line.Line.TheVariants as line
 use Rattle.ar_world.specs.Run.{Progress, follows, line_taken, most_lines, progress_of, refusing, taken, taken_as, unmoved}
 use Rattle.ar_world.specs.State.{World}
-use Rattle.ar_world.specs.Step.{effect, step}
+use Rattle.ar_world.specs.Step.{event_effect, step}
 use Rattle.ar_world.specs.declared.cause.Cause.{Cause}
 use Rattle.ar_world.specs.declared.cause.Cause.TheVariants.{Unread}
 use Rattle.script_play.specs.Counts.{counted_from}
@@ -33,9 +36,16 @@ follow-none faults wrote a s l none = record {
   plays = subst (λ (p : Progress). PlaysPart faults wrote a a s s p (Ok None)) (sym (none (λ _. Failed) s.world)) (plays-nothing faults wrote a s);
 }
 
-pub follows-none : (l : Line) → (l ≡ line.Flush → ⊥) → (says : ℕ → Outcome) (w : World) → follows says l w ≡ unmoved w
-follows-none line.Flush other says w = absurd (other refl)
+pub follows-none : (e : EventLine) → (e ≡ event.Flush → ⊥) → (says : ℕ → Outcome) (w : World) → follows says (line.Event e) w ≡ unmoved w
+follows-none event.Flush other says w = absurd (other refl)
 follows-none _ other says w = refl
+
+-- nor does anything follow a line of another kind
+pub plain-none : (l : Line) → ((x : SetupLine) × (l ≡ line.Setup x)) ⊎ ((l ≡ line.Burst) ⊎ (l ≡ line.End))
+    → (says : ℕ → Outcome) (w : World) → follows says l w ≡ unmoved w
+plain-none l (inl setup) says w = ap (λ (l : Line). follows says l w) setup.1
+plain-none l (inr (inl burst)) says w = ap (λ (l : Line). follows says l w) burst
+plain-none l (inr (inr end)) says w = ap (λ (l : Line). follows says l w) end
 
 -- ---- a line, with what follows it
 
@@ -46,8 +56,8 @@ record Says (says : Outcome) (later : ℕ → Outcome) (l : Line) : Type 0 where
   behind : (w : World) → follows later l w ≡ follows all l w
 
 says-both : (says : Outcome) (later : ℕ → Outcome) (l : Line) → Says says later l
-unfolding effect
-says-both says later line.Flush = record { all = later; alone = λ w. refl; behind = λ w. refl }
+unfolding event_effect
+says-both says later (line.Event event.Flush) = record { all = later; alone = λ w. refl; behind = λ w. refl }
 says-both says later _ = record { all = λ _. says; alone = λ w. refl; behind = λ w. refl }
 
 abbrev pub Alone : {K : Type 0} → (K → ℕ) → (K → List ℕ → Type 0) → K → K → Stand → Stand → Line → Result (Option Cause) Fault → Type 0

@@ -7,10 +7,10 @@ use Rattle.ar_run.specs.Answers.{Answer}
 use Rattle.ar_run.specs.Answers as answers
 use Rattle.ar_run.specs.Runs.{TakesAll, most_bytes}
 use Rattle.ar_run.specs.declared.fault.Fault.{Fault}
-use Rattle.ar_world.specs.Run.{Run, Saying, lines_of_run, run}
+use Rattle.ar_world.specs.Run.{Run, Saying, lines_of_run, run, text_of_run}
 use Rattle.ar_world.specs.declared.cause.Cause.{Cause}
 use Rattle.arpki_ask.specs.Answers.{refused_line, too_long, unless_long}
-use Rattle.script_play.specs.Playing.{AppendedUpTo, Played, WritesUpTo, played_of, written_of}
+use Rattle.script_play.specs.Playing.{AppendedUpTo, Played, WritesUpTo, played_of}
 
 -- ---- a run
 
@@ -51,7 +51,7 @@ module _ {S : List ℕ → Type 0} (runs : (input : List ℕ) → S input → Ru
   pub record Plays {K : Type 0} (faults : K → ℕ) (wrote : K → List ℕ → Type 0) (old new : K) (input : List ℕ) (result : Result Played Fault) : Type 0 where
     pub choice : S input
     pub played : IfOk result (λ p. p ≡ played_of (runs input choice))
-    pub written : WritesUpTo faults wrote old new (written_of (runs input choice)) result
+    pub written : WritesUpTo faults wrote old new (text_of_run (runs input choice)) result
 
   -- An input was played, which may be too long: its answer by some choice was written whole, and the status is the answer's. Or
   -- memory ran out, or a write failed, and a front of the answer was written.

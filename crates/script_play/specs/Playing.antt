@@ -12,7 +12,7 @@ use Rattle.report_text.specs.declared.happening.Happening.{Happening}
 use Rattle.ar_nodes.specs.Parties.{CheckParts}
 use Rattle.script_text.specs.Rows.{read_of}
 use Rattle.script_text.specs.declared.line.Line.{Line}
-use Rattle.ar_world.specs.Run.{Course, Run, lines_of_run, most_lines, refused_lines}
+use Rattle.ar_world.specs.Run.{Course, Run, most_lines, refused_lines, text_of_run}
 use Rattle.ar_world.specs.State.{World, first_world}
 use Rattle.ar_world.specs.declared.cause.Cause.{Cause}
 use Rattle.ar_world.specs.declared.cause.Cause.TheVariants.{Untaken}
@@ -26,10 +26,6 @@ use Rattle.script_play.specs.declared.counts.Counts.{Counts}
 -- the bytes that are written of what happens, a line each
 abbrev pub told : List Happening → List ℕ
 told said = concat (map line_of said)
-
--- the bytes that are written of a run
-abbrev pub written_of : Run → List ℕ
-written_of r = concat (lines_of_run r)
 
 -- the sink wrote a front of these bytes, all of them or fewer
 pub record AppendedUpTo {K : Type 0} (wrote : K → List ℕ → Type 0) (old new : K) (bytes : List ℕ) : Type 0 where
@@ -98,7 +94,7 @@ refusal_told refusal = concat (refused_lines refusal)
 -- lines were played, up to the first that is refused, and that was told too
 pub record PlaysAll {K S : Type 0} (faults : K → ℕ) (wrote : K → List ℕ → Type 0) (old new : K) (before after : Stand) (run : S → Run) (result : Result (Option (ℕ × Cause)) Fault) : Type 0 where
   pub says : S
-  pub plays : PlaysAs written_of faults wrote old new before after (run says) result
+  pub plays : PlaysAs text_of_run faults wrote old new before after (run says) result
 
 -- ---- a script
 

@@ -36,7 +36,8 @@ impl<C: OwnerCheck> Stage<C> {
         message: u64,
         party: Party,
     ) -> Result<Option<Cause>, Fault>
-        ensures { PlaysSome K.faults K.wrote sink.old sink.new self.old self.new (λ (says : Outcome). progress_of self.old.world (deliver_line says self.old.world message party)) result }
+        ensures { PlaysSome K.faults K.wrote sink.old sink.new self.old self.new
+            (λ (says : Outcome). progress_of self.old.world (deliver_line says self.old.world message party)) result }
     {
         let made = self.world.deliver(alloc, message, party);
         tell_made(alloc, sink, &mut self.counts, made)
@@ -48,7 +49,8 @@ impl<C: OwnerCheck> Stage<C> {
         alloc: Global,
         sink: &mut K,
     ) -> Result<Option<Cause>, Fault>
-        ensures { PlaysSome K.faults K.wrote sink.old sink.new self.old self.new (λ (says : ℕ → Outcome). flushed most_deliveries says 0 self.old.world) result }
+        ensures { PlaysSome K.faults K.wrote sink.old sink.new self.old self.new
+            (λ (says : ℕ → Outcome). flushed most_deliveries says 0 self.old.world) result }
     {
         for _number in 0..MOST_DELIVERIES {
             let Some((message, party)) = self.next_due() else {

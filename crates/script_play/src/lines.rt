@@ -13,7 +13,7 @@ use ar_lines::Reason;
 use ar_run::Fault;
 use ar_world::Cause;
 use owner_check::OwnerCheck;
-use script_text::Line;
+use script_text::{EventLine, Line};
 use std::alloc::Global;
 
 /// The most lines of a script.
@@ -39,10 +39,27 @@ impl<C: OwnerCheck> Stage<C> {
         sink: &mut K,
         line: &Line,
     ) -> Result<Option<Cause>, Fault>
-        ensures { PlaysSome K.faults K.wrote sink.old sink.new self.old self.new (λ (says : Outcome). progress_of self.old.world (step says self.old.world line.now)) result }
+        ensures { PlaysSome K.faults K.wrote sink.old sink.new self.old self.new
+            (λ (says : Outcome). progress_of self.old.world (step says self.old.world line.now)) result }
     {
         let made = self.world.step(alloc, line);
         tell_made(alloc, sink, &mut self.counts, made)
+    }
+
+    /// Makes what follows an event.
+    fn follow_event<K: Sink>(
+        &mut self,
+        alloc: Global,
+        sink: &mut K,
+        event: &EventLine,
+    ) -> Result<Option<Cause>, Fault>
+        ensures { PlaysSome K.faults K.wrote sink.old sink.new self.old self.new
+            (λ (says : ℕ → Outcome). follows says (Line.Event event.now) self.old.world) result }
+    {
+        match event {
+            EventLine::Flush => self.flush(alloc, sink),
+            _ => Ok(None),
+        }
     }
 
     /// Makes what follows a line.
@@ -52,11 +69,12 @@ impl<C: OwnerCheck> Stage<C> {
         sink: &mut K,
         line: &Line,
     ) -> Result<Option<Cause>, Fault>
-        ensures { PlaysSome K.faults K.wrote sink.old sink.new self.old self.new (λ (says : ℕ → Outcome). follows says line.now self.old.world) result }
+        ensures { PlaysSome K.faults K.wrote sink.old sink.new self.old self.new
+            (λ (says : ℕ → Outcome). follows says line.now self.old.world) result }
     {
         match line {
-            Line::Flush => self.flush(alloc, sink),
-            _ => Ok(None),
+            Line::Event(event) => self.follow_event(alloc, sink, event),
+            Line::Setup(_) | Line::Burst | Line::End => Ok(None),
         }
     }
 
@@ -67,7 +85,8 @@ impl<C: OwnerCheck> Stage<C> {
         sink: &mut K,
         line: &Line,
     ) -> Result<Option<Cause>, Fault>
-        ensures { PlaysSome K.faults K.wrote sink.old sink.new self.old self.new (λ (says : ℕ → Outcome). taken says self.old.world line.now) result }
+        ensures { PlaysSome K.faults K.wrote sink.old sink.new self.old self.new
+            (λ (says : ℕ → Outcome). taken says self.old.world line.now) result }
     {
         match self.take_alone(alloc, sink, line)? {
             Some(cause) => Ok(Some(cause)),
@@ -86,7 +105,8 @@ impl<C: OwnerCheck> Stage<C> {
         sink: &mut K,
         read: Result<Option<Line>, Reason>,
     ) -> Result<Option<Cause>, Fault>
-        ensures { PlaysSome K.faults K.wrote sink.old sink.new self.old self.new (λ (says : ℕ → Outcome). taken_as says self.old.world read.entry) result }
+        ensures { PlaysSome K.faults K.wrote sink.old sink.new self.old self.new
+            (λ (says : ℕ → Outcome). taken_as says self.old.world read.entry) result }
     {
         match read {
             Ok(Some(line)) => self.take(alloc, sink, &line),
@@ -103,7 +123,8 @@ impl<C: OwnerCheck> Stage<C> {
         number: u64,
         text: &[u8],
     ) -> Result<Option<Cause>, Fault>
-        ensures { PlaysSome K.faults K.wrote sink.old sink.new self.old self.new (λ (says : ℕ → Outcome). line_taken says number self.old.world text.now) result }
+        ensures { PlaysSome K.faults K.wrote sink.old sink.new self.old self.new
+            (λ (says : ℕ → Outcome). line_taken says number self.old.world text.now) result }
     {
         self.take_read(alloc, sink, read_line(number, text))
     }

@@ -24,7 +24,8 @@ impl<C: OwnerCheck> Stage<C> {
         sink: &mut K,
         lines: &mut Lines,
     ) -> Result<Option<(u64, Cause)>, Fault>
-        ensures { PlaysSome K.faults K.wrote sink.old sink.new self.old self.new (λ saying. run_from saying lines.old.next self.old.world lines.old.ahead) result }
+        ensures { PlaysSome K.faults K.wrote sink.old sink.new self.old self.new
+            (λ saying. run_from saying lines.old.next self.old.world lines.old.ahead) result }
     {
         loop {
             let Ok(line) = lines.line() else {
@@ -45,7 +46,8 @@ impl<C: OwnerCheck> Stage<C> {
         sink: &mut K,
         input: &[u8],
     ) -> Result<Option<(u64, Cause)>, Fault>
-        ensures { PlaysAll K.faults K.wrote sink.old sink.new self.old self.new (λ saying. run_from saying 1 self.old.world (lines_of input.now)) result }
+        ensures { PlaysAll K.faults K.wrote sink.old sink.new self.old self.new
+            (λ saying. run_from saying 1 self.old.world (lines_of input.now)) result }
     {
         let refusal = self.take_lines(alloc, sink, &mut Lines::new(input))?;
         tell_refusal(alloc, sink, refusal)?;

@@ -17,11 +17,14 @@ use Rattle.ar_lines.proofs.PartyWords.{party_writes}
 use Rattle.ar_lines.proofs.Respelled.{number_in_writes, number_own, sized_writes}
 use Rattle.ar_statement.specs.declared.party.Role.TheVariants as role
 use Rattle.script_text.specs.Forms.{asks_of, binding_of, trusted_of}
-use Rattle.script_text.specs.Grammar.{Form, PolicyFields, Row, are_pieces, bound, five, five_words, four, four_words, is_skipped, line_by, line_with, no_words, one, one_word, pieces, plain, policy, policy_of, policy_words, some_line, some_words, three, three_words, two, two_words}
-use Rattle.script_text.specs.Rows.{read_of, row, table}
-use Rattle.script_text.specs.Written.{binding_word, list_word, policy_then, text_of_line, trusted_word, words_of_line}
+use Rattle.script_text.specs.Grammar.{Fields, Form, PolicyFields, Row, are_pieces, as_line, bound, five, five_words, four, four_words, is_skipped, line_by, line_with, no_words, one, one_word, pieces, plain, policy, policy_of, policy_words, some_line, some_words, three, three_words, two, two_words}
+use Rattle.script_text.specs.Rows.{event_row, read_of, row, setup_row, table}
+use Rattle.script_text.specs.Written.{binding_word, list_word, policy_then, text_of_line, trusted_word, words_of_event_line, words_of_line, words_of_setup_line}
+use Rattle.script_text.specs.declared.line.EventLine.{EventLine}
 use Rattle.script_text.specs.declared.line.Line.{Line}
+use Rattle.script_text.specs.declared.line.Line.TheVariants as line
 use Rattle.script_text.specs.declared.line.PolicyWords.{PolicyWords}
+use Rattle.script_text.specs.declared.line.SetupLine.{SetupLine}
 use Rattle.script_text.proofs.WordsWritten as words
 
 -- ---- what a chain of readings shows
@@ -102,68 +105,68 @@ some_are (a ∷ []) x h = absurd cc
 
 -- ---- rows
 
--- what a row reads is written as the words that it was read from
-abbrev RowWrites : Row → Type 0
-RowWrites row = (ws : List (List ℕ)) (line : Line) → row.fields ws ≡ Ok line → words_of_line line ≡ row.word ∷ ws
+-- what fields read is written as the words that it was read from
+abbrev FieldsWrite : {L : Type 0} → (L → List (List ℕ)) → List ℕ → Fields L → Type 0
+FieldsWrite {L = L} spelt word fields = (ws : List (List ℕ)) (line : L) → fields ws ≡ Ok line → spelt line ≡ word ∷ ws
 
 -- a row of this word
-plain_row : (word : List ℕ) (m : Line) → words_of_line m ≡ word ∷ [] → RowWrites (row word (plain m))
-plain_row word m written ws line h =
+plain_row : {L : Type 0} (spelt : L → List (List ℕ)) (word : List ℕ) (m : L) → spelt m ≡ word ∷ [] → FieldsWrite spelt word (plain m)
+plain_row spelt word m written ws line h =
     let none = bind_ok (no_words ws) _ line h in
-    ap words_of_line (sym (ok_is m line none.2)) ∙ written ∙ ap (λ l. word ∷ l) (sym (none_are ws none.0 none.1))
+    ap spelt (sym (ok_is m line none.2)) ∙ written ∙ ap (λ l. word ∷ l) (sym (none_are ws none.0 none.1))
 
-one_row : {A : Type 0} (word : List ℕ) (form : Form A) (write : A → List ℕ) (m : A → Line) → Writes form write → ((a : A) → words_of_line (m a) ≡ word ∷ write a ∷ []) → RowWrites (row word (one form m))
-one_row word form write m writes written ws line h =
+one_row : {A L : Type 0} (spelt : L → List (List ℕ)) (word : List ℕ) (form : Form A) (write : A → List ℕ) (m : A → L) → Writes form write → ((a : A) → spelt (m a) ≡ word ∷ write a ∷ []) → FieldsWrite spelt word (one form m)
+one_row spelt word form write m writes written ws line h =
     let all = bind_ok (one_word ws) _ line h in
     let a = field form write all.0 1 _ line writes all.2 in
-    ap words_of_line (sym (ok_is (m a.0) line a.2)) ∙ written a.0
+    ap spelt (sym (ok_is (m a.0) line a.2)) ∙ written a.0
     ∙ ap (λ x. word ∷ x ∷ []) a.1
     ∙ ap (λ l. word ∷ l) (sym (one_is ws all.0 all.1))
 
-two_row : {A B : Type 0} (word : List ℕ) (first : Form A) (second : Form B) (write : A → List ℕ) (other : B → List ℕ) (m : A → B → Line) → Writes first write → Writes second other → ((a : A) (b : B) → words_of_line (m a b) ≡ word ∷ write a ∷ other b ∷ []) → RowWrites (row word (two first second m))
-two_row word first second write other m writes others written ws line h =
+two_row : {A B L : Type 0} (spelt : L → List (List ℕ)) (word : List ℕ) (first : Form A) (second : Form B) (write : A → List ℕ) (other : B → List ℕ) (m : A → B → L) → Writes first write → Writes second other → ((a : A) (b : B) → spelt (m a b) ≡ word ∷ write a ∷ other b ∷ []) → FieldsWrite spelt word (two first second m)
+two_row spelt word first second write other m writes others written ws line h =
     let all = bind_ok (two_words ws) _ line h in
     let a = field first write all.0.0 1 _ line writes all.2 in
     let b = field second other all.0.1 2 _ line others a.2 in
-    ap words_of_line (sym (ok_is (m a.0 b.0) line b.2)) ∙ written a.0 b.0
+    ap spelt (sym (ok_is (m a.0 b.0) line b.2)) ∙ written a.0 b.0
     ∙ rw (a.1, b.1) (ap (λ l. word ∷ l) (sym (two_are ws all.0 all.1)))
 
-bound_row : {A B : Type 0} (word : List ℕ) (first : Form A) (second : A → Form B) (write : A → List ℕ) (other : B → List ℕ) (m : A → B → Line) → Writes first write → ((a : A) → Writes (second a) other) → ((a : A) (b : B) → words_of_line (m a b) ≡ word ∷ write a ∷ other b ∷ []) → RowWrites (row word (bound first second m))
-bound_row word first second write other m writes others written ws line h =
+bound_row : {A B L : Type 0} (spelt : L → List (List ℕ)) (word : List ℕ) (first : Form A) (second : A → Form B) (write : A → List ℕ) (other : B → List ℕ) (m : A → B → L) → Writes first write → ((a : A) → Writes (second a) other) → ((a : A) (b : B) → spelt (m a b) ≡ word ∷ write a ∷ other b ∷ []) → FieldsWrite spelt word (bound first second m)
+bound_row spelt word first second write other m writes others written ws line h =
     let all = bind_ok (two_words ws) _ line h in
     let a = field first write all.0.0 1 _ line writes all.2 in
     let b = field (second a.0) other all.0.1 2 _ line (others a.0) a.2 in
-    ap words_of_line (sym (ok_is (m a.0 b.0) line b.2)) ∙ written a.0 b.0
+    ap spelt (sym (ok_is (m a.0 b.0) line b.2)) ∙ written a.0 b.0
     ∙ rw (a.1, b.1) (ap (λ l. word ∷ l) (sym (two_are ws all.0 all.1)))
 
-three_row : {A B C : Type 0} (word : List ℕ) (first : Form A) (second : Form B) (third : Form C) (wa : A → List ℕ) (wb : B → List ℕ) (wc : C → List ℕ) (m : A → B → C → Line) → Writes first wa → Writes second wb → Writes third wc → ((a : A) (b : B) (c : C) → words_of_line (m a b c) ≡ word ∷ wa a ∷ wb b ∷ wc c ∷ []) → RowWrites (row word (three first second third m))
-three_row word first second third wa wb wc m ha hb hc written ws line h =
+three_row : {A B C L : Type 0} (spelt : L → List (List ℕ)) (word : List ℕ) (first : Form A) (second : Form B) (third : Form C) (wa : A → List ℕ) (wb : B → List ℕ) (wc : C → List ℕ) (m : A → B → C → L) → Writes first wa → Writes second wb → Writes third wc → ((a : A) (b : B) (c : C) → spelt (m a b c) ≡ word ∷ wa a ∷ wb b ∷ wc c ∷ []) → FieldsWrite spelt word (three first second third m)
+three_row spelt word first second third wa wb wc m ha hb hc written ws line h =
     let all = bind_ok (three_words ws) _ line h in
     let a = field first wa all.0.0 1 _ line ha all.2 in
     let b = field second wb all.0.1 2 _ line hb a.2 in
     let c = field third wc all.0.2 3 _ line hc b.2 in
-    ap words_of_line (sym (ok_is (m a.0 b.0 c.0) line c.2)) ∙ written a.0 b.0 c.0
+    ap spelt (sym (ok_is (m a.0 b.0 c.0) line c.2)) ∙ written a.0 b.0 c.0
     ∙ rw (a.1, b.1, c.1) (ap (λ l. word ∷ l) (sym (three_are ws all.0 all.1)))
 
-four_row : {A B C D : Type 0} (word : List ℕ) (first : Form A) (second : Form B) (third : Form C) (fourth : Form D) (wa : A → List ℕ) (wb : B → List ℕ) (wc : C → List ℕ) (wd : D → List ℕ) (m : A → B → C → D → Line) → Writes first wa → Writes second wb → Writes third wc → Writes fourth wd → ((a : A) (b : B) (c : C) (d : D) → words_of_line (m a b c d) ≡ word ∷ wa a ∷ wb b ∷ wc c ∷ wd d ∷ []) → RowWrites (row word (four first second third fourth m))
-four_row word first second third fourth wa wb wc wd m ha hb hc hd written ws line h =
+four_row : {A B C D L : Type 0} (spelt : L → List (List ℕ)) (word : List ℕ) (first : Form A) (second : Form B) (third : Form C) (fourth : Form D) (wa : A → List ℕ) (wb : B → List ℕ) (wc : C → List ℕ) (wd : D → List ℕ) (m : A → B → C → D → L) → Writes first wa → Writes second wb → Writes third wc → Writes fourth wd → ((a : A) (b : B) (c : C) (d : D) → spelt (m a b c d) ≡ word ∷ wa a ∷ wb b ∷ wc c ∷ wd d ∷ []) → FieldsWrite spelt word (four first second third fourth m)
+four_row spelt word first second third fourth wa wb wc wd m ha hb hc hd written ws line h =
     let all = bind_ok (four_words ws) _ line h in
     let a = field first wa all.0.0 1 _ line ha all.2 in
     let b = field second wb all.0.1 2 _ line hb a.2 in
     let c = field third wc all.0.2 3 _ line hc b.2 in
     let d = field fourth wd all.0.3 4 _ line hd c.2 in
-    ap words_of_line (sym (ok_is (m a.0 b.0 c.0 d.0) line d.2)) ∙ written a.0 b.0 c.0 d.0
+    ap spelt (sym (ok_is (m a.0 b.0 c.0 d.0) line d.2)) ∙ written a.0 b.0 c.0 d.0
     ∙ rw (a.1, b.1, c.1, d.1) (ap (λ l. word ∷ l) (sym (four_are ws all.0 all.1)))
 
-five_row : {A B C D E : Type 0} (word : List ℕ) (first : Form A) (second : Form B) (third : Form C) (fourth : Form D) (fifth : Form E) (wa : A → List ℕ) (wb : B → List ℕ) (wc : C → List ℕ) (wd : D → List ℕ) (we : E → List ℕ) (m : A → B → C → D → E → Line) → Writes first wa → Writes second wb → Writes third wc → Writes fourth wd → Writes fifth we → ((a : A) (b : B) (c : C) (d : D) (e : E) → words_of_line (m a b c d e) ≡ word ∷ wa a ∷ wb b ∷ wc c ∷ wd d ∷ we e ∷ []) → RowWrites (row word (five first second third fourth fifth m))
-five_row word first second third fourth fifth wa wb wc wd we m ha hb hc hd he written ws line h =
+five_row : {A B C D E L : Type 0} (spelt : L → List (List ℕ)) (word : List ℕ) (first : Form A) (second : Form B) (third : Form C) (fourth : Form D) (fifth : Form E) (wa : A → List ℕ) (wb : B → List ℕ) (wc : C → List ℕ) (wd : D → List ℕ) (we : E → List ℕ) (m : A → B → C → D → E → L) → Writes first wa → Writes second wb → Writes third wc → Writes fourth wd → Writes fifth we → ((a : A) (b : B) (c : C) (d : D) (e : E) → spelt (m a b c d e) ≡ word ∷ wa a ∷ wb b ∷ wc c ∷ wd d ∷ we e ∷ []) → FieldsWrite spelt word (five first second third fourth fifth m)
+five_row spelt word first second third fourth fifth wa wb wc wd we m ha hb hc hd he written ws line h =
     let all = bind_ok (five_words ws) _ line h in
     let a = field first wa all.0.0 1 _ line ha all.2 in
     let b = field second wb all.0.1 2 _ line hb a.2 in
     let c = field third wc all.0.2 3 _ line hc b.2 in
     let d = field fourth wd all.0.3 4 _ line hd c.2 in
     let e = field fifth we all.0.4 5 _ line he d.2 in
-    ap words_of_line (sym (ok_is (m a.0 b.0 c.0 d.0 e.0) line e.2)) ∙ written a.0 b.0 c.0 d.0 e.0
+    ap spelt (sym (ok_is (m a.0 b.0 c.0 d.0 e.0) line e.2)) ∙ written a.0 b.0 c.0 d.0 e.0
     ∙ rw (a.1, b.1, c.1, d.1, e.1) (ap (λ l. word ∷ l) (sym (five_are ws all.0 all.1)))
 
 policy_written : (p : PolicyFields) (terms : PolicyWords) (more : List (List ℕ)) → policy_of p ≡ Ok terms → policy_then terms more ≡ fields_then p more
@@ -178,23 +181,42 @@ policy_written p terms more h =
     ap (λ (x : PolicyWords). policy_then x more) (sym (ok_is made terms r.2))
     ∙ rw (t.1, k.1, m.1, u.1, r.1) refl
 
-policy_row : {A B : Type 0} (word : List ℕ) (first : Form A) (second : Form B) (wa : A → List ℕ) (wb : B → List ℕ) (m : A → B → PolicyWords → List ℕ → Line) → Writes first wa → Writes second wb → ((a : A) (b : B) (p : PolicyWords) (asks : List ℕ) → words_of_line (m a b p asks) ≡ word ∷ wa a ∷ wb b ∷ policy_then p (list_word asks ∷ [])) → RowWrites (row word (policy first second m))
-policy_row word first second wa wb m ha hb written ws line h =
+policy_row : {A B L : Type 0} (spelt : L → List (List ℕ)) (word : List ℕ) (first : Form A) (second : Form B) (wa : A → List ℕ) (wb : B → List ℕ) (m : A → B → PolicyWords → List ℕ → L) → Writes first wa → Writes second wb → ((a : A) (b : B) (p : PolicyWords) (asks : List ℕ) → spelt (m a b p asks) ≡ word ∷ wa a ∷ wb b ∷ policy_then p (list_word asks ∷ [])) → FieldsWrite spelt word (policy first second m)
+policy_row spelt word first second wa wb m ha hb written ws line h =
     let all = bind_ok (policy_words ws) _ line h in
     let a = field first wa all.0.0 1 _ line ha all.2 in
     let b = field second wb all.0.1 2 _ line hb a.2 in
     let p = bind_ok (policy_of all.0.2) _ line b.2 in
     let c = field asks_of list_word all.0.3 8 _ line words.asks_writes p.2 in
-    ap words_of_line (sym (ok_is (m a.0 b.0 p.0 c.0) line c.2)) ∙ written a.0 b.0 p.0 c.0
+    ap spelt (sym (ok_is (m a.0 b.0 p.0 c.0) line c.2)) ∙ written a.0 b.0 p.0 c.0
     ∙ rw (a.1, b.1, policy_written all.0.2 p.0 (list_word c.0 ∷ []) p.1, c.1) (ap (λ l. word ∷ l) (sym (policy_are ws all.0 all.1)))
 
-pieces_row : {A : Type 0} (word : List ℕ) (first : Form A) (wa : A → List ℕ) (m : A → List (List ℕ) → Line) → Writes first wa → ((a : A) (ps : List (List ℕ)) → words_of_line (m a ps) ≡ word ∷ wa a ∷ ps) → RowWrites (row word (pieces first m))
-pieces_row word first wa m ha written ws line h =
+pieces_row : {A L : Type 0} (spelt : L → List (List ℕ)) (word : List ℕ) (first : Form A) (wa : A → List ℕ) (m : A → List (List ℕ) → L) → Writes first wa → ((a : A) (ps : List (List ℕ)) → spelt (m a ps) ≡ word ∷ wa a ∷ ps) → FieldsWrite spelt word (pieces first m)
+pieces_row spelt word first wa m ha written ws line h =
     let all = bind_ok (some_words ws) _ line h in
     let a = field first wa all.0.0 1 _ line ha all.2 in
     let right = bind_ok (are_pieces 2 all.0.1) _ line a.2 in
-    ap words_of_line (sym (ok_is (m a.0 all.0.1) line right.2)) ∙ written a.0 all.0.1
+    ap spelt (sym (ok_is (m a.0 all.0.1) line right.2)) ∙ written a.0 all.0.1
     ∙ rw a.1 (ap (λ l. word ∷ l) (sym (some_are ws all.0 all.1)))
+
+-- what a row reads is written as the words that it was read from
+abbrev RowWrites : Row → Type 0
+RowWrites row = FieldsWrite words_of_line row.word row.fields
+
+-- so it is where its fields read a line of one kind
+kind_writes : {L : Type 0} (spelt : L → List (List ℕ)) (kind : L → Line) (word : List ℕ) (fields : Fields L) → ((l : L) → words_of_line (kind l) ≡ spelt l) → FieldsWrite spelt word fields
+    → RowWrites (row word (λ ws. as_line kind (fields ws)))
+kind_writes {L} spelt kind word fields same writes ws line h = by (fields ws) refl h
+  where
+    by : (r : Result L Reason) → fields ws ≡ r → as_line kind r ≡ Ok line → words_of_line line ≡ word ∷ ws
+    by (Ok l) is h = ap words_of_line (sym (ok_is (kind l) line h)) ∙ same l ∙ writes ws l is
+    by (Err reason) is h = absurd cc
+
+setup_writes : (word : List ℕ) (fields : Fields SetupLine) → FieldsWrite words_of_setup_line word fields → RowWrites (setup_row word fields)
+setup_writes word fields writes = kind_writes words_of_setup_line line.Setup word fields (λ l. refl) writes
+
+event_writes : (word : List ℕ) (fields : Fields EventLine) → FieldsWrite words_of_event_line word fields → RowWrites (event_row word fields)
+event_writes word fields writes = kind_writes words_of_event_line line.Event word fields (λ l. refl) writes
 
 -- ---- the table
 
@@ -204,58 +226,58 @@ AllWrite (row ∷ more) = RowWrites row × AllWrite more
 
 table_writes : AllWrite table
 table_writes = (
-  one_row _ _ _ _ (sized_writes 32) (λ a. refl),
+  setup_writes _ _ (one_row _ _ _ _ _ (sized_writes 32) (λ a. refl)),
   (
-    bound_row _ _ _ _ _ _ words.lms_writes words.ots_writes (λ a b. refl),
+    setup_writes _ _ (bound_row _ _ _ _ _ _ _ words.lms_writes words.ots_writes (λ a b. refl)),
     (
-      bound_row _ _ _ _ _ _ words.party_count_writes words.quorum_writes (λ a b. refl),
+      setup_writes _ _ (bound_row _ _ _ _ _ _ _ words.party_count_writes words.quorum_writes (λ a b. refl)),
       (
-        one_row _ _ _ _ words.party_count_writes (λ a. refl),
+        setup_writes _ _ (one_row _ _ _ _ _ words.party_count_writes (λ a. refl)),
         (
-          one_row _ _ _ _ words.witness_writes (λ a. refl),
+          setup_writes _ _ (one_row _ _ _ _ _ words.witness_writes (λ a. refl)),
           (
-            one_row _ _ _ _ words.new_owner_writes (λ a. refl),
+            event_writes _ _ (one_row _ _ _ _ _ words.new_owner_writes (λ a. refl)),
             (
-              three_row _ _ _ _ _ _ _ _ (words.member_writes role.Authority) words.name_writes (words.member_writes role.Owner) (λ a b c. refl),
+              event_writes _ _ (three_row _ _ _ _ _ _ _ _ _ (words.member_writes role.Authority) words.name_writes (words.member_writes role.Owner) (λ a b c. refl)),
               (
-                three_row _ _ _ _ _ _ _ _ (words.member_writes role.Authority) words.name_writes (words.member_writes role.Owner) (λ a b c. refl),
+                event_writes _ _ (three_row _ _ _ _ _ _ _ _ _ (words.member_writes role.Authority) words.name_writes (words.member_writes role.Owner) (λ a b c. refl)),
                 (
-                  one_row _ _ _ _ (words.member_writes role.Authority) (λ a. refl),
+                  event_writes _ _ (one_row _ _ _ _ _ (words.member_writes role.Authority) (λ a. refl)),
                   (
-                    policy_row _ _ _ _ _ _ (words.member_writes role.Owner) words.name_writes (λ a b p asks. refl),
+                    event_writes _ _ (policy_row _ _ _ _ _ _ _ (words.member_writes role.Owner) words.name_writes (λ a b p asks. refl)),
                     (
-                      policy_row _ _ _ _ _ _ (words.member_writes role.Owner) number_own (λ a b p asks. refl),
+                      event_writes _ _ (policy_row _ _ _ _ _ _ _ (words.member_writes role.Owner) number_own (λ a b p asks. refl)),
                       (
-                        three_row _ _ _ _ _ _ _ _ (words.member_writes role.Owner) number_own words.asks_writes (λ a b c. refl),
+                        event_writes _ _ (three_row _ _ _ _ _ _ _ _ _ (words.member_writes role.Owner) number_own words.asks_writes (λ a b c. refl)),
                         (
-                          two_row _ _ _ _ _ _ (words.member_writes role.Owner) number_own (λ a b. refl),
+                          event_writes _ _ (two_row _ _ _ _ _ _ _ (words.member_writes role.Owner) number_own (λ a b. refl)),
                           (
-                            two_row _ _ _ _ _ _ (words.member_writes role.Owner) number_own (λ a b. refl),
+                            event_writes _ _ (two_row _ _ _ _ _ _ _ (words.member_writes role.Owner) number_own (λ a b. refl)),
                             (
-                              one_row _ _ _ _ number_own (λ a. refl),
+                              event_writes _ _ (one_row _ _ _ _ _ number_own (λ a. refl)),
                               (
-                                one_row _ _ _ _ (words.member_writes role.LogServer) (λ a. refl),
+                                event_writes _ _ (one_row _ _ _ _ _ (words.member_writes role.LogServer) (λ a. refl)),
                                 (
-                                  one_row _ _ _ _ (words.member_writes role.LogServer) (λ a. refl),
+                                  event_writes _ _ (one_row _ _ _ _ _ (words.member_writes role.LogServer) (λ a. refl)),
                                   (
-                                    one_row _ _ _ _ words.witness_writes (λ a. refl),
+                                    event_writes _ _ (one_row _ _ _ _ _ words.witness_writes (λ a. refl)),
                                     (
-                                      one_row _ _ _ _ number_own (λ a. refl),
+                                      event_writes _ _ (one_row _ _ _ _ _ number_own (λ a. refl)),
                                       (
-                                        five_row _ _ _ _ _ _ _ _ _ _ _ _ (words.member_writes role.LogServer) words.name_writes (words.member_writes role.Authority) (words.member_writes role.Authority) (words.member_writes role.Client) (λ a b c d e. refl),
+                                        event_writes _ _ (five_row _ _ _ _ _ _ _ _ _ _ _ _ _ (words.member_writes role.LogServer) words.name_writes (words.member_writes role.Authority) (words.member_writes role.Authority) (words.member_writes role.Client) (λ a b c d e. refl)),
                                         (
-                                          two_row _ _ _ _ _ _ number_own party_writes (λ a b. refl),
+                                          event_writes _ _ (two_row _ _ _ _ _ _ _ number_own party_writes (λ a b. refl)),
                                           (
-                                            plain_row _ _ refl,
+                                            event_writes _ _ (plain_row _ _ _ refl),
                                             (
-                                              four_row _ _ _ _ _ _ _ _ _ _ words.judged_writes words.name_writes (number_in_writes 1 0xffff_ffff_ffff_ffff) number_own (λ a b c d. refl),
+                                              event_writes _ _ (four_row _ _ _ _ _ _ _ _ _ _ _ words.judged_writes words.name_writes (number_in_writes 1 0xffff_ffff_ffff_ffff) number_own (λ a b c d. refl)),
                                               (
-                                                pieces_row _ _ _ _ party_writes (λ a ps. refl),
+                                                event_writes _ _ (pieces_row _ _ _ _ _ party_writes (λ a ps. refl)),
                                                 (
-                                                  pieces_row _ _ _ _ words.receiver_writes (λ a ps. refl),
+                                                  event_writes _ _ (pieces_row _ _ _ _ _ words.receiver_writes (λ a ps. refl)),
                                                   (
-                                                    plain_row _ _ refl,
-                                                    (plain_row _ _ refl, tt),
+                                                    plain_row _ _ _ refl,
+                                                    (plain_row _ _ _ refl, tt),
                                                   ),
                                                 ),
                                               ),

@@ -17,13 +17,17 @@ abbrev pub Form : Type 0 → Type 0
 Form T = List ℕ → Option T
 
 -- what the words behind the first of a line mean, or why they are refused
-abbrev pub Fields : Type 0
-Fields = List (List ℕ) → Result Line Reason
+abbrev pub Fields : Type 0 → Type 0
+Fields L = List (List ℕ) → Result L Reason
 
 -- a row of the table of lines: the first word, and what the words behind it mean
 pub record Row : Type 0 where
   pub word : List ℕ
-  pub fields : Fields
+  pub fields : Fields Line
+
+-- a line of one kind, as a line
+abbrev pub as_line : {L : Type 0} → (L → Line) → Result L Reason → Result Line Reason
+as_line kind read = result_map_both kind (λ reason. reason) read
 
 -- ---- so many words, and no others
 
@@ -73,20 +77,20 @@ some_words words = Err Words
 -- ---- fields: so many words, each of its form, and what they mean together
 
 -- no field
-abbrev pub plain : Line → Fields
+abbrev pub plain : {L : Type 0} → L → Fields L
 plain line words = do
   none ← no_words words
   Ok line
 
 -- one field
-abbrev pub one : {A : Type 0} → Form A → (A → Line) → Fields
+abbrev pub one : {A L : Type 0} → Form A → (A → L) → Fields L
 one first meaning words = do
   word ← one_word words
   a ← ok_or (first word) (Field 1)
   Ok (meaning a)
 
 -- two fields
-abbrev pub two : {A B : Type 0} → Form A → Form B → (A → B → Line) → Fields
+abbrev pub two : {A B L : Type 0} → Form A → Form B → (A → B → L) → Fields L
 two first second meaning words = do
   pair ← two_words words
   a ← ok_or (first pair.0) (Field 1)
@@ -94,7 +98,7 @@ two first second meaning words = do
   Ok (meaning a b)
 
 -- two fields, where the first says of which form the second is
-abbrev pub bound : {A B : Type 0} → Form A → (A → Form B) → (A → B → Line) → Fields
+abbrev pub bound : {A B L : Type 0} → Form A → (A → Form B) → (A → B → L) → Fields L
 bound first second meaning words = do
   pair ← two_words words
   a ← ok_or (first pair.0) (Field 1)
@@ -102,7 +106,7 @@ bound first second meaning words = do
   Ok (meaning a b)
 
 -- three fields
-abbrev pub three : {A B C : Type 0} → Form A → Form B → Form C → (A → B → C → Line) → Fields
+abbrev pub three : {A B C L : Type 0} → Form A → Form B → Form C → (A → B → C → L) → Fields L
 three first second third meaning words = do
   all ← three_words words
   a ← ok_or (first all.0) (Field 1)
@@ -111,7 +115,7 @@ three first second third meaning words = do
   Ok (meaning a b c)
 
 -- four fields
-abbrev pub four : {A B C D : Type 0} → Form A → Form B → Form C → Form D → (A → B → C → D → Line) → Fields
+abbrev pub four : {A B C D L : Type 0} → Form A → Form B → Form C → Form D → (A → B → C → D → L) → Fields L
 four first second third fourth meaning words = do
   all ← four_words words
   a ← ok_or (first all.0) (Field 1)
@@ -121,7 +125,7 @@ four first second third fourth meaning words = do
   Ok (meaning a b c d)
 
 -- five fields
-abbrev pub five : {A B C D E : Type 0} → Form A → Form B → Form C → Form D → Form E → (A → B → C → D → E → Line) → Fields
+abbrev pub five : {A B C D E L : Type 0} → Form A → Form B → Form C → Form D → Form E → (A → B → C → D → E → L) → Fields L
 five first second third fourth fifth meaning words = do
   all ← five_words words
   a ← ok_or (first all.0) (Field 1)
@@ -143,7 +147,7 @@ policy_of words = do
   Ok (record { threshold = threshold; keyed = binding.0; max_age = max_age; until = until; trusted = trusted; wait = binding.1 })
 
 -- two fields, those of a policy, and the authorities that are asked
-abbrev pub policy : {A B : Type 0} → Form A → Form B → (A → B → PolicyWords → List ℕ → Line) → Fields
+abbrev pub policy : {A B L : Type 0} → Form A → Form B → (A → B → PolicyWords → List ℕ → L) → Fields L
 policy first second meaning words = do
   all ← policy_words words
   a ← ok_or (first all.0) (Field 1)
@@ -158,7 +162,7 @@ are_pieces number [] = Ok tt
 are_pieces number (word ∷ more) = if is_piece word then are_pieces (number + 1) more else Err (Field number)
 
 -- one field, and pieces
-abbrev pub pieces : {A : Type 0} → Form A → (A → List (List ℕ) → Line) → Fields
+abbrev pub pieces : {A L : Type 0} → Form A → (A → List (List ℕ) → L) → Fields L
 pieces first meaning words = do
   all ← some_words words
   a ← ok_or (first all.0) (Field 1)
@@ -168,7 +172,7 @@ pieces first meaning words = do
 -- ---- lines
 
 -- the line of this first word and those behind it, by the row that has the word
-abbrev pub line_by : List Row → List ℕ → Fields
+abbrev pub line_by : List Row → List ℕ → Fields Line
 line_by [] word words = Err Word
 line_by (row ∷ rows) word words = if bytes_eq word row.word then row.fields words else line_by rows word words
 

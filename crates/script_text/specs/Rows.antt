@@ -9,15 +9,27 @@ use Rattle.ar_lines.specs.declared.refusal.Reason.TheVariants.{Text}
 use Rattle.ar_statement.specs.declared.party.Role.TheVariants as role
 use Rattle.ar_lines.specs.Parties.{party_of}
 use Rattle.script_text.specs.Forms.{asks_of, judged_of, lms_of, new_owner_of, number_with, ots_of, party_count_of, quorum_of, receiver_of, witness_of}
-use Rattle.script_text.specs.Grammar.{Fields, Row, bound, five, four, is_skipped, line_with, one, pieces, plain, policy, some_line, three, two}
+use Rattle.script_text.specs.Grammar.{Fields, Row, as_line, bound, five, four, is_skipped, line_with, one, pieces, plain, policy, some_line, three, two}
 use Rattle.script_text.specs.declared.keyword.Keyword.{Keyword}
 use Rattle.script_text.specs.declared.keyword.Keyword.TheVariants as keyword
+use Rattle.script_text.specs.declared.line.EventLine.{EventLine}
+use Rattle.script_text.specs.declared.line.EventLine.TheVariants as event
 use Rattle.script_text.specs.declared.line.Line.{Line}
 use Rattle.script_text.specs.declared.line.Line.TheVariants as line
+use Rattle.script_text.specs.declared.line.SetupLine.{SetupLine}
+use Rattle.script_text.specs.declared.line.SetupLine.TheVariants as setup
 
 -- a row
-abbrev pub row : List ℕ → Fields → Row
+abbrev pub row : List ℕ → Fields Line → Row
 row word fields = record { word = word; fields = fields }
+
+-- a row of the setup
+abbrev pub setup_row : List ℕ → Fields SetupLine → Row
+setup_row word fields = row word (λ words. as_line line.Setup (fields words))
+
+-- a row of what happens
+abbrev pub event_row : List ℕ → Fields EventLine → Row
+event_row word fields = row word (λ words. as_line line.Event (fields words))
 
 -- the number of a log, of an authority, of an owner, of a client
 abbrev pub log_of : List ℕ → Option ℕ
@@ -36,113 +48,113 @@ client_of = number_with role.Client
 
 -- `secret <64 hex>`: the secret of which the keys of all parties are made
 abbrev pub secret : Row
-secret = row (codes "secret") (one (sized_of_hex 32) line.Secret)
+secret = setup_row (codes "secret") (one (sized_of_hex 32) setup.Secret)
 
 -- `keys <lms> <ots>`: the types of the keys of logs and authorities
 abbrev pub keys : Row
-keys = row (codes "keys") (bound lms_of ots_of line.Keys)
+keys = setup_row (codes "keys") (bound lms_of ots_of setup.Keys)
 
 -- `logs <N> <q>`: so many logs, and how many make a quorum
 abbrev pub logs : Row
-logs = row (codes "logs") (bound party_count_of quorum_of line.Logs)
+logs = setup_row (codes "logs") (bound party_count_of quorum_of setup.Logs)
 
 -- `authorities <M>`: so many authorities
 abbrev pub authorities : Row
-authorities = row (codes "authorities") (one party_count_of line.Authorities)
+authorities = setup_row (codes "authorities") (one party_count_of setup.Authorities)
 
 -- `dishonest <L or A>`: the party is dishonest from here on
 abbrev pub dishonest : Row
-dishonest = row (codes "dishonest") (one witness_of line.Dishonest)
+dishonest = setup_row (codes "dishonest") (one witness_of setup.Dishonest)
 
 -- ---- owners, and what authorities know of them
 
 -- `owner <D>`: a new owner
 abbrev pub owner : Row
-owner = row (codes "owner") (one new_owner_of line.Owner)
+owner = event_row (codes "owner") (one new_owner_of event.Owner)
 
 -- `teach <A> <name> <D>`: the check of the authority learns that the name is the owner's
 abbrev pub teach : Row
-teach = row (codes "teach") (three authority_of name_of owner_of line.Teach)
+teach = event_row (codes "teach") (three authority_of name_of owner_of event.Teach)
 
 -- `forget <A> <name> <D>`: the check of the authority forgets it
 abbrev pub forget : Row
-forget = row (codes "forget") (three authority_of name_of owner_of line.Forget)
+forget = event_row (codes "forget") (three authority_of name_of owner_of event.Forget)
 
 -- `retire <A>`: the authority drops its check
 abbrev pub retire : Row
-retire = row (codes "retire") (one authority_of line.Retire)
+retire = event_row (codes "retire") (one authority_of event.Retire)
 
 -- ---- drafts of certificates
 
 -- `register <D> <name> <policy> <asks>`: the owner drafts the first certificate of a name
 abbrev pub register : Row
-register = row (codes "register") (policy owner_of name_of line.Register)
+register = event_row (codes "register") (policy owner_of name_of event.Register)
 
 -- `update <D> <c> <policy> <asks>`: the owner drafts the certificate behind draft c
 abbrev pub update : Row
-update = row (codes "update") (policy owner_of number_of line.Update)
+update = event_row (codes "update") (policy owner_of number_of event.Update)
 
 -- `revoke <D> <c> <asks>`: the owner drafts the one behind draft c by which its name is revoked
 abbrev pub revoke : Row
-revoke = row (codes "revoke") (three owner_of number_of asks_of line.Revoke)
+revoke = event_row (codes "revoke") (three owner_of number_of asks_of event.Revoke)
 
 -- `handover <D> <c>`: the owner hands its name over to draft c
 abbrev pub handover : Row
-handover = row (codes "handover") (two owner_of number_of line.Handover)
+handover = event_row (codes "handover") (two owner_of number_of event.Handover)
 
 -- `object <D> <c>`: the owner objects to draft c
 abbrev pub object : Row
-object = row (codes "object") (two owner_of number_of line.Object)
+object = event_row (codes "object") (two owner_of number_of event.Object)
 
 -- `submit <c>`: draft c is submitted to the logs
 abbrev pub submit : Row
-submit = row (codes "submit") (one number_of line.Submit)
+submit = event_row (codes "submit") (one number_of event.Submit)
 
 -- ---- orders to logs and authorities
 
 -- `propose <L>`
 abbrev pub propose : Row
-propose = row (codes "propose") (one log_of line.Propose)
+propose = event_row (codes "propose") (one log_of event.Propose)
 
 -- `pass <L>`
 abbrev pub pass : Row
-pass = row (codes "pass") (one log_of line.Pass)
+pass = event_row (codes "pass") (one log_of event.Pass)
 
 -- `roll <L or A>`: the party goes on to its next key
 abbrev pub roll : Row
-roll = row (codes "roll") (one witness_of line.Roll)
+roll = event_row (codes "roll") (one witness_of event.Roll)
 
 -- ---- messages and clients
 
 -- `learn <m>`: the clients' directory takes message m
 abbrev pub learn : Row
-learn = row (codes "learn") (one number_of line.Learn)
+learn = event_row (codes "learn") (one number_of event.Learn)
 
 -- `ask <L> <name> <A> <A> <C>`: the client asks the log for the name
 abbrev pub ask : Row
-ask = row (codes "ask") (five log_of name_of authority_of authority_of client_of line.Ask)
+ask = event_row (codes "ask") (five log_of name_of authority_of authority_of client_of event.Ask)
 
 -- `deliver <m> <party>`: message m goes to the party
 abbrev pub deliver : Row
-deliver = row (codes "deliver") (two number_of party_of line.Deliver)
+deliver = event_row (codes "deliver") (two number_of party_of event.Deliver)
 
 -- `flush`: all messages are delivered
 abbrev pub flush : Row
-flush = row (codes "flush") (plain line.Flush)
+flush = event_row (codes "flush") (plain event.Flush)
 
 -- `judge <m or last> <name> <now> <age>`: a client judges a message, in epoch `now` from 1 on
 abbrev pub judge : Row
-judge = row (codes "judge") (four judged_of name_of (number_in 1 0xffff_ffff_ffff_ffff) number_of line.Judge)
+judge = event_row (codes "judge") (four judged_of name_of (number_in 1 0xffff_ffff_ffff_ffff) number_of event.Judge)
 
 -- ---- bytes that are composed, and bursts
 
 -- `sign <party> <pieces>`: the dishonest party signs the bytes
 abbrev pub sign : Row
-sign = row (codes "sign") (pieces party_of line.Sign)
+sign = event_row (codes "sign") (pieces party_of event.Sign)
 
 -- `inject <party or logs> <pieces>`: the bytes become a message
 abbrev pub inject : Row
-inject = row (codes "inject") (pieces receiver_of line.Inject)
+inject = event_row (codes "inject") (pieces receiver_of event.Inject)
 
 -- `burst`: deliveries that many threads make begin
 abbrev pub burst : Row

@@ -6,9 +6,13 @@ use Rattle.hex.specs.Hex.{encode_lower}
 use Rattle.ar_lines.specs.Parties.{member_word, party_word}
 use Rattle.ar_statement.specs.declared.party.Party.{Party}
 use Rattle.ar_statement.specs.declared.party.Role.TheVariants as role
+use Rattle.script_text.specs.declared.line.EventLine.{EventLine}
+use Rattle.script_text.specs.declared.line.EventLine.TheVariants as event
 use Rattle.script_text.specs.declared.line.Line.{Line}
 use Rattle.script_text.specs.declared.line.Line.TheVariants as line
 use Rattle.script_text.specs.declared.line.PolicyWords.{PolicyWords}
+use Rattle.script_text.specs.declared.line.SetupLine.{SetupLine}
+use Rattle.script_text.specs.declared.line.SetupLine.TheVariants as setup
 
 -- ---- words
 
@@ -48,35 +52,43 @@ policy_then policy more =
     decimal policy.threshold ∷ binding_word (policy.keyed, policy.wait) ∷ decimal policy.max_age ∷ decimal policy.until
     ∷ trusted_word policy.trusted ∷ more
 
--- the words of a line
-abbrev pub words_of_line : Line → List (List ℕ)
-words_of_line (line.Secret secret) = codes "secret" ∷ encode_lower secret ∷ []
-words_of_line (line.Keys lms ots) = codes "keys" ∷ decimal lms ∷ decimal ots ∷ []
-words_of_line (line.Logs n q) = codes "logs" ∷ decimal n ∷ decimal q ∷ []
-words_of_line (line.Authorities m) = codes "authorities" ∷ decimal m ∷ []
-words_of_line (line.Dishonest party) = codes "dishonest" ∷ party_word party ∷ []
-words_of_line (line.Owner owner) = codes "owner" ∷ member_word role.Owner owner ∷ []
-words_of_line (line.Teach authority name owner) = codes "teach" ∷ member_word role.Authority authority ∷ name ∷ member_word role.Owner owner ∷ []
-words_of_line (line.Forget authority name owner) = codes "forget" ∷ member_word role.Authority authority ∷ name ∷ member_word role.Owner owner ∷ []
-words_of_line (line.Retire authority) = codes "retire" ∷ member_word role.Authority authority ∷ []
-words_of_line (line.Register owner name policy asks) = codes "register" ∷ member_word role.Owner owner ∷ name ∷ policy_then policy (list_word asks ∷ [])
-words_of_line (line.Update owner draft policy asks) = codes "update" ∷ member_word role.Owner owner ∷ decimal draft ∷ policy_then policy (list_word asks ∷ [])
-words_of_line (line.Revoke owner draft asks) = codes "revoke" ∷ member_word role.Owner owner ∷ decimal draft ∷ list_word asks ∷ []
-words_of_line (line.Handover owner draft) = codes "handover" ∷ member_word role.Owner owner ∷ decimal draft ∷ []
-words_of_line (line.Object owner draft) = codes "object" ∷ member_word role.Owner owner ∷ decimal draft ∷ []
-words_of_line (line.Submit draft) = codes "submit" ∷ decimal draft ∷ []
-words_of_line (line.Propose log) = codes "propose" ∷ member_word role.LogServer log ∷ []
-words_of_line (line.Pass log) = codes "pass" ∷ member_word role.LogServer log ∷ []
-words_of_line (line.Roll party) = codes "roll" ∷ party_word party ∷ []
-words_of_line (line.Learn message) = codes "learn" ∷ decimal message ∷ []
-words_of_line (line.Ask log name first second client) =
+-- the words of a line of the setup
+abbrev pub words_of_setup_line : SetupLine → List (List ℕ)
+words_of_setup_line (setup.Secret secret) = codes "secret" ∷ encode_lower secret ∷ []
+words_of_setup_line (setup.Keys lms ots) = codes "keys" ∷ decimal lms ∷ decimal ots ∷ []
+words_of_setup_line (setup.Logs n q) = codes "logs" ∷ decimal n ∷ decimal q ∷ []
+words_of_setup_line (setup.Authorities m) = codes "authorities" ∷ decimal m ∷ []
+words_of_setup_line (setup.Dishonest party) = codes "dishonest" ∷ party_word party ∷ []
+
+-- the words of a line of what happens
+abbrev pub words_of_event_line : EventLine → List (List ℕ)
+words_of_event_line (event.Owner owner) = codes "owner" ∷ member_word role.Owner owner ∷ []
+words_of_event_line (event.Teach authority name owner) = codes "teach" ∷ member_word role.Authority authority ∷ name ∷ member_word role.Owner owner ∷ []
+words_of_event_line (event.Forget authority name owner) = codes "forget" ∷ member_word role.Authority authority ∷ name ∷ member_word role.Owner owner ∷ []
+words_of_event_line (event.Retire authority) = codes "retire" ∷ member_word role.Authority authority ∷ []
+words_of_event_line (event.Register owner name policy asks) = codes "register" ∷ member_word role.Owner owner ∷ name ∷ policy_then policy (list_word asks ∷ [])
+words_of_event_line (event.Update owner draft policy asks) = codes "update" ∷ member_word role.Owner owner ∷ decimal draft ∷ policy_then policy (list_word asks ∷ [])
+words_of_event_line (event.Revoke owner draft asks) = codes "revoke" ∷ member_word role.Owner owner ∷ decimal draft ∷ list_word asks ∷ []
+words_of_event_line (event.Handover owner draft) = codes "handover" ∷ member_word role.Owner owner ∷ decimal draft ∷ []
+words_of_event_line (event.Object owner draft) = codes "object" ∷ member_word role.Owner owner ∷ decimal draft ∷ []
+words_of_event_line (event.Submit draft) = codes "submit" ∷ decimal draft ∷ []
+words_of_event_line (event.Propose log) = codes "propose" ∷ member_word role.LogServer log ∷ []
+words_of_event_line (event.Pass log) = codes "pass" ∷ member_word role.LogServer log ∷ []
+words_of_event_line (event.Roll party) = codes "roll" ∷ party_word party ∷ []
+words_of_event_line (event.Learn message) = codes "learn" ∷ decimal message ∷ []
+words_of_event_line (event.Ask log name first second client) =
     codes "ask" ∷ member_word role.LogServer log ∷ name ∷ member_word role.Authority first ∷ member_word role.Authority second
     ∷ member_word role.Client client ∷ []
-words_of_line (line.Deliver message party) = codes "deliver" ∷ decimal message ∷ party_word party ∷ []
-words_of_line line.Flush = codes "flush" ∷ []
-words_of_line (line.Judge message name now age) = codes "judge" ∷ judged_word message ∷ name ∷ decimal now ∷ decimal age ∷ []
-words_of_line (line.Sign party pieces) = codes "sign" ∷ party_word party ∷ pieces
-words_of_line (line.Inject to pieces) = codes "inject" ∷ receiver_word to ∷ pieces
+words_of_event_line (event.Deliver message party) = codes "deliver" ∷ decimal message ∷ party_word party ∷ []
+words_of_event_line event.Flush = codes "flush" ∷ []
+words_of_event_line (event.Judge message name now age) = codes "judge" ∷ judged_word message ∷ name ∷ decimal now ∷ decimal age ∷ []
+words_of_event_line (event.Sign party pieces) = codes "sign" ∷ party_word party ∷ pieces
+words_of_event_line (event.Inject to pieces) = codes "inject" ∷ receiver_word to ∷ pieces
+
+-- the words of a line
+abbrev pub words_of_line : Line → List (List ℕ)
+words_of_line (line.Setup l) = words_of_setup_line l
+words_of_line (line.Event l) = words_of_event_line l
 words_of_line line.Burst = codes "burst" ∷ []
 words_of_line line.End = codes "end" ∷ []
 

@@ -20,10 +20,9 @@ pub struct PolicyWords {
     pub wait: Option<u16>,
 }
 
-/// A line of a script. Numbers of parties are below 65536, and drafts and messages count from 1; that there is
-/// what a number names is not said here.
+/// A line of the setup. It leads to a phase of its own, and comes before all lines of other kinds.
 #[derive(Debug, Drop)]
-pub enum Line<'a> {
+pub enum SetupLine {
     /// The secret of which all keys are made.
     Secret {
         secret: [u8; 32],
@@ -51,6 +50,13 @@ pub enum Line<'a> {
     Dishonest {
         party: Party,
     },
+}
+
+/// A line of what happens between the parties, once they are there. Numbers of parties are below 65536, but for those of
+/// authorities that a certificate is sent to; drafts and messages count from 1. That there is what a number names is not said
+/// here.
+#[derive(Debug, Drop)]
+pub enum EventLine<'a> {
     /// A new owner, whose number is below 512.
     Owner {
         owner: u16,
@@ -162,6 +168,15 @@ pub enum Line<'a> {
         to: Option<Party>,
         pieces: Pieces<'a>,
     },
+}
+
+/// A line of a script.
+#[derive(Debug, Drop)]
+pub enum Line<'a> {
+    /// Says which parties there are.
+    Setup(SetupLine),
+    /// Has them do something.
+    Event(EventLine<'a>),
     /// Deliveries that many threads make begin.
     Burst,
     /// They end.

@@ -52,7 +52,7 @@ fn line_with<'a>(keyword: Keyword, words: Words<'a>) -> Result<Line<'a>, Reason>
         Keyword::Learn => rows::learn(words),
         Keyword::Ask => rows::ask(words),
         Keyword::Deliver => rows::deliver(words),
-        Keyword::Flush => plain(words, Line::Flush),
+        Keyword::Flush => rows::flush(words),
         Keyword::Judge => rows::judge(words),
         Keyword::Sign => rows::sign(words),
         Keyword::Inject => rows::inject(words),

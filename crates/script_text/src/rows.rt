@@ -1,5 +1,5 @@
 ghost use Rattle.std.specs.Prelude.{◌≡◌};
-ghost use Rattle.script_text.specs.Rows.{authority_of, client_of, log_of, owner_of, ask, authorities, deliver, dishonest, forget, handover, inject, judge, keys, learn, logs, object, owner, pass, propose, register, retire, revoke, roll, secret, sign, submit, teach, update};
+ghost use Rattle.script_text.specs.Rows.{authority_of, client_of, log_of, owner_of, ask, authorities, deliver, dishonest, flush, forget, handover, inject, judge, keys, learn, logs, object, owner, pass, propose, register, retire, revoke, roll, secret, sign, submit, teach, update};
 ghost use Rattle.script_text.specs.Grammar.{policy_of};
 
 use crate::binding::binding_of;
@@ -7,7 +7,7 @@ use crate::forms::{
     byte_of, judged_of, lms_of, new_owner_of, number_with, ots_of, party_count_of, quorum_of,
     receiver_of, short_of, witness_of,
 };
-use crate::line::{Line, PolicyWords};
+use crate::line::{EventLine, Line, PolicyWords, SetupLine};
 use crate::lists::{asks_of, trusted_of};
 use crate::pieces::pieces_of;
 use crate::words::{PolicyTexts, Words};
@@ -69,7 +69,7 @@ pub(crate) fn secret<'a>(words: Words<'a>) -> Result<Line<'a>, Reason>
 {
     let a = words.one()?;
     let secret = array_of_hex(a.text()).ok_or(Reason::Field(1))?;
-    Ok(Line::Secret { secret })
+    Ok(Line::Setup(SetupLine::Secret { secret }))
 }
 
 /// `keys <lms> <ots>`
@@ -79,7 +79,7 @@ pub(crate) fn keys<'a>(words: Words<'a>) -> Result<Line<'a>, Reason>
     let (a, b) = words.two()?;
     let lms = lms_of(a.text()).ok_or(Reason::Field(1))?;
     let ots = ots_of(lms, b.text()).ok_or(Reason::Field(2))?;
-    Ok(Line::Keys { lms, ots })
+    Ok(Line::Setup(SetupLine::Keys { lms, ots }))
 }
 
 /// `logs <N> <q>`
@@ -89,7 +89,7 @@ pub(crate) fn logs<'a>(words: Words<'a>) -> Result<Line<'a>, Reason>
     let (a, b) = words.two()?;
     let n = party_count_of(a.text()).ok_or(Reason::Field(1))?;
     let q = quorum_of(n, b.text()).ok_or(Reason::Field(2))?;
-    Ok(Line::Logs { n, q })
+    Ok(Line::Setup(SetupLine::Logs { n, q }))
 }
 
 /// `authorities <M>`
@@ -98,7 +98,7 @@ pub(crate) fn authorities<'a>(words: Words<'a>) -> Result<Line<'a>, Reason>
 {
     let a = words.one()?;
     let m = party_count_of(a.text()).ok_or(Reason::Field(1))?;
-    Ok(Line::Authorities { m })
+    Ok(Line::Setup(SetupLine::Authorities { m }))
 }
 
 /// `dishonest <L or A>`
@@ -107,7 +107,7 @@ pub(crate) fn dishonest<'a>(words: Words<'a>) -> Result<Line<'a>, Reason>
 {
     let a = words.one()?;
     let party = witness_of(a.text()).ok_or(Reason::Field(1))?;
-    Ok(Line::Dishonest { party })
+    Ok(Line::Setup(SetupLine::Dishonest { party }))
 }
 
 /// `owner <D>`
@@ -116,7 +116,7 @@ pub(crate) fn owner<'a>(words: Words<'a>) -> Result<Line<'a>, Reason>
 {
     let a = words.one()?;
     let owner = new_owner_of(a.text()).ok_or(Reason::Field(1))?;
-    Ok(Line::Owner { owner })
+    Ok(Line::Event(EventLine::Owner { owner }))
 }
 
 /// `teach <A> <name> <D>`
@@ -127,11 +127,11 @@ pub(crate) fn teach<'a>(words: Words<'a>) -> Result<Line<'a>, Reason>
     let authority = authority_of(a.text()).ok_or(Reason::Field(1))?;
     let name = NameView::of(b.text()).ok_or(Reason::Field(2))?;
     let owner = owner_of(c.text()).ok_or(Reason::Field(3))?;
-    Ok(Line::Teach {
+    Ok(Line::Event(EventLine::Teach {
         authority,
         name,
         owner,
-    })
+    }))
 }
 
 /// `forget <A> <name> <D>`
@@ -142,11 +142,11 @@ pub(crate) fn forget<'a>(words: Words<'a>) -> Result<Line<'a>, Reason>
     let authority = authority_of(a.text()).ok_or(Reason::Field(1))?;
     let name = NameView::of(b.text()).ok_or(Reason::Field(2))?;
     let owner = owner_of(c.text()).ok_or(Reason::Field(3))?;
-    Ok(Line::Forget {
+    Ok(Line::Event(EventLine::Forget {
         authority,
         name,
         owner,
-    })
+    }))
 }
 
 /// `retire <A>`
@@ -155,7 +155,7 @@ pub(crate) fn retire<'a>(words: Words<'a>) -> Result<Line<'a>, Reason>
 {
     let a = words.one()?;
     let authority = authority_of(a.text()).ok_or(Reason::Field(1))?;
-    Ok(Line::Retire { authority })
+    Ok(Line::Event(EventLine::Retire { authority }))
 }
 
 /// `register <D> <name> <policy> <asks>`
@@ -167,12 +167,12 @@ pub(crate) fn register<'a>(words: Words<'a>) -> Result<Line<'a>, Reason>
     let name = NameView::of(b.text()).ok_or(Reason::Field(2))?;
     let policy = policy_of(&policy)?;
     let asks = asks_of(c.text()).ok_or(Reason::Field(8))?;
-    Ok(Line::Register {
+    Ok(Line::Event(EventLine::Register {
         owner,
         name,
         policy,
         asks,
-    })
+    }))
 }
 
 /// `update <D> <c> <policy> <asks>`
@@ -184,12 +184,12 @@ pub(crate) fn update<'a>(words: Words<'a>) -> Result<Line<'a>, Reason>
     let draft = number_of(b.text()).ok_or(Reason::Field(2))?;
     let policy = policy_of(&policy)?;
     let asks = asks_of(c.text()).ok_or(Reason::Field(8))?;
-    Ok(Line::Update {
+    Ok(Line::Event(EventLine::Update {
         owner,
         draft,
         policy,
         asks,
-    })
+    }))
 }
 
 /// `revoke <D> <c> <asks>`
@@ -200,7 +200,7 @@ pub(crate) fn revoke<'a>(words: Words<'a>) -> Result<Line<'a>, Reason>
     let owner = owner_of(a.text()).ok_or(Reason::Field(1))?;
     let draft = number_of(b.text()).ok_or(Reason::Field(2))?;
     let asks = asks_of(c.text()).ok_or(Reason::Field(3))?;
-    Ok(Line::Revoke { owner, draft, asks })
+    Ok(Line::Event(EventLine::Revoke { owner, draft, asks }))
 }
 
 /// `handover <D> <c>`
@@ -210,7 +210,7 @@ pub(crate) fn handover<'a>(words: Words<'a>) -> Result<Line<'a>, Reason>
     let (a, b) = words.two()?;
     let owner = owner_of(a.text()).ok_or(Reason::Field(1))?;
     let draft = number_of(b.text()).ok_or(Reason::Field(2))?;
-    Ok(Line::Handover { owner, draft })
+    Ok(Line::Event(EventLine::Handover { owner, draft }))
 }
 
 /// `object <D> <c>`
@@ -220,7 +220,7 @@ pub(crate) fn object<'a>(words: Words<'a>) -> Result<Line<'a>, Reason>
     let (a, b) = words.two()?;
     let owner = owner_of(a.text()).ok_or(Reason::Field(1))?;
     let draft = number_of(b.text()).ok_or(Reason::Field(2))?;
-    Ok(Line::Object { owner, draft })
+    Ok(Line::Event(EventLine::Object { owner, draft }))
 }
 
 /// `submit <c>`
@@ -229,7 +229,7 @@ pub(crate) fn submit<'a>(words: Words<'a>) -> Result<Line<'a>, Reason>
 {
     let a = words.one()?;
     let draft = number_of(a.text()).ok_or(Reason::Field(1))?;
-    Ok(Line::Submit { draft })
+    Ok(Line::Event(EventLine::Submit { draft }))
 }
 
 /// `propose <L>`
@@ -238,7 +238,7 @@ pub(crate) fn propose<'a>(words: Words<'a>) -> Result<Line<'a>, Reason>
 {
     let a = words.one()?;
     let log = log_of(a.text()).ok_or(Reason::Field(1))?;
-    Ok(Line::Propose { log })
+    Ok(Line::Event(EventLine::Propose { log }))
 }
 
 /// `pass <L>`
@@ -247,7 +247,7 @@ pub(crate) fn pass<'a>(words: Words<'a>) -> Result<Line<'a>, Reason>
 {
     let a = words.one()?;
     let log = log_of(a.text()).ok_or(Reason::Field(1))?;
-    Ok(Line::Pass { log })
+    Ok(Line::Event(EventLine::Pass { log }))
 }
 
 /// `roll <L or A>`
@@ -256,7 +256,7 @@ pub(crate) fn roll<'a>(words: Words<'a>) -> Result<Line<'a>, Reason>
 {
     let a = words.one()?;
     let party = witness_of(a.text()).ok_or(Reason::Field(1))?;
-    Ok(Line::Roll { party })
+    Ok(Line::Event(EventLine::Roll { party }))
 }
 
 /// `learn <m>`
@@ -265,7 +265,7 @@ pub(crate) fn learn<'a>(words: Words<'a>) -> Result<Line<'a>, Reason>
 {
     let a = words.one()?;
     let message = number_of(a.text()).ok_or(Reason::Field(1))?;
-    Ok(Line::Learn { message })
+    Ok(Line::Event(EventLine::Learn { message }))
 }
 
 /// `ask <L> <name> <A> <A> <C>`
@@ -278,13 +278,13 @@ pub(crate) fn ask<'a>(words: Words<'a>) -> Result<Line<'a>, Reason>
     let first = authority_of(c.text()).ok_or(Reason::Field(3))?;
     let second = authority_of(d.text()).ok_or(Reason::Field(4))?;
     let client = client_of(e.text()).ok_or(Reason::Field(5))?;
-    Ok(Line::Ask {
+    Ok(Line::Event(EventLine::Ask {
         log,
         name,
         first,
         second,
         client,
-    })
+    }))
 }
 
 /// `deliver <m> <party>`
@@ -294,7 +294,15 @@ pub(crate) fn deliver<'a>(words: Words<'a>) -> Result<Line<'a>, Reason>
     let (a, b) = words.two()?;
     let message = number_of(a.text()).ok_or(Reason::Field(1))?;
     let party = party_of(b.text()).ok_or(Reason::Field(2))?;
-    Ok(Line::Deliver { message, party })
+    Ok(Line::Event(EventLine::Deliver { message, party }))
+}
+
+/// `flush`
+pub(crate) fn flush<'a>(words: Words<'a>) -> Result<Line<'a>, Reason>
+    ensures { result ≡ flush.fields words.entry }
+{
+    words.none()?;
+    Ok(Line::Event(EventLine::Flush))
 }
 
 /// `judge <m or last> <name> <now> <age>`
@@ -306,12 +314,12 @@ pub(crate) fn judge<'a>(words: Words<'a>) -> Result<Line<'a>, Reason>
     let name = NameView::of(b.text()).ok_or(Reason::Field(2))?;
     let now = number_in(1, u64::MAX, c.text()).ok_or(Reason::Field(3))?;
     let age = number_of(d.text()).ok_or(Reason::Field(4))?;
-    Ok(Line::Judge {
+    Ok(Line::Event(EventLine::Judge {
         message,
         name,
         now,
         age,
-    })
+    }))
 }
 
 /// `sign <party> <pieces>`
@@ -321,7 +329,7 @@ pub(crate) fn sign<'a>(words: Words<'a>) -> Result<Line<'a>, Reason>
     let (a, pieces) = words.some()?;
     let party = party_of(a.text()).ok_or(Reason::Field(1))?;
     let pieces = pieces_of(pieces)?;
-    Ok(Line::Sign { party, pieces })
+    Ok(Line::Event(EventLine::Sign { party, pieces }))
 }
 
 /// `inject <party or logs> <pieces>`
@@ -331,5 +339,5 @@ pub(crate) fn inject<'a>(words: Words<'a>) -> Result<Line<'a>, Reason>
     let (a, pieces) = words.some()?;
     let to = receiver_of(a.text()).ok_or(Reason::Field(1))?;
     let pieces = pieces_of(pieces)?;
-    Ok(Line::Inject { to, pieces })
+    Ok(Line::Event(EventLine::Inject { to, pieces }))
 }

@@ -64,7 +64,13 @@ impl<'a> Model for PolicyTexts<'a> {
 
     ghost Value = { PolicyFields };
 
-    ghost view = { λ p. record { threshold = p.threshold; binding = p.binding; max_age = p.max_age; until = p.until; trusted = p.trusted } };
+    ghost view = { λ p. record {
+      threshold = p.threshold;
+      binding = p.binding;
+      max_age = p.max_age;
+      until = p.until;
+      trusted = p.trusted;
+    } };
 }
 
 impl<'a> Words<'a> {

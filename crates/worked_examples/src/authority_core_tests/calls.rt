@@ -2,7 +2,7 @@
 use crate::domain_table_tests::values::owner_key;
 use ar_message::{Address, Sent};
 use ar_statement::Role;
-use authority_core::{Authority, AuthorityRefusal};
+use authority_core::{Authority, AuthorityRefusal, answer, new_authority};
 use lms_tree::{LmsKey, LmsPublic};
 use owner_check::FailingCheck;
 use party_keys::{Directory, party_seed};
@@ -37,7 +37,7 @@ pub(crate) fn said(sent: &Sent) -> Answer {
 
 /// What comes of a message.
 pub(crate) fn take(alloc: Global, authority: &mut Checked, bytes: &[u8]) -> Answer {
-    match authority.step(alloc, bytes) {
+    match answer(authority, alloc, bytes) {
         Ok(sent) => said(&sent),
         Err(refusal) => Answer::Refuses(refusal),
     }
@@ -61,17 +61,22 @@ pub(crate) fn roll(alloc: Global, authority: &mut Checked) -> Answer {
 
 /// Its check learns that the name is owner 0's.
 pub(crate) fn teach(alloc: Global, authority: &mut Checked, name: &[u8]) -> Result<(), Fail> {
-    if authority.retired() {
+    if authority.core.retired() {
         return Err("a retired authority is taught".into());
     }
-    Ok(authority.teach(alloc, name, owner_key())?)
+    Ok(authority.core.teach(alloc, name, owner_key())?)
 }
 
 /// Its check forgets it.
 pub(crate) fn forget(authority: &mut Checked, name: &[u8]) {
-    if !authority.retired() {
-        authority.forget(name, owner_key());
+    if !authority.core.retired() {
+        authority.core.forget(name, owner_key());
     }
+}
+
+/// It retires.
+pub(crate) fn retire(authority: &mut Checked) {
+    authority.core.retire();
 }
 
 /// The key of a party under the master secret of zeros.
@@ -105,7 +110,7 @@ pub(crate) fn authority(
     fails: u64,
 ) -> Result<Checked, Fail> {
     let check = check(alloc, fails)?;
-    match Authority::new(alloc, number, directory, key, check) {
+    match new_authority(alloc, number, directory, key, check) {
         Ok(authority) => Ok(authority),
         Err((_check, error)) => Err(error.into()),
     }

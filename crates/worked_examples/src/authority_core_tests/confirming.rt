@@ -1,11 +1,12 @@
 //! What a log confirmed, with the votes for it, comes to two authorities.
-use super::calls::{Answer, Checked, key, said, take, take_sent, teach};
+use super::calls::{Answer, Checked, key, retire, said, take, take_sent, teach};
 use super::council::{keys_of_logs, member, publics};
 use super::digests::{half, logged, whole};
 use super::messages::log_confirmed;
 use super::texts::request;
 use ar_message::Address;
 use ar_statement::Role;
+use authority_core::answer;
 use lms_tree::{LmsKey, LmsPublic};
 use sha2::{Digest, Sha256};
 use std::alloc::Global;
@@ -15,7 +16,7 @@ use std::test::Fail;
 fn endorse(alloc: Global, authority: &mut Checked) -> Result<(), Fail> {
     teach(alloc, authority, b"a.example")?;
     let answer = take(alloc, authority, request());
-    authority.retire();
+    retire(authority);
     match answer {
         Answer::Sends(..) => Ok(()),
         _ => Err("a certificate is not endorsed".into()),
@@ -29,7 +30,7 @@ fn passed_on(
     second: &mut Checked,
     message: &[u8],
 ) -> [Answer; 2] {
-    match first.step(alloc, message) {
+    match answer(first, alloc, message) {
         Ok(sent) => [said(&sent), take_sent(alloc, second, &sent)],
         Err(refusal) => [Answer::Refuses(refusal); 2],
     }

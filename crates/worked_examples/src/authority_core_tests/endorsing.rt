@@ -1,5 +1,5 @@
 //! An authority is asked to endorse a certificate.
-use super::calls::{Answer, Checked, alone, endorses, forget, take, teach};
+use super::calls::{Answer, Checked, alone, endorses, forget, retire, take, teach};
 use super::digests::{asked, by_one, by_two, by_zero};
 use super::texts::request;
 use authority_core::AuthorityRefusal;
@@ -16,7 +16,7 @@ fn answers(alloc: Global, authority: &mut Checked) -> Result<[Answer; 5], Fail> 
     let third = take(alloc, authority, request());
     forget(authority, b"a.example");
     let forgotten = take(alloc, authority, request());
-    authority.retire();
+    retire(authority);
     let retired = take(alloc, authority, request());
     Ok([first, second, third, forgotten, retired])
 }

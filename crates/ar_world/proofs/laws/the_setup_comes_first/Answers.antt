@@ -1,4 +1,4 @@
-use Rattle.ar_world.proofs.Ordered.{others-later, phase-reached, setup-first}
+use Rattle.ar_world.proofs.Ordered.{others-later, phase-reached, running-reached, setup-first}
 use Rattle.ar_world.proofs.laws.the_setup_comes_first.Goals as goal
 
 pub returns-clause-setup : goal.returns-clause-setup
@@ -9,3 +9,6 @@ returns-clause-others c = others-later
 
 pub returns-clause-reached : goal.returns-clause-reached
 returns-clause-reached c = phase-reached
+
+pub returns-clause-running : goal.returns-clause-running
+returns-clause-running c = running-reached

@@ -8,4 +8,6 @@ returns-clause-step c s keys retired m said later sent is are at =
     (signs.fills, keys-stay s later keys are signs.stays)
 
 pub returns-clause-roll : goal.returns-clause-roll
-returns-clause-roll c s keys next later sent are is at = rolled-signs s keys (keys ++ next ∷ []) next later sent are is refl at
+returns-clause-roll c s keys next later sent are is at =
+    let signs = rolled-signs s keys (keys ++ next ∷ []) next later sent are is refl at in
+    (signs.fills, signs.stays)

@@ -21,7 +21,7 @@ loop-place-preserved g c = (
   behind_place (λ booth stall. IsIdle booth.node stall) c.args.booths.now c.loop-place.base _ c.loop-place.place c.index-booths-place.result c.index-base-place.result c.split.new.stall c.loop-place-test.true
       c.loop-place.invariant.0 refl c.loop-place.invariant.1,
   deals_next (λ booth old new given. IsSplit booth.node old new given) c.args.booths.now c.args.base.now c.loop-place.base _ c.loop-place.stalls.items _ c.loop-place.place c.index-booths-place.result c.index-base-place.result
-      c.split.new.stall c.in_ok-split.field-0 c.loop-place-test.true (search rules) refl c.in_ok-push.ensures.items c.in_ok-split.ensures c.loop-place.invariant.2,
+      c.split.new.stall c.in_ok-given.given c.loop-place-test.true (search rules) refl (search rules) c.in_ok-given.ensures.split c.loop-place.invariant.2,
 )
 
 pub returns : goal.returns

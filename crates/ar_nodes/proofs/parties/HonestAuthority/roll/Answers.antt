@@ -21,10 +21,10 @@ invariant_of-self g c = elim c.match-roll.branch [
 pub returns-clause-row : goal.returns-clause-row
 returns-clause-row g c =
     let parts : _ → CheckParts = check_told g.C.OwnerCheck.told g.C.OwnerCheck.answers in
-    let check : Option CheckParts = option_map parts c.roll.new.self.check in
-    let old : AuthorityNode = authority-of c.self.inside.authority.state c.self.inside.authority.ring.keys (option_map parts c.self.inside.authority.check) in
-    let new : AuthorityNode = authority-of c.roll.new.self.state c.roll.new.self.ring.keys check in
-    let same : check ≡ old.check = ap (option_map parts) c.roll.ensures.check in
+    let check : Option CheckParts = option_map parts c.roll.new.self.core.check in
+    let old : AuthorityNode = authority-of c.self.inside.authority.core.state c.self.inside.authority.ring.keys (option_map parts c.self.inside.authority.core.check) in
+    let new : AuthorityNode = authority-of c.roll.new.self.core.state c.roll.new.self.ring.keys check in
+    let same : check ≡ old.check = ap (option_map parts) c.roll.ensures.keeps in
     subst (λ (n : AuthorityNode). (next : KeyParts) → next_of n.keys ≡ Some next → RepliesBy c.match-roll.result n new (authority_turned n next (roll_row n.state (public_of next))))
     c.self.view_is
     (λ next e. elim c.match-roll.branch [

@@ -11,17 +11,17 @@ use Rattle.ar_nodes.proofs.parties.HonestAuthority.take.Goals as goal
 
 pub returns-clause-row : goal.returns-clause-row
 returns-clause-row g c =
-    let old : AuthorityNode = authority-with g.C.OwnerCheck.told g.C.OwnerCheck.answers c.self.inside.authority.state c.self.inside.authority.ring.keys c.self.inside.authority.check in
-    let new : AuthorityNode = authority-with g.C.OwnerCheck.told g.C.OwnerCheck.answers c.step.new.self.state c.step.new.self.ring.keys c.step.new.self.check in
-    let checks : ChecksBy g.C.OwnerCheck.told g.C.OwnerCheck.answers c.self.inside.authority.check c.step.new.self.check (asked_in (message_in c.args.bytes.now)) c.step.result =
-    record { retired = c.step.ensures.retired; kept = c.step.ensures.answers; same = c.step.ensures.told; by = c.step.ensures.by } in
-    subst (λ (n : AuthorityNode). RepliesBySome c.match-step.result n new (λ says. authority_took says n c.args.bytes.now)) c.self.view_is
-    (elim c.match-step.branch [
+    let old : AuthorityNode = authority-with g.C.OwnerCheck.told g.C.OwnerCheck.answers c.self.inside.authority.core.state c.self.inside.authority.ring.keys c.self.inside.authority.core.check in
+    let new : AuthorityNode = authority-with g.C.OwnerCheck.told g.C.OwnerCheck.answers c.answer.new.authority.core.state c.answer.new.authority.ring.keys c.answer.new.authority.core.check in
+    let checks : ChecksBy g.C.OwnerCheck.told g.C.OwnerCheck.answers c.self.inside.authority.core.check c.answer.new.authority.core.check (asked_in (message_in c.args.bytes.now)) c.answer.result =
+    record { retired = c.answer.ensures.retired; kept = c.answer.ensures.answers; same = c.answer.ensures.told; by = c.answer.ensures.by } in
+    subst (λ (n : AuthorityNode). RepliesBySome c.match-answer.result n new (λ says. authority_took says n c.args.bytes.now)) c.self.view_is
+    (elim c.match-answer.branch [
       | in-Ok w ↦ subst (λ (r : Result Reply WorldFault). RepliesBySome r old new (λ says. authority_took says old c.args.bytes.now)) (sym w.result-is)
-          (took_so _ _ _ _ _ _ _ _ _ c.step.result (Ok w.in-Ok.sent) checks (sent_some c.step.result w.in-Ok.sent w.in-Ok.is) c.step.ensures.row (ap (λ r. r.keys) c.step.ensures.ring) (ap reply_of (sym w.in-Ok.is)))
+          (took_so _ _ _ _ _ _ _ _ _ c.answer.result (Ok w.in-Ok.sent) checks (sent_some c.answer.result w.in-Ok.sent w.in-Ok.is) c.answer.ensures.row (ap (λ r. r.keys) c.answer.ensures.ring) (ap reply_of (sym w.in-Ok.is)))
       | in-Err-Memory w ↦ subst (λ (r : Result Reply WorldFault). RepliesBySome r old new (λ says. authority_took says old c.args.bytes.now)) (sym w.result-is)
-          (took_nothing _ _ _ _ _ _ _ _ _ c.step.result checks (w.in-Err-Memory.is ∙ ap (λ (r : AuthorityRefusal). Err r) w.in-Err-Memory.field-0-is) c.step.ensures.row (ap (λ r. r.keys) c.step.ensures.ring))
+          (took_nothing _ _ _ _ _ _ _ _ _ c.answer.result checks (w.in-Err-Memory.is ∙ ap (λ (r : AuthorityRefusal). Err r) w.in-Err-Memory.field-0-is) c.answer.ensures.row (ap (λ r. r.keys) c.answer.ensures.ring))
       | in-Err w ↦ subst (λ (r : Result Reply WorldFault). RepliesBySome r old new (λ says. authority_took says old c.args.bytes.now)) (sym w.result-is)
-          (took_so _ _ _ _ _ _ _ _ _ c.step.result (Err w.authority_code.result) checks (refused_some c.step.result w.in-Err.refusal w.in-Err.is (search rules)) c.step.ensures.row
-          (ap (λ r. r.keys) c.step.ensures.ring) (rw w.authority_code.ensures (ap reply_of (sym w.in-Err.is))))
+          (took_so _ _ _ _ _ _ _ _ _ c.answer.result (Err w.authority_code.result) checks (refused_some c.answer.result w.in-Err.refusal w.in-Err.is (search rules)) c.answer.ensures.row
+          (ap (λ r. r.keys) c.answer.ensures.ring) (rw w.authority_code.ensures (ap reply_of (sym w.in-Err.is))))
     ])

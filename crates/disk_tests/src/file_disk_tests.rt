@@ -1,0 +1,81 @@
+use crate::calls::{Call, FIRST, RUN, each_fails, make};
+use crate::files::{file_of, has_bytes, path_of};
+use file_disk::{FileDisk, FileFault};
+use kept_disk::Disk;
+use std::fs;
+use std::test::Fail;
+
+/// Makes a call of a disk. Whether it did it.
+fn done(disk: &mut FileDisk, what: Call) -> Result<bool, Fail> {
+    match disk.len() {
+        Ok(len) => make(disk, len, what),
+        Err(_) => Ok(false),
+    }
+}
+
+#[test]
+fn the_file_has_what_a_read_gives(rt: HostRuntime) -> Result<(), Fail> {
+    let path = file_of(&rt, "run", FIRST)?;
+    let mut disk = FileDisk::open(&rt, path.as_str())?;
+    for (what, seen, _) in RUN {
+        assert!(rt; done(&mut disk, what)?, "{what:?}");
+        assert!(rt; has_bytes(&rt, path.as_str(), seen)?, "{what:?}");
+    }
+    fs::remove_file(&rt, path.as_str())?;
+    Ok(())
+}
+
+/// Why a file is not opened.
+fn fault_of(rt: &HostRuntime, path: &str) -> Option<FileFault> {
+    match FileDisk::open(rt, path) {
+        Ok(_disk) => None,
+        Err(fault) => Some(fault),
+    }
+}
+
+#[test]
+fn a_file_is_made_and_nobody_else_opens_it_meanwhile(rt: HostRuntime) -> Result<(), Fail> {
+    let path = path_of(&rt, "made")?;
+    let disk = FileDisk::open(&rt, path.as_str())?;
+    assert!(rt; has_bytes(&rt, path.as_str(), b"")?);
+    assert!(rt; matches!(fault_of(&rt, path.as_str()), Some(FileFault::Busy)));
+    drop(disk);
+    assert!(rt; fault_of(&rt, path.as_str()).is_none());
+    fs::remove_file(&rt, path.as_str())?;
+    Ok(())
+}
+
+#[test]
+fn what_is_no_regular_file_is_not_opened(rt: HostRuntime) -> Result<(), Fail> {
+    assert!(rt; matches!(fault_of(&rt, "/dev/null"), Some(FileFault::NoFile)));
+    assert!(rt; matches!(fault_of(&rt, "/dev"), Some(FileFault::System(_))));
+    assert!(rt; matches!(fault_of(&rt, "/dev/null/file"), Some(FileFault::System(_))));
+    Ok(())
+}
+
+/// Opens a file that has `abc`, and has another put these bytes in their place. Whether its length and its bytes are then given,
+/// and whether each call fails behind that.
+fn changed(rt: &HostRuntime, path: &str, bytes: &[u8]) -> Result<(bool, bool, bool), Fail> {
+    fs::write(rt, path, b"abc".as_slice())?;
+    let mut disk = FileDisk::open(rt, path)?;
+    fs::write(rt, path, bytes)?;
+    let has_length = disk.len().is_ok();
+    let gives = disk.read(0, &mut [0; 9]).is_ok();
+    Ok((has_length, gives, each_fails(&mut disk)))
+}
+
+#[test]
+fn a_file_that_another_changed_is_found_out_for_good(rt: HostRuntime) -> Result<(), Fail> {
+    let path = path_of(&rt, "changed")?;
+    let changes: [(&[u8], (bool, bool, bool)); 3] = [
+        (b"abcd", (false, false, true)),
+        (b"ab", (false, false, true)),
+        (b"abX", (true, false, true)),
+    ];
+    for (bytes, expected) in changes {
+        assert_eq!(rt; changed(&rt, path.as_str(), bytes)?, expected);
+        assert!(rt; has_bytes(&rt, path.as_str(), bytes)?);
+    }
+    fs::remove_file(&rt, path.as_str())?;
+    Ok(())
+}

@@ -1,0 +1,36 @@
+-- What workers bring to several nodes, and what is replied to it.
+use Rattle.std.specs.Prelude.{◌≡◌, ℕ, ◌+◌, ◌%◌, ◌==◌, Bool, if◌then◌else◌, List, [], ◌∷◌, ◌++◌}
+use Rattle.node_core.specs.History.{IsLegal, reply_after}
+use Rattle.node_crowd.specs.declared.errand.Errand.{Errand}
+
+module _ {S I N R : Type 0} (next : S → I → N → R × S) (legal : S → I → N → Type 0) where
+  -- a reply is one that a core gives somewhere in a legal history, where P holds of its first state
+  pub record IsReplied (P : S → Type 0) (reply : R) : Type 0 where
+    pub first : S
+    pub fits : P first
+    pub before : List (I × N)
+    pub input : I
+    pub note : N
+    pub legally : IsLegal next legal first (before ++ (input, note) ∷ [])
+    pub reply_is : reply ≡ reply_after next first before input note
+
+module _ {I : Type 0} where
+  -- an errand goes to the node of this place
+  abbrev pub goes_to : ℕ → Errand I → Bool
+  goes_to place errand = errand.place == place
+
+  -- what of these errands goes to the node of this place, in their order
+  abbrev pub brought_to : ℕ → List (Errand I) → List I
+  brought_to place [] = []
+  brought_to place (errand ∷ errands) = if errand.place == place then errand.input ∷ brought_to place errands else brought_to place errands
+
+  -- the errands of a worker, in their order: those whose number has the worker's as its remainder by the number of workers
+  abbrev pub own_of : ℕ → ℕ → List (Errand I) → List (Errand I)
+  own_of workers worker [] = []
+  own_of workers worker (errand ∷ errands) =
+      if errand.number % workers == worker then errand ∷ own_of workers worker errands else own_of workers worker errands
+
+  -- the errands have the numbers from this one on, and their inputs too
+  abbrev pub AreNumbered : (I → ℕ) → ℕ → List (Errand I) → Type 0
+  AreNumbered number from [] = Unit {0}
+  AreNumbered number from (errand ∷ errands) = (errand.number ≡ from) × (number errand.input ≡ from) × AreNumbered number (from + 1) errands

@@ -1,0 +1,4 @@
+pub mod Counted
+pub mod Endings
+pub mod Inputs
+pub mod Played
