@@ -1,15 +1,10 @@
 use crate::each_call::ORDINARY;
-use crate::records::world_behind;
 use crate::runs::{no_disks, words_of};
 use crate::scripts::empty_books;
 use ar_io::{QuietSink, QuietSource};
-use ar_statement::Role;
 use arpki_play::arpki_main;
 use kept_disk::MemDisk;
-use lms_tree::LmsKey;
-use log_journal::KeptLog;
 use log_restart::Disks;
-use party_keys::{Directory, party_seed};
 use sha2::{Digest, Sha256};
 use std::alloc::{AllocError, Global};
 use std::test::Fail;
@@ -70,71 +65,5 @@ fn no_log_leaves_the_disks(rt: HostRuntime) -> Result<(), Fail> {
     assert_eq!(rt; status, 3);
     assert_eq!(rt; disks.before.bytes(), b"".as_slice());
     assert_eq!(rt; disks.after.bytes(), b"".as_slice());
-    Ok(())
-}
-
-// The directory with which the parties of the ordinary script begin.
-fn genesis(alloc: Global) -> Result<Directory, Fail> {
-    let Some(world) = world_behind(alloc, ORDINARY)? else {
-        return Err("the script does not play".into());
-    };
-    if !world.has_parties() {
-        return Err("no parties".into());
-    }
-    Ok(world.genesis().copy(alloc)?)
-}
-
-// How many inputs the log L1 has that is opened on a disk.
-fn inputs_on(alloc: Global, genesis: &Directory, disk: MemDisk) -> Result<u64, Fail> {
-    let key = LmsKey::make(alloc, &party_seed(&[0; 32], Role::LogServer, 1), 5, 4)?;
-    match KeptLog::open(alloc, 1, genesis.copy(alloc)?, key, disk) {
-        Ok(kept) => Ok(kept.inputs()),
-        Err(_) => Err("not opened".into()),
-    }
-}
-
-// Of how many inputs a log is opened behind so many calls: on what a crash leaves of the first disk that takes all away which was
-// not synced, on what one leaves that takes nothing away, and on the second disk.
-fn recovered(alloc: Global, genesis: &Directory, calls: &str) -> Result<(u64, u64, u64), Fail> {
-    let (_status, disks) = restarted(alloc, "1", calls)?;
-    let lost = inputs_on(alloc, genesis, disks.before.lost(alloc)?)?;
-    let kept = inputs_on(alloc, genesis, disks.before.kept(alloc)?)?;
-    let after = inputs_on(alloc, genesis, disks.after)?;
-    Ok((lost, kept, after))
-}
-
-// How many inputs another program opens in the two images, where 0, 1, 2 and more calls pass.
-const RECOVERED: [(u64, u64); 21] = [
-    (0, 0),
-    (0, 0),
-    (0, 0),
-    (0, 1),
-    (1, 1),
-    (1, 1),
-    (1, 1),
-    (1, 2),
-    (2, 2),
-    (2, 2),
-    (2, 2),
-    (2, 3),
-    (3, 3),
-    (3, 3),
-    (3, 3),
-    (3, 4),
-    (4, 4),
-    (4, 4),
-    (4, 4),
-    (4, 5),
-    (5, 5),
-];
-
-#[test]
-fn a_crash_behind_each_call_leaves_what_was_synced(rt: HostRuntime) -> Result<(), Fail> {
-    let genesis = genesis(rt.alloc())?;
-    for (calls, (lost, kept)) in RECOVERED.iter().enumerate() {
-        let calls = format!(in rt.alloc(); "{calls}")?;
-        let found = recovered(rt.alloc(), &genesis, calls.as_str())?;
-        assert_eq!(rt; found, (*lost, *kept, 5), "{calls} calls");
-    }
     Ok(())
 }
