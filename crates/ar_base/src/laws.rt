@@ -20,7 +20,8 @@ pub fn a_count_that_stays_has_not_risen()
 /// What rose in a part of a run rose in the whole of it, where counts never fall.
 pub fn a_rise_lasts()
     ensures before { (start old new : ℕ) → start ≤ old → HasRisen old new → HasRisen start new }
-    ensures behind { (old new end : ℕ) → old ≤ new → new ≤ end → HasRisen old new → HasRisen old end }
+    ensures behind { (old new end : ℕ) → old ≤ new → new ≤ end → HasRisen old new
+        → HasRisen old end }
 {}
 
 /// Of two strings of a list in which none collide, the digest tells which it is.
@@ -37,16 +38,19 @@ pub fn no_part_collides()
 /// No test of a list fails exactly where all hold. The fault of the list is that of a test which does
 /// not hold, behind tests that all hold.
 pub fn the_first_that_fails<E>()
-    ensures none { (tests : List (E × Bool)) → (first_failing tests ≡ Ok tt) ↔ All (λ t. IsTrue t.1) tests }
+    ensures none { (tests : List (E × Bool))
+        → (first_failing tests ≡ Ok tt) ↔ All (λ t. IsTrue t.1) tests }
     ensures fault { (tests : List (E × Bool)) (error : E) → first_failing tests ≡ Err error
-        → (place : ℕ) × ((place < length tests) × (((d : E × Bool) → get_or tests place d ≡ (error, false))
+        → (place : ℕ) × ((place < length tests)
+        × (((d : E × Bool) → get_or tests place d ≡ (error, false))
         × ((k : ℕ) (d : E × Bool) → k < place → IsTrue (get_or tests k d).1))) }
 {}
 
 /// Where want of memory never stands in a refusal's place, each refusal that is expected is given, and
 /// the answer is one that may be given at all.
 pub fn a_refusal_is_given<T, V, E>()
-    ensures refused { (memory : E) (view : T → V) (result : Result T E) (expected : Result V E) (error : E)
+    ensures refused { (memory : E) (view : T → V) (result : Result T E) (expected : Result V E)
+        (error : E)
         → GivesOrWants memory view result expected → expected ≡ Err error → result ≡ Err error }
     ensures given { (memory : E) (view : T → V) (result : Result T E) (expected : Result V E)
         → GivesOrWants memory view result expected → GivesUnless memory view result expected }

@@ -27,12 +27,14 @@ pub fn numbers_are_spelled()
 /// Bytes and counted bytes that were put are read again.
 pub fn bytes_read_back()
     ensures plain { (bytes : List ℕ) → ReadsBack (bytes_at (length bytes)) bytes bytes }
-    ensures counted { (bytes : List ℕ) → length bytes < 2 ^ 16 → ReadsBack counted_at bytes (counted_text bytes) }
+    ensures counted { (bytes : List ℕ) → length bytes < 2 ^ 16
+        → ReadsBack counted_at bytes (counted_text bytes) }
 {}
 
 /// Bytes and counted bytes that are read stand so in the input, and are as many as was said.
 pub fn bytes_are_spelled()
-    ensures plain { (n : ℕ) → IsSpelledBy (bytes_at n) (λ bytes. bytes) (λ bytes. length bytes ≡ n) }
+    ensures plain { (n : ℕ) → IsSpelledBy (bytes_at n) (λ bytes. bytes)
+        (λ bytes. length bytes ≡ n) }
     ensures counted { IsSpelledBy counted_at counted_text (λ bytes. length bytes < 2 ^ 16) }
 {}
 
@@ -40,7 +42,8 @@ pub fn bytes_are_spelled()
 /// of its own, and as a whole input.
 pub fn parts_read_back<T>()
     ensures tested { (field : Cursor → Reading T) (test : T → Bool) (value : T) (text : List ℕ)
-        → ReadsBack field value text → test value ≡ true → ReadsBack (such_that test field) value text }
+        → ReadsBack field value text → test value ≡ true
+        → ReadsBack (such_that test field) value text }
     ensures part { (field : Cursor → Reading T) (value : T) (text : List ℕ)
         → ReadsBack field value text → ReadsBack (within (length text) field) value text }
     ensures input { (field : Cursor → Reading T) (value : T) (text : List ℕ)
@@ -49,8 +52,10 @@ pub fn parts_read_back<T>()
 
 /// A byte, a count and a flag that were put are read again.
 pub fn tested_fields_read_back()
-    ensures byte { (value : ℕ) → value < 2 ^ 8 → ReadsBack (byte_at value) value (number_text w8 value) }
-    ensures count { (most n : ℕ) → n ≤ most → n < 2 ^ 8 → ReadsBack (count_at most) n (number_text w8 n) }
+    ensures byte { (value : ℕ) → value < 2 ^ 8
+        → ReadsBack (byte_at value) value (number_text w8 value) }
+    ensures count { (most n : ℕ) → n ≤ most → n < 2 ^ 8
+        → ReadsBack (count_at most) n (number_text w8 n) }
     ensures flag { (flag : Bool) → ReadsBack flag_at flag (flag_text flag) }
 {}
 
@@ -64,9 +69,12 @@ pub fn tested_fields_are_spelled()
 /// Entries whose numbers ascend are read back, where each is read back that is not below the least, and
 /// so are numbers.
 pub fn ascending_entries_read_back<T>()
-    ensures entries { (number : T → ℕ) (entry : ℕ → Cursor → Reading T) (text : T → List ℕ) (fits : T → Bool)
-        → ((least : ℕ) (x : T) → least ≤ number x → fits x ≡ true → ReadsBack (entry least) x (text x))
-        → (count least : ℕ) (xs : List T) → length xs ≡ count → Ascend number (λ x. fits x ≡ true) least xs
+    ensures entries { (number : T → ℕ) (entry : ℕ → Cursor → Reading T) (text : T → List ℕ)
+        (fits : T → Bool)
+        → ((least : ℕ) (x : T) → least ≤ number x → fits x ≡ true
+        → ReadsBack (entry least) x (text x))
+        → (count least : ℕ) (xs : List T) → length xs ≡ count
+        → Ascend number (λ x. fits x ≡ true) least xs
         → ReadsBack (ascending_at number entry count least) xs (flat_map text xs) }
     ensures numbers { (count : ℕ) (ns : List ℕ) → length ns ≡ count → AreNumbers ns
         → ReadsBack (numbers_at count 0) ns (numbers_text ns) }
@@ -74,7 +82,8 @@ pub fn ascending_entries_read_back<T>()
 
 /// Entries that are read ascend, are as many as was said, and stand so in the input, and so do numbers.
 pub fn ascending_entries_are_spelled<T>()
-    ensures entries { (number : T → ℕ) (entry : ℕ → Cursor → Reading T) (text : T → List ℕ) (fits : T → Bool)
+    ensures entries { (number : T → ℕ) (entry : ℕ → Cursor → Reading T) (text : T → List ℕ)
+        (fits : T → Bool)
         → ((least : ℕ) → IsSpelledBy (entry least) text (λ x. (least ≤ number x) × (fits x ≡ true)))
         → (count least : ℕ) → IsSpelledBy (ascending_at number entry count least) (flat_map text)
         (λ xs. Ascend number (λ x. fits x ≡ true) least xs × (length xs ≡ count)) }

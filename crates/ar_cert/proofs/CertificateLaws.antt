@@ -24,7 +24,7 @@ use Rattle.ar_bytes.specs.Ascending.{numbers_at, AreNumbers}
 use Rattle.ar_bytes.proofs.TestedFields.{byte_again, byte_pass, flag_again, flag_pass}
 use Rattle.ar_bytes.proofs.Ascending.{same-cursor, numbers_again, numbers_pass}
 use Rattle.ar_bytes.proofs.Lists.{counted_list_again, counted_list_pass}
-use Rattle.ar_cert.specs.Certificate.{Certificate, key_at, trusted_at, trusted_text, version_at, version_text, is_wait, wait_at, wait_text, IsWait, terms_at, terms_text, certificate_at, certificate_text, counted_certificate_at, front_text, rules_text, AreTerms, IsCertificate}
+use Rattle.ar_cert.specs.Certificate.{Certificate, certified_key_at, trusted_at, trusted_text, version_at, version_text, is_wait, wait_at, wait_text, IsWait, terms_at, terms_text, certificate_at, certificate_text, counted_certificate_at, front_text, rules_text, AreTerms, IsCertificate}
 use Rattle.ar_cert.proofs.FieldLaws.{key_again, key_pass}
 use Rattle.ar_cert.proofs.Lengths.{length-front_text, length-terms_text, length-flag_text}
 
@@ -127,7 +127,7 @@ certificate_pass at new c bytes e =
     let name = next name_at name_text IsName name_pass _ tag.1 (c, new) tag.4 tag.5 in
     let serial = next (number_at w64) (number_text w64) (λ n. n < 2 ^ 64) (number_pass w64 (2 ^ 64) wide64) _ name.1 (c, new) name.4 name.5 in
     let previous = next digest_at (λ d. d) IsDigest digest_pass _ serial.1 (c, new) serial.4 serial.5 in
-    let subject = next key_at key_text HasWidths key_pass _ previous.1 (c, new) previous.4 previous.5 in
+    let subject = next certified_key_at key_text HasWidths key_pass _ previous.1 (c, new) previous.4 previous.5 in
     let policy = next terms_at terms_text AreTerms terms_pass _ subject.1 (c, new) subject.4 subject.5 in
     let revoked = next flag_at flag_text (λ _. Unit {0}) flag_pass _ policy.1 (c, new) policy.4 policy.5 in
     let value : Certificate = record { name = name.0; serial = serial.0; previous = previous.0; subject = subject.0; policy = policy.0; revoked = revoked.0 } in

@@ -34,8 +34,8 @@ pub record Certificate : Type 0 where
 -- ---- the fields of its text
 
 -- an LMS public key that can be read
-unfoldable pub key_at : Cursor → Reading LmsPublic
-key_at = known_at key_of_text (bytes_at 56)
+unfoldable pub certified_key_at : Cursor → Reading LmsPublic
+certified_key_at = known_at key_of_text (bytes_at 56)
 
 -- at most 16 numbers of authorities that ascend strictly, behind their count
 abbrev pub trusted_at : Cursor → Reading (List ℕ)
@@ -72,7 +72,7 @@ certificate_at at = do
   name ← name_at tag.1
   serial ← number_at w64 name.1
   previous ← digest_at serial.1
-  subject ← key_at previous.1
+  subject ← certified_key_at previous.1
   policy ← terms_at subject.1
   revoked ← flag_at policy.1
   Ok (record { name = name.0; serial = serial.0; previous = previous.0; subject = subject.0; policy = policy.0; revoked = revoked.0 }, revoked.1)

@@ -32,9 +32,17 @@ impl Model for Policy {
 
     ghost Value = { PolicyTerms };
 
-    ghost view = { λ p. record { threshold = p.threshold; keyed = p.keyed; max_age = p.max_age; until = p.until; trusted = p.trusted; wait = p.wait } };
+    ghost view = { λ p. record {
+      threshold = p.threshold;
+      keyed = p.keyed;
+      max_age = p.max_age;
+      until = p.until;
+      trusted = p.trusted;
+      wait = p.wait;
+    } };
 
-    ghost invariant = { λ p. (length p.trusted ≤ 16) × AreNumbers p.trusted × IfSome p.wait IsWait };
+    ghost invariant = { λ p. (length p.trusted ≤ 16) × AreNumbers p.trusted
+        × IfSome p.wait IsWait };
 }
 
 impl Policy {
@@ -73,7 +81,14 @@ impl Model for Cert {
 
     ghost Value = { Certificate };
 
-    ghost view = { λ c. record { name = c.name; serial = c.serial; previous = c.previous; subject = c.subject; policy = c.policy; revoked = c.revoked } };
+    ghost view = { λ c. record {
+      name = c.name;
+      serial = c.serial;
+      previous = c.previous;
+      subject = c.subject;
+      policy = c.policy;
+      revoked = c.revoked;
+    } };
 }
 
 impl Cert {

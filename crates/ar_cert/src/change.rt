@@ -49,9 +49,15 @@ impl Model for Change {
 
     ghost Value = { Change };
 
-    ghost view = { λ c. record { cert = c.cert; endorsements = c.endorsements; handover = c.handover; objection = c.objection } };
+    ghost view = { λ c. record {
+      cert = c.cert;
+      endorsements = c.endorsements;
+      handover = c.handover;
+      objection = c.objection;
+    } };
 
-    ghost invariant = { λ c. (length c.endorsements ≤ 8) × Ascend (λ v. v.authority) IsEndorsement 0 c.endorsements
+    ghost invariant = { λ c. (length c.endorsements ≤ 8)
+        × Ascend (λ v. v.authority) IsEndorsement 0 c.endorsements
         × IfSome c.handover IsSignature × IfSome c.objection IsSignature
         × IfSome c.objection (λ _. StandsAlone c.endorsements c.handover) };
 }

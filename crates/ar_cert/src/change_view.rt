@@ -76,7 +76,8 @@ fn endorsement<'a>(fields: &mut Fields<'a>, least: u32) -> Result<EndorsementVie
 fn endorsements<'a>(fields: &mut Fields<'a>) -> Result<EndorsementsView<'a>, usize>
     ensures tells { Tells endorsements_of result fields.new (counted_endorsements_at fields.old) }
     ensures few { IfOk result (λ endorsements. endorsements.count ≤ 8) }
-    ensures len { IfOk result (λ endorsements. length (endorsements_of endorsements) ≡ endorsements.count) }
+    ensures len { IfOk result (λ endorsements.
+        length (endorsements_of endorsements) ≡ endorsements.count) }
 {
     let count = fields.take_count(MOST_ENDORSEMENTS as u8)?;
     let mut list = [EndorsementView {

@@ -2,7 +2,7 @@ ghost use Rattle.std.specs.Prelude.{◌≡◌, List, ℕ, Ok, Err, OnOk, IfErr, 
 ghost use Rattle.ar_bytes.specs.Reading.{Tells};
 ghost use Rattle.ar_bytes.specs.Ascending.{numbers_at};
 ghost use Rattle.ar_cert.specs.Lists.{numbers_in, SpellsNumbers};
-ghost use Rattle.ar_cert.specs.Certificate.{key_at, trusted_at, version_at, wait_at};
+ghost use Rattle.ar_cert.specs.Certificate.{certified_key_at, trusted_at, version_at, wait_at};
 
 use ar_bytes::{Fields, are_bytes};
 use lms_tree::LmsPublic;
@@ -44,9 +44,9 @@ pub(crate) fn wait(fields: &mut Fields, waits: bool) -> Result<Option<u16>, usiz
 }
 
 /// Reads an LMS public key, which has to be one that can be read; else it gives the place of its first byte.
-#[tactic(auto, unfolding(crate::specs::Certificate::key_at))]
+#[tactic(auto, unfolding(crate::specs::Certificate::certified_key_at))]
 pub fn take_key(fields: &mut Fields) -> Result<LmsPublic, usize>
-    ensures { Tells (λ key. key) result fields.new (key_at fields.old) }
+    ensures { Tells (λ key. key) result fields.new (certified_key_at fields.old) }
 {
     let place = fields.place();
     let bytes = fields.take_bytes(KEY_LEN)?;
@@ -57,7 +57,8 @@ pub fn take_key(fields: &mut Fields) -> Result<LmsPublic, usize>
 /// So many numbers of two bytes that ascend strictly: nothing, or the place of the first that fails.
 #[tactic(auto, using(ar_bytes::proofs::Ascending::list_steps))]
 fn check_ascending(fields: &mut Fields, count: usize) -> Result<(), usize>
-    ensures ok { OnOk result ((ns : List ℕ) × (numbers_at count 0 fields.old ≡ Ok (ns, fields.new))) }
+    ensures ok { OnOk result ((ns : List ℕ)
+        × (numbers_at count 0 fields.old ≡ Ok (ns, fields.new))) }
     ensures fault { IfErr result (λ place. numbers_at count 0 fields.old ≡ Err place) }
 {
     let mut least = 0;
@@ -70,7 +71,8 @@ fn check_ascending(fields: &mut Fields, count: usize) -> Result<(), usize>
 
 /// So many numbers of two bytes that ascend strictly, as they stand.
 fn numbers<'a>(fields: &mut Fields<'a>, count: u8) -> Result<&'a [u8], usize>
-    ensures tells { Tells (λ bytes. numbers_in bytes.now) result fields.new (numbers_at count 0 fields.old) }
+    ensures tells { Tells (λ bytes.
+        numbers_in bytes.now) result fields.new (numbers_at count 0 fields.old) }
     ensures numbers { IfOk result (λ bytes. SpellsNumbers bytes.now) }
 {
     let left = fields.left();
@@ -82,7 +84,8 @@ fn numbers<'a>(fields: &mut Fields<'a>, count: u8) -> Result<&'a [u8], usize>
 /// At most 16 numbers of authorities that ascend strictly, behind their count.
 #[tactic(auto, unfolding(ar_bytes::specs::Lists::counted_list_at))]
 pub(crate) fn trusted<'a>(fields: &mut Fields<'a>) -> Result<&'a [u8], usize>
-    ensures tells { Tells (λ bytes. numbers_in bytes.now) result fields.new (trusted_at fields.old) }
+    ensures tells { Tells (λ bytes.
+        numbers_in bytes.now) result fields.new (trusted_at fields.old) }
     ensures numbers { IfOk result (λ bytes. SpellsNumbers bytes.now) }
 {
     let count = fields.take_count(MOST_TRUSTED)?;

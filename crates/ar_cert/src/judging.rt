@@ -42,7 +42,8 @@ fn is_signed(key: &LmsPublic, statement: &Statement, signature: &Option<Items<u8
 /// Whether the old policy asks for a handover and there is one under this key. The signature is verified
 /// only where it is asked for.
 fn hands_over(old: &Facts, new: &Facts, key: &LmsPublic, handover: &Option<Items<u8>>) -> bool
-    ensures { result ≡ (cert_terms old.now).policy.keyed && is_signed key.now (text_of (claims.handover (cert_terms new.now).digest)) handover.now }
+    ensures { result ≡ (cert_terms old.now).policy.keyed && is_signed key.now
+        (text_of (claims.handover (cert_terms new.now).digest)) handover.now }
 {
     let statement = Statement::Handover {
         certificate: new.digest,
@@ -58,8 +59,10 @@ fn judge_objection(
     pending: Option<&[u8; 32]>,
     objection: &Option<Items<u8>>,
 ) -> Result<Manner, PolicyRefusal>
-    ensures { result ≡ in_manner Objected (first_failing ((NotPending, is_pending (option_map (λ d. d.now) pending.entry) digest.now)
-        ∷ ((Objection, is_signed key.now (text_of (claims.object digest.now)) objection.now) ∷ []))) }
+    ensures { result ≡ in_manner Objected
+        (first_failing ((NotPending, is_pending (option_map (λ d. d.now) pending.entry) digest.now)
+        ∷ ((Objection, is_signed key.now (text_of (claims.object digest.now)) objection.now)
+        ∷ []))) }
 {
     match pending {
         Some(waiting) if *waiting == *digest => {}
@@ -86,7 +89,8 @@ pub fn judge_update(
     pending: Option<&[u8; 32]>,
     change: &Change,
 ) -> Result<Manner, PolicyRefusal>
-    ensures answer { result ≡ update_judgement old.now (option_map (λ d. d.now) pending.entry) change.now }
+    ensures answer { result ≡ update_judgement old.now
+        (option_map (λ d. d.now) pending.entry) change.now }
 {
     let before = old.facts();
     let after = change.cert.facts();
@@ -102,7 +106,8 @@ pub fn judge_update(
 /// Whether a change by these endorsers follows the old certificate, whatever it objects to.
 fn judge_follow(old: &Cert, change: &Change, endorsers: &[u16]) -> Result<(), PolicyRefusal>
     requires { endorsers.now ≡ map (λ v. v.authority) change.now.endorsements }
-    ensures { result ≡ follow_answer (cert_terms_of old.now) (cert_terms_of change.now.cert) (endorsers_of change.now) (is_handed_over old.now change.now) }
+    ensures { result ≡ follow_answer (cert_terms_of old.now) (cert_terms_of change.now.cert)
+        (endorsers_of change.now) (is_handed_over old.now change.now) }
 {
     let before = old.facts();
     let after = change.cert.facts();

@@ -16,7 +16,8 @@ impl Cert {
 
     /// The certificate with this text. Memory is taken only once all of it was found in order.
     pub fn read(alloc: Global, bytes: &[u8]) -> Result<Cert, CertFault>
-        ensures { GivesOrWants faults.Memory (λ cert. cert) result (with_error faults.Form (whole certificate_at bytes.now)) }
+        ensures { GivesOrWants faults.Memory (λ cert.
+            cert) result (with_error faults.Form (whole certificate_at bytes.now)) }
     {
         let view = CertView::of(bytes).map_err(CertFault::Form)?;
         Ok(view.to_cert(alloc)?)
@@ -25,7 +26,8 @@ impl Cert {
     /// The certificate that stands next behind the number of its bytes, which it fills. Memory is taken
     /// only once all of it was found in order. After an error the reader is as it was.
     pub fn take_counted(alloc: Global, fields: &mut Fields) -> Result<Cert, CertFault>
-        ensures tells { TellsOrWants faults.Form faults.Memory (λ cert. cert) result fields.new (counted_certificate_at fields.old) }
+        ensures tells { TellsOrWants faults.Form faults.Memory (λ cert.
+            cert) result fields.new (counted_certificate_at fields.old) }
         ensures err { OnErr result (fields.new ≡ fields.old) }
     {
         let mut ahead = fields.copy();
@@ -45,7 +47,8 @@ impl Change {
     /// The change with this text. Memory is taken only once all of it was found in order.
     #[tactic(auto, unfolding(ar_bytes::specs::Reading::whole))]
     pub fn read(alloc: Global, bytes: &[u8]) -> Result<Change, CertFault>
-        ensures { GivesOrWants faults.Memory (λ change. change) result (with_error faults.Form (whole change_at bytes.now)) }
+        ensures { GivesOrWants faults.Memory (λ change.
+            change) result (with_error faults.Form (whole change_at bytes.now)) }
     {
         let mut fields = Fields::new(bytes);
         let view = ChangeView::take(&mut fields).map_err(CertFault::Form)?;
@@ -56,7 +59,8 @@ impl Change {
     /// The change that stands next. Memory is taken only once all of it was found in order. After an
     /// error the reader is as it was.
     pub fn take(alloc: Global, fields: &mut Fields) -> Result<Change, CertFault>
-        ensures tells { TellsOrWants faults.Form faults.Memory (λ change. change) result fields.new (change_at fields.old) }
+        ensures tells { TellsOrWants faults.Form faults.Memory (λ change.
+            change) result fields.new (change_at fields.old) }
         ensures err { OnErr result (fields.new ≡ fields.old) }
     {
         let mut ahead = fields.copy();

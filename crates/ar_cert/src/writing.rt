@@ -29,7 +29,8 @@ pub(crate) const DIGEST_TAG: u8 = 0x10;
 fn put_front(out: &mut [u8; TEXT_LEN], cert: &Cert) -> usize
     ensures len { result ≡ 98 + length cert.now.name }
     ensures short { length cert.now.name ≤ 253 }
-    ensures front { take result out.new ≡ front_text cert.now.name cert.now.serial cert.now.previous cert.now.subject }
+    ensures front { take result out.new
+        ≡ front_text cert.now.name cert.now.serial cert.now.previous cert.now.subject }
 {
     let name = cert.name.text();
     let place = write_u8(out, 0, TAG);
@@ -46,7 +47,8 @@ fn put_rules(out: &mut [u8; TEXT_LEN], place: usize, policy: &Policy) -> usize
     requires { place ≤ 351 }
     ensures len { result ≡ place + 15 }
     ensures front { take result out.new ≡ take place out.old
-        ++ rules_text (is_some policy.now.wait) policy.now.threshold policy.now.keyed policy.now.max_age policy.now.until }
+        ++ rules_text (is_some policy.now.wait) policy.now.threshold policy.now.keyed
+        policy.now.max_age policy.now.until }
 {
     let version = if policy.wait.is_some() { 2 } else { 1 };
     let place = write_u8(out, place, version);
@@ -179,7 +181,8 @@ fn endorsements_len(endorsements: &[Endorsement]) -> usize
 
 /// Endorsements, one behind the other.
 fn append_endorsements(out: &mut Vec<u8>, endorsements: &[Endorsement])
-    requires { vec_len out.old + length (flat_map endorsement_text endorsements.now) ≤ vec_capacity out.old }
+    requires { vec_len out.old + length (flat_map endorsement_text endorsements.now)
+        ≤ vec_capacity out.old }
     ensures text { out.new.items ≡ out.old.items ++ flat_map endorsement_text endorsements.now }
     ensures capacity { vec_capacity out.old ≤ vec_capacity out.new }
 {
@@ -219,7 +222,8 @@ fn consent_len(handover: &Option<Items<u8>>, objection: &Option<Items<u8>>) -> u
 fn append_consent(out: &mut Vec<u8>, handover: &Option<Items<u8>>, objection: &Option<Items<u8>>)
     requires handover { IfSome handover.now IsSignature }
     requires objection { IfSome objection.now IsSignature }
-    requires room { vec_len out.old + length (consent_text handover.now objection.now) ≤ vec_capacity out.old }
+    requires room { vec_len out.old + length (consent_text handover.now objection.now)
+        ≤ vec_capacity out.old }
     ensures text { out.new.items ≡ out.old.items ++ consent_text handover.now objection.now }
     ensures capacity { vec_capacity out.old ≤ vec_capacity out.new }
 {
@@ -250,7 +254,8 @@ fn append_consents(
     requires room { vec_len out.old + (1 + length (flat_map endorsement_text endorsements.now)
         + length (consent_text handover.now objection.now)) ≤ vec_capacity out.old }
     ensures text { out.new.items ≡ out.old.items ++ (number_text w8 (length endorsements.now)
-        ++ (flat_map endorsement_text endorsements.now ++ consent_text handover.now objection.now)) }
+        ++ (flat_map endorsement_text endorsements.now
+        ++ consent_text handover.now objection.now)) }
     ensures capacity { vec_capacity out.old ≤ vec_capacity out.new }
 {
     append(out, &[endorsements.len() as u8]);
@@ -263,7 +268,8 @@ impl Cert {
     /// bytes of `out` as they were, and does not come where `out` has room for both.
     #[tactic(auto, unfolding(ar_bytes::specs::RoundTrip::number_text))]
     pub fn write_counted(&self, _alloc: Global, out: &mut Vec<u8>) -> Result<(), AllocError>
-        ensures appends { Appends (counted_text (certificate_text self.now)) out.old out.new result }
+        ensures appends { Appends (counted_text
+            (certificate_text self.now)) out.old out.new result }
         ensures err { OnErr result (out.new.items ≡ out.old.items) }
     {
         let mut text = [0; TEXT_LEN];

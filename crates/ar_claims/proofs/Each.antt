@@ -1,19 +1,18 @@
 -- Each signature of a message's lists stands in a claim of the message.
-use Rattle.std.proofs.Common.{◌≡◌, ℕ, List, [], ◌∷◌, Option, Some, None, refl, subst}
+use Rattle.std.proofs.Common.{ℕ, List, [], ◌∷◌}
 use Rattle.std.specs.Prelude.{All, Contains, flat_map, map}
-use Rattle.std.specs.Option.{option_map}
 use Rattle.std.proofs.lemmas.List.Elements.{All-cons, All-contains, All-contains_itself, All-nil, Contains-append_left, Contains-append_right}
 use Rattle.ar_cert.specs.Certificate.{digest_of}
 use Rattle.ar_cert.specs.Changes.{Change, Endorsement}
 use Rattle.ar_claims.specs.Claimed.{claimed_in, confirmed_by, votes_behind}
-use Rattle.ar_claims.specs.Lists.{endorsements_in, statuses_in, votes_in}
+use Rattle.ar_claims.specs.Lists.{endorsements_in, claimed_statuses, claimed_votes}
 use Rattle.ar_council.proofs.Lists.{All-unmap, Contains-later, all-left, all-right}
-use Rattle.ar_council.specs.Values.{roots_of, status_claim, value_of_roots}
+use Rattle.ar_council.specs.Values.{status_claim}
 use Rattle.ar_message.specs.declared.lists.LogStatus.{LogStatus}
 use Rattle.ar_message.specs.declared.lists.Vote.{Vote}
 use Rattle.ar_message.specs.declared.message.Confirming.{Confirming}
 use Rattle.ar_message.specs.declared.message.Message.TheVariants.{Decision, HalfConfirmed, LogConfirmed, Propose, SkipNote, Submit}
-use Rattle.ar_statement.specs.Claims.{Roots, authority_party, endorse, log_party, propose, status, vote}
+use Rattle.ar_statement.specs.Claims.{authority_party, endorse, log_party, propose, status, value_with, vote}
 use Rattle.party_keys.specs.Signers.{Claimed, signed_by}
 
 -- ---- lists
@@ -51,7 +50,7 @@ proposed log epoch base root changes signature change e outer inner =
 pub decided : (epoch : ℕ) (base root : List ℕ) (changes : List Change) (votes : List Vote) (change : Change) (e : Endorsement) → Contains changes change
     → Contains change.endorsements e → Contains (claimed_in (Decision epoch base root changes votes)) (endorsed change e)
 decided epoch base root changes votes change e outer inner =
-    Contains-append_right (votes_in epoch (value_of_roots (base, root)) votes) (flat_map endorsements_in changes) (endorsed change e)
+    Contains-append_right (claimed_votes epoch (value_with base root) votes) (flat_map endorsements_in changes) (endorsed change e)
     (in-flat endorsements_in changes change (endorsed change e) outer (submitted change e inner))
 
 -- ---- votes and statuses
@@ -63,18 +62,13 @@ voted epoch base root v = signed_by (log_party v.log) (vote v.log epoch base roo
 pub votes : (epoch : ℕ) (base root : List ℕ) (changes : List Change) (all : List Vote) (v : Vote) → Contains all v
     → Contains (claimed_in (Decision epoch base root changes all)) (voted epoch base root v)
 votes epoch base root changes all v there =
-    Contains-append_left (votes_in epoch (value_of_roots (base, root)) all) (flat_map endorsements_in changes) (voted epoch base root v)
+    Contains-append_left (claimed_votes epoch (value_with base root) all) (flat_map endorsements_in changes) (voted epoch base root v)
     (mapped (voted epoch base root) all v there)
-
-same-value : (value : Option Roots) → option_map roots_of (option_map value_of_roots value) ≡ value
-same-value None = refl
-same-value (Some roots) = refl
 
 pub statuses : (epoch : ℕ) (all : List LogStatus) (x : LogStatus) → Contains all x
     → Contains (claimed_in (SkipNote epoch all)) (signed_by (log_party x.log) (status x.log epoch x.value) x.signature)
 statuses epoch all x there =
-    subst (λ (value : Option Roots). Contains (statuses_in epoch all) (signed_by (log_party x.log) (status x.log epoch value) x.signature)) (same-value x.value)
-    (mapped (λ (y : LogStatus). signed_by (log_party y.log) (status_claim y.log epoch (option_map value_of_roots y.value)) y.signature) all x there)
+    mapped (λ (y : LogStatus). signed_by (log_party y.log) (status_claim y.log epoch y.value) y.signature) all x there
 
 pub behind-log : (part : Confirming) (v : Vote) → Contains part.votes v → Contains (claimed_in (LogConfirmed part)) (voted part.epoch part.base part.root v)
 behind-log part v there =

@@ -1,19 +1,18 @@
 -- What logs and authorities are said to have signed: the claims that stand in a message, at the places whose signers a log,
 -- an authority or a client verifies.
 use Rattle.std.specs.Prelude.{ℕ, List, [], ◌∷◌, ◌++◌, flat_map, Result, Ok, Err}
-use Rattle.std.specs.Option.{option_map}
-use Rattle.ar_council.specs.Values.{status_claim, value_of_roots, vote_claim}
+use Rattle.ar_council.specs.Values.{status_claim, vote_claim}
 use Rattle.ar_message.specs.Confirmation as confirmation
 use Rattle.ar_message.specs.Confirmation.{Body, digest_in}
 use Rattle.ar_message.specs.Messages.{confirmation_in, message_in, shown_in}
 use Rattle.ar_message.specs.declared.message.Confirming.{Confirming}
 use Rattle.ar_message.specs.declared.message.Message.{Message}
 use Rattle.ar_message.specs.declared.message.Message.TheVariants.{EndorseAsk, Endorsed, Submit, Propose, Ballot, StatusNote, Decision, SkipNote, ConfirmAsk, LogConfirmed, HalfConfirmed, Confirmation, RollNote}
-use Rattle.ar_statement.specs.Claims.{authority_party, confirmation_by, log_party, propose, roll}
+use Rattle.ar_statement.specs.Claims.{authority_party, confirmation_by, log_party, propose, roll, value_with}
 use Rattle.ar_statement.specs.declared.party.Party.{Party}
 use Rattle.lms_tree.specs.PublicKey.{key_text}
 use Rattle.party_keys.specs.Signers.{Claimed, signed_by}
-use Rattle.ar_claims.specs.Lists.{endorsements_in, statuses_in, votes_in}
+use Rattle.ar_claims.specs.Lists.{endorsements_in, claimed_statuses, claimed_votes}
 
 -- a party confirms of an epoch what the table with the root has for the name
 abbrev pub confirmed_in : ℕ → List ℕ → Body → List ℕ → Party → List ℕ → Claimed
@@ -25,7 +24,7 @@ confirmed_by part party signature = confirmed_in part.epoch part.name (shown_in 
 
 -- the votes behind it
 abbrev pub votes_behind : Confirming → List Claimed
-votes_behind part = votes_in part.epoch (value_of_roots (part.base, part.root)) part.votes
+votes_behind part = claimed_votes part.epoch (value_with part.base part.root) part.votes
 
 -- of a confirmation, that of the log, and those of both authorities
 abbrev pub claimed_on : confirmation.Confirmation → List Claimed
@@ -43,12 +42,12 @@ claimed_in (Submit change) = endorsements_in change
 claimed_in (Propose log epoch base root changes signature) =
     signed_by (log_party log) (propose log epoch base root) signature ∷ flat_map endorsements_in changes
 claimed_in (Ballot log epoch base root signature) =
-    signed_by (log_party log) (vote_claim log epoch (value_of_roots (base, root))) signature ∷ []
+    signed_by (log_party log) (vote_claim log epoch (value_with base root)) signature ∷ []
 claimed_in (StatusNote log epoch value signature) =
-    signed_by (log_party log) (status_claim log epoch (option_map value_of_roots value)) signature ∷ []
+    signed_by (log_party log) (status_claim log epoch value) signature ∷ []
 claimed_in (Decision epoch base root changes votes) =
-    votes_in epoch (value_of_roots (base, root)) votes ++ flat_map endorsements_in changes
-claimed_in (SkipNote epoch statuses) = statuses_in epoch statuses
+    claimed_votes epoch (value_with base root) votes ++ flat_map endorsements_in changes
+claimed_in (SkipNote epoch statuses) = claimed_statuses epoch statuses
 claimed_in (ConfirmAsk client name first second) = []
 claimed_in (LogConfirmed part) = confirmed_by part (log_party part.log) part.signature ∷ votes_behind part
 claimed_in (HalfConfirmed part first_signature) =

@@ -10,13 +10,13 @@ use Rattle.ar_base.proofs.Places.{contained, has-place}
 use Rattle.key_roll.specs.Book.{IsRollBook, RollBook, empty_book, texts_of}
 use Rattle.key_roll.specs.Entry.{after_at, after_entry, has_room, with_roll, with_text}
 use Rattle.key_roll.specs.Rolls.{is_plain_of, plain_count}
-use Rattle.key_roll.specs.declared.signed.Signed.{Signed}
+use Rattle.key_roll.specs.declared.signed.SignedText.{SignedText}
 use Rattle.ar_council.specs.Room.{HasRoom}
 use Rattle.ar_council.proofs.Lists.{Within}
 use Rattle.ar_council.proofs.Needs.{count-one}
 
 with-texts : (book : RollBook) (text : List ℕ) → texts_of (with_text book text) ≡ texts_of book ++ text ∷ []
-with-texts book text = map-append (λ (s : Signed). s.text) book.list (record { generation = book.newest; text = text } ∷ [])
+with-texts book text = map-append (λ (s : SignedText). s.text) book.list (record { generation = book.newest; text = text } ∷ [])
 
 -- what was there stays
 pub entry-keeps : (book : RollBook) (text : List ℕ) → Within (texts_of book) (texts_of (after_entry book text))
@@ -61,7 +61,7 @@ entry-has book text room = at (place_of (texts_of book) text) refl
 -- ---- Rolls
 
 roll-texts : (book : RollBook) (text : List ℕ) → texts_of (with_roll book text) ≡ texts_of book ++ text ∷ []
-roll-texts book text = map-append (λ (s : Signed). s.text) book.list (record { generation = book.newest; text = text } ∷ [])
+roll-texts book text = map-append (λ (s : SignedText). s.text) book.list (record { generation = book.newest; text = text } ∷ [])
 
 pub roll-keeps : (book : RollBook) (text : List ℕ) → Within (texts_of book) (texts_of (with_roll book text))
 roll-keeps book text x there = subst (λ l. Contains l x) (sym (roll-texts book text)) (Contains-append_left (texts_of book) (text ∷ []) x there)
@@ -116,8 +116,8 @@ second-room book first second room = at (place_of (texts_of book) first) refl
 
     by : (b : Bool) → has_room book ≡ b → place_of (texts_of book) first ≡ None → HasRoom (cond b (with_text book first) book) (second ∷ [])
     by true is none =
-        let s : Signed = record { generation = book.newest; text = first } in
-        let sum = sum_by-append (λ (x : Signed). cond (is_plain_of book.newest x) 1 0) book.list (s ∷ []) in
+        let s : SignedText = record { generation = book.newest; text = first } in
+        let sum = sum_by-append (λ (x : SignedText). cond (is_plain_of book.newest x) 1 0) book.list (s ∷ []) in
         let most = one-at-most (is_plain_of book.newest s) in
         let keeps : Within (texts_of book) (texts_of (with_text book first)) =
         λ x there. subst (λ l. Contains l x) (sym (with-texts book first)) (Contains-append_left (texts_of book) (first ∷ []) x there) in
@@ -134,7 +134,7 @@ second-room book first second room = at (place_of (texts_of book) first) refl
 pub empty-book : (leaves : ℕ) → 0 < leaves → IsRollBook (empty_book leaves)
 empty-book leaves some = record {
   once = λ i j d before within. absurd (omega (arith, within));
-  upto = All-nil (λ (s : Signed). s.generation ≤ 0);
+  upto = All-nil (λ (s : SignedText). s.generation ≤ 0);
   within = λ g. omega (arith, some);
   rolled = λ g less. absurd (omega (arith, less));
   unrolled = λ g more. refl;

@@ -10,12 +10,16 @@ ghost use Rattle.ar_council.specs.Seen.{seen_after};
 
 /// What is seen afterwards is what was seen and what is new, and nothing else.
 pub fn what_is_seen_is_old_or_new()
-    ensures { (seen more : List SeenText) (t : SeenText) → Contains (seen_after seen more) t ↔ (Contains seen t ⊎ Contains more t) }
+    ensures { (seen more : List SeenText) (t : SeenText)
+        → Contains (seen_after seen more) t ↔ (Contains seen t ⊎ Contains more t) }
 {}
 
 /// What a directory learns, and a party's own next key, leaves the council as it is.
 pub fn what_is_learnt_leaves_the_council()
-    ensures learnt { (keys : Directory) (a : Announced) → council_of (after_learning keys a) ≡ council_of keys }
-    ensures all_learnt { (keys : Directory) (announced : List Announced) → council_of (after_all keys announced) ≡ council_of keys }
-    ensures adopted { (keys : Directory) (party : Party) (generation : ℕ) (key : LmsPublic) → council_of (after_adopting keys party generation key) ≡ council_of keys }
+    ensures learnt { (keys : Directory) (a : Announced)
+        → council_of (after_learning keys a) ≡ council_of keys }
+    ensures all_learnt { (keys : Directory) (announced : List Announced)
+        → council_of (after_all keys announced) ≡ council_of keys }
+    ensures adopted { (keys : Directory) (party : Party) (generation : ℕ) (key : LmsPublic)
+        → council_of (after_adopting keys party generation key) ≡ council_of keys }
 {}

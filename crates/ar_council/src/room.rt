@@ -23,7 +23,8 @@ pub fn has_leaf(book: &RollBook, statement: &Statement) -> bool
 /// Whether there are leaves for two statements, where they need them.
 #[tactic(auto, using(crate::proofs::Needs::two_needs))]
 pub fn has_leaves(book: &RollBook, first: &Statement, second: &Statement) -> bool
-    ensures { result ≡ has_leaves book.now.book (text_of (claim_of first.now) ∷ (text_of (claim_of second.now) ∷ [])) }
+    ensures { result ≡ has_leaves book.now.book
+        (text_of (claim_of first.now) ∷ (text_of (claim_of second.now) ∷ [])) }
 {
     need(book, first) as u64 + need(book, second) as u64 <= book.free() as u64
 }

@@ -73,7 +73,8 @@ fn fresh_core(
     genesis: &Directory,
     number: u16,
 ) -> Result<LogCore, AllocError>
-    ensures { IfOk result (λ core. core ≡ fresh_core genesis.now number (key_for setup.now LogServer number)) }
+    ensures { IfOk result (λ core.
+        core ≡ fresh_core genesis.now number (key_for setup.now LogServer number)) }
 {
     let directory = genesis.copy(alloc)?;
     let len = signature_len(setup) as usize;
@@ -87,7 +88,8 @@ fn fresh_state(
     genesis: &Directory,
     number: u16,
 ) -> Result<AuthorityState, AllocError>
-    ensures { IfOk result (λ state. state ≡ fresh_state genesis.now number (key_for setup.now Authority number)) }
+    ensures { IfOk result (λ state.
+        state ≡ fresh_state genesis.now number (key_for setup.now Authority number)) }
 {
     let directory = genesis.copy(alloc)?;
     let len = signature_len(setup);
@@ -132,7 +134,8 @@ fn genesis(
     authorities: Vec<LmsPublic>,
     quorum: u16,
 ) -> Result<Directory, WorldFault>
-    ensures { GivesUnless Memory (λ genesis. genesis) result (named 1 (result_ok (directory_of logs.now authorities.items quorum))) }
+    ensures { GivesUnless Memory (λ genesis.
+        genesis) result (named 1 (result_ok (directory_of logs.now authorities.items quorum))) }
 {
     let logs = Vec::from_slice(alloc, logs)?;
     match Directory::new(logs, authorities, quorum as usize) {

@@ -100,7 +100,8 @@ fn join_log(
     requires some { 0 < length cores.old.items }
     requires own { EachHasRing IsLogRing cores.old.items rings.old.items }
     requires room { vec_len logs.old + length cores.old.items ≤ vec_capacity logs.old }
-    ensures same { logs.new.items ++ logs_of cores.new.items rings.new.items ≡ logs.old.items ++ logs_of cores.old.items rings.old.items }
+    ensures same { logs.new.items ++ logs_of cores.new.items rings.new.items
+        ≡ logs.old.items ++ logs_of cores.old.items rings.old.items }
     ensures left { length cores.new.items + 1 ≡ length cores.old.items }
     ensures own { EachHasRing IsLogRing cores.new.items rings.new.items }
     ensures room { vec_len logs.new + length cores.new.items ≤ vec_capacity logs.new }
@@ -119,7 +120,8 @@ pub fn join_authorities<C: OwnerCheck>(
 )
     requires own { EachHasRing IsAuthorityRing states.items rings.items }
     requires room { vec_len authorities.old + length states.items ≤ vec_capacity authorities.old }
-    ensures { authorities.new.items ≡ authorities.old.items ++ authorities_of states.items rings.items
+    ensures { authorities.new.items
+        ≡ authorities.old.items ++ authorities_of states.items rings.items
         (checks_told C.told C.answers checks.items) }
 {
     let count = states.len();
@@ -145,12 +147,18 @@ fn join_authority<C: OwnerCheck>(
 )
     requires some { 0 < length states.old.items }
     requires own { EachHasRing IsAuthorityRing states.old.items rings.old.items }
-    requires room { vec_len authorities.old + length states.old.items ≤ vec_capacity authorities.old }
-    ensures same { authorities.new.items ++ authorities_of states.new.items rings.new.items (checks_told C.told C.answers checks.new.items)
-        ≡ authorities.old.items ++ authorities_of states.old.items rings.old.items (checks_told C.told C.answers checks.old.items) }
+    requires room { vec_len authorities.old + length states.old.items
+        ≤ vec_capacity authorities.old }
+    ensures same { authorities.new.items
+        ++ authorities_of states.new.items rings.new.items
+        (checks_told C.told C.answers checks.new.items)
+        ≡ authorities.old.items
+        ++ authorities_of states.old.items rings.old.items
+        (checks_told C.told C.answers checks.old.items) }
     ensures left { length states.new.items + 1 ≡ length states.old.items }
     ensures own { EachHasRing IsAuthorityRing states.new.items rings.new.items }
-    ensures room { vec_len authorities.new + length states.new.items ≤ vec_capacity authorities.new }
+    ensures room { vec_len authorities.new + length states.new.items
+        ≤ vec_capacity authorities.new }
 {
     let state = take_first(states);
     let ring = take_first(rings);

@@ -29,7 +29,13 @@ impl Model for Setup {
 
     ghost Value = { Parts };
 
-    ghost view = { λ s. record { secret = s.secret; lms = s.lms; ots = s.ots; logs = s.logs; quorum = s.quorum } };
+    ghost view = { λ s. record {
+      secret = s.secret;
+      lms = s.lms;
+      ots = s.ots;
+      logs = s.logs;
+      quorum = s.quorum;
+    } };
 
     ghost invariant = { λ s. type_to_make (lms_kind.number_of s.lms) ≡ Some s.lms };
 }

@@ -20,7 +20,8 @@ pub fn read_all<S: Source>(
     limit: usize,
 ) -> Result<Vec<u8>, ReadFault>
     // On `Ok` the bytes are all that was taken, and the source was read to its end.
-    ensures bytes { IfOk result (λ all. Consumes (S.left source.old) (S.left source.new) all.items) }
+    ensures bytes { IfOk result (λ all.
+        Consumes (S.left source.old) (S.left source.new) all.items) }
     ensures end { OnOk result (IsAtEnd (S.left source.new)) }
     ensures within { IfOk result (λ all. vec_len all ≤ limit) }
 
@@ -28,7 +29,8 @@ pub fn read_all<S: Source>(
     ensures stopped { IfErr result (Stopped (S.left source.old) (S.left source.new) limit) }
 
     // A fault has its cause in the count of faults, and none is hidden behind another answer.
-    ensures fault { result ≡ Err ReadFault.Fault → HasRisen (S.faults source.old) (S.faults source.new) }
+    ensures fault { result ≡ Err ReadFault.Fault
+        → HasRisen (S.faults source.old) (S.faults source.new) }
     ensures uncounted { result ≢ Err ReadFault.Fault → S.faults source.new ≡ S.faults source.old }
     ensures never_falls { S.faults source.old ≤ S.faults source.new }
 {

@@ -13,7 +13,8 @@ ghost use Rattle.ar_lines.specs.Written.{IsKey, IsReadAsWritten, Writes, hex_of_
 
 /// Lines of text that are written are read as just these lines.
 pub fn lines_are_read_as_they_are_written()
-    ensures { (lines : List (List ℕ)) → list_all is_text lines ≡ true → lines_of (text_of_lines lines) ≡ lines }
+    ensures { (lines : List (List ℕ)) → list_all is_text lines ≡ true
+        → lines_of (text_of_lines lines) ≡ lines }
 {}
 
 /// What is written as a word spells what was written.

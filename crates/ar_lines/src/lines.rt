@@ -54,8 +54,10 @@ pub fn first_part(text: &[u8], mark: u8) -> (&[u8], Option<&[u8]>)
 /// input has no line, since it is empty.
 #[tactic(auto, using(crate::proofs::LineLaws::first_line_laws))]
 fn first_line(input: &[u8]) -> Option<(&[u8], &[u8])>
-    ensures cut { MatchOption result (lines_of input.now ≡ []) (λ cut. lines_of input.now ≡ cut.0.now ∷ lines_of cut.1.now) }
-    ensures shorter { MatchOption result (length input.now ≡ 0) (λ cut. length cut.1.now < length input.now) }
+    ensures cut { MatchOption result (lines_of input.now ≡ []) (λ cut.
+        lines_of input.now ≡ cut.0.now ∷ lines_of cut.1.now) }
+    ensures shorter { MatchOption result (length input.now ≡ 0)
+        (λ cut. length cut.1.now < length input.now) }
 {
     if input.is_empty() {
         return None;

@@ -80,7 +80,8 @@ impl<'a> Word<'a> {
     /// Another word is refused as the field that it is; `Memory` is want of memory.
     #[tactic(auto, using(crate::proofs::HexWords::hex_laws))]
     pub fn bytes(&self, alloc: Global) -> Result<Vec<u8>, LineFault>
-        ensures { ReadsOrWants (λ bytes. bytes.items) result (spelled self.now (bytes_of_hex self.now.text)) }
+        ensures { ReadsOrWants (λ bytes.
+            bytes.items) result (spelled self.now (bytes_of_hex self.now.text)) }
     {
         if !is_hex(self.text) {
             return Err(LineFault::Refused(self.refusal()));

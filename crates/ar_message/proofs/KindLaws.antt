@@ -11,18 +11,18 @@ use Rattle.ar_bytes.proofs.Passing.{counted_again, counted_pass, number_again, n
 use Rattle.ar_bytes.proofs.Parts.{such_that_again, such_that_pass}
 use Rattle.ar_bytes.proofs.JoinedFields.{pair_again, pair_pass, mapped_again, mapped_pass, if_pass}
 use Rattle.ar_names.specs.Names.{IsName}
-use Rattle.ar_statement.specs.Claims.{name_text, party, party_text, role_number, roots_text}
+use Rattle.ar_statement.specs.Claims.{name_text, party, party_text, role_number, value_text, value_with}
 use Rattle.ar_statement.specs.Fields.{IsEpoch, digest_at, epoch_at, name_at}
-use Rattle.ar_statement.specs.Ranges.{AreRoots, is_witness}
-use Rattle.ar_statement.specs.Texts.{role_at, roots_at}
+use Rattle.ar_statement.specs.Ranges.{IsValue, is_witness}
+use Rattle.ar_statement.specs.Texts.{role_at, value_at}
 use Rattle.ar_statement.proofs.FieldLaws.{digest_again, digest_pass, epoch_again, epoch_pass, name_again, name_pass}
 use Rattle.ar_statement.proofs.Statements.{role_again, role_pass}
 use Rattle.lms_tree.specs.PublicKey.{HasWidths, key_text}
-use Rattle.ar_cert.specs.Certificate.{IsCertificate, certificate_text, counted_certificate_at, key_at}
+use Rattle.ar_cert.specs.Certificate.{IsCertificate, certificate_text, counted_certificate_at, certified_key_at}
 use Rattle.ar_cert.specs.Changes.{IsChange, IsSignature, change_at, change_text}
 use Rattle.ar_cert.proofs.CertificateLaws.{counted_certificate_again, counted_certificate_pass}
 use Rattle.ar_cert.proofs.ChangeLaws.{change_again, change_pass}
-use Rattle.ar_statement.proofs.FieldsByKind.{roots_again, roots_pass}
+use Rattle.ar_statement.proofs.FieldsByKind.{value_again, value_pass}
 use Rattle.ar_cert.proofs.FieldLaws.{key_again, key_pass}
 use Rattle.ar_message.specs.Confirmation.{IsConfirmation, confirmation_fields_at, confirmation_fields_text}
 use Rattle.ar_message.specs.Lists.{changes_at, changes_text, AreChanges, votes_at, votes_text, AreVotes, statuses_at, statuses_text, AreStatuses}
@@ -32,7 +32,7 @@ use Rattle.ar_message.specs.declared.message.Message.TheVariants.{EndorseAsk, En
 use Rattle.ar_message.specs.Messages.{IsMessage, IsConfirming, IsWitness, ballot_at, confirm_ask_at, confirmation_in, confirming_at, confirming_text, decision_at, endorse_ask_at, endorsed_at, fields_at, fields_text, half_confirmed_at, kind_of, log_confirmed_at, propose_at, roll_note_at, skip_note_at, status_note_at, submit_at, whole_confirmation_at, with_confirmation, witness_at}
 use Rattle.ar_message.proofs.ConfirmationLaws.{confirmation_fields_again, confirmation_fields_pass}
 use Rattle.ar_message.proofs.ConfirmingLaws.{confirming_again, confirming_pass, whole-with}
-use Rattle.ar_message.proofs.ListLaws.{changes_again, changes_pass, votes_again, votes_pass, statuses_again, statuses_pass, value_again, value_pass}
+use Rattle.ar_message.proofs.ListLaws.{changes_again, changes_pass, votes_again, votes_pass, statuses_again, statuses_pass, optional_value_again, optional_value_pass}
 
 -- ---- one field behind the other
 
@@ -69,11 +69,11 @@ name_exact = record { again = name_again; pass = name_pass }
 signature_exact : IsExact counted_at counted_text IsSignature
 signature_exact = record { again = counted_again; pass = counted_pass }
 
-roots_exact : IsExact roots_at roots_text AreRoots
-roots_exact = record { again = roots_again; pass = roots_pass }
-
-value_exact : IsExact (optional_at roots_at) (optional_text roots_text) (λ value. IfSome value AreRoots)
+value_exact : IsExact value_at value_text IsValue
 value_exact = record { again = value_again; pass = value_pass }
+
+optional_value_exact : IsExact (optional_at value_at) (optional_text value_text) (λ value. IfSome value IsValue)
+optional_value_exact = record { again = optional_value_again; pass = optional_value_pass }
 
 certificate_exact : IsExact counted_certificate_at (λ c. counted_text (certificate_text c)) IsCertificate
 certificate_exact = record { again = counted_certificate_again; pass = counted_certificate_pass }
@@ -96,7 +96,7 @@ fields_exact = record { again = confirmation_fields_again; pass = confirmation_f
 confirming_exact : IsExact confirming_at confirming_text IsConfirming
 confirming_exact = record { again = confirming_again; pass = confirming_pass }
 
-key_exact : IsExact key_at key_text HasWidths
+key_exact : IsExact certified_key_at key_text HasWidths
 key_exact = record { again = key_again; pass = key_pass }
 
 -- the role of a log or an authority
@@ -130,13 +130,13 @@ fields_again (Endorsed owner authority certificate signature) h =
     sent (pairs number_exact (pairs number_exact (pairs digest_exact signature_exact))) (λ f. Endorsed f.0 f.1.0 f.1.1.0 f.1.1.1) (owner, (authority, (certificate, signature))) h
 fields_again (Submit change) h = sent change_exact Submit change h
 fields_again (Propose log epoch base root changes signature) h =
-    sent (pairs number_exact (pairs epoch_exact (pairs roots_exact (pairs changes_exact signature_exact)))) (λ f. Propose f.0 f.1.0 f.1.1.0.0 f.1.1.0.1 f.1.1.1.0 f.1.1.1.1) (log, (epoch, ((base, root), (changes, signature)))) h
+    sent (pairs number_exact (pairs epoch_exact (pairs value_exact (pairs changes_exact signature_exact)))) (λ f. Propose f.0 f.1.0 f.1.1.0.base f.1.1.0.root f.1.1.1.0 f.1.1.1.1) (log, (epoch, (value_with base root, (changes, signature)))) h
 fields_again (Ballot log epoch base root signature) h =
-    sent (pairs number_exact (pairs epoch_exact (pairs roots_exact signature_exact))) (λ f. Ballot f.0 f.1.0 f.1.1.0.0 f.1.1.0.1 f.1.1.1) (log, (epoch, ((base, root), signature))) h
+    sent (pairs number_exact (pairs epoch_exact (pairs value_exact signature_exact))) (λ f. Ballot f.0 f.1.0 f.1.1.0.base f.1.1.0.root f.1.1.1) (log, (epoch, (value_with base root, signature))) h
 fields_again (StatusNote log epoch value signature) h =
-    sent (pairs number_exact (pairs epoch_exact (pairs value_exact signature_exact))) (λ f. StatusNote f.0 f.1.0 f.1.1.0 f.1.1.1) (log, (epoch, (value, signature))) h
+    sent (pairs number_exact (pairs epoch_exact (pairs optional_value_exact signature_exact))) (λ f. StatusNote f.0 f.1.0 f.1.1.0 f.1.1.1) (log, (epoch, (value, signature))) h
 fields_again (Decision epoch base root changes votes) h =
-    sent (pairs epoch_exact (pairs roots_exact (pairs changes_exact votes_exact))) (λ f. Decision f.0 f.1.0.0 f.1.0.1 f.1.1.0 f.1.1.1) (epoch, ((base, root), (changes, votes))) h
+    sent (pairs epoch_exact (pairs value_exact (pairs changes_exact votes_exact))) (λ f. Decision f.0 f.1.0.base f.1.0.root f.1.1.0 f.1.1.1) (epoch, (value_with base root, (changes, votes))) h
 fields_again (SkipNote epoch statuses) h = sent (pairs epoch_exact statuses_exact) (λ f. SkipNote f.0 f.1) (epoch, statuses) h
 fields_again (ConfirmAsk client name first second) h =
     sent (pairs number_exact (pairs name_exact (pairs number_exact number_exact))) (λ f. ConfirmAsk f.0 f.1.0 f.1.1.0 f.1.1.1) (client, (name, (first, second))) h
@@ -177,22 +177,22 @@ submit_pass = of_kind 3 change_exact Submit (λ f h. (refl, (h, refl)))
 propose_pass : KindPass 4 propose_at
 unfolding propose_at fields_text
 propose_pass =
-    of_kind 4 (pairs number_exact (pairs epoch_exact (pairs roots_exact (pairs changes_exact signature_exact)))) (λ f. Propose f.0 f.1.0 f.1.1.0.0 f.1.1.0.1 f.1.1.1.0 f.1.1.1.1) (λ f h. (refl, (h, refl)))
+    of_kind 4 (pairs number_exact (pairs epoch_exact (pairs value_exact (pairs changes_exact signature_exact)))) (λ f. Propose f.0 f.1.0 f.1.1.0.base f.1.1.0.root f.1.1.1.0 f.1.1.1.1) (λ f h. (refl, (h, refl)))
 
 ballot_pass : KindPass 5 ballot_at
 unfolding ballot_at fields_text
 ballot_pass =
-    of_kind 5 (pairs number_exact (pairs epoch_exact (pairs roots_exact signature_exact))) (λ f. Ballot f.0 f.1.0 f.1.1.0.0 f.1.1.0.1 f.1.1.1) (λ f h. (refl, (h, refl)))
+    of_kind 5 (pairs number_exact (pairs epoch_exact (pairs value_exact signature_exact))) (λ f. Ballot f.0 f.1.0 f.1.1.0.base f.1.1.0.root f.1.1.1) (λ f h. (refl, (h, refl)))
 
 status_note_pass : KindPass 6 status_note_at
 unfolding status_note_at fields_text
 status_note_pass =
-    of_kind 6 (pairs number_exact (pairs epoch_exact (pairs value_exact signature_exact))) (λ f. StatusNote f.0 f.1.0 f.1.1.0 f.1.1.1) (λ f h. (refl, (h, refl)))
+    of_kind 6 (pairs number_exact (pairs epoch_exact (pairs optional_value_exact signature_exact))) (λ f. StatusNote f.0 f.1.0 f.1.1.0 f.1.1.1) (λ f h. (refl, (h, refl)))
 
 decision_pass : KindPass 7 decision_at
 unfolding decision_at fields_text
 decision_pass =
-    of_kind 7 (pairs epoch_exact (pairs roots_exact (pairs changes_exact votes_exact))) (λ f. Decision f.0 f.1.0.0 f.1.0.1 f.1.1.0 f.1.1.1) (λ f h. (refl, (h, refl)))
+    of_kind 7 (pairs epoch_exact (pairs value_exact (pairs changes_exact votes_exact))) (λ f. Decision f.0 f.1.0.base f.1.0.root f.1.1.0 f.1.1.1) (λ f h. (refl, (h, refl)))
 
 skip_note_pass : KindPass 8 skip_note_at
 unfolding skip_note_at fields_text

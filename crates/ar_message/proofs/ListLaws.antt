@@ -14,10 +14,11 @@ use Rattle.ar_bytes.proofs.Passing.{counted_again, counted_pass}
 use Rattle.ar_bytes.proofs.Ascending.{ascending_again, ascending_pass, number_from_again, number_from_pass}
 use Rattle.ar_bytes.proofs.Lists.{counted_list_again, counted_list_pass, list_again, list_pass}
 use Rattle.ar_bytes.proofs.JoinedFields.{optional_again, optional_pass}
-use Rattle.ar_statement.specs.Claims.{Roots, roots_text}
-use Rattle.ar_statement.specs.Ranges.{AreRoots}
-use Rattle.ar_statement.specs.Texts.{roots_at}
-use Rattle.ar_statement.proofs.FieldsByKind.{roots_pass, values_again}
+use Rattle.ar_statement.specs.Claims.{value_text}
+use Rattle.ar_statement.specs.Ranges.{IsValue}
+use Rattle.ar_statement.specs.Texts.{value_at}
+use Rattle.ar_statement.proofs.FieldsByKind.{value_pass, values_again}
+use Rattle.vote_quorum.specs.declared.value.Value.{Value}
 use Rattle.ar_cert.specs.Changes.{Change, IsChange, IsSignature, change_at, change_text}
 use Rattle.ar_cert.proofs.ChangeLaws.{change_again, change_pass}
 use Rattle.ar_message.specs.declared.lists.Vote.{Vote}
@@ -59,27 +60,27 @@ votes_pass = counted_list_pass 16 (λ count at. votes_from count 0 at) vote_text
 
 -- ---- statuses
 
-pub value_again : (value : Option Roots) → IfSome value AreRoots → ReadsBack (optional_at roots_at) value (optional_text roots_text value)
-value_again value h = optional_again roots_at roots_text value (values_again value h)
+pub optional_value_again : (value : Option Value) → IfSome value IsValue → ReadsBack (optional_at value_at) value (optional_text value_text value)
+optional_value_again value h = optional_again value_at value_text value (values_again value h)
 
-pub value_pass : IsSpelledBy (optional_at roots_at) (optional_text roots_text) (λ value. IfSome value AreRoots)
-value_pass = optional_pass roots_at roots_text AreRoots roots_pass
+pub optional_value_pass : IsSpelledBy (optional_at value_at) (optional_text value_text) (λ value. IfSome value IsValue)
+optional_value_pass = optional_pass value_at value_text IsValue value_pass
 
 status_again : (least : ℕ) (v : LogStatus) → least ≤ v.log → IsStatus v → ReadsBack (status_from least) v (status_text v)
 unfolding status_from
 status_again least v le h at new p =
-    let log = split at new (number_text w16 v.log) (optional_text roots_text v.value ++ counted_text v.signature) p in
-    let value = split log.0 new (optional_text roots_text v.value) (counted_text v.signature) log.2 in
-    rw (number_from_again least v.log le h.0 at log.0 log.1, value_again v.value h.1 log.0 value.0 value.1, counted_again v.signature h.2 value.0 new value.2) refl
+    let log = split at new (number_text w16 v.log) (optional_text value_text v.value ++ counted_text v.signature) p in
+    let value = split log.0 new (optional_text value_text v.value) (counted_text v.signature) log.2 in
+    rw (number_from_again least v.log le h.0 at log.0 log.1, optional_value_again v.value h.1 log.0 value.0 value.1, counted_again v.signature h.2 value.0 new value.2) refl
 
 status_pass : (least : ℕ) → IsSpelledBy (status_from least) status_text (λ v. (least ≤ v.log) × IsStatus v)
 unfolding status_from
 status_pass least at new v bytes e =
     let log = next (number_from least) (number_text w16) (λ n. (least ≤ n) × (n < 2 ^ 16)) (number_from_pass least) _ at (v, new) bytes e in
-    let value = next (optional_at roots_at) (optional_text roots_text) (λ value. IfSome value AreRoots) value_pass _ log.1 (v, new) log.4 log.5 in
+    let value = next (optional_at value_at) (optional_text value_text) (λ value. IfSome value IsValue) optional_value_pass _ log.1 (v, new) log.4 log.5 in
     let signature = next counted_at counted_text IsSignature (λ a n x. counted_pass a n x) _ value.1 (v, new) value.4 value.5 in
     let made : LogStatus = record { log = log.0; value = value.0; signature = signature.0 } in
-    let behind = Passes-then log.1 value.1 signature.1 (optional_text roots_text value.0) (counted_text signature.0) value.2 signature.2 in
+    let behind = Passes-then log.1 value.1 signature.1 (optional_text value_text value.0) (counted_text signature.0) value.2 signature.2 in
     let passes = Passes-then at log.1 signature.1 (number_text w16 log.0) _ log.2 behind in
     subst (λ (x : LogStatus × Cursor). Passes at (status_text x.0) x.1 × ((least ≤ x.0.log) × IsStatus x.0)) (ok_is (made, signature.1) (v, new) signature.5) (passes, (log.3.0, (log.3.1, value.3, signature.3)))
 

@@ -8,10 +8,10 @@ use Rattle.ar_bytes.specs.Reading.{Cursor, Reading, counted_at}
 use Rattle.ar_bytes.specs.RoundTrip.{number_text, counted_text}
 use Rattle.ar_bytes.specs.Ascending.{ascending_at, number_from, Ascend}
 use Rattle.ar_bytes.specs.Joined.{optional_at, optional_text}
-use Rattle.ar_statement.specs.Claims.{roots_text, most_parties}
+use Rattle.ar_statement.specs.Claims.{most_parties, value_text}
 use Rattle.ar_bytes.specs.Lists.{counted_list_at, counted_list_text, list_at}
-use Rattle.ar_statement.specs.Ranges.{AreRoots}
-use Rattle.ar_statement.specs.Texts.{roots_at}
+use Rattle.ar_statement.specs.Ranges.{IsValue}
+use Rattle.ar_statement.specs.Texts.{value_at}
 use Rattle.ar_cert.specs.Changes.{Change, IsChange, IsSignature, change_at, change_text}
 use Rattle.ar_message.specs.declared.lists.Vote.{Vote}
 use Rattle.ar_message.specs.declared.lists.LogStatus.{LogStatus}
@@ -64,7 +64,7 @@ AreVotes votes = (length votes ≤ most_parties) × Ascend (λ v. v.log) IsVote 
 unfoldable pub status_from : ℕ → Cursor → Reading LogStatus
 status_from least at = do
   log ← number_from least at
-  value ← optional_at roots_at log.1
+  value ← optional_at value_at log.1
   signature ← counted_at value.1
   Ok (record { log = log.0; value = value.0; signature = signature.0 }, signature.1)
 
@@ -77,14 +77,14 @@ abbrev pub statuses_at : Cursor → Reading (List LogStatus)
 statuses_at = counted_list_at most_parties (λ count at. statuses_from count 0 at)
 
 abbrev pub status_text : LogStatus → List ℕ
-status_text v = number_text w16 v.log ++ (optional_text roots_text v.value ++ counted_text v.signature)
+status_text v = number_text w16 v.log ++ (optional_text value_text v.value ++ counted_text v.signature)
 
 abbrev pub statuses_text : List LogStatus → List ℕ
 statuses_text = counted_list_text status_text
 
 -- a status that has a text
 abbrev pub IsStatus : LogStatus → Type 0
-IsStatus v = (v.log < 2 ^ 16) × IfSome v.value AreRoots × IsSignature v.signature
+IsStatus v = (v.log < 2 ^ 16) × IfSome v.value IsValue × IsSignature v.signature
 
 abbrev pub AreStatuses : List LogStatus → Type 0
 AreStatuses statuses = (length statuses ≤ most_parties) × Ascend (λ v. v.log) IsStatus 0 statuses

@@ -10,12 +10,12 @@ use Rattle.ar_bytes.specs.RoundTrip.{number_text, counted_text}
 use Rattle.ar_bytes.specs.Joined.{pair_at, optional_at, optional_text}
 use Rattle.ar_names.specs.Names.{IsName}
 use Rattle.ar_statement.specs.declared.party.Party.{Party}
-use Rattle.ar_statement.specs.Claims.{name_text, party, party_text, roots_text}
+use Rattle.ar_statement.specs.Claims.{name_text, party, party_text, value_text, value_with}
 use Rattle.ar_statement.specs.Fields.{IsEpoch, digest_at, epoch_at, name_at}
-use Rattle.ar_statement.specs.Ranges.{AreRoots, is_witness}
-use Rattle.ar_statement.specs.Texts.{role_at, roots_at}
+use Rattle.ar_statement.specs.Ranges.{IsValue, is_witness}
+use Rattle.ar_statement.specs.Texts.{role_at, value_at}
 use Rattle.lms_tree.specs.PublicKey.{HasWidths, key_text}
-use Rattle.ar_cert.specs.Certificate.{IsCertificate, certificate_text, counted_certificate_at, key_at}
+use Rattle.ar_cert.specs.Certificate.{IsCertificate, certificate_text, counted_certificate_at, certified_key_at}
 use Rattle.ar_cert.specs.Changes.{IsChange, IsSignature, change_at, change_text}
 use Rattle.ar_message.specs.Confirmation as confirmation
 use Rattle.ar_message.specs.Confirmation.{Subject, Signed, form_at, subject_at, body_at, path_at, signed_at, confirmation_fields_at, is_present, form_text, subject_text, body_text, path_text, signed_text, confirmation_fields_text, IsConfirmation}
@@ -57,23 +57,23 @@ submit_at = mapped_at Submit change_at
 
 unfoldable pub propose_at : Cursor → Reading Message
 propose_at =
-    mapped_at (λ f. Propose f.0 f.1.0 f.1.1.0.0 f.1.1.0.1 f.1.1.1.0 f.1.1.1.1)
-    (pair_at (number_at w16) (pair_at epoch_at (pair_at roots_at (pair_at changes_at counted_at))))
+    mapped_at (λ f. Propose f.0 f.1.0 f.1.1.0.base f.1.1.0.root f.1.1.1.0 f.1.1.1.1)
+    (pair_at (number_at w16) (pair_at epoch_at (pair_at value_at (pair_at changes_at counted_at))))
 
 unfoldable pub ballot_at : Cursor → Reading Message
 ballot_at =
-    mapped_at (λ f. Ballot f.0 f.1.0 f.1.1.0.0 f.1.1.0.1 f.1.1.1)
-    (pair_at (number_at w16) (pair_at epoch_at (pair_at roots_at counted_at)))
+    mapped_at (λ f. Ballot f.0 f.1.0 f.1.1.0.base f.1.1.0.root f.1.1.1)
+    (pair_at (number_at w16) (pair_at epoch_at (pair_at value_at counted_at)))
 
 unfoldable pub status_note_at : Cursor → Reading Message
 status_note_at =
     mapped_at (λ f. StatusNote f.0 f.1.0 f.1.1.0 f.1.1.1)
-    (pair_at (number_at w16) (pair_at epoch_at (pair_at (optional_at roots_at) counted_at)))
+    (pair_at (number_at w16) (pair_at epoch_at (pair_at (optional_at value_at) counted_at)))
 
 unfoldable pub decision_at : Cursor → Reading Message
 decision_at =
-    mapped_at (λ f. Decision f.0 f.1.0.0 f.1.0.1 f.1.1.0 f.1.1.1)
-    (pair_at epoch_at (pair_at roots_at (pair_at changes_at votes_at)))
+    mapped_at (λ f. Decision f.0 f.1.0.base f.1.0.root f.1.1.0 f.1.1.1)
+    (pair_at epoch_at (pair_at value_at (pair_at changes_at votes_at)))
 
 unfoldable pub skip_note_at : Cursor → Reading Message
 skip_note_at = mapped_at (λ f. SkipNote f.0 f.1) (pair_at epoch_at statuses_at)
@@ -118,7 +118,7 @@ witness_at = mapped_at (λ f. party f.0 f.1) (pair_at (such_that is_witness role
 unfoldable pub roll_note_at : Cursor → Reading Message
 roll_note_at =
     mapped_at (λ f. RollNote f.0 f.1.0 f.1.1.0 f.1.1.1)
-    (pair_at witness_at (pair_at (number_at w32) (pair_at key_at counted_at)))
+    (pair_at witness_at (pair_at (number_at w32) (pair_at certified_key_at counted_at)))
 
 -- ---- a message
 
@@ -215,13 +215,13 @@ fields_text (Endorsed owner authority certificate signature) =
     number_text w16 owner ++ (number_text w16 authority ++ (certificate ++ counted_text signature))
 fields_text (Submit change) = change_text change
 fields_text (Propose log epoch base root changes signature) =
-    number_text w16 log ++ (number_text w64 epoch ++ (roots_text (base, root) ++ (changes_text changes ++ counted_text signature)))
+    number_text w16 log ++ (number_text w64 epoch ++ (value_text (value_with base root) ++ (changes_text changes ++ counted_text signature)))
 fields_text (Ballot log epoch base root signature) =
-    number_text w16 log ++ (number_text w64 epoch ++ (roots_text (base, root) ++ counted_text signature))
+    number_text w16 log ++ (number_text w64 epoch ++ (value_text (value_with base root) ++ counted_text signature))
 fields_text (StatusNote log epoch value signature) =
-    number_text w16 log ++ (number_text w64 epoch ++ (optional_text roots_text value ++ counted_text signature))
+    number_text w16 log ++ (number_text w64 epoch ++ (optional_text value_text value ++ counted_text signature))
 fields_text (Decision epoch base root changes votes) =
-    number_text w64 epoch ++ (roots_text (base, root) ++ (changes_text changes ++ votes_text votes))
+    number_text w64 epoch ++ (value_text (value_with base root) ++ (changes_text changes ++ votes_text votes))
 fields_text (SkipNote epoch statuses) = number_text w64 epoch ++ statuses_text statuses
 fields_text (ConfirmAsk client name first second) =
     number_text w16 client ++ (name_text name ++ (number_text w16 first ++ number_text w16 second))
@@ -260,13 +260,13 @@ IsMessage (Endorsed owner authority certificate signature) =
     (owner < 2 ^ 16) × ((authority < 2 ^ 16) × (IsDigest certificate × IsSignature signature))
 IsMessage (Submit change) = IsChange change
 IsMessage (Propose log epoch base root changes signature) =
-    (log < 2 ^ 16) × (IsEpoch epoch × (AreRoots (base, root) × (AreChanges changes × IsSignature signature)))
+    (log < 2 ^ 16) × (IsEpoch epoch × (IsValue (value_with base root) × (AreChanges changes × IsSignature signature)))
 IsMessage (Ballot log epoch base root signature) =
-    (log < 2 ^ 16) × (IsEpoch epoch × (AreRoots (base, root) × IsSignature signature))
+    (log < 2 ^ 16) × (IsEpoch epoch × (IsValue (value_with base root) × IsSignature signature))
 IsMessage (StatusNote log epoch value signature) =
-    (log < 2 ^ 16) × (IsEpoch epoch × (IfSome value AreRoots × IsSignature signature))
+    (log < 2 ^ 16) × (IsEpoch epoch × (IfSome value IsValue × IsSignature signature))
 IsMessage (Decision epoch base root changes votes) =
-    IsEpoch epoch × (AreRoots (base, root) × (AreChanges changes × AreVotes votes))
+    IsEpoch epoch × (IsValue (value_with base root) × (AreChanges changes × AreVotes votes))
 IsMessage (SkipNote epoch statuses) = IsEpoch epoch × AreStatuses statuses
 IsMessage (ConfirmAsk client name first second) =
     (client < 2 ^ 16) × (IsName name × ((first < 2 ^ 16) × (second < 2 ^ 16)))

@@ -57,7 +57,8 @@ fn with_votes(
     requires name { IsName view.now.about.name.now }
     requires path { AreSteps view.now.path.now }
     requires signature { IsSignature view.now.log.signature.now }
-    ensures { (list : List Vote) → IfOk votes (λ v. v ≡ list) → IfOk result (λ part. part ≡ confirming_of view.now list) }
+    ensures { (list : List Vote) → IfOk votes (λ v. v ≡ list)
+        → IfOk result (λ part. part ≡ confirming_of view.now list) }
 {
     let votes = votes?;
     let name = NameView::from_name(view.about.name).to_name(alloc)?;

@@ -26,11 +26,23 @@ pub(crate) struct SubjectView<'a> {
 
 /// What the table has for the name, in place.
 #[derive(Debug, Drop)]
-pub(crate) enum BodyView<'a> {
+pub enum BodyView<'a> {
     /// This certificate.
     Present(CertView<'a>),
     /// None: this stands at the foot of the name's path.
     Absent(Bottom),
+}
+
+impl<'a> BodyView<'a> {
+    /// The same once more; the certificate stays in the bytes that it was read from.
+    pub(crate) fn copy(&self) -> BodyView<'a>
+        ensures { result ≡ self.now }
+    {
+        match self {
+            BodyView::Present(certificate) => BodyView::Present(certificate.copy()),
+            BodyView::Absent(bottom) => BodyView::Absent(*bottom),
+        }
+    }
 }
 
 /// The number of a party, and its signature in place.

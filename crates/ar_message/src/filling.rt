@@ -43,7 +43,10 @@ impl Outgoing {
     /// Writes the signature that is due into the message, at a place.
     fn sign(&mut self, ring: &KeyRing, at: usize, due: RollDue)
         requires { FitsAt ring.now.keys self.old.bytes at due }
-        ensures signed { self.new ≡ record { to = self.old.to; bytes = written_at at (signature_due ring.now.keys due) self.old.bytes } }
+        ensures signed { self.new ≡ record {
+          to = self.old.to;
+          bytes = written_at at (signature_due ring.now.keys due) self.old.bytes;
+        } }
         ensures len { length self.new.bytes ≡ length self.old.bytes }
     {
         sign_at(ring, self.bytes.as_mut_slice(), at, due);

@@ -13,9 +13,10 @@ use crate::take_lists::{take_changes, take_statuses, take_votes};
 use crate::{Message, MessageFault, Signature};
 use ar_bytes::Fields;
 use ar_cert::{CertView, ChangeView, take_key};
-use ar_statement::fields::{digest, epoch, name, role, roots, value};
+use ar_statement::fields::{digest, epoch, name, optional_value, role, value};
 use ar_statement::{Party, Role};
 use std::alloc::Global;
+use vote_quorum::Value;
 
 #[tactic(auto, unfolding(crate::specs::Messages::endorse_ask_at))]
 pub(crate) fn endorse_ask(alloc: Global, fields: &mut Fields) -> Result<Message, MessageFault>
@@ -62,7 +63,7 @@ pub(crate) fn propose(alloc: Global, fields: &mut Fields) -> Result<Message, Mes
 {
     let log = fields.take_u16()?;
     let epoch = epoch(fields)?;
-    let (base, root) = roots(fields)?;
+    let Value { base, root } = value(fields)?;
     let changes = take_changes(alloc, fields)?;
     let signature = fields.take_counted()?;
     fields.take_end()?;
@@ -84,7 +85,7 @@ pub(crate) fn ballot(alloc: Global, fields: &mut Fields) -> Result<Message, Mess
 {
     let log = fields.take_u16()?;
     let epoch = epoch(fields)?;
-    let (base, root) = roots(fields)?;
+    let Value { base, root } = value(fields)?;
     let signature = fields.take_counted()?;
     fields.take_end()?;
     let signature = Signature::of(alloc, signature)?;
@@ -103,7 +104,7 @@ pub(crate) fn status_note(alloc: Global, fields: &mut Fields) -> Result<Message,
 {
     let log = fields.take_u16()?;
     let epoch = epoch(fields)?;
-    let value = value(fields)?;
+    let value = optional_value(fields)?;
     let signature = fields.take_counted()?;
     fields.take_end()?;
     let signature = Signature::of(alloc, signature)?;
@@ -120,7 +121,7 @@ pub(crate) fn decision(alloc: Global, fields: &mut Fields) -> Result<Message, Me
     ensures { Fills result decision_at fields.old }
 {
     let epoch = epoch(fields)?;
-    let (base, root) = roots(fields)?;
+    let Value { base, root } = value(fields)?;
     let changes = take_changes(alloc, fields)?;
     let votes = take_votes(alloc, fields)?;
     fields.take_end()?;

@@ -31,6 +31,7 @@ mod writing;
 
 pub use address::Address;
 pub use fault::MessageFault;
+pub use fields::BodyView;
 pub use filling::fill;
 pub use lists::{Changes, LogStatus, Statuses, Vote, Votes};
 pub use message::{Body, Confirming, Message};

@@ -1,6 +1,7 @@
 use crate::Signature;
 use ar_cert::Change;
 use std::marker::Model;
+use vote_quorum::Value;
 
 /// A log's vote, as it stands in a list of votes.
 #[derive(Debug, Drop)]
@@ -17,7 +18,7 @@ pub struct LogStatus {
     /// The number of the log.
     pub log: u16,
     /// The base and the root that it voted for, or that it voted for nothing and will not.
-    pub value: Option<([u8; 32], [u8; 32])>,
+    pub value: Option<Value>,
     /// Its signature of the statement of its status.
     pub signature: Signature,
 }

@@ -4,6 +4,7 @@ use ar_names::Name;
 use ar_statement::Party;
 use lms_tree::LmsPublic;
 use tree_proof::Bottom;
+use vote_quorum::Value;
 
 /// What the table has for a name, with the path that shows it.
 #[derive(Debug, Drop)]
@@ -94,7 +95,7 @@ pub enum Message {
         log: u16,
         epoch: u64,
         /// The base and the root that it voted for; `None` where it voted for nothing.
-        value: Option<([u8; 32], [u8; 32])>,
+        value: Option<Value>,
         /// The log's, of the statement Status.
         signature: Signature,
     },

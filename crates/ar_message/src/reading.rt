@@ -62,7 +62,8 @@ impl Message {
     /// more than 4,194,304 bytes nothing is looked at, and the place is 4,194,304.
     #[tactic(auto, unfolding(crate::specs::Messages::message_in, ar_bytes::specs::Reading::whole))]
     pub fn read(alloc: Global, bytes: &[u8]) -> Result<Message, MessageFault>
-        ensures { GivesOrWants faults.Memory (λ message. message) result (with_error faults.Form (message_in bytes.now)) }
+        ensures { GivesOrWants faults.Memory (λ message.
+            message) result (with_error faults.Form (message_in bytes.now)) }
     {
         if bytes.len() > LONGEST {
             return Err(MessageFault::Form(LONGEST));

@@ -11,8 +11,9 @@ ghost use Rattle.ar_message.specs.Views.{status_of, vote_of};
 use crate::{Changes, LogStatus, Signature, Statuses, Vote, Votes};
 use ar_bytes::{Fields, are_bytes};
 use ar_cert::{Change, ChangeView};
-use ar_statement::fields::value;
+use ar_statement::fields::optional_value;
 use std::alloc::{AllocError, Global};
+use vote_quorum::Value;
 
 /// The most changes.
 pub const MOST_CHANGES: u8 = 64;
@@ -30,7 +31,7 @@ pub(crate) struct VoteView<'a> {
 #[derive(Clone, Copy, Debug)]
 pub(crate) struct StatusView<'a> {
     log: u16,
-    value: Option<([u8; 32], [u8; 32])>,
+    value: Option<Value>,
     signature: &'a [u8],
 }
 
@@ -42,7 +43,8 @@ fn with_change(
     list: Result<Vec<Change>, AllocError>,
     change: &ChangeView,
 ) -> Result<Vec<Change>, AllocError>
-    ensures { (front : List Change) → IfOk list (λ l. l.items ≡ front) → IfOk result (λ l. l.items ≡ front ++ change.now ∷ []) }
+    ensures { (front : List Change) → IfOk list (λ l. l.items ≡ front)
+        → IfOk result (λ l. l.items ≡ front ++ change.now ∷ []) }
 {
     let mut list = list?;
     list.push(change.to_change(alloc)?)?;
@@ -98,7 +100,8 @@ fn with_vote(
     vote: &VoteView,
 ) -> Result<Vec<Vote>, AllocError>
     requires { IsSignature vote.now.signature.now }
-    ensures { (front : List Vote) → IfOk list (λ l. l.items ≡ front) → IfOk result (λ l. l.items ≡ front ++ vote_of vote.now ∷ []) }
+    ensures { (front : List Vote) → IfOk list (λ l. l.items ≡ front)
+        → IfOk result (λ l. l.items ≡ front ++ vote_of vote.now ∷ []) }
 {
     let mut list = list?;
     let signature = Signature::of(alloc, vote.signature)?;
@@ -149,7 +152,7 @@ fn status<'a>(fields: &mut Fields<'a>, least: u32) -> Result<StatusView<'a>, usi
     ensures few { IfOk result (λ status. IsSignature status.signature.now) }
 {
     let log = fields.take_number_from(least)?;
-    let value = value(fields)?;
+    let value = optional_value(fields)?;
     let signature = fields.take_counted()?;
     Ok(StatusView {
         log,
@@ -165,7 +168,8 @@ fn with_status(
     status: &StatusView,
 ) -> Result<Vec<LogStatus>, AllocError>
     requires { IsSignature status.now.signature.now }
-    ensures { (front : List LogStatus) → IfOk list (λ l. l.items ≡ front) → IfOk result (λ l. l.items ≡ front ++ status_of status.now ∷ []) }
+    ensures { (front : List LogStatus) → IfOk list (λ l. l.items ≡ front)
+        → IfOk result (λ l. l.items ≡ front ++ status_of status.now ∷ []) }
 {
     let mut list = list?;
     let signature = Signature::of(alloc, status.signature)?;

@@ -44,6 +44,7 @@ impl<'a> ConfView<'a> {
     ghost use Rattle.ar_bytes.specs.Reading.{Tells, whole};
     ghost use Rattle.ar_message.specs.Confirmation.{IsConfirmation, bottom_in, certificate_in, confirmation_at, confirmation_fields_at};
     ghost use Rattle.ar_message.specs.Messages.{with_confirmation};
+    ghost use Rattle.ar_message.specs.Views.{body_of};
     ghost use Rattle.ar_names.specs.Names.{IsName};
     ghost use Rattle.std.specs.Prelude.{IfOk};
 
@@ -150,6 +151,13 @@ impl<'a> ConfView<'a> {
         ensures { result ≡ self.now.about.root }
     {
         self.about.root
+    }
+
+    /// What the table has for the name: its certificate, or what stands at the foot of its path where it has none.
+    pub fn body(&self) -> BodyView<'a>
+        ensures { body_of result ≡ self.now.body }
+    {
+        self.body.copy()
     }
 
     /// The certificate of the name, or `None` exactly where the confirmation is of absence.

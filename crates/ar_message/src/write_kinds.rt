@@ -9,7 +9,7 @@ ghost use Rattle.ar_cert.specs.Certificate.{certificate_text};
 ghost use Rattle.ar_message.specs.Confirmation.{body_text, form_text, is_present, path_text, signers_text, subject_text};
 ghost use Rattle.ar_message.specs.Lists.{changes_text, statuses_text, votes_text};
 ghost use Rattle.ar_message.specs.Messages.{fields_text, kind_of, message_text, path_in, shown_in, signed_in};
-ghost use Rattle.ar_statement.specs.Claims.{name_text, party_text, roots_text};
+ghost use Rattle.ar_statement.specs.Claims.{name_text, party_text, value_text, value_with};
 ghost use Rattle.ar_base.specs.Appending.{Appends};
 ghost use Rattle.lms_tree.specs.PublicKey.{key_text};
 
@@ -24,6 +24,7 @@ use ar_names::Name;
 use ar_statement::Party;
 use lms_tree::LmsPublic;
 use std::alloc::{AllocError, Global};
+use vote_quorum::Value;
 
 fn put_endorse_ask(
     alloc: Global,
@@ -31,7 +32,8 @@ fn put_endorse_ask(
     owner: u16,
     cert: &Cert,
 ) -> Result<(), AllocError>
-    ensures { Appends (number_text w16 owner ++ counted_text (certificate_text cert.now)) out.old out.new result }
+    ensures { Appends (number_text w16 owner
+        ++ counted_text (certificate_text cert.now)) out.old out.new result }
 {
     put_u16(alloc, out, owner)?;
     put_cert(alloc, out, cert)
@@ -45,7 +47,9 @@ fn put_endorsed(
     certificate: &[u8; 32],
     signature: &Signature,
 ) -> Result<(), AllocError>
-    ensures { Appends (number_text w16 owner ++ (number_text w16 authority ++ (certificate.now ++ counted_text signature.now))) out.old out.new result }
+    ensures { Appends (number_text w16 owner
+        ++ (number_text w16 authority
+        ++ (certificate.now ++ counted_text signature.now))) out.old out.new result }
 {
     put_u16(alloc, out, owner)?;
     put_u16(alloc, out, authority)?;
@@ -62,7 +66,9 @@ fn put_voted(
     base: &[u8; 32],
     root: &[u8; 32],
 ) -> Result<(), AllocError>
-    ensures { Appends (number_text w16 log ++ (number_text w64 epoch ++ roots_text (base.now, root.now))) out.old out.new result }
+    ensures { Appends (number_text w16 log
+        ++ (number_text w64 epoch
+        ++ value_text (value_with base.now root.now))) out.old out.new result }
 {
     put_u16(alloc, out, log)?;
     put_u64(alloc, out, epoch)?;
@@ -76,7 +82,8 @@ fn put_proposed(
     changes: &Changes,
     signature: &Signature,
 ) -> Result<(), AllocError>
-    ensures { Appends (changes_text changes.now ++ counted_text signature.now) out.old out.new result }
+    ensures { Appends (changes_text changes.now
+        ++ counted_text signature.now) out.old out.new result }
 {
     put_changes(alloc, out, changes)?;
     put_signature(alloc, out, signature)
@@ -87,10 +94,13 @@ fn put_status_note(
     out: &mut Vec<u8>,
     log: u16,
     epoch: u64,
-    value: &Option<([u8; 32], [u8; 32])>,
+    value: &Option<Value>,
     signature: &Signature,
 ) -> Result<(), AllocError>
-    ensures { Appends (number_text w16 log ++ (number_text w64 epoch ++ (optional_text roots_text value.now ++ counted_text signature.now))) out.old out.new result }
+    ensures { Appends (number_text w16 log
+        ++ (number_text w64 epoch
+        ++ (optional_text value_text value.now
+        ++ counted_text signature.now))) out.old out.new result }
 {
     put_u16(alloc, out, log)?;
     put_u64(alloc, out, epoch)?;
@@ -107,7 +117,9 @@ fn put_decision(
     changes: &Changes,
     votes: &Votes,
 ) -> Result<(), AllocError>
-    ensures { Appends (number_text w64 epoch ++ (roots_text (base.now, root.now) ++ (changes_text changes.now ++ votes_text votes.now))) out.old out.new result }
+    ensures { Appends (number_text w64 epoch
+        ++ (value_text (value_with base.now root.now)
+        ++ (changes_text changes.now ++ votes_text votes.now))) out.old out.new result }
 {
     put_u64(alloc, out, epoch)?;
     put_roots(alloc, out, base, root)?;
@@ -123,7 +135,9 @@ fn put_confirm_ask(
     first: u16,
     second: u16,
 ) -> Result<(), AllocError>
-    ensures { Appends (number_text w16 client ++ (name_text name.now ++ (number_text w16 first ++ number_text w16 second))) out.old out.new result }
+    ensures { Appends (number_text w16 client
+        ++ (name_text name.now
+        ++ (number_text w16 first ++ number_text w16 second))) out.old out.new result }
 {
     put_u16(alloc, out, client)?;
     put_name(alloc, out, name)?;
@@ -141,8 +155,15 @@ fn put_said(
     root: &[u8; 32],
     body: &Body,
 ) -> Result<(), AllocError>
-    ensures { Appends (form_text (is_present (shown_in body.now)) ++ (subject_text (record { client = client; epoch = epoch; name = name.now; root = root.now })
-        ++ (body_text (shown_in body.now) ++ path_text (path_in body.now)))) out.old out.new result }
+    ensures { Appends (form_text (is_present (shown_in body.now))
+        ++ (subject_text (record {
+          client = client;
+          epoch = epoch;
+          name = name.now;
+          root = root.now;
+        })
+        ++ (body_text (shown_in body.now)
+        ++ path_text (path_in body.now)))) out.old out.new result }
 {
     put_form(alloc, out, body)?;
     put_subject(alloc, out, client, epoch, name, root)?;
@@ -157,7 +178,9 @@ fn put_roll_note(
     key: &LmsPublic,
     signature: &Signature,
 ) -> Result<(), AllocError>
-    ensures { Appends (party_text party ++ (number_text w32 generation ++ (key_text key.now ++ counted_text signature.now))) out.old out.new result }
+    ensures { Appends (party_text party
+        ++ (number_text w32 generation
+        ++ (key_text key.now ++ counted_text signature.now))) out.old out.new result }
 {
     put_u8(alloc, out, party.role.number())?;
     put_u16(alloc, out, party.number)?;

@@ -11,7 +11,7 @@ ghost use Rattle.ar_cert.specs.Changes.{change_text};
 ghost use Rattle.ar_message.specs.Confirmation.{body_text, bottom_text, form_text, is_present, path_text, signed_text, subject_text};
 ghost use Rattle.ar_message.specs.Lists.{changes_text, status_text, statuses_text, vote_text, votes_text};
 ghost use Rattle.ar_message.specs.Messages.{about_in, confirmed_text, confirming_text, vouched_text, fields_text, message_text, path_in, shown_in, signed_in, kind_of};
-ghost use Rattle.ar_statement.specs.Claims.{name_text, party_text, roots_text};
+ghost use Rattle.ar_statement.specs.Claims.{name_text, party_text, value_text, value_with};
 ghost use Rattle.ar_base.specs.Appending.{Appends};
 ghost use Rattle.lms_tree.specs.PublicKey.{key_text};
 
@@ -23,36 +23,37 @@ use ar_cert::{Cert, Change};
 use ar_names::Name;
 use std::alloc::{AllocError, Global};
 use tree_proof::Bottom;
+use vote_quorum::Value;
 
 // ---- fields
 
-/// Two digests.
+/// A base and a root.
 pub(crate) fn put_roots(
     alloc: Global,
     out: &mut Vec<u8>,
     base: &[u8; 32],
     root: &[u8; 32],
 ) -> Result<(), AllocError>
-    ensures { Appends (roots_text (base.now, root.now)) out.old out.new result }
+    ensures { Appends (value_text (value_with base.now root.now)) out.old out.new result }
 {
     put_bytes(alloc, out, base)?;
     put_bytes(alloc, out, root)
 }
 
-/// A flag, and for 1 two digests.
+/// A flag, and for 1 a base and a root.
 #[tactic(auto, unfolding(ar_bytes::specs::Joined::optional_text))]
 pub(crate) fn put_value(
     alloc: Global,
     out: &mut Vec<u8>,
-    value: &Option<([u8; 32], [u8; 32])>,
+    value: &Option<Value>,
 ) -> Result<(), AllocError>
-    ensures { Appends (optional_text roots_text value.now) out.old out.new result }
+    ensures { Appends (optional_text value_text value.now) out.old out.new result }
 {
     match value {
         None => put_u8(alloc, out, 0),
-        Some(roots) => {
+        Some(value) => {
             put_u8(alloc, out, 1)?;
-            put_roots(alloc, out, &roots.0, &roots.1)
+            put_roots(alloc, out, &value.base, &value.root)
         }
     }
 }
@@ -211,7 +212,8 @@ fn put_path(alloc: Global, out: &mut Vec<u8>, path: &Steps) -> Result<(), AllocE
 /// What the table has for the name, and the path.
 #[tactic(auto, unfolding(crate::specs::Confirmation::body_text))]
 pub(crate) fn put_body(alloc: Global, out: &mut Vec<u8>, body: &Body) -> Result<(), AllocError>
-    ensures { Appends (body_text (shown_in body.now) ++ path_text (path_in body.now)) out.old out.new result }
+    ensures { Appends (body_text (shown_in body.now)
+        ++ path_text (path_in body.now)) out.old out.new result }
 {
     match body {
         Body::Present { cert, path } => {
@@ -248,7 +250,12 @@ pub(crate) fn put_subject(
     name: &Name,
     root: &[u8; 32],
 ) -> Result<(), AllocError>
-    ensures { Appends (subject_text (record { client = client; epoch = epoch; name = name.now; root = root.now })) out.old out.new result }
+    ensures { Appends (subject_text (record {
+      client = client;
+      epoch = epoch;
+      name = name.now;
+      root = root.now;
+    })) out.old out.new result }
 {
     put_u16(alloc, out, client)?;
     put_u64(alloc, out, epoch)?;

@@ -7,8 +7,10 @@ ghost use Rattle.ar_names.specs.Names.{is_open, first_fault_of, IsName, NoneWron
 pub fn the_first_fault_is_least()
     ensures found { (text : List ℕ) (p : ℕ) → first_fault_of text ≡ Some p → IsFirstFault text p }
     ensures only { (text : List ℕ) (p : ℕ) → IsFirstFault text p → first_fault_of text ≡ Some p }
-    ensures no_fault { (text : List ℕ) → IsName text → NoneWrongBefore text (length text) × (is_open text ≡ false) }
-    ensures name { (text : List ℕ) → NoneWrongBefore text (length text) → is_open text ≡ false → IsName text }
+    ensures no_fault { (text : List ℕ) → IsName text
+        → NoneWrongBefore text (length text) × (is_open text ≡ false) }
+    ensures name { (text : List ℕ) → NoneWrongBefore text (length text) → is_open text ≡ false
+        → IsName text }
 {}
 
 /// A name has 1 to 253 bytes.

@@ -9,12 +9,13 @@ use Rattle.ar_message.specs.declared.message.Message.{Message}
 use Rattle.ar_message.specs.declared.message.Message.TheVariants.{EndorseAsk, Endorsed, Submit, Propose, Ballot, StatusNote, Decision, SkipNote, ConfirmAsk, LogConfirmed, HalfConfirmed, Confirmation, RollNote}
 use Rattle.ar_message.specs.declared.sent.Sent.{Sent}
 use Rattle.ar_message.specs.declared.unsigned.Unsigned.{Unsigned}
+use Rattle.authority_core.specs.Checked.{ChecksBy}
 use Rattle.authority_core.specs.EndorseRow.{SaysAsTold, asked_of, answers_after, endorse_row, outcome_by}
 use Rattle.authority_core.specs.Keyed as authority_keyed
 use Rattle.authority_core.specs.RollRows.{roll_row}
 use Rattle.authority_core.specs.Row.{answers_behind, asked_in, message_row, row}
 use Rattle.authority_core.specs.State as authority
-use Rattle.authority_core.specs.declared.entries.Asked.{Asked}
+use Rattle.authority_core.specs.declared.entries.Approved.{Approved}
 use Rattle.authority_core.specs.declared.refusal.AuthorityRefusal.{AuthorityRefusal}
 use Rattle.authority_core.specs.declared.refusal.AuthorityRefusal.TheVariants as refusals
 use Rattle.key_roll.specs.Ring.{IsNext, next_key}
@@ -23,11 +24,11 @@ use Rattle.lms_tree.specs.KeyParts.{KeyParts}
 use Rattle.log_core.specs.Keyed.{AreBehind, IsOwn, IsPlain, SendsBy}
 use Rattle.log_core.specs.Rolling.{rolling_row}
 use Rattle.log_core.specs.Row as log_row
-use Rattle.log_core.specs.State.{Answer, CoreState, Input, passes, proposes, rolls, takes}
+use Rattle.log_core.specs.State.{LogAnswer, CoreState, Input, passes, proposes, rolls, takes}
 use Rattle.log_sending.specs.declared.refusal.LogRefusal.{LogRefusal}
 use Rattle.log_sending.specs.declared.refusal.LogRefusal.TheVariants.{Memory}
 use Rattle.owner_check.specs.Answers.{Told, outcome_of}
-use Rattle.owner_check.specs.declared.answer.Answer as check
+use Rattle.owner_check.specs.declared.answer.CheckAnswer as check
 use Rattle.owner_check.specs.declared.answer.Outcome.{Outcome}
 use Rattle.owner_check.specs.declared.answer.Outcome.TheVariants.{No}
 use Rattle.ar_nodes.specs.Acting.{RepliesBySome, Reply, authority_does, authority_took, authority_turned, log_does}
@@ -81,7 +82,7 @@ plain_keeps passes keys later plain h = h
 plain_keeps (rolls key) keys later plain h = absurd plain
 
 -- a log that answered
-pub log_did : (node : LogNode) (keys : List KeyParts) (event : LogEvent) (answer : Answer) (core : CoreState) (sent : Sent)
+pub log_did : (node : LogNode) (keys : List KeyParts) (event : LogEvent) (answer : LogAnswer) (core : CoreState) (sent : Sent)
     → SendsBy keys (Ok sent) node.core core answer
     → log_does node keys event answer ≡ (record { core = core; keys = keys; taken = node.taken ++ event ∷ [] }, Ok sent)
 log_did node keys event (Ok reply) core sent e =
@@ -90,7 +91,7 @@ log_did node keys event (Ok reply) core sent e =
 log_did node keys event (Err refusal) core sent e = absurd cc
 
 -- a log that refused
-pub log_refused : (node : LogNode) (keys : List KeyParts) (event : LogEvent) (answer : Answer) (core : CoreState) (refusal : LogRefusal)
+pub log_refused : (node : LogNode) (keys : List KeyParts) (event : LogEvent) (answer : LogAnswer) (core : CoreState) (refusal : LogRefusal)
     → SendsBy keys (Err refusal) node.core core answer → refusal ≢ Memory → log_does node keys event answer ≡ (node, Err (log_code refusal))
 log_refused node keys event answer core refusal h other =
     elim h.1 [ inl wants ↦ absurd (other wants) | inr is ↦ ap (log_does node keys event) is ]
@@ -135,14 +136,14 @@ pub ruleset log_nodes = (next_is, plain_is_own, plain_keeps, log_did, log_refuse
 -- ---- what checks say
 
 -- a check that says as it tells says this
-says-told : (says : Outcome) (k : CheckParts) (a : Asked) → IfSome k.told (λ t. says ≡ outcome_of t k.answers a.name a.key) → check_says says k a ≡ says
+says-told : (says : Outcome) (k : CheckParts) (a : Approved) → IfSome k.told (λ t. says ≡ outcome_of t k.answers a.name a.key) → check_says says k a ≡ says
 says-told says k a h = at k.told h where
   at : (told : Option Told) → IfSome told (λ t. says ≡ outcome_of t k.answers a.name a.key) → unwrap_or (option_map (λ t. outcome_of t k.answers a.name a.key) told) says ≡ says
   at None h = refl
   at (Some t) h = sym h
 
 -- the row by what it says is that by what is answered to the message
-abbrev pub AsTold : Outcome → Option CheckParts → Option Asked → Type 0
+abbrev pub AsTold : Outcome → Option CheckParts → Option Approved → Type 0
 AsTold says check asked = IfSome check (λ k. IfSome asked (λ a. IfSome k.told (λ t. says ≡ outcome_of t k.answers a.name a.key)))
 
 asked-row : (s : authority.AuthorityState) (check : Option CheckParts) (m : Message) (says : Outcome) → AsTold says check (asked_in (Ok m))
@@ -176,7 +177,7 @@ reply_of (Ok sent) = Ok sent
 reply_of (Err refusal) = Err (authority_code refusal)
 
 -- by an answer that is its row's, signed
-pub authority-did : (node : AuthorityNode) (answer : authority.Answer) (result : Result Sent AuthorityRefusal) (state : authority.AuthorityState)
+pub authority-did : (node : AuthorityNode) (answer : authority.AuthorityAnswer) (result : Result Sent AuthorityRefusal) (state : authority.AuthorityState)
     → result ≢ Err refusals.Memory → authority_keyed.SendsBy node.keys result node.state state answer
     → authority_does node answer ≡ (record node { state = state }, reply_of result)
 authority-did node (Ok made) (Ok sent) state some e =
@@ -189,7 +190,7 @@ authority-did node answer (Err refusal) state some h = elim h.1 [
 ]
 
 -- what a check kept of an answer does not ask what is sent
-pub after-alike : (A B : Type 0) (xs : List check.Answer) (a : Asked) (r : AuthorityRefusal) → answers_after {A = A} xs a (Err r) ≡ answers_after {A = B} xs a (Err r)
+pub after-alike : (A B : Type 0) (xs : List check.CheckAnswer) (a : Approved) (r : AuthorityRefusal) → answers_after {A = A} xs a (Err r) ≡ answers_after {A = B} xs a (Err r)
 after-alike A B xs a (refusals.Form place) = refl
 after-alike A B xs a refusals.NotForAuthority = refl
 after-alike A B xs a (refusals.Unknown party) = refl
@@ -204,7 +205,7 @@ after-alike A B xs a (refusals.OtherRoll party generation) = refl
 after-alike A B xs a refusals.LastGeneration = refl
 after-alike A B xs a refusals.Memory = refl
 
-behind-alike : (xs : List check.Answer) (asked : Option Asked) (keys : List KeyParts) (answer : authority.Answer) (result : Result Sent AuthorityRefusal) (old new : authority.AuthorityState)
+behind-alike : (xs : List check.CheckAnswer) (asked : Option Approved) (keys : List KeyParts) (answer : authority.AuthorityAnswer) (result : Result Sent AuthorityRefusal) (old new : authority.AuthorityState)
     → result ≢ Err refusals.Memory → authority_keyed.SendsBy keys result old new answer
     → answers_behind xs asked answer ≡ answers_behind xs asked result
 behind-alike xs None keys answer result old new some h = refl
@@ -215,20 +216,13 @@ behind-alike xs (Some a) keys answer (Err refusal) old new some h = elim h.1 [
   | inr is ↦ ap (answers_after xs a) is ∙ after-alike (authority.AuthorityState × Unsigned) Sent xs a refusal
 ]
 
--- What a call of an authority says of its check.
-pub record ChecksBy {C A : Type 0} (told : C → Option Told) (answers : C → List check.Answer) (old new : Option C) (asked : Option Asked) (result : Result A AuthorityRefusal) : Type 0 where
-  pub retired : is_none new ≡ is_none old
-  pub kept : IfSome old (λ o. IfSome new (λ n. answers n ≡ answers_behind (answers o) asked result))
-  pub same : IfSome old (λ o. IfSome new (λ n. told n ≡ told o))
-  pub by : IfSome old (λ o. IfSome asked (λ a. SaysAsTold (told o) (answers o) a result))
-
 -- a check of these parts
-abbrev check-of : Option Told → List check.Answer → CheckParts
+abbrev check-of : Option Told → List check.CheckAnswer → CheckParts
 check-of told answers = record { told = told; answers = answers }
 
 -- the check behind, where it kept of the row's answer what it did of the call's
-pub check-behind : {C A : Type 0} (told : C → Option Told) (answers : C → List check.Answer) (old new : Option C) (asked : Option Asked) (answer : authority.Answer) (result : Result A AuthorityRefusal)
-    → ChecksBy told answers old new asked result → ((xs : List check.Answer) → answers_behind xs asked answer ≡ answers_behind xs asked result)
+pub check-behind : {C A : Type 0} (told : C → Option Told) (answers : C → List check.CheckAnswer) (old new : Option C) (asked : Option Approved) (answer : authority.AuthorityAnswer) (result : Result A AuthorityRefusal)
+    → ChecksBy told answers old new asked result → ((xs : List check.CheckAnswer) → answers_behind xs asked answer ≡ answers_behind xs asked result)
     → option_map (check_behind asked answer) (option_map (check_told told answers) old) ≡ option_map (check_told told answers) new
 check-behind told answers None None asked answer result by alike = refl
 check-behind told answers None (Some n) asked answer result by alike = clash (sym by.retired)
@@ -239,7 +233,7 @@ check-behind told answers (Some o) (Some n) asked answer result by alike =
     in ap (λ (k : CheckParts). Some k) (ap (λ t. check-of t (answers_behind (answers o) asked answer)) same ∙ ap (check-of (told n)) kept)
 
 -- it says as it tells
-told-so : {A : Type 0} (told : Option Told) (xs : List check.Answer) (a : Asked) (result : Result A AuthorityRefusal) → result ≢ Err refusals.Memory → SaysAsTold told xs a result
+told-so : {A : Type 0} (told : Option Told) (xs : List check.CheckAnswer) (a : Approved) (result : Result A AuthorityRefusal) → result ≢ Err refusals.Memory → SaysAsTold told xs a result
     → IfSome told (λ t. outcome_by result ≡ outcome_of t xs a.name a.key)
 told-so told xs a (Ok sent) some h = h
 told-so told xs a (Err refusals.Memory) some h = absurd (some refl)
@@ -256,7 +250,7 @@ told-so told xs a (Err refusals.Spent) some h = h
 told-so told xs a (Err (refusals.OtherRoll party generation)) some h = h
 told-so told xs a (Err refusals.LastGeneration) some h = h
 
-pub as-told : {C A : Type 0} (told : C → Option Told) (answers : C → List check.Answer) (old : Option C) (asked : Option Asked) (result : Result A AuthorityRefusal)
+pub as-told : {C A : Type 0} (told : C → Option Told) (answers : C → List check.CheckAnswer) (old : Option C) (asked : Option Approved) (result : Result A AuthorityRefusal)
     → result ≢ Err refusals.Memory → IfSome old (λ o. IfSome asked (λ a. SaysAsTold (told o) (answers o) a result))
     → AsTold (outcome_by result) (option_map (check_told told answers) old) asked
 as-told told answers None asked result some h = tt
@@ -268,13 +262,13 @@ none-mapped f None = refl
 none-mapped f (Some x) = refl
 
 -- an authority that took a message
-pub authority_did : {C : Type 0} (told : C → Option Told) (answers : C → List check.Answer) (old new : Option C) (s s' : authority.AuthorityState) (keys : List KeyParts) (bytes : List ℕ)
+pub authority_did : {C : Type 0} (told : C → Option Told) (answers : C → List check.CheckAnswer) (old new : Option C) (s s' : authority.AuthorityState) (keys : List KeyParts) (bytes : List ℕ)
     (result : Result Sent AuthorityRefusal) → ChecksBy told answers old new (asked_in (message_in bytes)) result → result ≢ Err refusals.Memory
     → authority_keyed.SendsBy keys result s s' (row s (is_none old) (message_in bytes) (outcome_by result))
     → authority_took (outcome_by result) (record { state = s; keys = keys; check = option_map (check_told told answers) old }) bytes
     ≡ (record { state = s'; keys = keys; check = option_map (check_told told answers) new }, reply_of result)
 authority_did told answers old new s s' keys bytes result by some h =
-    let asked : Option Asked = asked_in (message_in bytes)
+    let asked : Option Approved = asked_in (message_in bytes)
     in let says : Outcome = outcome_by result
     in let node : AuthorityNode = record { state = s; keys = keys; check = option_map (check_told told answers) old }
     in let is : row s (is_none old) (message_in bytes) says ≡ authority_reply says node.state node.check (message_in bytes) =
@@ -290,7 +284,7 @@ abbrev pub authority-of : authority.AuthorityState → List KeyParts → Option 
 authority-of state keys check = record { state = state; keys = keys; check = check }
 
 -- an authority that went on to its next key
-pub authority_turned_so : (node : AuthorityNode) (next : KeyParts) (answer : authority.Answer) (sent : Sent) (state : authority.AuthorityState)
+pub authority_turned_so : (node : AuthorityNode) (next : KeyParts) (answer : authority.AuthorityAnswer) (sent : Sent) (state : authority.AuthorityState)
     → authority_keyed.SendsBy (node.keys ++ next ∷ []) (Ok sent) node.state state answer
     → authority_turned node next answer ≡ (record { state = state; keys = node.keys ++ next ∷ []; check = node.check }, Ok sent)
 authority_turned_so node next (Ok made) sent state e =
@@ -298,7 +292,7 @@ authority_turned_so node next (Ok made) sent state e =
     in ap (λ (t : authority.AuthorityState × Sent). (authority-of t.0 (node.keys ++ next ∷ []) node.check, Ok t.1)) same
 authority_turned_so node next (Err refusal) sent state e = absurd cc
 
-pub authority_kept : (node : AuthorityNode) (next : KeyParts) (answer : authority.Answer) (refusal : AuthorityRefusal) (state : authority.AuthorityState)
+pub authority_kept : (node : AuthorityNode) (next : KeyParts) (answer : authority.AuthorityAnswer) (refusal : AuthorityRefusal) (state : authority.AuthorityState)
     → authority_keyed.SendsBy (node.keys ++ next ∷ []) (Err refusal) node.state state answer → refusal ≢ refusals.Memory
     → authority_turned node next answer ≡ (node, Err (authority_code refusal))
 authority_kept node next answer refusal state h other =
@@ -339,10 +333,10 @@ pub refused_some : (result : Result Sent AuthorityRefusal) (refusal : AuthorityR
 refused_some result refusal is other = λ e. other cc
 
 -- an authority with what clauses see of its check
-abbrev pub authority-with : {C : Type 0} → (C → Option Told) → (C → List check.Answer) → authority.AuthorityState → List KeyParts → Option C → AuthorityNode
+abbrev pub authority-with : {C : Type 0} → (C → Option Told) → (C → List check.CheckAnswer) → authority.AuthorityState → List KeyParts → Option C → AuthorityNode
 authority-with told answers state keys check = authority-of state keys (option_map (check_told told answers) check)
 
-pub took_so : {C : Type 0} (told : C → Option Told) (answers : C → List check.Answer) (old new : Option C) (s s' : authority.AuthorityState) (keys keys' : List KeyParts) (bytes : List ℕ)
+pub took_so : {C : Type 0} (told : C → Option Told) (answers : C → List check.CheckAnswer) (old new : Option C) (s s' : authority.AuthorityState) (keys keys' : List KeyParts) (bytes : List ℕ)
     (result : Result Sent AuthorityRefusal) (reply : Reply) → ChecksBy told answers old new (asked_in (message_in bytes)) result → result ≢ Err refusals.Memory
     → authority_keyed.SendsBy keys result s s' (row s (is_none old) (message_in bytes) (outcome_by result)) → keys' ≡ keys → reply ≡ reply_of result
     → RepliesBySome (Ok reply) (authority-with told answers s keys old) (authority-with told answers s' keys' new) (λ says. authority_took says (authority-with told answers s keys old) bytes)
@@ -353,7 +347,7 @@ took_so told answers old new s s' keys keys' bytes result reply by some h kept i
       ∙ ap (λ (r : Reply). (authority-with told answers s' keys' new, r)) (sym is);
 }
 
-pub check-waits : {C A : Type 0} (told : C → Option Told) (answers : C → List check.Answer) (old new : Option C) (asked : Option Asked) → ChecksBy {A = A} told answers old new asked (Err refusals.Memory)
+pub check-waits : {C A : Type 0} (told : C → Option Told) (answers : C → List check.CheckAnswer) (old new : Option C) (asked : Option Approved) → ChecksBy {A = A} told answers old new asked (Err refusals.Memory)
     → option_map (check_told told answers) new ≡ option_map (check_told told answers) old
 check-waits told answers None None asked by = refl
 check-waits told answers None (Some n) asked by = clash (sym by.retired)
@@ -363,7 +357,7 @@ check-waits told answers (Some o) (Some n) None by =
 check-waits told answers (Some o) (Some n) (Some a) by =
     ap (λ (k : CheckParts). Some k) (ap (λ t. check-of t (answers n)) by.same ∙ ap (check-of (told o)) by.kept)
 
-pub took_nothing : {C : Type 0} (told : C → Option Told) (answers : C → List check.Answer) (old new : Option C) (s s' : authority.AuthorityState) (keys keys' : List KeyParts) (bytes : List ℕ)
+pub took_nothing : {C : Type 0} (told : C → Option Told) (answers : C → List check.CheckAnswer) (old new : Option C) (s s' : authority.AuthorityState) (keys keys' : List KeyParts) (bytes : List ℕ)
     (result : Result Sent AuthorityRefusal) → ChecksBy told answers old new (asked_in (message_in bytes)) result → result ≡ Err refusals.Memory
     → authority_keyed.SendsBy keys result s s' (row s (is_none old) (message_in bytes) (outcome_by result)) → keys' ≡ keys
     → RepliesBySome (Err faults.Memory) (authority-with told answers s keys old) (authority-with told answers s' keys' new) (λ says. authority_took says (authority-with told answers s keys old) bytes)

@@ -3,13 +3,13 @@ use Rattle.std.proofs.Common.{◌≡◌, ◌∙◌, ◌<◌, ℕ, zero, suc, Lis
 use Rattle.std.specs.Prelude.{option_and_then, slice_set, OnOk, Result, Ok, Err}
 use Rattle.std.specs.Option.{option_map}
 use Rattle.owner_check.specs.Answers.{Told}
-use Rattle.owner_check.specs.declared.answer.Answer.{Answer}
+use Rattle.owner_check.specs.declared.answer.CheckAnswer.{CheckAnswer}
 use Rattle.ar_nodes.specs.Finding.{checking_in, with_check}
 use Rattle.ar_nodes.specs.Parties.{AuthorityNode, CheckParts, check_told}
 use Rattle.ar_nodes.specs.Teaching.{retelling}
 
 -- the check that tells this
-pub check_retold : {X : Type 0} (told : X → Option Told) (answers : X → List Answer) (tells : Told → Told) (old new : Option X) → is_none new ≡ is_none old
+pub check_retold : {X : Type 0} (told : X → Option Told) (answers : X → List CheckAnswer) (tells : Told → Told) (old new : Option X) → is_none new ≡ is_none old
     → IfSome old (λ o. IfSome new (λ n. told n ≡ option_map tells (told o))) → IfSome old (λ o. IfSome new (λ n. answers n ≡ answers o))
     → option_map (check_told told answers) new ≡ option_map (retelling tells) (option_map (check_told told answers) old)
 check_retold told answers tells (Some o) (Some n) there says keeps = ap (λ t. Some (record { told = t; answers = answers n })) says
@@ -19,7 +19,7 @@ check_retold told answers tells None (Some n) there says keeps = absurd (cc)
 check_retold told answers tells None None there says keeps = refl
 
 -- the check that tells what it told
-pub check_kept : {X : Type 0} (told : X → Option Told) (answers : X → List Answer) (old new : Option X) → is_none new ≡ is_none old
+pub check_kept : {X : Type 0} (told : X → Option Told) (answers : X → List CheckAnswer) (old new : Option X) → is_none new ≡ is_none old
     → IfSome old (λ o. IfSome new (λ n. told n ≡ told o)) → IfSome old (λ o. IfSome new (λ n. answers n ≡ answers o))
     → option_map (check_told told answers) new ≡ option_map (check_told told answers) old
 check_kept told answers (Some o) (Some n) there says keeps = ap (λ t. Some (record { told = t; answers = answers n })) says

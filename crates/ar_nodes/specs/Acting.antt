@@ -106,13 +106,13 @@ noted_in pool message who = with_delivered pool message (numbered pool message) 
 -- ---- logs
 
 -- a log by its answer, with the keys that it has behind it
-abbrev pub log_does : LogNode → List KeyParts → LogEvent → log.Answer → LogNode × Reply
+abbrev pub log_does : LogNode → List KeyParts → LogEvent → log.LogAnswer → LogNode × Reply
 log_does node keys event (Ok reply) =
     (record { core = reply.after; keys = keys; taken = node.taken ++ event ∷ [] }, Ok (filled keys reply.unsigned))
 log_does node keys event (Err refusal) = (node, Err (log_code refusal))
 
 -- the same of a log that steps apart from its world: what it did is not noted yet
-abbrev pub log_answers : LogNode → log.Answer → LogNode × Reply
+abbrev pub log_answers : LogNode → log.LogAnswer → LogNode × Reply
 log_answers node (Ok reply) = (record node { core = reply.after }, Ok (filled node.keys reply.unsigned))
 log_answers node (Err refusal) = (node, Err (log_code refusal))
 
@@ -123,7 +123,7 @@ log_took node message bytes = log_does node node.keys (events.Take message) (row
 -- ---- authorities
 
 -- an authority by its answer
-abbrev pub authority_does : AuthorityNode → authority.Answer → AuthorityNode × Reply
+abbrev pub authority_does : AuthorityNode → authority.AuthorityAnswer → AuthorityNode × Reply
 authority_does node (Ok answer) = (record node { state = answer.0 }, Ok (filled node.keys answer.1))
 authority_does node (Err refusal) = (node, Err (authority_code refusal))
 
@@ -134,7 +134,7 @@ authority_took says node bytes =
     in authority_does (node_behind node (message_in bytes) answer) answer
 
 -- an authority that goes on to its next key
-abbrev pub authority_turned : AuthorityNode → KeyParts → authority.Answer → AuthorityNode × Reply
+abbrev pub authority_turned : AuthorityNode → KeyParts → authority.AuthorityAnswer → AuthorityNode × Reply
 authority_turned node next (Ok answer) = authority_does (record node { keys = node.keys ++ next ∷ [] }) (Ok answer)
 authority_turned node next (Err refusal) = authority_does node (Err refusal)
 

@@ -12,8 +12,8 @@ use Rattle.log_sending.specs.declared.refusal.LogRefusal.TheVariants as log
 use Rattle.owner_core.specs.declared.refusal.OwnerRefusal.{OwnerRefusal}
 use Rattle.owner_core.specs.declared.refusal.OwnerRefusal.TheVariants as owner
 use Rattle.report_text.specs.declared.happening.Code.{Code}
-use Rattle.report_text.specs.declared.happening.Shown.{Shown}
-use Rattle.report_text.specs.declared.happening.Shown.TheVariants.{Digest, Full, NoRoot, Number, Party}
+use Rattle.report_text.specs.declared.happening.CodeValue.{CodeValue}
+use Rattle.report_text.specs.declared.happening.CodeValue.TheVariants.{Digest, Full, NoRoot, Number, Party}
 use Rattle.report_text.specs.declared.happening.Values.{Values}
 use Rattle.report_text.specs.declared.happening.Values.TheVariants.{Nothing, One, Two}
 
@@ -22,12 +22,12 @@ abbrev pub code : Role → ℕ → Values → Code
 code role number values = record { role = role; number = number; values = values }
 
 -- why a change is refused: the number of a clause of the policy rule, or that the table is full
-abbrev pub change_shown : ChangeRefusal → Shown
+abbrev pub change_shown : ChangeRefusal → CodeValue
 change_shown (change.Policy refusal) = Number (number_of refusal)
 change_shown change.Full = Full
 
 -- a root, or that there is none
-abbrev pub root_shown : Option (List ℕ) → Shown
+abbrev pub root_shown : Option (List ℕ) → CodeValue
 root_shown None = NoRoot
 root_shown (Some root) = Digest root
 

@@ -7,7 +7,7 @@ use Rattle.key_roll.specs.Ring.{next_key}
 use Rattle.lms_tree.specs.KeyParts.{KeyParts}
 use Rattle.log_core.specs.State.{CoreState}
 use Rattle.owner_check.specs.Answers.{Told}
-use Rattle.owner_check.specs.declared.answer.Answer.{Answer}
+use Rattle.owner_check.specs.declared.answer.CheckAnswer.{CheckAnswer}
 use Rattle.ar_nodes.specs.Pool.{Pooled}
 use Rattle.ar_nodes.specs.declared.event.LogEvent.{LogEvent}
 
@@ -20,14 +20,14 @@ pub record LogNode : Type 0 where
 -- a check of owners: its book and the numbers of its asks that fail, where it tells them, and the answers that it gave
 pub record CheckParts : Type 0 where
   pub told : Option Told
-  pub answers : List Answer
+  pub answers : List CheckAnswer
 
 -- a check that tells this of itself, and has answered this
-abbrev pub check_told : {C : Type 0} → (C → Option Told) → (C → List Answer) → C → CheckParts
+abbrev pub check_told : {C : Type 0} → (C → Option Told) → (C → List CheckAnswer) → C → CheckParts
 check_told told answers = λ check. record { told = told check; answers = answers check }
 
 -- the same of checks
-abbrev pub checks_told : {C : Type 0} → (C → Option Told) → (C → List Answer) → List C → List CheckParts
+abbrev pub checks_told : {C : Type 0} → (C → Option Told) → (C → List CheckAnswer) → List C → List CheckParts
 checks_told told answers checks = map (check_told told answers) checks
 
 -- an honest authority: where it stands, its key of each generation, and its check, until it retires

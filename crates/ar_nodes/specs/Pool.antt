@@ -100,8 +100,8 @@ bytes_in pool = sum_by (λ p. length p.bytes) pool
 abbrev pub most_messages : ℕ
 most_messages = 65528
 
-abbrev pub most_bytes : ℕ
-most_bytes = 260046848
+abbrev pub most_pool_bytes : ℕ
+most_pool_bytes = 260046848
 
 -- ---- what is delivered
 

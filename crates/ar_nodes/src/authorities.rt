@@ -26,7 +26,8 @@ impl<C: OwnerCheck> HonestAuthority<C> {
 
     /// The authority takes a message.
     pub(crate) fn take(&mut self, alloc: Global, bytes: &[u8]) -> Result<Reply, WorldFault>
-        ensures row { RepliesBySome result self.old self.new (λ says. authority_took says self.old bytes.now) }
+        ensures row { RepliesBySome result self.old self.new
+            (λ says. authority_took says self.old bytes.now) }
         ensures few { IfOk result (λ reply. IfOk reply (λ sent. length sent.messages ≤ most_sent)) }
     {
         match answer(&mut self.authority, alloc, bytes) {
@@ -39,7 +40,8 @@ impl<C: OwnerCheck> HonestAuthority<C> {
     /// The authority goes on to its next key.
     pub(crate) fn roll(&mut self, alloc: Global) -> Result<Reply, WorldFault>
         ensures row { (next : KeyParts) → next_of self.old.keys ≡ Some next
-            → RepliesBy result self.old self.new (authority_turned self.old next (roll_row self.old.state (public_of next))) }
+            → RepliesBy result self.old self.new
+            (authority_turned self.old next (roll_row self.old.state (public_of next))) }
         ensures few { IfOk result (λ reply. IfOk reply (λ sent. length sent.messages ≤ most_sent)) }
     {
         match self.authority.roll(alloc) {

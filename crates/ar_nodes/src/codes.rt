@@ -1,7 +1,7 @@
 //! The codes that are printed of refusals.
 
 ghost use Rattle.std.specs.Prelude.{◌≡◌};
-ghost use Rattle.report_text.specs.declared.happening.Shown.TheVariants as shown;
+ghost use Rattle.report_text.specs.declared.happening.CodeValue.TheVariants as shown;
 ghost use Rattle.report_text.specs.declared.happening.Values.TheVariants.{Nothing, One, Two};
 ghost use Rattle.ar_nodes.specs.Codes.{authority_code, change_shown, code, log_code, owner_code, root_shown};
 ghost use Rattle.log_sending.specs.declared.refusal.LogRefusal.TheVariants.{BadChange, CouldBeDecided};
@@ -11,7 +11,7 @@ use authority_core::AuthorityRefusal;
 use domain_table::ChangeRefusal;
 use log_core::LogRefusal;
 use owner_core::OwnerRefusal;
-use report_text::{Code, Shown, Values};
+use report_text::{Code, CodeValue, Values};
 
 /// The code of a log's refusal; want of memory has the number 0.
 pub fn log_code(refusal: LogRefusal) -> Code
@@ -19,18 +19,18 @@ pub fn log_code(refusal: LogRefusal) -> Code
 {
     let role = Role::LogServer;
     match refusal {
-        LogRefusal::Form(place) => with_one(role, 1, Shown::Number(place as u64)),
+        LogRefusal::Form(place) => with_one(role, 1, CodeValue::Number(place as u64)),
         LogRefusal::NotForLog => plain(role, 2),
-        LogRefusal::Unknown(party) => with_one(role, 3, Shown::Party(party)),
+        LogRefusal::Unknown(party) => with_one(role, 3, CodeValue::Party(party)),
         LogRefusal::BadSignature(party, condition) => bad_signature(role, party, condition),
-        LogRefusal::WrongEpoch(epoch) => with_one(role, 5, Shown::Number(epoch)),
-        LogRefusal::NotCoordinator(turn) => with_one(role, 6, Shown::Number(turn as u64)),
-        LogRefusal::AlreadyVoted(root) => with_one(role, 7, Shown::Digest(root)),
+        LogRefusal::WrongEpoch(epoch) => with_one(role, 5, CodeValue::Number(epoch)),
+        LogRefusal::NotCoordinator(turn) => with_one(role, 6, CodeValue::Number(turn as u64)),
+        LogRefusal::AlreadyVoted(root) => with_one(role, 7, CodeValue::Digest(root)),
         LogRefusal::AlreadyStated => plain(role, 8),
-        LogRefusal::WrongBase(base) => with_one(role, 9, Shown::Digest(base)),
+        LogRefusal::WrongBase(base) => with_one(role, 9, CodeValue::Digest(base)),
         LogRefusal::BadChange(index, refusal) => bad_change(index, refusal),
-        LogRefusal::WrongRoot(root) => with_one(role, 11, Shown::Digest(root)),
-        LogRefusal::FewVotes(count) => with_one(role, 12, Shown::Number(count as u64)),
+        LogRefusal::WrongRoot(root) => with_one(role, 11, CodeValue::Digest(root)),
+        LogRefusal::FewVotes(count) => with_one(role, 12, CodeValue::Number(count as u64)),
         LogRefusal::QueueFull => plain(role, 13),
         LogRefusal::Spent => plain(role, 14),
         LogRefusal::CouldBeDecided(root, count) => could_be_decided(root, count),
@@ -46,11 +46,11 @@ pub fn authority_code(refusal: AuthorityRefusal) -> Code
 {
     let role = Role::Authority;
     match refusal {
-        AuthorityRefusal::Form(place) => with_one(role, 1, Shown::Number(place as u64)),
+        AuthorityRefusal::Form(place) => with_one(role, 1, CodeValue::Number(place as u64)),
         AuthorityRefusal::NotForAuthority => plain(role, 2),
-        AuthorityRefusal::Unknown(party) => with_one(role, 3, Shown::Party(party)),
+        AuthorityRefusal::Unknown(party) => with_one(role, 3, CodeValue::Party(party)),
         AuthorityRefusal::BadSignature(party, condition) => bad_signature(role, party, condition),
-        AuthorityRefusal::FewVotes(count) => with_one(role, 5, Shown::Number(count as u64)),
+        AuthorityRefusal::FewVotes(count) => with_one(role, 5, CodeValue::Number(count as u64)),
         AuthorityRefusal::BadPath => plain(role, 6),
         AuthorityRefusal::SameAuthority => plain(role, 7),
         AuthorityRefusal::CheckFault => plain(role, 8),
@@ -68,9 +68,9 @@ pub(crate) fn owner_code(refusal: OwnerRefusal) -> Code
 {
     let role = Role::Owner;
     match refusal {
-        OwnerRefusal::Form(place) => with_one(role, 1, Shown::Number(place as u64)),
+        OwnerRefusal::Form(place) => with_one(role, 1, CodeValue::Number(place as u64)),
         OwnerRefusal::NotForOwner => plain(role, 2),
-        OwnerRefusal::Unknown(party) => with_one(role, 3, Shown::Party(party)),
+        OwnerRefusal::Unknown(party) => with_one(role, 3, CodeValue::Party(party)),
         OwnerRefusal::BadSignature(party, condition) => bad_signature(role, party, condition),
         OwnerRefusal::NoDraft => plain(role, 5),
         OwnerRefusal::Full => plain(role, 6),
@@ -93,7 +93,7 @@ fn plain(role: Role, number: u8) -> Code
     }
 }
 
-fn with_one(role: Role, number: u8, value: Shown) -> Code
+fn with_one(role: Role, number: u8, value: CodeValue) -> Code
     ensures { result ≡ code role number (One value) }
 {
     Code {
@@ -103,7 +103,7 @@ fn with_one(role: Role, number: u8, value: Shown) -> Code
     }
 }
 
-fn with_two(role: Role, number: u8, first: Shown, second: Shown) -> Code
+fn with_two(role: Role, number: u8, first: CodeValue, second: CodeValue) -> Code
     ensures { result ≡ code role number (Two first second) }
 {
     Code {
@@ -120,8 +120,8 @@ fn bad_signature(role: Role, party: Party, condition: u8) -> Code
     with_two(
         role,
         4,
-        Shown::Party(party),
-        Shown::Number(condition as u64),
+        CodeValue::Party(party),
+        CodeValue::Number(condition as u64),
     )
 }
 
@@ -131,8 +131,8 @@ fn other_roll(role: Role, number: u8, party: Party, generation: u32) -> Code
     with_two(
         role,
         number,
-        Shown::Party(party),
-        Shown::Number(generation as u64),
+        CodeValue::Party(party),
+        CodeValue::Number(generation as u64),
     )
 }
 
@@ -142,7 +142,7 @@ fn bad_change(index: usize, refusal: ChangeRefusal) -> Code
     with_two(
         Role::LogServer,
         10,
-        Shown::Number(index as u64),
+        CodeValue::Number(index as u64),
         change_shown(refusal),
     )
 }
@@ -154,26 +154,26 @@ fn could_be_decided(root: Option<[u8; 32]>, count: usize) -> Code
         Role::LogServer,
         15,
         root_shown(root),
-        Shown::Number(count as u64),
+        CodeValue::Number(count as u64),
     )
 }
 
 // ---- values
 
-fn change_shown(refusal: ChangeRefusal) -> Shown
+fn change_shown(refusal: ChangeRefusal) -> CodeValue
     ensures { result ≡ change_shown refusal }
 {
     match refusal {
-        ChangeRefusal::Policy(clause) => Shown::Number(clause.number() as u64),
-        ChangeRefusal::Full => Shown::Full,
+        ChangeRefusal::Policy(clause) => CodeValue::Number(clause.number() as u64),
+        ChangeRefusal::Full => CodeValue::Full,
     }
 }
 
-fn root_shown(root: Option<[u8; 32]>) -> Shown
+fn root_shown(root: Option<[u8; 32]>) -> CodeValue
     ensures { result ≡ root_shown root }
 {
     match root {
-        Some(root) => Shown::Digest(root),
-        None => Shown::NoRoot,
+        Some(root) => CodeValue::Digest(root),
+        None => CodeValue::NoRoot,
     }
 }

@@ -62,7 +62,8 @@ impl Text {
 
     /// The bytes, where they are not too many.
     fn finish(self) -> Result<Vec<u8>, WorldFault>
-        ensures { result_map_both (λ bytes. bytes.items) (λ e. e) result ≡ ok_or (grown self []) Limit }
+        ensures { result_map_both (λ bytes.
+            bytes.items) (λ e. e) result ≡ ok_or (grown self []) Limit }
     {
         if self.over {
             return Err(WorldFault::Limit);
@@ -100,7 +101,8 @@ fn slice_in<'a>(pool: &'a Pool, word: &[u8]) -> Option<&'a [u8]>
 
 /// Puts the bytes of a hex word, which has this number in its line, behind the others.
 fn add_hex(alloc: Global, number: usize, word: &[u8], text: &mut Text) -> Result<(), WorldFault>
-    ensures { GivesUnless Memory (λ _. text.new) result (grown_by text.old number (bytes_of_hex word.now)) }
+    ensures { GivesUnless Memory (λ _.
+        text.new) result (grown_by text.old number (bytes_of_hex word.now)) }
 {
     match Word::new(0, number, word).bytes(alloc) {
         Ok(bytes) => {
@@ -114,7 +116,8 @@ fn add_hex(alloc: Global, number: usize, word: &[u8], text: &mut Text) -> Result
 
 /// Puts the bytes of a slice, which has this number in its line, behind the others.
 fn add_slice(pool: &Pool, number: usize, word: &[u8], text: &mut Text) -> Result<(), WorldFault>
-    ensures { GivesUnless Memory (λ _. text.new) result (grown_by text.old number (slice_in pool.now.messages word.now)) }
+    ensures { GivesUnless Memory (λ _.
+        text.new) result (grown_by text.old number (slice_in pool.now.messages word.now)) }
 {
     match slice_in(pool, word) {
         Some(bytes) => {
@@ -133,7 +136,8 @@ fn add_piece(
     word: &[u8],
     text: &mut Text,
 ) -> Result<(), WorldFault>
-    ensures { GivesUnless Memory (λ _. text.new) result (grown_by text.old number (piece_of pool.now.messages word.now)) }
+    ensures { GivesUnless Memory (λ _.
+        text.new) result (grown_by text.old number (piece_of pool.now.messages word.now)) }
 {
     match word {
         [b'x', digits @ ..] => add_hex(alloc, number, digits, text),
@@ -145,7 +149,8 @@ fn add_piece(
 /// The bytes of the pieces that stand in a text, of which the first has the number 2 in its line.
 #[tactic(auto, using(crate::proofs::Pieces::piece_laws))]
 fn composed_of(alloc: Global, pool: &Pool, text: &[u8]) -> Result<Vec<u8>, WorldFault>
-    ensures { GivesUnless Memory (λ bytes. bytes.items) result (composed pool.now.messages (words_of text.now)) }
+    ensures { GivesUnless Memory (λ bytes.
+        bytes.items) result (composed pool.now.messages (words_of text.now)) }
 {
     let mut bytes = Text::new(alloc);
     let mut number = 2;
@@ -162,7 +167,8 @@ fn composed_of(alloc: Global, pool: &Pool, text: &[u8]) -> Result<Vec<u8>, World
 /// The bytes of the pieces of a line, one behind the other. A piece that is not there is refused before bytes that are too
 /// many, of which no more are kept than a message may have.
 pub fn composed(alloc: Global, pool: &Pool, pieces: &Pieces) -> Result<Vec<u8>, WorldFault>
-    ensures { GivesUnless Memory (λ bytes. bytes.items) result (composed pool.now.messages pieces.now) }
+    ensures { GivesUnless Memory (λ bytes.
+        bytes.items) result (composed pool.now.messages pieces.now) }
 {
     composed_of(alloc, pool, pieces.text())
 }

@@ -76,8 +76,11 @@ pub fn put(
     to: Target,
     bytes: Vec<u8>,
 ) -> Result<Vec<Happening>, AllocError>
-    ensures pool { OnOk result (pool.new.messages ≡ pool.old.messages ++ raw None to bytes.items ∷ []) }
-    ensures said { IfOk result (λ said. said.items ≡ entries_from (length pool.old.messages + 1) (raw None to bytes.items ∷ [])) }
+    ensures pool { OnOk result (pool.new.messages ≡ pool.old.messages ++ raw None to bytes.items
+        ∷ []) }
+    ensures said { IfOk result (λ said.
+        said.items ≡ entries_from (length pool.old.messages + 1)
+        (raw None to bytes.items ∷ [])) }
     ensures err { OnErr result (pool.new.messages ≡ pool.old.messages) }
 {
     let mut said = reserve(alloc, pool, 1)?;
@@ -110,9 +113,14 @@ fn sign_next(
 ) -> Result<Vec<Happening>, AllocError>
     requires { forger.old.next < leaves_of forger.old.key.lms }
     ensures forger { OnOk result (forger.new ≡ record forger.old { next = forger.old.next + 1 }) }
-    ensures pool { OnOk result (pool.new.messages ≡ pool.old.messages ++ raw (Some forger.old.party) Nobody (forged forger.old text.now) ∷ []) }
-    ensures said { IfOk result (λ said. said.items ≡ entries_from (length pool.old.messages + 1) (raw (Some forger.old.party) Nobody (forged forger.old text.now) ∷ [])) }
-    ensures err { OnErr result ((forger.new ≡ forger.old) × (pool.new.messages ≡ pool.old.messages)) }
+    ensures pool { OnOk result
+        (pool.new.messages ≡ pool.old.messages
+        ++ raw (Some forger.old.party) Nobody (forged forger.old text.now) ∷ []) }
+    ensures said { IfOk result (λ said.
+        said.items ≡ entries_from (length pool.old.messages + 1)
+        (raw (Some forger.old.party) Nobody (forged forger.old text.now) ∷ [])) }
+    ensures err { OnErr result ((forger.new ≡ forger.old)
+        × (pool.new.messages ≡ pool.old.messages)) }
 {
     let mut said = reserve(alloc, pool, 1)?;
     let bytes = forged(alloc, forger, text)?;
@@ -141,12 +149,19 @@ pub fn sign(
     forger: &mut Forger,
     text: &[u8],
 ) -> Result<Items<Happening>, WorldFault>
-    ensures left { nat_lt forger.old.next (leaves_of forger.old.key.lms) ≡ true → IfOk result (λ said. (forger.new ≡ record forger.old { next = forger.old.next + 1 })
-        × (pool.new.messages ≡ pool.old.messages ++ raw (Some forger.old.party) Nobody (forged forger.old text.now) ∷ [])
-        × (said ≡ entries_from (length pool.old.messages + 1) (raw (Some forger.old.party) Nobody (forged forger.old text.now) ∷ []))) }
-    ensures none { nat_lt forger.old.next (leaves_of forger.old.key.lms) ≡ false → IfOk result (λ said. (forger.new ≡ forger.old)
+    ensures left { nat_lt forger.old.next (leaves_of forger.old.key.lms) ≡ true
+        → IfOk result (λ said. (forger.new ≡ record forger.old { next = forger.old.next + 1 })
+        × (pool.new.messages
+        ≡ pool.old.messages ++ raw (Some forger.old.party) Nobody
+        (forged forger.old text.now) ∷ [])
+        × (said ≡ entries_from (length pool.old.messages + 1)
+        (raw (Some forger.old.party) Nobody (forged forger.old text.now) ∷ []))) }
+    ensures none { nat_lt forger.old.next (leaves_of forger.old.key.lms) ≡ false
+        → IfOk result (λ said. (forger.new ≡ forger.old)
         × (pool.new.messages ≡ pool.old.messages) × (said ≡ SignRefused forger.old.party ∷ [])) }
-    ensures err { IfErr result (λ fault. (fault ≡ Memory) × (forger.new ≡ forger.old) × (pool.new.messages ≡ pool.old.messages)) }
+    ensures err { IfErr result (λ fault.
+        (fault ≡ Memory) × (forger.new ≡ forger.old)
+        × (pool.new.messages ≡ pool.old.messages)) }
 {
     if !has_leaf(forger) {
         let said = sign_refused(alloc, forger.party)?;

@@ -30,7 +30,8 @@ impl HonestLog {
 
     /// Notes what the log did. After an error it is as before.
     pub(crate) fn note(&mut self, event: LogEvent) -> Result<(), AllocError>
-        ensures ok { OnOk result (self.new ≡ record self.old { taken = self.old.taken ++ event ∷ [] }) }
+        ensures ok { OnOk result
+            (self.new ≡ record self.old { taken = self.old.taken ++ event ∷ [] }) }
         ensures err { OnErr result (self.new ≡ self.old) }
     {
         self.taken.push(event)?;
@@ -46,7 +47,8 @@ impl HonestLog {
         input: &LogInput,
     ) -> Result<Reply, WorldFault>
         requires { IsPlain (input_of input.now) }
-        ensures row { RepliesBy result self.old self.new (log_does self.old self.old.keys event (row self.old.core (input_of input.now))) }
+        ensures row { RepliesBy result self.old self.new
+            (log_does self.old self.old.keys event (row self.old.core (input_of input.now))) }
         ensures few { IfOk result (λ reply. IfOk reply (λ sent. length sent.messages ≤ most_sent)) }
     {
         self.taken.reserve(1)?;
@@ -64,7 +66,9 @@ impl HonestLog {
     #[tactic(auto, using(crate::proofs::Nodes::log_nodes))]
     pub(crate) fn roll(&mut self, alloc: Global) -> Result<Reply, WorldFault>
         ensures row { (next : KeyParts) → next_of self.old.keys ≡ Some next
-            → RepliesBy result self.old self.new (log_does self.old (self.old.keys ++ next ∷ []) events.Roll (row self.old.core (rolls (public_of next)))) }
+            → RepliesBy result self.old self.new
+            (log_does self.old (self.old.keys ++ next ∷ []) events.Roll
+            (row self.old.core (rolls (public_of next)))) }
         ensures few { IfOk result (λ reply. IfOk reply (λ sent. length sent.messages ≤ most_sent)) }
     {
         self.taken.reserve(1)?;

@@ -33,7 +33,8 @@ pub fn log_obeys_there(
 ) -> Result<Items<Happening>, WorldFault>
     requires plain { IsPlain (input_of input.now) }
     requires there { is_some slot.old ≡ true }
-    ensures { ChangesThere slot.old slot.new (λ was is. ActsBy result was is pool.old.messages pool.new.messages
+    ensures { ChangesThere slot.old slot.new (λ was is.
+        ActsBy result was is pool.old.messages pool.new.messages
         (log_obeyed pool.old.messages number what event (input_of input.now) was)) }
 {
     let Some(node) = slot else { unreachable!() };
@@ -52,7 +53,9 @@ pub fn log_rolls_there(
     number: u16,
 ) -> Result<Items<Happening>, WorldFault>
     requires { is_some slot.old ≡ true }
-    ensures { ChangesThere slot.old slot.new (λ was is. (next : KeyParts) → next_of was.keys ≡ Some next → ActsBy result was is pool.old.messages pool.new.messages
+    ensures { ChangesThere slot.old slot.new (λ was is.
+        (next : KeyParts) → next_of was.keys ≡ Some next
+        → ActsBy result was is pool.old.messages pool.new.messages
         (log_rolled pool.old.messages number next was)) }
 {
     let Some(node) = slot else { unreachable!() };
@@ -71,7 +74,9 @@ pub fn authority_rolls_there<C: OwnerCheck>(
     number: u16,
 ) -> Result<Items<Happening>, WorldFault>
     requires { is_some slot.old ≡ true }
-    ensures { ChangesThere slot.old slot.new (λ was is. (next : KeyParts) → next_of was.keys ≡ Some next → ActsBy result was is pool.old.messages pool.new.messages
+    ensures { ChangesThere slot.old slot.new (λ was is.
+        (next : KeyParts) → next_of was.keys ≡ Some next
+        → ActsBy result was is pool.old.messages pool.new.messages
         (authority_rolled pool.old.messages number next was)) }
 {
     let Some(node) = slot else { unreachable!() };

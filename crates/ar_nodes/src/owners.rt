@@ -17,7 +17,8 @@ use std::alloc::Global;
 
 /// An owner takes a message. It sends nothing.
 pub(crate) fn take(alloc: Global, owner: &mut Owner, bytes: &[u8]) -> Result<Reply, WorldFault>
-    ensures row { RepliesBy result owner.old owner.new (owner_does owner.old (step_row owner.old bytes.now)) }
+    ensures row { RepliesBy result owner.old owner.new
+        (owner_does owner.old (step_row owner.old bytes.now)) }
     ensures few { IfOk result (λ reply. IfOk reply (λ sent. length sent.messages ≡ 0)) }
 {
     so_many_are_sent();
@@ -30,7 +31,8 @@ pub(crate) fn take(alloc: Global, owner: &mut Owner, bytes: &[u8]) -> Result<Rep
 
 /// An owner objects to a certificate.
 pub(crate) fn object(alloc: Global, owner: &mut Owner, cert: &Cert) -> Result<Reply, WorldFault>
-    ensures row { RepliesBy result owner.old owner.new (owner_does owner.old (object_row owner.old cert.now)) }
+    ensures row { RepliesBy result owner.old owner.new
+        (owner_does owner.old (object_row owner.old cert.now)) }
     ensures few { IfOk result (λ reply. IfOk reply (λ sent. length sent.messages ≡ 1)) }
 {
     so_many_are_sent();
@@ -43,7 +45,8 @@ pub(crate) fn object(alloc: Global, owner: &mut Owner, cert: &Cert) -> Result<Re
 
 /// An owner submits its draft with this certificate, and stays as it is.
 pub(crate) fn submit(alloc: Global, owner: &Owner, cert: &Cert) -> Result<Reply, WorldFault>
-    ensures row { RepliesBy result owner.now owner.now (owner.now, with_error owner_code (submit_row owner.now (digest_of cert.now))) }
+    ensures row { RepliesBy result owner.now owner.now
+        (owner.now, with_error owner_code (submit_row owner.now (digest_of cert.now))) }
     ensures few { IfOk result (λ reply. IfOk reply (λ sent. length sent.messages ≡ 1)) }
 {
     so_many_are_sent();

@@ -24,7 +24,11 @@ impl Model for HonestLog {
 
     ghost Value = { LogNode };
 
-    ghost view = { λ l. record { core = l.log.core; keys = l.log.ring.keys; taken = l.taken.items } };
+    ghost view = { λ l. record {
+      core = l.log.core;
+      keys = l.log.ring.keys;
+      taken = l.taken.items;
+    } };
 
     ghost invariant = { λ l. 0 < length l.log.ring.keys };
 }

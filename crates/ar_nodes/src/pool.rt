@@ -3,7 +3,7 @@
 ghost use Rattle.std.specs.Prelude.{◌≡◌, ◌<◌, ◌+◌, ◌^◌, ◌&&◌, ◌++◌, ◌∷◌, [], nat_lt, is_some, length, max, OnOk, OnErr, IfOk};
 ghost use Rattle.std.specs.Option.{option_copied};
 ghost use Rattle.ar_nodes.specs.Acting.{bytes_of, delivered_by, with_delivered};
-ghost use Rattle.ar_nodes.specs.Pool.{delivered_to, most_bytes, most_messages, bytes_in, numbered};
+ghost use Rattle.ar_nodes.specs.Pool.{delivered_to, most_pool_bytes, most_messages, bytes_in, numbered};
 
 use ar_statement::{Party, has_party};
 use report_text::{Kind, Target};
@@ -37,7 +37,13 @@ impl Model for Pooled {
 
     ghost Value = { Parts };
 
-    ghost view = { λ p. record { kind = p.kind; from = p.from; to = p.to; bytes = p.bytes.items; delivered = p.delivered.items } };
+    ghost view = { λ p. record {
+      kind = p.kind;
+      from = p.from;
+      to = p.to;
+      bytes = p.bytes.items;
+      delivered = p.delivered.items;
+    } };
 }
 
 /// All messages of a world, numbered from 1 in the order in which they came.
@@ -53,7 +59,7 @@ pub struct Pool {
 // Clauses see the messages and the room.
 impl Model for Pool {
     ghost use Rattle.std.specs.Prelude.{◌≡◌, ◌+◌, ◌-◌, ◌≤◌, vec_len, vec_capacity};
-    ghost use Rattle.ar_nodes.specs.Pool.{most_bytes};
+    ghost use Rattle.ar_nodes.specs.Pool.{most_pool_bytes};
     ghost use Rattle.ar_nodes.specs.Parties.{PoolParts};
     ghost use Rattle.ar_nodes.specs.Pool.{bytes_in};
 
@@ -61,7 +67,8 @@ impl Model for Pool {
 
     ghost view = { λ p. record { messages = p.messages.items; room = p.room } };
 
-    ghost invariant = { λ p. (p.left ≡ most_bytes - bytes_in p.messages.items) × (vec_len p.messages + p.room ≤ vec_capacity p.messages) };
+    ghost invariant = { λ p. (p.left ≡ most_pool_bytes - bytes_in p.messages.items)
+        × (vec_len p.messages + p.room ≤ vec_capacity p.messages) };
 }
 
 impl Pool {
@@ -86,7 +93,8 @@ impl Pool {
 
     /// Whether the pool is not full.
     pub fn has_room(&self) -> bool
-        ensures { result ≡ (nat_lt (length self.now.messages) most_messages && nat_lt (bytes_in self.now.messages) most_bytes) }
+        ensures { result ≡ (nat_lt (length self.now.messages) most_messages && nat_lt
+            (bytes_in self.now.messages) most_pool_bytes) }
     {
         self.messages.len() < MOST_MESSAGES && self.left > 0
     }
@@ -158,7 +166,8 @@ impl Pool {
         number: u64,
         who: Party,
     ) -> Result<Vec<Party>, AllocError>
-        ensures { IfOk result (λ delivered. delivered.items ≡ delivered_by who (numbered self.now.messages number)) }
+        ensures { IfOk result (λ delivered.
+            delivered.items ≡ delivered_by who (numbered self.now.messages number)) }
     {
         match self.get(number) {
             Some(message) => delivered_to(alloc, message, who),
@@ -168,7 +177,9 @@ impl Pool {
 
     /// Notes to whom a message was delivered. It takes no memory.
     pub(crate) fn note_delivered(&mut self, number: u64, delivered: Vec<Party>)
-        ensures messages { self.new.messages ≡ with_delivered self.old.messages number (numbered self.old.messages number) delivered.items }
+        ensures messages { self.new.messages
+            ≡ with_delivered self.old.messages number
+            (numbered self.old.messages number) delivered.items }
         ensures room { self.new.room ≡ self.old.room }
     {
         if number == 0 {
@@ -196,7 +207,8 @@ pub fn numbered<T>(items: &[T], number: u64) -> Option<&T>
 
 /// To whom a message was delivered, with a party to which it is delivered now.
 fn delivered_to(alloc: Global, message: &Pooled, who: Party) -> Result<Vec<Party>, AllocError>
-    ensures { IfOk result (λ delivered. delivered.items ≡ (delivered_to who message.now).delivered) }
+    ensures { IfOk result (λ delivered.
+        delivered.items ≡ (delivered_to who message.now).delivered) }
 {
     let mut delivered = Vec::with_capacity(alloc, message.delivered.len() + 1)?;
     delivered.extend_from_slice(&message.delivered)?;

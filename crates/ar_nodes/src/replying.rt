@@ -28,7 +28,9 @@ pub(crate) fn tell(
 ) -> Items<Happening>
     requires none { said.items ≡ [] }
     requires said { 1 ≤ vec_capacity said }
-    requires room { IfOk reply (λ sent. (length sent.messages ≤ pool.old.room) × (2 + length sent.messages ≤ vec_capacity said)) }
+    requires room { IfOk reply (λ sent.
+        (length sent.messages ≤ pool.old.room)
+        × (2 + length sent.messages ≤ vec_capacity said)) }
     ensures pool { pool.new.messages ≡ pool_behind pool.old.messages party reply }
     ensures said { result ≡ told_of pool.old.messages party what reply }
 {

@@ -74,7 +74,8 @@ pub fn enter(pool: &mut Pool, said: &mut Vec<Happening>, message: Pooled)
     requires said { vec_len said.old < vec_capacity said.old }
     ensures messages { pool.new.messages ≡ pool.old.messages ++ message ∷ [] }
     ensures room { pool.old.room ≡ 1 + pool.new.room }
-    ensures said { said.new.items ≡ said.old.items ++ entry_of (length pool.old.messages + 1) message ∷ [] }
+    ensures said { said.new.items
+        ≡ said.old.items ++ entry_of (length pool.old.messages + 1) message ∷ [] }
     ensures capacity { vec_capacity said.old ≤ vec_capacity said.new }
 {
     let number = pool.next_number();
@@ -109,8 +110,11 @@ pub fn post(
 )
     requires pool { length messages.items ≤ pool.old.room }
     requires said { vec_len said.old + length messages.items ≤ vec_capacity said.old }
-    ensures pool { pool.new.messages ≡ pool.old.messages ++ map (pooled_from sender) messages.items }
-    ensures said { said.new.items ≡ said.old.items ++ entries_from (length pool.old.messages + 1) (map (pooled_from sender) messages.items) }
+    ensures pool { pool.new.messages
+        ≡ pool.old.messages ++ map (pooled_from sender) messages.items }
+    ensures said { said.new.items
+        ≡ said.old.items ++ entries_from (length pool.old.messages + 1)
+        (map (pooled_from sender) messages.items) }
 {
     for outgoing in messages {
         enter(pool, said, pooled_from(alloc, sender, outgoing));
@@ -140,7 +144,8 @@ pub(crate) fn does(
     requires pool { length sent.messages ≤ pool.old.room }
     requires said { vec_len said.old + 2 + length sent.messages ≤ vec_capacity said.old }
     ensures pool { pool.new.messages ≡ pool.old.messages ++ map (pooled_from party) sent.messages }
-    ensures said { said.new.items ≡ said.old.items ++ ((Step party what None ∷ ending_of party.number sent.ended)
+    ensures said { said.new.items
+        ≡ said.old.items ++ ((Step party what None ∷ ending_of party.number sent.ended)
         ++ entries_from (length pool.old.messages + 1) (map (pooled_from party) sent.messages)) }
 {
     let Sent { messages, ended } = sent;

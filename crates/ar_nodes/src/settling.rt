@@ -33,7 +33,8 @@ pub(crate) fn prepare(
 ) -> Result<Settling, AllocError>
     ensures none { IfOk result (λ ready. ready.said.items ≡ []) }
     ensures said { IfOk result (λ ready. most + 3 ≤ vec_capacity ready.said) }
-    ensures delivered { IfOk result (λ ready. ready.delivered.items ≡ delivered_by who (numbered pool.old.messages message)) }
+    ensures delivered { IfOk result (λ ready.
+        ready.delivered.items ≡ delivered_by who (numbered pool.old.messages message)) }
     ensures room { OnOk result (most ≤ pool.new.room) }
     ensures pool { pool.new.messages ≡ pool.old.messages }
 {
@@ -53,8 +54,11 @@ pub(crate) fn finish(
 ) -> Items<Happening>
     requires none { ready.said.items ≡ [] }
     requires said { 1 ≤ vec_capacity ready.said }
-    requires delivered { ready.delivered.items ≡ delivered_by who (numbered pool.old.messages message) }
-    requires room { IfOk reply (λ sent. (length sent.messages ≤ pool.old.room) × (2 + length sent.messages ≤ vec_capacity ready.said)) }
+    requires delivered { ready.delivered.items
+        ≡ delivered_by who (numbered pool.old.messages message) }
+    requires room { IfOk reply (λ sent.
+        (length sent.messages ≤ pool.old.room)
+        × (2 + length sent.messages ≤ vec_capacity ready.said)) }
     ensures { settled_in pool.old.messages message who reply ≡ (pool.new.messages, result) }
 {
     let Settling { said, delivered } = ready;
@@ -75,7 +79,9 @@ fn note_there(slot: &mut Option<HonestLog>, message: u64) -> Result<(), AllocErr
 
 /// The log with a number, where it is honest, notes that it took a message. After an error all are as before.
 fn note_at(logs: &mut Vec<Option<HonestLog>>, message: u64, number: u16) -> Result<(), AllocError>
-    ensures ok { OnOk result (logs.new.items ≡ logs_with logs.old.items message number (honest_in logs.old.items number)) }
+    ensures ok { OnOk result
+        (logs.new.items ≡ logs_with logs.old.items message number
+        (honest_in logs.old.items number)) }
     ensures err { OnErr result (logs.new.items ≡ logs.old.items) }
 {
     match logs.get_mut(number as usize) {
@@ -86,7 +92,8 @@ fn note_at(logs: &mut Vec<Option<HonestLog>>, message: u64, number: u16) -> Resu
 
 /// A party took a message: a log that is honest notes it. After an error all are as before.
 fn note_by(logs: &mut Vec<Option<HonestLog>>, message: u64, who: Party) -> Result<(), AllocError>
-    ensures ok { OnOk result (logs.new.items ≡ logs_after logs.old.items message who.role who.number) }
+    ensures ok { OnOk result
+        (logs.new.items ≡ logs_after logs.old.items message who.role who.number) }
     ensures err { OnErr result (logs.new.items ≡ logs.old.items) }
 {
     match who.role {
@@ -133,9 +140,11 @@ pub fn settle(
     who: Party,
     reply: Reply,
 ) -> Result<Items<Happening>, AllocError>
-    ensures pool { IfOk result (λ said. settled_in pool.old.messages message who reply ≡ (pool.new.messages, said)) }
+    ensures pool { IfOk result (λ said.
+        settled_in pool.old.messages message who reply ≡ (pool.new.messages, said)) }
     ensures logs { OnOk result (logs.new.items ≡ logs_behind logs.old.items message who reply) }
-    ensures err { OnErr result ((pool.new.messages ≡ pool.old.messages) × (logs.new.items ≡ logs.old.items)) }
+    ensures err { OnErr result ((pool.new.messages ≡ pool.old.messages)
+        × (logs.new.items ≡ logs.old.items)) }
     ensures len { length logs.new.items ≡ length logs.old.items }
 {
     let ready = prepare(alloc, pool, message, who, sent_in(&reply))?;

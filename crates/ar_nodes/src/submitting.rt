@@ -29,7 +29,9 @@ pub fn refused(
 ) -> Result<Items<Happening>, WorldFault>
     requires none { said.items ≡ [] }
     requires one { 0 < vec_capacity said }
-    ensures ok { IfOk result (λ told. (told ≡ Step owner what (Some (owner_code refusal)) ∷ []) × (refusal ≢ refusals.Memory)) }
+    ensures ok { IfOk result (λ told.
+        (told ≡ Step owner what (Some (owner_code refusal)) ∷ [])
+        × (refusal ≢ refusals.Memory)) }
     ensures err { IfErr result (λ fault. (fault ≡ Memory) × (refusal ≡ refusals.Memory)) }
 {
     let mut said = said;

@@ -28,7 +28,8 @@ pub fn owner_takes(
     message: u64,
     number: u16,
 ) -> Result<Items<Happening>, WorldFault>
-    ensures { ActsBy result owner.old owner.new pool.old.messages pool.new.messages (owner_delivered pool.old.messages message number owner.old) }
+    ensures { ActsBy result owner.old owner.new pool.old.messages pool.new.messages
+        (owner_delivered pool.old.messages message number owner.old) }
 {
     let who = Role::Owner.party(number);
     let ready = prepare(alloc, pool, message, who, MOST_SENT)?;
@@ -46,7 +47,8 @@ fn log_takes(
     number: u16,
 ) -> Result<Items<Happening>, WorldFault>
     requires { is_some slot.old ≡ true }
-    ensures { ChangesThere slot.old slot.new (λ was is. ActsBy result was is pool.old.messages pool.new.messages
+    ensures { ChangesThere slot.old slot.new (λ was is.
+        ActsBy result was is pool.old.messages pool.new.messages
         (log_delivered pool.old.messages message number was)) }
 {
     let Some(node) = slot else { unreachable!() };
@@ -67,7 +69,8 @@ pub fn logs_take(
     number: u16,
 ) -> Result<Items<Happening>, WorldFault>
     requires { is_some (honest_in logs.old.items number) ≡ true }
-    ensures { ChangesAt logs.old.items logs.new.items number (λ was is. ActsBy result was is pool.old.messages pool.new.messages
+    ensures { ChangesAt logs.old.items logs.new.items number (λ was is.
+        ActsBy result was is pool.old.messages pool.new.messages
         (log_delivered pool.old.messages message number was)) }
 {
     log_takes(alloc, pool, &mut logs[number as usize], message, number)
@@ -83,7 +86,8 @@ fn authority_takes<C: OwnerCheck>(
     number: u16,
 ) -> Result<Items<Happening>, WorldFault>
     requires { is_some slot.old ≡ true }
-    ensures { ChangesThere slot.old slot.new (λ was is. ActsBySome result was is pool.old.messages pool.new.messages
+    ensures { ChangesThere slot.old slot.new (λ was is.
+        ActsBySome result was is pool.old.messages pool.new.messages
         (λ says. authority_delivered says pool.old.messages message number was)) }
 {
     let Some(node) = slot else { unreachable!() };
@@ -103,7 +107,8 @@ pub fn authorities_take<C: OwnerCheck>(
     number: u16,
 ) -> Result<Items<Happening>, WorldFault>
     requires { is_some (honest_in authorities.old.items number) ≡ true }
-    ensures { ChangesAt authorities.old.items authorities.new.items number (λ was is. ActsBySome result was is pool.old.messages pool.new.messages
+    ensures { ChangesAt authorities.old.items authorities.new.items number (λ was is.
+        ActsBySome result was is pool.old.messages pool.new.messages
         (λ says. authority_delivered says pool.old.messages message number was)) }
 {
     authority_takes(

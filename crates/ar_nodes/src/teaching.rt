@@ -50,7 +50,11 @@ fn teach<C: OwnerCheck>(
     key: &[u8; 56],
 ) -> Result<(), AllocError>
     requires { is_some node.old.check ≡ true }
-    ensures ok { OnOk result (node.new ≡ record node.old { check = option_map (retelling (learnt name.now key.now)) node.old.check }) }
+    ensures ok { OnOk result
+        (node.new ≡ record node.old {
+          check = option_map
+              (retelling (learnt name.now key.now)) node.old.check;
+        }) }
     ensures err { OnErr result (node.new ≡ node.old) }
 {
     let authority = &mut node.authority;
@@ -61,7 +65,10 @@ fn teach<C: OwnerCheck>(
 #[tactic(auto, using(crate::proofs::Retold::retellings))]
 fn forget<C: OwnerCheck>(node: &mut HonestAuthority<C>, name: &[u8], key: &[u8; 56])
     requires { is_some node.old.check ≡ true }
-    ensures { node.new ≡ record node.old { check = option_map (retelling (forgotten name.now key.now)) node.old.check } }
+    ensures { node.new ≡ record node.old {
+      check = option_map
+          (retelling (forgotten name.now key.now)) node.old.check;
+    } }
 {
     let authority = &mut node.authority;
     authority.core.forget(name, key);
@@ -76,7 +83,11 @@ fn instruct<C: OwnerCheck>(
     key: &[u8; 56],
 ) -> Result<(), AllocError>
     requires { is_some node.old.check ≡ true }
-    ensures ok { OnOk result (node.new ≡ record node.old { check = option_map (retelling (told_behind lesson name.now key.now)) node.old.check }) }
+    ensures ok { OnOk result
+        (node.new ≡ record node.old {
+          check = option_map
+              (retelling (told_behind lesson name.now key.now)) node.old.check;
+        }) }
     ensures err { OnErr result (node.new ≡ node.old) }
 {
     match lesson {
@@ -105,7 +116,8 @@ fn instruct_there<C: OwnerCheck>(
     key: &[u8; 56],
 ) -> Result<(), AllocError>
     requires { is_some (option_and_then with_check slot.old) ≡ true }
-    ensures ok { OnOk result (IfSome (option_and_then with_check slot.old) (λ found. slot.new ≡ Some (retold (told_behind lesson name.now key.now) found))) }
+    ensures ok { OnOk result (IfSome (option_and_then with_check slot.old) (λ found.
+        slot.new ≡ Some (retold (told_behind lesson name.now key.now) found))) }
     ensures err { OnErr result (slot.new ≡ slot.old) }
 {
     match slot {
@@ -117,7 +129,8 @@ fn instruct_there<C: OwnerCheck>(
 /// An authority that is there drops its check.
 fn retire_there<C: OwnerCheck>(slot: &mut Option<HonestAuthority<C>>)
     requires { is_some (option_and_then with_check slot.old) ≡ true }
-    ensures { IfSome (option_and_then with_check slot.old) (λ found. slot.new ≡ Some (record found.0 { check = None })) }
+    ensures { IfSome (option_and_then with_check slot.old) (λ found.
+        slot.new ≡ Some (record found.0 { check = None })) }
 {
     match slot {
         Some(node) => retire(node),
@@ -137,7 +150,8 @@ fn instruct_at<C: OwnerCheck>(
 ) -> Result<(), AllocError>
     requires { is_some (checking_in authorities.old number) ≡ true }
     ensures ok { OnOk result (IfSome (checking_in authorities.old number) (λ found. authorities.new
-        ≡ slice_set authorities.old number (Some (retold (told_behind lesson name.now key.now) found)))) }
+        ≡ slice_set authorities.old number
+        (Some (retold (told_behind lesson name.now key.now) found)))) }
     ensures err { OnErr result (authorities.new ≡ authorities.old) }
     ensures len { length authorities.new ≡ length authorities.old }
 {
@@ -175,8 +189,11 @@ pub fn instructed<C: OwnerCheck>(
     key: &[u8; 56],
 ) -> Result<Items<Happening>, WorldFault>
     requires { is_some (checking_in authorities.old number) ≡ true }
-    ensures ok { IfOk result (λ said. (said ≡ lesson_said lesson number ∷ []) × IfSome (checking_in authorities.old number) (λ found. authorities.new
-        ≡ slice_set authorities.old number (Some (retold (told_behind lesson name.now key.now) found)))) }
+    ensures ok { IfOk result (λ said.
+        (said ≡ lesson_said lesson number ∷ [])
+        × IfSome (checking_in authorities.old number) (λ found. authorities.new
+        ≡ slice_set authorities.old number
+        (Some (retold (told_behind lesson name.now key.now) found)))) }
     ensures err { IfErr result (λ fault. (fault ≡ Memory) × (authorities.new ≡ authorities.old)) }
     ensures len { length authorities.new ≡ length authorities.old }
 {
@@ -192,7 +209,9 @@ pub fn retired<C: OwnerCheck>(
     number: u16,
 ) -> Result<Items<Happening>, WorldFault>
     requires { is_some (checking_in authorities.old number) ≡ true }
-    ensures ok { IfOk result (λ said. (said ≡ Retired number ∷ []) × IfSome (checking_in authorities.old number) (λ found. authorities.new
+    ensures ok { IfOk result (λ said.
+        (said ≡ Retired number ∷ [])
+        × IfSome (checking_in authorities.old number) (λ found. authorities.new
         ≡ slice_set authorities.old number (Some (record found.0 { check = None })))) }
     ensures err { IfErr result (λ fault. (fault ≡ Memory) × (authorities.new ≡ authorities.old)) }
     ensures len { length authorities.new ≡ length authorities.old }

@@ -67,7 +67,8 @@ fn dishonest_parties(alloc: Global, forgers: &[Forger]) -> Result<Vec<Party>, Al
 /// Puts the record of a log behind others, where it is honest. The only error is want of memory.
 fn put_log<'a>(records: &mut Vec<&'a Record>, node: &'a Option<HonestLog>) -> Result<(), AllocError>
     ensures { OnOk result (map (λ log. record_of log.now) records.new.items
-        ≡ map (λ log. record_of log.now) records.old.items ++ filter_map (λ node. option_map (λ n. n.core.log.past) node) (node.now ∷ [])) }
+        ≡ map (λ log. record_of log.now) records.old.items ++ filter_map (λ node.
+        option_map (λ n. n.core.log.past) node) (node.now ∷ [])) }
 {
     if let Some(node) = node {
         records.push(node.log.core.record())?;
@@ -93,7 +94,8 @@ fn put_authority<'a, C: OwnerCheck>(
     node: &'a Option<HonestAuthority<C>>,
 ) -> Result<(), AllocError>
     ensures { OnOk result (map (λ authority. authority.now) records.new.items
-        ≡ map (λ authority. authority.now) records.old.items ++ filter_map (λ node. option_map (λ n. n.state.past) node) (node.now ∷ [])) }
+        ≡ map (λ authority. authority.now) records.old.items ++ filter_map (λ node.
+        option_map (λ n. n.state.past) node) (node.now ∷ [])) }
 {
     if let Some(node) = node {
         records.push(node.authority.core.state.record())?;
@@ -128,7 +130,9 @@ impl<'a> Records<'a> {
         judged: &'a [Judged],
         learned: &'a [SeenText],
     ) -> Result<Records<'a>, AllocError>
-        ensures { IfOk result (λ records. records ≡ held_by directory.now forgers.now logs.now authorities.now judged.now learned.now) }
+        ensures { IfOk result (λ records.
+            records ≡ held_by directory.now forgers.now logs.now authorities.now judged.now
+            learned.now) }
     {
         Ok(Records {
             directory,

@@ -8,15 +8,15 @@ use Rattle.ar_run.specs.declared.fault.Fault.{Fault}
 use Rattle.ar_run.specs.declared.fault.Fault.TheVariants as fault
 
 -- the bytes of the longest input
-abbrev pub most_bytes : ℕ
-most_bytes = 1048576
+abbrev pub most_read_bytes : ℕ
+most_read_bytes = 1048576
 
 -- The bytes were taken of a source, to its end where an input may be so long. Of a longer one no more
 -- than one byte past that was taken.
 pub record TakesAll (old new : Option (List ℕ)) (input : List ℕ) : Type 0 where
   pub taken : Consumes old new input
-  pub ended : length input ≤ most_bytes → IsAtEnd new
-  pub bounded : length input ≤ most_bytes + 1
+  pub ended : length input ≤ most_read_bytes → IsAtEnd new
+  pub bounded : length input ≤ most_read_bytes + 1
 
 -- some bytes were taken of a source, at most so many
 abbrev pub TakesAtMost : ℕ → Option (List ℕ) → Option (List ℕ) → Type 0
@@ -24,8 +24,8 @@ TakesAtMost most old new = (bytes : List ℕ) × Consumes old new bytes × (leng
 
 -- what is there of an input that was read: all of it, unless it is too long
 abbrev pub IsInput : Option (Vec ℕ Global) → List ℕ → Type 0
-IsInput (Some all) input = (all.items ≡ input) × (length input ≤ most_bytes)
-IsInput None input = most_bytes < length input
+IsInput (Some all) input = (all.items ≡ input) × (length input ≤ most_read_bytes)
+IsInput None input = most_read_bytes < length input
 
 -- an input was taken, and this is there of it
 abbrev pub ReadsInput : Option (List ℕ) → Option (List ℕ) → Option (Vec ℕ Global) → Type 0

@@ -2,7 +2,7 @@ ghost use Rattle.std.specs.Prelude.{◌≡◌, ◌≢◌, ◌+◌, ◌<◌, ◌�
 ghost use Rattle.ar_base.specs.Faults.{HasRisen};
 ghost use Rattle.ar_io.specs.Wrote.{Unchanged};
 ghost use Rattle.ar_run.specs.Answers.{written_of};
-ghost use Rattle.ar_run.specs.Runs.{Answers, BreaksOff, TakesAll, TakesAtMost, most_bytes};
+ghost use Rattle.ar_run.specs.Runs.{Answers, BreaksOff, TakesAll, TakesAtMost, most_read_bytes};
 ghost use Rattle.ar_run.specs.Writing.{Writes};
 
 use crate::input::read_input;
@@ -18,12 +18,16 @@ fn answer_from<S: Source, C: Respond>(
     command: &C,
     source: &mut S,
 ) -> Result<Answer, Fault>
-    ensures ok { IfOk result (λ answer. (input : List ℕ) × TakesAll (S.left source.old) (S.left source.new) input
+    ensures ok { IfOk result (λ answer.
+        (input : List ℕ) × TakesAll (S.left source.old) (S.left source.new) input
         × (answer ≡ C.answer_to command.now input)) }
-    ensures source { result ≡ Err Fault.Source → HasRisen (S.faults source.old) (S.faults source.new) }
+    ensures source { result ≡ Err Fault.Source
+        → HasRisen (S.faults source.old) (S.faults source.new) }
     ensures sink { result ≢ Err Fault.Sink }
-    ensures source_taken { result ≡ Err Fault.Source → TakesAtMost most_bytes (S.left source.old) (S.left source.new) }
-    ensures taken { OnErr result (TakesAtMost (most_bytes + 1) (S.left source.old) (S.left source.new)) }
+    ensures source_taken { result ≡ Err Fault.Source
+        → TakesAtMost most_read_bytes (S.left source.old) (S.left source.new) }
+    ensures taken { OnErr result
+        (TakesAtMost (most_read_bytes + 1) (S.left source.old) (S.left source.new)) }
     ensures uncounted { result ≢ Err Fault.Source → S.faults source.new ≡ S.faults source.old }
     ensures faults { S.faults source.old ≤ S.faults source.new }
 {
@@ -89,23 +93,29 @@ pub fn run<S: Source, K: Sink, C: Respond>(
     sink: &mut K,
 ) -> Result<u8, Fault>
     // The whole answer to the input was written, and the status is the answer's.
-    ensures ok { IfOk result (λ status. Answers (C.answer_to command.now) (S.left source.old) (S.left source.new)
+    ensures ok { IfOk result (λ status.
+        Answers (C.answer_to command.now) (S.left source.old) (S.left source.new)
         K.wrote sink.old sink.new status) }
     ensures bound { IfOk result (λ status. status < 4) }
 
     // A fault has its cause in a count of faults, and none is hidden. Before it no more than a front of
     // the answer was written.
-    ensures source { result ≡ Err Fault.Source → HasRisen (S.faults source.old) (S.faults source.new)
+    ensures source { result ≡ Err Fault.Source
+        → HasRisen (S.faults source.old) (S.faults source.new)
         × Unchanged K.wrote sink.old sink.new }
     ensures sink { result ≡ Err Fault.Sink → HasRisen (K.faults sink.old) (K.faults sink.new)
-        × BreaksOff (C.answer_to command.now) (S.left source.old) (S.left source.new) K.wrote sink.old sink.new }
+        × BreaksOff (C.answer_to command.now) (S.left source.old)
+        (S.left source.new) K.wrote sink.old sink.new }
     ensures memory { result ≡ Err Fault.Memory → Unchanged K.wrote sink.old sink.new }
-    ensures source_uncounted { result ≢ Err Fault.Source → S.faults source.new ≡ S.faults source.old }
+    ensures source_uncounted { result ≢ Err Fault.Source
+        → S.faults source.new ≡ S.faults source.old }
     ensures sink_uncounted { result ≢ Err Fault.Sink → K.faults sink.new ≡ K.faults sink.old }
 
     // What was taken before a fault.
-    ensures source_taken { result ≡ Err Fault.Source → TakesAtMost most_bytes (S.left source.old) (S.left source.new) }
-    ensures memory_taken { result ≡ Err Fault.Memory → TakesAtMost (most_bytes + 1) (S.left source.old) (S.left source.new) }
+    ensures source_taken { result ≡ Err Fault.Source
+        → TakesAtMost most_read_bytes (S.left source.old) (S.left source.new) }
+    ensures memory_taken { result ≡ Err Fault.Memory
+        → TakesAtMost (most_read_bytes + 1) (S.left source.old) (S.left source.new) }
     ensures source_faults { S.faults source.old ≤ S.faults source.new }
     ensures sink_faults { K.faults sink.old ≤ K.faults sink.new }
 {
@@ -122,7 +132,8 @@ pub fn status(ending: Result<u8, Fault>) -> u8
     requires { IfOk ending (λ status. status < 4) }
     ensures bound { result ≤ 6 }
     ensures answered { result < 4 → ending ≡ Ok result }
-    ensures source { (result ≡ 4 → ending ≡ Err Fault.Source) × (ending ≡ Err Fault.Source → result ≡ 4) }
+    ensures source { (result ≡ 4 → ending ≡ Err Fault.Source)
+        × (ending ≡ Err Fault.Source → result ≡ 4) }
     ensures sink { (result ≡ 5 → ending ≡ Err Fault.Sink) × (ending ≡ Err Fault.Sink → result ≡ 5) }
     ensures memory { result ≡ 6 → ending ≡ Err Fault.Memory }
 {

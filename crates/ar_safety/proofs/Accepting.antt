@@ -13,7 +13,7 @@ use Rattle.lms_tree.specs.LmsKind.{height_of}
 use Rattle.ar_statement.specs.declared.party.Party.{Party}
 use Rattle.ar_statement.specs.Claims.{authority_party, kind_of, log_party, text_of}
 use Rattle.ar_statement.specs.Ranges.{IsValid}
-use Rattle.key_roll.specs.declared.signed.Signed.{Signed}
+use Rattle.key_roll.specs.declared.signed.SignedText.{SignedText}
 use Rattle.key_roll.specs.Book.{RollBook, IsRollBook, texts_of}
 use Rattle.key_roll.specs.Due.{DueParts}
 use Rattle.key_roll.specs.Entry.{after_entry, due_of, has_room}
@@ -40,7 +40,7 @@ use Rattle.ar_safety.proofs.Verifying.{authority-known, carried-over, log-known,
 
 -- ---- what is due
 
-plain-yes : (s : Signed) → is_roll s.text ≡ false → is_plain_of s.generation s ≡ true
+plain-yes : (s : SignedText) → is_roll s.text ≡ false → is_plain_of s.generation s ≡ true
 plain-yes s fails = let e : eqb s.generation s.generation ≡ true = eq-eqb _ _ refl in rw (e, fails) refl
 
 -- a text that is no Roll's has one of the leaves but the last, of a generation up to the newest
@@ -57,9 +57,9 @@ due-there book text sound plain there = by (place_of (texts_of book) text) refl
     by : (place : Option ℕ) → place_of (texts_of book) text ≡ place → HasDue book text
     by None at = absurd (not-contained (texts_of book) text at there)
     by (Some k) at =
-        let nobody : Signed = record { generation = 0; text = [] } in
+        let nobody : SignedText = record { generation = 0; text = [] } in
         let e = entry-at book text k at in
-        let s : Signed = get_or book.list k nobody in
+        let s : SignedText = get_or book.list k nobody in
         let within = slice_get_within book.list k s e.0 in
         let fails : is_roll s.text ≡ false = ap is_roll e.1 ∙ plain in
         let one = counted-whole (is_plain_of s.generation) book.list k s e.0 (plain-yes s fails) in
@@ -68,7 +68,7 @@ due-there book text sound plain there = by (place_of (texts_of book) text) refl
           is = rw at (due-plain book k s e.0 fails);
           text_is = e.1;
           leaf = omega (arith, one, sound.within s.generation);
-          generation = All-get_or (λ (x : Signed). x.generation ≤ book.newest) book.list k nobody within sound.upto;
+          generation = All-get_or (λ (x : SignedText). x.generation ≤ book.newest) book.list k nobody within sound.upto;
         }
 
 -- an entry changes neither the number of leaves nor the newest generation
@@ -115,17 +115,18 @@ own-valid a part first_signature is =
     valid-body c (authority_party a.me) fits fits.second.0 refl c.body fits.body
 
 -- what is due for the authority's own statement, with the key of its generation
-record OwnDue (a : Confirmer) (part : Confirming) : Type 0 where
-  due : DueParts
-  key : KeyParts
-  at : slice_get a.ring due.generation ≡ Some key
-  known : slice_get (keys_of a.keys (authority_party a.me)) due.generation ≡ Some (public_of key)
-  text_is : due.text ≡ own_text a part
-  small : due.generation < 2 ^ 32
-  leaf : due.leaf + 1 < 2 ^ height_of key.lms
-  signature : own_signature a part ≡ signature_by key due
+pub record OwnDue (a : Confirmer) (part : Confirming) : Type 0 where
+  pub due : DueParts
+  pub entry : due_of (after_entry a.past.signed (own_text a part)) (own_text a part) ≡ Some due
+  pub key : KeyParts
+  pub at : slice_get a.ring due.generation ≡ Some key
+  pub known : slice_get (keys_of a.keys (authority_party a.me)) due.generation ≡ Some (public_of key)
+  pub text_is : due.text ≡ own_text a part
+  pub small : due.generation < 2 ^ 32
+  pub leaf : due.leaf + 1 < 2 ^ height_of key.lms
+  pub signature : own_signature a part ≡ signature_by key due
 
-own-due : (a : Confirmer) (part : Confirming) (first_signature : List ℕ) → IsConfirmer a → IsHalfConfirmed a part first_signature → OwnDue a part
+pub own-due : (a : Confirmer) (part : Confirming) (first_signature : List ℕ) → IsConfirmer a → IsHalfConfirmed a part first_signature → OwnDue a part
 own-due a part first_signature honest is =
     let c : Confirmation = Sent a part first_signature [] in
     let text : List ℕ = own_text a part in
@@ -137,6 +138,7 @@ own-due a part first_signature honest is =
     let known = honest.known d.due.generation own.0 own.1 in
     record {
       due = d.due;
+      entry = d.is;
       key = own.0;
       at = own.1;
       known = known.0;

@@ -11,7 +11,7 @@ use Rattle.ar_statement.specs.declared.party.Role.TheVariants.{LogServer, Author
 use Rattle.ar_statement.specs.declared.party.Party.{Party}
 use Rattle.ar_statement.specs.Claims.{authority_party, confirmation_by, is_party, log_party, party}
 use Rattle.ar_statement.specs.Fields.{is_epoch}
-use Rattle.ar_statement.specs.Ranges.{IsValid}
+use Rattle.ar_statement.specs.Ranges.{IsValid, IsValue}
 use Rattle.vote_quorum.specs.declared.value.Value.{Value}
 use Rattle.domain_table.specs.Applying.{apply}
 use Rattle.domain_table.specs.Tables.{Table}
@@ -21,7 +21,6 @@ use Rattle.epoch_log.specs.Honest.{HonestLog}
 use Rattle.epoch_log.specs.Record.{base_of}
 use Rattle.ar_council.proofs.Lists.{found}
 use Rattle.ar_council.proofs.Seeing.{one_party}
-use Rattle.ar_council.specs.Values.{IsValue}
 use Rattle.ar_council.specs.Votes.{SawVotes}
 use Rattle.epoch_log.specs.Right.{IsRightConfirmation, IsRightVote}
 use Rattle.epoch_log.specs.Told.{HasConfirmed}

@@ -4,7 +4,7 @@ use Rattle.std.specs.Prelude.{All, AllPairs, Contains, IfSome, map, slice_get, s
 use Rattle.std.proofs.lemmas.List.Elements.{All-cons, All-map, All-nil}
 use Rattle.ar_cert.specs.Changes.{IsChange}
 use Rattle.ar_statement.specs.Claims.{Claim, log_party, text_of}
-use Rattle.ar_statement.specs.Ranges.{IsTextOf}
+use Rattle.ar_statement.specs.Ranges.{IsTextOf, IsValue}
 use Rattle.ar_statement.specs.declared.text.SeenText.{SeenText}
 use Rattle.key_roll.specs.Book.{IsRollBook, empty_book}
 use Rattle.key_roll.specs.Rolls.{is_roll}
@@ -18,7 +18,7 @@ use Rattle.domain_table.proofs.Trees.{root-digest}
 use Rattle.ar_council.proofs.Books.{empty-book}
 use Rattle.ar_council.proofs.Texts.{own-text}
 use Rattle.ar_council.specs.Council.{IsMember}
-use Rattle.ar_council.specs.Values.{IsValue, status_claim, vote_claim}
+use Rattle.ar_council.specs.Values.{status_claim, vote_claim}
 use Rattle.ar_council.specs.Votes.{SawVotes}
 use Rattle.epoch_log.specs.Honest.{EndsInOrder, HonestLog}
 use Rattle.epoch_log.specs.Record.{base_of, ending}

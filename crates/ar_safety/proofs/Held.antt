@@ -21,7 +21,7 @@ use Rattle.client_rule.specs.declared.judgement.Judgement.TheVariants.{Absent, A
 use Rattle.client_rule.proofs.Meanings.{absence, accepted}
 use Rattle.ar_council.specs.Council.{council_of}
 use Rattle.ar_safety.specs.Agreed.{HasNewest, HasNone}
-use Rattle.ar_safety.specs.Held.{AreKept, AreSafe, Held, IsTaken, Taken, asked_by, honest_below, honest_records, judged_in, record_at, records_of, verdict_on}
+use Rattle.ar_safety.specs.Held.{AreKept, AreSafe, Held, IsAccepting, Taken, asked_by, honest_below, honest_records, judged_in, record_at, records_of, verdict_on}
 use Rattle.ar_safety.specs.Records.{IsJudged, Judged, Records}
 use Rattle.ar_safety.specs.Theorem.{AreHonest, Few, NoCollision, NoForgery, Safe}
 use Rattle.ar_safety.proofs.Whole.{agree}
@@ -60,7 +60,7 @@ record WasRead (directory : Directory) (t : Taken) : Type 0 where
   confirmation : Confirmation
   passes : Passes (asked_by directory t) t.bytes confirmation
 
-read-of : (directory : Directory) (t : Taken) (v : Judgement) → verdict_on directory t ≡ v → IsTaken v → WasRead directory t
+read-of : (directory : Directory) (t : Taken) (v : Judgement) → verdict_on directory t ≡ v → IsAccepting v → WasRead directory t
 read-of directory t (Accepted certificate digest epoch root) is taken =
     let a = (accepted (asked_by directory t) t.bytes certificate digest epoch root).0 is in record { confirmation = a.confirmation; passes = a.passes }
 read-of directory t (Absent epoch root) is taken =
@@ -76,7 +76,7 @@ judged-is directory t c is = ap (λ (r : Result Confirmation ℕ). option_map (a
 all-judged : (h : Held) → AreKept h → All (IsJudged (council_of h.directory)) (records_of h).judged
 all-judged h kept = all-taken (judged_in h.directory) (IsJudged (council_of h.directory)) h.judged (λ t there j gives.
     let bytes : AreBytes t.bytes = All-contains (λ (x : Taken). AreBytes x.bytes) h.judged t kept.bytes there in
-    let taken : IsTaken (verdict_on h.directory t) = All-contains (λ (x : Taken). IsTaken (verdict_on h.directory x)) h.judged t kept.taken there in
+    let taken : IsAccepting (verdict_on h.directory t) = All-contains (λ (x : Taken). IsAccepting (verdict_on h.directory x)) h.judged t kept.taken there in
     let was : WasRead h.directory t = read-of h.directory t (verdict_on h.directory t) refl taken in
     let same : as_judged h.directory t was.confirmation ≡ j = same_Some _ _ (sym (judged-is h.directory t was.confirmation was.passes.is_read) ∙ gives) in
     subst (IsJudged (council_of h.directory)) same (record { bytes = bytes; passes = was.passes; same_council = refl }))
@@ -106,7 +106,7 @@ run-safe h kept few forged clean =
 
 -- ---- nothing is left out
 
-pub judged-there : (h : Held) (t : Taken) → Contains h.judged t → IsTaken (verdict_on h.directory t)
+pub judged-there : (h : Held) (t : Taken) → Contains h.judged t → IsAccepting (verdict_on h.directory t)
     → (j : Judged) × (Contains (records_of h).judged j × (j.asked ≡ asked_by h.directory t) × (j.bytes ≡ t.bytes))
 judged-there h t there taken =
     let was : WasRead h.directory t = read-of h.directory t (verdict_on h.directory t) refl taken in

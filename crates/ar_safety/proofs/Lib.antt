@@ -15,6 +15,7 @@ pub mod RegisteredTable
 pub mod Rings
 pub mod Rows
 pub mod Spelled
+pub mod Succession
 pub mod Verifying
 pub mod Votes
 pub mod Vouched

@@ -27,7 +27,7 @@ use Rattle.ar_statement.specs.declared.party.Role.TheVariants.{LogServer, Author
 use Rattle.ar_statement.specs.declared.party.Party.{Party}
 use Rattle.ar_statement.specs.declared.text.SeenText.{SeenText}
 use Rattle.ar_statement.specs.Claims.{Claim, authority_party, endorse, log_party, party, text_of}
-use Rattle.ar_statement.specs.Ranges.{IsTextOf, IsValid, is_witness}
+use Rattle.ar_statement.specs.Ranges.{IsTextOf, IsValid, IsValue, is_witness}
 use Rattle.key_roll.specs.Book.{texts_of}
 use Rattle.key_roll.specs.Rolls.{is_plain_of}
 use Rattle.party_keys.specs.Directory.{keys_of}
@@ -53,7 +53,7 @@ use Rattle.ar_council.proofs.Texts.{own-text}
 use Rattle.ar_council.specs.Council.{IsMember}
 use Rattle.ar_council.specs.Room.{HasRoom}
 use Rattle.party_keys.specs.Seen.{seen_of}
-use Rattle.ar_council.specs.Values.{IsValue, confirm_claim, vote_claim}
+use Rattle.ar_council.specs.Values.{confirm_claim, vote_claim}
 use Rattle.ar_council.specs.Votes.{SawVotes}
 use Rattle.epoch_log.specs.Honest.{HonestLog}
 use Rattle.epoch_log.specs.Record.{base_of, ending}
@@ -68,8 +68,9 @@ use Rattle.epoch_log.proofs.Acting.{kept-confirming}
 use Rattle.epoch_log.proofs.Texts.{plain-vote, valid-vote}
 use Rattle.authority_core.specs.Calls.{MayConfirm, after_endorse, fresh_authority, seen_of_log}
 use Rattle.authority_core.specs.Honest.{HonestAuthority}
-use Rattle.authority_core.specs.declared.entries.Asked.{Asked}
+use Rattle.authority_core.specs.declared.entries.Approved.{Approved}
 use Rattle.authority_core.proofs.Growing.{confirm-signed, endorse-signed, honest-endorse, honest-first, honest-fresh, map-has}
+use Rattle.ar_safety.specs.Agreed.{Confirms}
 use Rattle.ar_safety.specs.Examples.{book_with, five}
 use Rattle.ar_safety.specs.Hashed.{StandsIn, hashed, judged_strings, log_tables, tables_below}
 use Rattle.ar_safety.specs.Records.{AreSigned, IsHonest, IsJudged, Judged, carried, signed_by}
@@ -507,7 +508,7 @@ none-waits name certificate since is =
     let wrong : ◌≡◌ {A = Option (Certificate × ℕ)} None (Some (certificate, since)) = sym (ap (λ o. option_map pair_of o) none) ∙ is in
     absurd cc
 
-asked-one : (authority : ℕ) (a : Asked) → Contains (confirming_authority authority).asked a → a ≡ asked_for
+asked-one : (authority : ℕ) (a : Approved) → Contains (confirming_authority authority).asked a → a ≡ asked_for
 asked-one authority a there = by there.0 there.1 there.2
   where
     by : (k : ℕ) → k < 1 → get_or (asked_for ∷ []) k a ≡ a → a ≡ asked_for
@@ -527,7 +528,7 @@ collision-free = record {
       let one : table ≡ one_table = All-contains (λ t. t ≡ one_table) (tables_below registered_run 5) table (tables-below 5) listed in
       let this : certificate ≡ first_certificate = stands-one table one name certificate stands in
       let yes : a ≡ asked_for = asked-one authority a there in
-      (ap (λ (c : Certificate). c.name) this ∙ ap (λ (x : Asked). x.name) (sym yes), ap (λ (c : Certificate). key_text c.subject) this ∙ ap (λ (x : Asked). x.key) (sym yes));
+      (ap (λ (c : Certificate). c.name) this ∙ ap (λ (x : Approved). x.name) (sym yes), ap (λ (c : Certificate). key_text c.subject) this ∙ ap (λ (x : Approved). x.key) (sym yes));
 }
 
 -- ---- the client
@@ -646,3 +647,12 @@ run-accepted = (accepted asked_in_one (confirmation_text confirmation) first_cer
   epoch_is = refl;
   root_is = refl;
 })
+
+-- ---- what is confirmed
+
+-- the log and the first authority confirmed it under the root of the table
+pub run-confirmed : Confirms registered_run (log_party 0) 1 (root_of one_table) × Confirms registered_run (authority_party 0) 1 (root_of one_table)
+run-confirmed = (
+  record { name = a_name; certificate = Some (digest_of first_certificate); valid = says-valid (log_party 0) (omega arith) refl; signed = log-says 0 },
+  record { name = a_name; certificate = Some (digest_of first_certificate); valid = says-valid (authority_party 0) (omega arith) refl; signed = authority-says 0 },
+)

@@ -1,9 +1,11 @@
 -- Where the row of a second authority answers Ok, the authority has checked what the theorem of acceptance asks for.
-use Rattle.std.proofs.Common.{◌≡◌, ◌≢◌, ℕ, zero, suc, ◌+◌, ◌-◌, ◌<◌, ◌++◌, take, drop, Bool, true, false, not, List, [], ◌∷◌, length, get_or, Option, Some, None, Result, Ok, Err, refl, sym, ap, ◌∙◌, subst, arith, eqb, eq-eqb}
+use Rattle.std.proofs.Common.{◌≡◌, ◌≢◌, ℕ, zero, suc, ◌+◌, ◌-◌, ◌<◌, ◌++◌, take, drop, Bool, true, false, cond, not, List, [], ◌∷◌, length, get_or, Option, Some, None, Result, Ok, Err, refl, sym, ap, ◌∙◌, subst, arith, eqb, eq-eqb}
 use Rattle.std.specs.Prelude.{Contains, map, nat_le, ◌==◌}
 use Rattle.std.specs.Result.{result_and}
 use Rattle.std.specs.Option.{ok_or}
-use Rattle.std.proofs.lemmas.Bool.{eqb-true, ltb-true}
+use Rattle.std.specs.List.{AllByRecursion}
+use Rattle.std.proofs.lemmas.Bool.{eqb-true, le-leb, ltb-true, ne_eqb}
+use Rattle.std.proofs.lemmas.List.Elements.{recursion_from_All}
 use Rattle.std.proofs.lemmas.List.{append-nil, append_assoc, length-append, length-replicate}
 use Rattle.std.proofs.Math.ListN.{drop_of_length-le}
 use Rattle.std.proofs.Math.Seq.{take-append_seam}
@@ -13,8 +15,9 @@ use Rattle.ar_base.specs.FirstFailing.{first_failing}
 use Rattle.ar_base.specs.Gives.{with_error}
 use Rattle.ar_base.specs.Places.{place_of}
 use Rattle.ar_base.proofs.Giving.{no-error, order-first, order-then}
-use Rattle.ar_base.proofs.Failing.{first-holds}
+use Rattle.ar_base.proofs.Failing.{first-holds, none_fails}
 use Rattle.ar_council.specs.Room.{HasRoom}
+use Rattle.ar_council.specs.Values.{vote_claim}
 use Rattle.ar_statement.specs.declared.party.Party.{Party}
 use Rattle.ar_statement.specs.Claims.{authority_party, client_party, log_party, text_of}
 use Rattle.ar_cert.specs.Certificate.{Certificate, digest_of}
@@ -28,7 +31,8 @@ use Rattle.ar_statement.specs.declared.fault.BookFault.TheVariants.{Spent}
 use Rattle.lms_tree.specs.KeyParts.{KeyParts}
 use Rattle.party_keys.specs.Directory.{Directory}
 use Rattle.party_keys.specs.Signatures.{verified}
-use Rattle.party_keys.specs.Signers.{Claimed, all_known, all_signed, seen_in, signed_as, signer_fault, signers_answer}
+use Rattle.party_keys.specs.declared.fault.SignerFault.TheVariants as signer
+use Rattle.party_keys.specs.Signers.{Claimed, all_known, all_signed, is_known, seen_in, signed_as, signer_fault, signers_answer}
 use Rattle.ar_message.specs.Confirmation as confirmation
 use Rattle.ar_message.specs.Confirmation.{body_text, confirmation_fields_text, form_text, is_present, path_text, signed_text, subject_text}
 use Rattle.ar_message.specs.Filling.{bytes_at, filled, signature_due, signed, written_at, zeros}
@@ -45,16 +49,16 @@ use Rattle.client_rule.specs.Rule.{claim_on, judgement, Asked}
 use Rattle.authority_core.specs.Calls.{confirming, kept_claim}
 use Rattle.authority_core.specs.ConfirmRows.{confirmation_with, half_claims, half_confirmed_row}
 use Rattle.ar_message.specs.Shown.{shows}
-use Rattle.authority_core.specs.Confirming.{confirmed_by, confirming_checks, confirming_with, content_tests, kept_of, log_claimed, meant_for, parties_of, vote_count, voted_by}
+use Rattle.authority_core.specs.Confirming.{confirmed_by, confirming_checks, confirming_with, content_tests, kept_of, log_claimed, meant_for, parties_of, value_of, vote_count, voted_by}
 use Rattle.authority_core.specs.Refusals.{of_book, of_signers}
-use Rattle.authority_core.specs.State.{Answer, AuthorityState, entering, if_due, sends}
+use Rattle.authority_core.specs.State.{AuthorityAnswer, AuthorityState, entering, if_due, sends}
 use Rattle.authority_core.specs.declared.refusal.AuthorityRefusal.{AuthorityRefusal}
 use Rattle.authority_core.specs.declared.refusal.AuthorityRefusal.TheVariants.{BadPath, FewVotes, NotForAuthority, SameAuthority}
 use Rattle.authority_core.proofs.Growing.{map-has}
 use Rattle.authority_core.proofs.Keeping.{passed-many, passed-shown}
-use Rattle.ar_safety.specs.Accepting.{IsHalfConfirmed, IsInTime, IsWithRing, KnowsSigners, bytes_to_client, confirmer_of, own_signature, signature_for}
-use Rattle.ar_safety.proofs.Accepting.{own-length, sent-absent, sent-accepted}
-use Rattle.ar_safety.proofs.Verifying.{authority-known, log-known}
+use Rattle.ar_safety.specs.Accepting.{IsConfirmer, IsHalfConfirmed, IsInTime, IsVerifiedVote, IsWithRing, KnowsSigners, bytes_to_client, confirmer_of, own_signature, signature_for}
+use Rattle.ar_safety.proofs.Accepting.{OwnDue, own-due, own-length, sent-absent, sent-accepted}
+use Rattle.ar_safety.proofs.Verifying.{authority-known, log-known, signer-known}
 
 -- ---- signatures
 
@@ -148,7 +152,7 @@ Answering s part first_signature due = (
   sends s.signature_len (One (client_party part.client)) (message_text (confirmation_with part first_signature (zeros s.signature_len))) due,
 )
 
-abbrev Rest : AuthorityState → Confirming → List ℕ → Answer
+abbrev Rest : AuthorityState → Confirming → List ℕ → AuthorityAnswer
 Rest s part first_signature = if_due (entering s.past (kept_claim (authority_party s.me) (kept_of part))) (Answering s part first_signature)
 
 pub row-checked : (s : AuthorityState) (ring : List KeyParts) (part : Confirming) (first_signature : List ℕ) (later : AuthorityState) (sent : Unsigned) → IsRollBook s.past.signed
@@ -181,6 +185,57 @@ row-checked s ring part first_signature later sent sound message e =
       two = are-two s part first_signature passed;
       room = room;
     }
+
+-- ---- it confirms what it has checked
+
+known-voters : (keys : Directory) (part : Confirming) (votes : List Vote) (party : Party) → AllByRecursion (λ (v : Vote). IsVerifiedVote keys part v.log v.signature) votes → is_known keys party ≡ true
+    → AllByRecursion (λ p. is_known keys p ≡ true) (map (λ (v : Vote). log_party v.log) votes ++ party ∷ [])
+known-voters keys part [] party signed known = (known, tt)
+known-voters keys part (v ∷ votes) party signed known =
+    (signer-known keys (log_party v.log) (text_of (vote_claim v.log part.epoch (value_of part))) v.signature signed.0, known-voters keys part votes party signed.1 known)
+
+signed-votes : (keys : Directory) (part : Confirming) (votes : List Vote) → AllByRecursion (λ (v : Vote). IsVerifiedVote keys part v.log v.signature) votes
+    → AllByRecursion (λ (c : Claimed). verified keys c.party c.text c.signature ≡ Ok tt) (map (voted_by part) votes)
+signed-votes keys part [] signed = tt
+signed-votes keys part (v ∷ votes) signed = (signed.0, signed-votes keys part votes signed.1)
+
+none-unknown : (keys : Directory) (parties : List Party) → AllByRecursion (λ p. is_known keys p ≡ true) parties → all_known keys parties ≡ Ok tt
+none-unknown keys [] known = refl
+none-unknown keys (p ∷ parties) known = ap (λ b. cond b (all_known keys parties) (Err (signer.Unknown p))) known.0 ∙ none-unknown keys parties known.1
+
+none-unsigned : (keys : Directory) (claims : List Claimed) → AllByRecursion (λ (c : Claimed). verified keys c.party c.text c.signature ≡ Ok tt) claims → all_signed keys claims ≡ Ok tt
+none-unsigned keys [] signed = refl
+none-unsigned keys (c ∷ claims) signed = ap (λ a. result_and (with_error (signer_fault c.party) a) (all_signed keys claims)) signed.0 ∙ none-unsigned keys claims signed.1
+
+checks-pass : (s : AuthorityState) (ring : List KeyParts) (part : Confirming) (first_signature : List ℕ) → IsHalfConfirmed (confirmer_of s ring) part first_signature → Checks s part first_signature ≡ Ok tt
+unfolding confirming_checks
+checks-pass s ring part first_signature is =
+    let own : Party → List ℕ = λ p. text_of (claim_on (about_in part) (shown_in part.body) p) in
+    let votes : AllByRecursion (λ (v : Vote). IsVerifiedVote s.keys part v.log v.signature) part.votes =
+    recursion_from_All (λ (v : Vote). IsVerifiedVote s.keys part v.log v.signature) part.votes is.voters_signed in
+    let log : is_known s.keys (log_party part.log) ≡ true = signer-known s.keys (log_party part.log) (own (log_party part.log)) part.signature is.log_signed in
+    let first : is_known s.keys (authority_party part.first) ≡ true = signer-known s.keys (authority_party part.first) (own (authority_party part.first)) first_signature is.first_signed in
+    let known : all_known s.keys (parties_of part part.first) ≡ Ok tt =
+    none-unknown s.keys (parties_of part part.first) (log, known-voters s.keys part part.votes (authority_party part.first) votes first) in
+    let signed : all_signed s.keys (half_claims part first_signature) ≡ Ok tt =
+    none-unsigned s.keys (half_claims part first_signature) (is.log_signed, (is.first_signed, signed-votes s.keys part part.votes votes)) in
+    let mine : first_failing (meant_for s.me part.second) ≡ Ok tt = none_fails (meant_for s.me part.second) (eq-eqb part.second s.me is.for_me, tt) in
+    let content : first_failing (content_tests s.keys.quorum part) ≡ Ok tt =
+    none_fails (content_tests s.keys.quorum part)
+    (le-leb s.keys.quorum (vote_count part) is.many, ((shown_decides (about_in part) (shown_in part.body) (path_in part.body)).1 is.path, (ap not (ne_eqb part.first part.second is.two), tt))) in
+    ap (λ a. result_and a (behind-me s part first_signature)) mine
+    ∙ ap (λ a. result_and (with_error of_signers (result_and a (all_signed s.keys (half_claims part first_signature)))) (first_failing (content_tests s.keys.quorum part))) known
+    ∙ ap (λ a. result_and (with_error of_signers a) (first_failing (content_tests s.keys.quorum part))) signed
+    ∙ content
+
+pub row-answers : (s : AuthorityState) (ring : List KeyParts) (part : Confirming) (first_signature : List ℕ) → IsConfirmer (confirmer_of s ring) → IsHalfConfirmed (confirmer_of s ring) part first_signature
+    → (later : AuthorityState) × ((sent : Unsigned) × (half_confirmed_row s part first_signature ≡ Ok (later, sent)))
+unfolding half_confirmed_row confirming_with
+row-answers s ring part first_signature honest is =
+    let own : OwnDue (confirmer_of s ring) part = own-due (confirmer_of s ring) part first_signature honest is in
+    let entry : entering s.past (kept_claim (authority_party s.me) (kept_of part)) ≡ Ok own.due = ap (λ (o : Option DueParts). with_error of_book (ok_or o Spent)) own.entry in
+    let made = Answering s part first_signature own.due in
+    (made.0, (made.1, ap (λ c. result_and c (Rest s part first_signature)) (checks-pass s ring part first_signature is) ∙ ap (λ e. if_due e (Answering s part first_signature)) entry))
 
 -- ---- what the row sends
 

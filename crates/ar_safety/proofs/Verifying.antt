@@ -1,6 +1,6 @@
 -- A signature is verified by one key; and what a key of a ring signs is verified where the key is known.
 use Rattle.std.proofs.Common.{◌≡◌, ℕ, zero, suc, ◌+◌, ◌^◌, ◌<◌, ◌≤◌, List, [], ◌∷◌, ◌++◌, length, Option, Some, None, Ok, refl, sym, ap, ◌∙◌, subst, arith, Bool, false, true, cond, not, take, nat_lt, ne_eqb}
-use Rattle.std.specs.Prelude.{slice_get}
+use Rattle.std.specs.Prelude.{is_some, slice_get}
 use Rattle.std.specs.Int.{from_be_bytes, w32}
 use Rattle.std.proofs.lemmas.Bool.{le-ltb}
 use Rattle.std.proofs.lemmas.Nat.{from_be_bytes-to_be_bytes_4}
@@ -27,6 +27,7 @@ use Rattle.key_roll.specs.Ring.{ring_signature_len, signature_by}
 use Rattle.party_keys.specs.Directory.{Directory, keys_at, keys_of}
 use Rattle.party_keys.specs.Signatures as signatures
 use Rattle.party_keys.specs.Signatures.{answer_by, answer_of, answer_under, behind_generation, generation_of, is_in_place, is_last_leaf, roll_in, rolls_from, verified}
+use Rattle.party_keys.specs.Signers.{is_known}
 use Rattle.party_keys.proofs.Claims.{one_claim}
 use Rattle.ar_safety.specs.Accepting.{KnowsSigner}
 
@@ -82,6 +83,15 @@ pub authority-known : (keys : Directory) (n : ℕ) (text signature : List ℕ) �
 unfolding verified
 authority-known keys n text signature is =
     let v = found (keys_of keys (authority_party n)) (authority_party n) text signature is in known-number keys.authorities n v.g v.key v.known
+
+-- a party of which a signature is verified is in the directory
+known-under : (keys : List LmsPublic) (p : Party) (text signature : List ℕ) → answer_under keys p text signature ≡ Ok tt → is_some (slice_get keys 0) ≡ true
+known-under [] p text signature is = absurd cc
+known-under (first ∷ later) p text signature is = refl
+
+pub signer-known : (keys : Directory) (p : Party) (text signature : List ℕ) → verified keys p text signature ≡ Ok tt → is_known keys p ≡ true
+unfolding verified
+signer-known keys p text signature is = known-under (keys_of keys p) p text signature is
 
 -- ---- what is signed is verified
 

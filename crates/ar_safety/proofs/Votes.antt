@@ -14,7 +14,7 @@ use Rattle.ar_statement.specs.declared.party.Party.{Party}
 use Rattle.ar_statement.specs.declared.text.SeenText.{SeenText}
 use Rattle.ar_cert.specs.Changes.{Change}
 use Rattle.ar_statement.specs.Claims.{is_party, log_party, party, role_number, text_of}
-use Rattle.ar_statement.specs.Ranges.{IsValid}
+use Rattle.ar_statement.specs.Ranges.{IsValid, IsValue}
 use Rattle.party_keys.specs.Seen.{Saw}
 use Rattle.vote_quorum.specs.Counted.{AtLeast, count_below}
 use Rattle.vote_quorum.specs.Statuses.{Status, is_for}
@@ -27,7 +27,7 @@ use Rattle.domain_table.specs.Tree.{root_of}
 use Rattle.domain_table.proofs.Trees.{root-digest}
 use Rattle.epoch_log.specs.Honest.{HonestLog}
 use Rattle.epoch_log.specs.Record.{base_of, ending}
-use Rattle.ar_council.specs.Values.{IsValue, status_claim, vote_claim}
+use Rattle.ar_council.specs.Values.{status_claim, vote_claim}
 use Rattle.ar_council.specs.Votes.{SawVotes}
 use Rattle.epoch_log.specs.Right.{IsRightDecision, IsRightSkip}
 use Rattle.epoch_log.specs.Told.{HasStated, HasVoted}

@@ -18,7 +18,7 @@ use Rattle.ar_message.specs.declared.message.Message.{Message}
 use Rattle.ar_message.specs.declared.message.Message.TheVariants.{Confirmation, HalfConfirmed}
 use Rattle.ar_message.specs.Filling.{signature_due}
 use Rattle.ar_message.specs.Messages.{IsMessage, about_in, message_text, path_in, shown_in}
-use Rattle.client_rule.specs.Meaning.{Confirms, IsShown, IsTimely}
+use Rattle.client_rule.specs.Meaning.{SignsConfirmation, IsShown, IsTimely}
 use Rattle.client_rule.specs.Rule.{claim_on, Asked}
 use Rattle.ar_council.specs.Council.{council_of}
 use Rattle.ar_council.specs.Room.{HasRoom}
@@ -75,8 +75,8 @@ pub record IsHalfConfirmed (a : Confirmer) (part : Confirming) (first_signature 
   pub log : part.log < length a.keys.logs
   pub voters : All (λ v. v.log < length a.keys.logs) part.votes
   pub first : part.first < length a.keys.authorities
-  pub log_signed : Confirms a.keys (about_in part) (shown_in part.body) (log_party part.log) part.signature
-  pub first_signed : Confirms a.keys (about_in part) (shown_in part.body) (authority_party part.first) first_signature
+  pub log_signed : SignsConfirmation a.keys (about_in part) (shown_in part.body) (log_party part.log) part.signature
+  pub first_signed : SignsConfirmation a.keys (about_in part) (shown_in part.body) (authority_party part.first) first_signature
   pub voters_signed : All (λ v. IsVerifiedVote a.keys part v.log v.signature) part.votes
   pub many : a.keys.quorum ≤ distinct_count (map (λ v. v.log) part.votes)
   pub path : IsShown (about_in part) (shown_in part.body) (path_in part.body)

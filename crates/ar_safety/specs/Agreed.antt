@@ -24,7 +24,7 @@ use Rattle.epoch_log.specs.Told.{HasVoted}
 use Rattle.epoch_log.specs.declared.entries.How.{How}
 use Rattle.epoch_log.specs.declared.entries.How.TheVariants.{Decided, Skipped}
 use Rattle.epoch_log.specs.declared.entries.Voted.{Voted}
-use Rattle.authority_core.specs.declared.entries.Asked.{Asked}
+use Rattle.authority_core.specs.declared.entries.Approved.{Approved}
 use Rattle.ar_safety.specs.Records.{IsHonest, IsHonestLog, Records, is_dishonest, seen_by, signed_by, signers}
 
 -- a log backs a root in an epoch: it is dishonest, or it voted for the root
@@ -92,7 +92,7 @@ pub record HasNone (r : Records) (name : List ℕ) (epoch : ℕ) (to : List ℕ)
 -- with the certificate's key.
 pub record IsVouchedBy (r : Records) (name : List ℕ) (certificate : Certificate) (authority : ℕ) : Type 0 where
   pub signed : Contains (signed_by r (authority_party authority)) (text_of (endorse authority (digest_of certificate)))
-  pub asked : Asked
+  pub asked : Approved
   pub was_asked : Contains (r.authorities authority).asked asked
   pub is_digest : asked.certificate ≡ digest_of certificate
   pub is_name : (certificate.name ≡ name) × (asked.name ≡ name)

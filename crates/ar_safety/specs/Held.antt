@@ -79,10 +79,10 @@ records_of h = record {
 abbrev pub verdict_on : Directory → Taken → Judgement
 verdict_on directory t = judgement (asked_by directory t) t.bytes
 
-abbrev pub IsTaken : Judgement → Type 0
-IsTaken (Accepted certificate digest epoch root) = Unit {0}
-IsTaken (Absent epoch root) = Unit {0}
-IsTaken (Refused number) = ⊥
+abbrev pub IsAccepting : Judgement → Type 0
+IsAccepting (Accepted certificate digest epoch root) = Unit {0}
+IsAccepting (Absent epoch root) = Unit {0}
+IsAccepting (Refused number) = ⊥
 
 -- the directory is one; there is a record of each honest log and authority, and no other, and each is an honest one's; and
 -- each judgement accepted a certificate, or that there is none
@@ -93,7 +93,7 @@ pub record AreKept (h : Held) : Type 0 where
   pub logs : (n : ℕ) → IsHonestLog (records_of h) n → HonestLog (council_of h.directory) n ((records_of h).logs n)
   pub authorities : (n : ℕ) → IsHonest (records_of h) (authority_party n) → HonestAuthority (council_of h.directory) n ((records_of h).authorities n)
   pub bytes : All (λ t. AreBytes t.bytes) h.judged
-  pub taken : All (λ t. IsTaken (verdict_on h.directory t)) h.judged
+  pub taken : All (λ t. IsAccepting (verdict_on h.directory t)) h.judged
 
 -- The theorem's clauses hold; and what each judgement accepted is the newest certificate of the name in the table that is
 -- agreed, or the name has none there.

@@ -5,4 +5,5 @@ pub mod Hashed
 pub mod Held
 pub mod Records
 pub mod RegisteredRun
+pub mod Succession
 pub mod Theorem

@@ -36,7 +36,7 @@ use Rattle.epoch_log.specs.declared.entries.How.TheVariants.{Decided}
 use Rattle.epoch_log.specs.declared.entries.Newest.{Newest}
 use Rattle.authority_core.specs.Calls.{after_endorse, after_log_confirmed, fresh_authority}
 use Rattle.authority_core.specs.Record.{AuthorityRecord}
-use Rattle.authority_core.specs.declared.entries.Asked as asked
+use Rattle.authority_core.specs.declared.entries.Approved as asked
 use Rattle.authority_core.specs.declared.entries.Kept.{Kept}
 use Rattle.ar_safety.specs.Examples.{book_with, five}
 use Rattle.ar_safety.specs.Records.{Judged, Records}
@@ -111,7 +111,7 @@ confirming_log me = (after_confirm (decided_log me) first_decision a_name).past
 -- ---- the authorities
 
 -- what the check of an authority said yes to
-abbrev pub asked_for : asked.Asked
+abbrev pub asked_for : asked.Approved
 asked_for = record { name = a_name; key = key_text subject_key; certificate = digest_of first_certificate }
 
 -- what it keeps of the log's confirmation

@@ -17,7 +17,7 @@ use Rattle.epoch_log.specs.Honest.{HonestLog}
 use Rattle.epoch_log.specs.Record.{base_of, ending}
 use Rattle.epoch_log.specs.declared.entries.How.{How}
 use Rattle.authority_core.specs.Honest.{HonestAuthority}
-use Rattle.authority_core.specs.declared.entries.Asked.{Asked}
+use Rattle.authority_core.specs.declared.entries.Approved.{Approved}
 use Rattle.client_rule.specs.Meaning.{IsTimely}
 use Rattle.ar_safety.specs.Agreed.{Agreed, Backed, Confirms, HasChange, HasHonestSigner, HasNewest, HasNone, IsVouchedBy, IsVouchedFor, SameEnding}
 use Rattle.ar_safety.specs.Hashed.{StandsIn, hashed, listed_tables}
@@ -52,7 +52,7 @@ pub record NoForgery (r : Records) : Type 0 where
 -- one name and one key.
 pub record NoCollision (r : Records) : Type 0 where
   pub strings : IsTrue (none_collide (hashed r))
-  pub asked : (authority : ℕ) → IsHonest r (authority_party authority) → (a : Asked) → Contains (r.authorities authority).asked a
+  pub asked : (authority : ℕ) → IsHonest r (authority_party authority) → (a : Approved) → Contains (r.authorities authority).asked a
       → (table : Table) → Contains (listed_tables r) table → (name : List ℕ) (certificate : Certificate) → StandsIn table name certificate
       → digest_of certificate ≡ a.certificate → (certificate.name ≡ a.name) × (key_text certificate.subject ≡ a.key)
 

@@ -44,7 +44,8 @@ impl Share {
     pub fn split(&mut self) -> Option<Share>
         ensures none { IsNone result ↔ (self.old ≡ 1) }
         ensures stays { IfNone result (self.new ≡ self.old) }
-        ensures halves { IfSome result (λ share. (share ≡ given_of self.old) × (self.new ≡ left_of self.old)) }
+        ensures halves { IfSome result (λ share.
+            (share ≡ given_of self.old) × (self.new ≡ left_of self.old)) }
     {
         if self.parts == 1 {
             return None;

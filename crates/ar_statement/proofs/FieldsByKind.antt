@@ -11,19 +11,37 @@ use Rattle.ar_bytes.proofs.Passing.{bytes_again, bytes_pass, number_again, numbe
 use Rattle.ar_bytes.proofs.JoinedFields.{pair_again, pair_pass, optional_again, optional_pass, mapped_again, mapped_pass, if_pass}
 use Rattle.ar_names.specs.Names.{IsName}
 use Rattle.ar_statement.specs.declared.party.Party.{Party}
-use Rattle.ar_statement.specs.Claims.{Claim, endorse, handover, propose, vote, confirm, confirm_absent, answer, status, roll, object, kind_of, signer_of, name_text, roots_text, fields_text, Roots}
+use Rattle.ar_statement.specs.Claims.{Claim, endorse, handover, propose, vote, confirm, confirm_absent, answer, status, roll, object, kind_of, signer_of, name_text, value_text, value_with, fields_text}
 use Rattle.ar_statement.specs.Fields.{digest_at, name_at}
-use Rattle.ar_statement.specs.Ranges.{HasFields, AreRoots, IsKeyText}
-use Rattle.ar_statement.specs.Texts.{roots_at, endorse_at, handover_at, propose_at, vote_at, confirm_at, absent_at, answer_at, status_at, roll_at, object_at, fields_at}
+use Rattle.ar_statement.specs.Ranges.{HasFields, IsValue, IsKeyText}
+use Rattle.ar_statement.specs.Texts.{digests_at, value_at, endorse_at, handover_at, propose_at, vote_at, confirm_at, absent_at, answer_at, status_at, roll_at, object_at, fields_at}
+use Rattle.vote_quorum.specs.declared.value.Value.{Value}
 use Rattle.ar_statement.proofs.FieldLaws.{digest_again, digest_pass, name_again, name_pass}
 
 -- ---- the fields that kinds share
 
-pub roots_again : (roots : Roots) → AreRoots roots → ReadsBack roots_at roots (roots_text roots)
-roots_again roots h = pair_again digest_at digest_at roots.0 roots.1 roots.0 roots.1 (digest_again roots.0 h.0) (digest_again roots.1 h.1)
+digests_again : (first second : List ℕ) → IsDigest first → IsDigest second → ReadsBack digests_at (first, second) (first ++ second)
+digests_again first second a b = pair_again digest_at digest_at first second first second (digest_again first a) (digest_again second b)
 
-pub roots_pass : IsSpelledBy roots_at roots_text AreRoots
-roots_pass = pair_pass digest_at digest_at (λ d. d) (λ d. d) IsDigest IsDigest digest_pass digest_pass
+-- two digests, one behind the other
+abbrev both_text : List ℕ × List ℕ → List ℕ
+both_text both = both.0 ++ both.1
+
+abbrev AreDigests : List ℕ × List ℕ → Type 0
+AreDigests both = IsDigest both.0 × IsDigest both.1
+
+digests_pass : IsSpelledBy digests_at both_text AreDigests
+digests_pass = pair_pass digest_at digest_at (λ d. d) (λ d. d) IsDigest IsDigest digest_pass digest_pass
+
+pub value_again : (value : Value) → IsValue value → ReadsBack value_at value (value_text value)
+unfolding value_at
+value_again value h =
+    mapped_again (λ f. value_with f.0 f.1) digests_at (value.base, value.root) (value_text value) (digests_again value.base value.root h.base h.root)
+
+pub value_pass : IsSpelledBy value_at value_text IsValue
+unfolding value_at
+value_pass =
+    mapped_pass (λ f. value_with f.0 f.1) digests_at both_text AreDigests value_text IsValue digests_pass (λ f h. (refl, record { base = h.0; root = h.1 }))
 
 epoch_again : (epoch : ℕ) → epoch < 2 ^ 64 → ReadsBack (number_at w64) epoch (number_text w64 epoch)
 epoch_again = number_again w64 (2 ^ 64) wide64
@@ -53,9 +71,9 @@ key_pass at new key bytes e =
     let p = bytes_pass 56 at new key e in
     (p.0, record { len = p.1; bytes = AreBytes-front at new key p.0 bytes })
 
-pub values_again : (value : Option Roots) → IfSome value AreRoots → IfSome value (λ roots. ReadsBack roots_at roots (roots_text roots))
+pub values_again : (value : Option Value) → IfSome value IsValue → IfSome value (λ v. ReadsBack value_at v (value_text v))
 values_again None h = tt
-values_again (Some roots) h = roots_again roots h
+values_again (Some value) h = value_again value h
 
 -- ---- a text is read again
 
@@ -64,19 +82,21 @@ unfolding fields_at endorse_at handover_at propose_at vote_at confirm_at absent_
 fields_again (endorse authority d) h = mapped_again (endorse authority) digest_at d d (digest_again d h)
 fields_again (handover d) h = mapped_again handover digest_at d d (digest_again d h)
 fields_again (propose log epoch base root) h =
-    mapped_again (λ f. propose log f.0 f.1.0 f.1.1) (pair_at (number_at w64) roots_at) (epoch, (base, root)) (number_text w64 epoch ++ (base ++ root)) (dated_again roots_at epoch (base, root) (base ++ root) h.0 (roots_again (base, root) h.1))
+    mapped_again (λ f. propose log f.0 f.1.base f.1.root) (pair_at (number_at w64) value_at) (epoch, value_with base root) (number_text w64 epoch ++ (base ++ root))
+    (dated_again value_at epoch (value_with base root) (base ++ root) h.0 (value_again (value_with base root) (record { base = h.1.0; root = h.1.1 })))
 fields_again (vote log epoch base root) h =
-    mapped_again (λ f. vote log f.0 f.1.0 f.1.1) (pair_at (number_at w64) roots_at) (epoch, (base, root)) (number_text w64 epoch ++ (base ++ root)) (dated_again roots_at epoch (base, root) (base ++ root) h.0 (roots_again (base, root) h.1))
+    mapped_again (λ f. vote log f.0 f.1.base f.1.root) (pair_at (number_at w64) value_at) (epoch, value_with base root) (number_text w64 epoch ++ (base ++ root))
+    (dated_again value_at epoch (value_with base root) (base ++ root) h.0 (value_again (value_with base root) (record { base = h.1.0; root = h.1.1 })))
 fields_again (confirm signer epoch name d root) h =
-    let named = named_again roots_at name (d, root) (d ++ root) h.1.0 (roots_again (d, root) h.1.1) in
-    mapped_again (λ f. confirm signer f.0 f.1.0 f.1.1.0 f.1.1.1) (pair_at (number_at w64) (pair_at name_at roots_at)) (epoch, (name, (d, root))) (number_text w64 epoch ++ (name_text name ++ (d ++ root))) (dated_again (pair_at name_at roots_at) epoch (name, (d, root)) (name_text name ++ (d ++ root)) h.0 named)
+    let named = named_again digests_at name (d, root) (d ++ root) h.1.0 (digests_again d root h.1.1.0 h.1.1.1) in
+    mapped_again (λ f. confirm signer f.0 f.1.0 f.1.1.0 f.1.1.1) (pair_at (number_at w64) (pair_at name_at digests_at)) (epoch, (name, (d, root))) (number_text w64 epoch ++ (name_text name ++ (d ++ root))) (dated_again (pair_at name_at digests_at) epoch (name, (d, root)) (name_text name ++ (d ++ root)) h.0 named)
 fields_again (confirm_absent signer epoch name root) h =
     let named = named_again digest_at name root root h.1.0 (digest_again root h.1.1) in
     mapped_again (λ f. confirm_absent signer f.0 f.1.0 f.1.1) (pair_at (number_at w64) (pair_at name_at digest_at)) (epoch, (name, root)) (number_text w64 epoch ++ (name_text name ++ root)) (dated_again (pair_at name_at digest_at) epoch (name, root) (name_text name ++ root) h.0 named)
 fields_again (answer name d challenge) h =
-    mapped_again (λ f. answer f.0 f.1.0 f.1.1) (pair_at name_at roots_at) (name, (d, challenge)) (name_text name ++ (d ++ challenge)) (named_again roots_at name (d, challenge) (d ++ challenge) h.0 (roots_again (d, challenge) h.1))
+    mapped_again (λ f. answer f.0 f.1.0 f.1.1) (pair_at name_at digests_at) (name, (d, challenge)) (name_text name ++ (d ++ challenge)) (named_again digests_at name (d, challenge) (d ++ challenge) h.0 (digests_again d challenge h.1.0 h.1.1))
 fields_again (status log epoch value) h =
-    mapped_again (λ f. status log f.0 f.1) (pair_at (number_at w64) (optional_at roots_at)) (epoch, value) (number_text w64 epoch ++ optional_text roots_text value) (dated_again (optional_at roots_at) epoch value (optional_text roots_text value) h.0 (optional_again roots_at roots_text value (values_again value h.1)))
+    mapped_again (λ f. status log f.0 f.1) (pair_at (number_at w64) (optional_at value_at)) (epoch, value) (number_text w64 epoch ++ optional_text value_text value) (dated_again (optional_at value_at) epoch value (optional_text value_text value) h.0 (optional_again value_at value_text value (values_again value h.1)))
 fields_again (roll signer generation key) h =
     mapped_again (λ f. roll signer f.0 f.1) (pair_at (number_at w32) (bytes_at 56)) (generation, key) (number_text w32 generation ++ key) (pair_again (number_at w32) (bytes_at 56) generation key (number_text w32 generation) key (number_again w32 (2 ^ 32) wide32 generation h.0) (key_again key h.1))
 fields_again (object d) h = mapped_again object digest_at d d (digest_again d h)
@@ -101,19 +121,21 @@ handover_pass = mapped_pass handover digest_at (λ d. d) IsDigest fields_text (I
 propose_pass : (signer : Party) → KindPass 3 (propose_at signer)
 unfolding propose_at
 propose_pass signer =
-    mapped_pass (λ f. propose signer.number f.0 f.1.0 f.1.1) (pair_at (number_at w64) roots_at) (λ f. number_text w64 f.0 ++ roots_text f.1) (λ f. (f.0 < 2 ^ 64) × AreRoots f.1) fields_text (IsOfKind 3) (dated_pass roots_at roots_text AreRoots roots_pass) (λ f h. (refl, (h, refl)))
+    mapped_pass (λ f. propose signer.number f.0 f.1.base f.1.root) (pair_at (number_at w64) value_at) (λ f. number_text w64 f.0 ++ value_text f.1) (λ f. (f.0 < 2 ^ 64) × IsValue f.1) fields_text (IsOfKind 3)
+    (dated_pass value_at value_text IsValue value_pass) (λ f h. (refl, ((h.0, (h.1.base, h.1.root)), refl)))
 
 vote_pass : (signer : Party) → KindPass 4 (vote_at signer)
 unfolding vote_at
 vote_pass signer =
-    mapped_pass (λ f. vote signer.number f.0 f.1.0 f.1.1) (pair_at (number_at w64) roots_at) (λ f. number_text w64 f.0 ++ roots_text f.1) (λ f. (f.0 < 2 ^ 64) × AreRoots f.1) fields_text (IsOfKind 4) (dated_pass roots_at roots_text AreRoots roots_pass) (λ f h. (refl, (h, refl)))
+    mapped_pass (λ f. vote signer.number f.0 f.1.base f.1.root) (pair_at (number_at w64) value_at) (λ f. number_text w64 f.0 ++ value_text f.1) (λ f. (f.0 < 2 ^ 64) × IsValue f.1) fields_text (IsOfKind 4)
+    (dated_pass value_at value_text IsValue value_pass) (λ f h. (refl, ((h.0, (h.1.base, h.1.root)), refl)))
 
 confirm_pass : (signer : Party) → KindPass 6 (confirm_at signer)
 unfolding confirm_at
 confirm_pass signer =
-    let named = named_pass roots_at roots_text AreRoots roots_pass in
-    mapped_pass (λ f. confirm signer f.0 f.1.0 f.1.1.0 f.1.1.1) (pair_at (number_at w64) (pair_at name_at roots_at)) (λ f. number_text w64 f.0 ++ (name_text f.1.0 ++ roots_text f.1.1)) (λ f. (f.0 < 2 ^ 64) × (IsName f.1.0 × AreRoots f.1.1)) fields_text (IsOfKind 6)
-    (dated_pass (pair_at name_at roots_at) (λ f. name_text f.0 ++ roots_text f.1) (λ f. IsName f.0 × AreRoots f.1) named) (λ f h. (refl, (h, refl)))
+    let named = named_pass digests_at both_text AreDigests digests_pass in
+    mapped_pass (λ f. confirm signer f.0 f.1.0 f.1.1.0 f.1.1.1) (pair_at (number_at w64) (pair_at name_at digests_at)) (λ f. number_text w64 f.0 ++ (name_text f.1.0 ++ both_text f.1.1)) (λ f. (f.0 < 2 ^ 64) × (IsName f.1.0 × AreDigests f.1.1)) fields_text (IsOfKind 6)
+    (dated_pass (pair_at name_at digests_at) (λ f. name_text f.0 ++ both_text f.1) (λ f. IsName f.0 × AreDigests f.1) named) (λ f h. (refl, (h, refl)))
 
 absent_pass : (signer : Party) → KindPass 7 (absent_at signer)
 unfolding absent_at
@@ -125,14 +147,14 @@ absent_pass signer =
 answer_pass : KindPass 8 answer_at
 unfolding answer_at
 answer_pass =
-    mapped_pass (λ f. answer f.0 f.1.0 f.1.1) (pair_at name_at roots_at) (λ f. name_text f.0 ++ roots_text f.1) (λ f. IsName f.0 × AreRoots f.1) fields_text (IsOfKind 8) (named_pass roots_at roots_text AreRoots roots_pass) (λ f h. (refl, (h, refl)))
+    mapped_pass (λ f. answer f.0 f.1.0 f.1.1) (pair_at name_at digests_at) (λ f. name_text f.0 ++ both_text f.1) (λ f. IsName f.0 × AreDigests f.1) fields_text (IsOfKind 8) (named_pass digests_at both_text AreDigests digests_pass) (λ f h. (refl, (h, refl)))
 
 status_pass : (signer : Party) → KindPass 9 (status_at signer)
 unfolding status_at
 status_pass signer =
-    let value = optional_pass roots_at roots_text AreRoots roots_pass in
-    mapped_pass (λ f. status signer.number f.0 f.1) (pair_at (number_at w64) (optional_at roots_at)) (λ f. number_text w64 f.0 ++ optional_text roots_text f.1) (λ f. (f.0 < 2 ^ 64) × IfSome f.1 AreRoots) fields_text (IsOfKind 9)
-    (dated_pass (optional_at roots_at) (optional_text roots_text) (λ o. IfSome o AreRoots) value) (λ f h. (refl, (h, refl)))
+    let value = optional_pass value_at value_text IsValue value_pass in
+    mapped_pass (λ f. status signer.number f.0 f.1) (pair_at (number_at w64) (optional_at value_at)) (λ f. number_text w64 f.0 ++ optional_text value_text f.1) (λ f. (f.0 < 2 ^ 64) × IfSome f.1 IsValue) fields_text (IsOfKind 9)
+    (dated_pass (optional_at value_at) (optional_text value_text) (λ o. IfSome o IsValue) value) (λ f h. (refl, (h, refl)))
 
 roll_pass : (signer : Party) → KindPass 10 (roll_at signer)
 unfolding roll_at

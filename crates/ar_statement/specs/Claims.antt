@@ -9,10 +9,11 @@ use Rattle.ar_statement.specs.declared.party.Role.TheVariants.{LogServer, Author
 use Rattle.ar_statement.specs.declared.party.Party.{Party}
 use Rattle.ar_statement.specs.declared.statement.Statement.{Statement}
 use Rattle.ar_statement.specs.declared.statement.Statement.TheVariants as variants
+use Rattle.vote_quorum.specs.declared.value.Value.{Value}
 
--- the roots of a ballot: the table with the root `base` leads to the one with the root `root`
-abbrev pub Roots : Type 0
-Roots = List ℕ × List ℕ
+-- what a ballot is for: the table with the root `base` leads to the one with the root `root`
+abbrev pub value_with : List ℕ → List ℕ → Value
+value_with base root = record { base = base; root = root }
 
 -- What a statement says, without where it lies in memory. Digests are lists of 32 bytes.
 pub data Claim : Type 0 where
@@ -31,7 +32,7 @@ pub data Claim : Type 0 where
   -- the owner of the name has the key of the certificate, and answers the challenge
   answer : (name certificate challenge : List ℕ) → Claim
   -- the log voted in the epoch for the base and the root, or for nothing and will not
-  status : (log : ℕ) (epoch : ℕ) (value : Option Roots) → Claim
+  status : (log : ℕ) (epoch : ℕ) (value : Option Value) → Claim
   -- the key behind the signer's key of this generation is this one
   roll : (signer : Party) (generation : ℕ) (key : List ℕ) → Claim
   -- the owner whose key the certificate would replace objects to it
@@ -129,9 +130,9 @@ signer_of (object certificate) = owner_party 0
 abbrev pub name_text : List ℕ → List ℕ
 name_text name = number_text w8 (length name) ++ name
 
--- two digests, one behind the other
-abbrev pub roots_text : Roots → List ℕ
-roots_text roots = roots.0 ++ roots.1
+-- the base and the root of a value, one behind the other
+abbrev pub value_text : Value → List ℕ
+value_text value = value.base ++ value.root
 
 -- what stands behind the signer
 abbrev pub fields_text : Claim → List ℕ
@@ -142,7 +143,7 @@ fields_text (vote log epoch base root) = number_text w64 epoch ++ (base ++ root)
 fields_text (confirm signer epoch name certificate root) = number_text w64 epoch ++ (name_text name ++ (certificate ++ root))
 fields_text (confirm_absent signer epoch name root) = number_text w64 epoch ++ (name_text name ++ root)
 fields_text (answer name certificate challenge) = name_text name ++ (certificate ++ challenge)
-fields_text (status log epoch value) = number_text w64 epoch ++ optional_text roots_text value
+fields_text (status log epoch value) = number_text w64 epoch ++ optional_text value_text value
 fields_text (roll signer generation key) = number_text w32 generation ++ key
 fields_text (object certificate) = certificate
 

@@ -6,14 +6,16 @@ use Rattle.ar_base.specs.Ranges.{is_from_to}
 use Rattle.ar_names.specs.Names.{IsName}
 use Rattle.ar_statement.specs.declared.party.Role.{Role}
 use Rattle.ar_statement.specs.declared.party.Role.TheVariants.{LogServer, Authority, Owner, Client}
-use Rattle.ar_statement.specs.Claims.{Claim, endorse, handover, propose, vote, confirm, confirm_absent, answer, status, roll, object, signer_of, text_of, Roots}
+use Rattle.ar_statement.specs.Claims.{Claim, endorse, handover, propose, vote, confirm, confirm_absent, answer, status, roll, object, signer_of, text_of}
 use Rattle.ar_statement.specs.Fields.{is_epoch}
+use Rattle.vote_quorum.specs.declared.value.Value.{Value}
 
 -- ---- what the types keep
 
 -- a base and a root, both digests
-abbrev pub AreRoots : Roots → Type 0
-AreRoots roots = IsDigest roots.0 × IsDigest roots.1
+pub record IsValue (value : Value) : Type 0 where
+  pub base : IsDigest value.base
+  pub root : IsDigest value.root
 
 -- the 56 bytes of a public key
 pub record IsKeyText (key : List ℕ) : Type 0 where
@@ -29,7 +31,7 @@ HasFields (vote log epoch base root) = (epoch < 2 ^ 64) × (IsDigest base × IsD
 HasFields (confirm signer epoch name certificate root) = (epoch < 2 ^ 64) × (IsName name × (IsDigest certificate × IsDigest root))
 HasFields (confirm_absent signer epoch name root) = (epoch < 2 ^ 64) × (IsName name × IsDigest root)
 HasFields (answer name certificate challenge) = IsName name × (IsDigest certificate × IsDigest challenge)
-HasFields (status log epoch value) = (epoch < 2 ^ 64) × IfSome value AreRoots
+HasFields (status log epoch value) = (epoch < 2 ^ 64) × IfSome value IsValue
 HasFields (roll signer generation key) = (generation < 2 ^ 32) × IsKeyText key
 HasFields (object certificate) = IsDigest certificate
 

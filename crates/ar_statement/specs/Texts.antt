@@ -1,6 +1,6 @@
 -- How the text of a statement is read, field by field: its kind, its signer, and the fields that the kind
 -- has.
-use Rattle.std.specs.Prelude.{ℕ, Bool, ◌==◌, if◌then◌else◌, Option, Some, None, Err}
+use Rattle.std.specs.Prelude.{ℕ, List, Bool, ◌==◌, if◌then◌else◌, Option, Some, None, Err}
 use Rattle.std.specs.Int.{w8, w16, w32, w64}
 use Rattle.ar_base.specs.Chaining.{◌>>=◌}
 use Rattle.ar_bytes.specs.Reading.{Cursor, Reading, bytes_at, known_at, mapped_at, number_at, such_that}
@@ -8,8 +8,9 @@ use Rattle.ar_bytes.specs.Joined.{pair_at, optional_at}
 use Rattle.ar_statement.specs.declared.party.Role.{Role}
 use Rattle.ar_statement.specs.declared.party.Role.TheVariants.{LogServer, Authority, Owner, Client}
 use Rattle.ar_statement.specs.declared.party.Party.{Party}
-use Rattle.ar_statement.specs.Claims.{Claim, endorse, handover, propose, vote, confirm, confirm_absent, answer, status, roll, object, party, is_party, signer_of, Roots}
+use Rattle.ar_statement.specs.Claims.{Claim, endorse, handover, propose, vote, confirm, confirm_absent, answer, status, roll, object, party, is_party, signer_of, value_with}
 use Rattle.ar_statement.specs.Fields.{digest_at, name_at}
+use Rattle.vote_quorum.specs.declared.value.Value.{Value}
 
 -- the role with this number
 abbrev pub role_with : ℕ → Option Role
@@ -29,8 +30,12 @@ unfoldable pub party_at : Cursor → Reading Party
 party_at = mapped_at (λ f. party f.0 f.1) (pair_at role_at (number_at w16))
 
 -- two digests
-abbrev pub roots_at : Cursor → Reading Roots
-roots_at = pair_at digest_at digest_at
+abbrev pub digests_at : Cursor → Reading (List ℕ × List ℕ)
+digests_at = pair_at digest_at digest_at
+
+-- a base and a root
+unfoldable pub value_at : Cursor → Reading Value
+value_at = mapped_at (λ f. value_with f.0 f.1) digests_at
 
 -- the fields of each kind, behind its signer
 
@@ -41,22 +46,22 @@ unfoldable pub handover_at : Cursor → Reading Claim
 handover_at = mapped_at handover digest_at
 
 unfoldable pub propose_at : Party → Cursor → Reading Claim
-propose_at signer = mapped_at (λ f. propose signer.number f.0 f.1.0 f.1.1) (pair_at (number_at w64) roots_at)
+propose_at signer = mapped_at (λ f. propose signer.number f.0 f.1.base f.1.root) (pair_at (number_at w64) value_at)
 
 unfoldable pub vote_at : Party → Cursor → Reading Claim
-vote_at signer = mapped_at (λ f. vote signer.number f.0 f.1.0 f.1.1) (pair_at (number_at w64) roots_at)
+vote_at signer = mapped_at (λ f. vote signer.number f.0 f.1.base f.1.root) (pair_at (number_at w64) value_at)
 
 unfoldable pub confirm_at : Party → Cursor → Reading Claim
-confirm_at signer = mapped_at (λ f. confirm signer f.0 f.1.0 f.1.1.0 f.1.1.1) (pair_at (number_at w64) (pair_at name_at roots_at))
+confirm_at signer = mapped_at (λ f. confirm signer f.0 f.1.0 f.1.1.0 f.1.1.1) (pair_at (number_at w64) (pair_at name_at digests_at))
 
 unfoldable pub absent_at : Party → Cursor → Reading Claim
 absent_at signer = mapped_at (λ f. confirm_absent signer f.0 f.1.0 f.1.1) (pair_at (number_at w64) (pair_at name_at digest_at))
 
 unfoldable pub answer_at : Cursor → Reading Claim
-answer_at = mapped_at (λ f. answer f.0 f.1.0 f.1.1) (pair_at name_at roots_at)
+answer_at = mapped_at (λ f. answer f.0 f.1.0 f.1.1) (pair_at name_at digests_at)
 
 unfoldable pub status_at : Party → Cursor → Reading Claim
-status_at signer = mapped_at (λ f. status signer.number f.0 f.1) (pair_at (number_at w64) (optional_at roots_at))
+status_at signer = mapped_at (λ f. status signer.number f.0 f.1) (pair_at (number_at w64) (optional_at value_at))
 
 unfoldable pub roll_at : Party → Cursor → Reading Claim
 roll_at signer = mapped_at (λ f. roll signer f.0 f.1) (pair_at (number_at w32) (bytes_at 56))

@@ -6,11 +6,12 @@ ghost use Rattle.std.specs.Prelude.{◌≡◌};
 ghost use Rattle.ar_bytes.specs.Joined.{optional_at};
 ghost use Rattle.ar_bytes.specs.Reading.{Tells};
 ghost use Rattle.ar_statement.specs.Fields.{digest_at, epoch_at, is_epoch, name_at};
-ghost use Rattle.ar_statement.specs.Texts.{role_at, roots_at};
+ghost use Rattle.ar_statement.specs.Texts.{role_at, value_at};
 
 use crate::party::Role;
 use ar_bytes::Fields;
 use ar_names::NameView;
+use vote_quorum::Value;
 
 /// The last epoch. The first is 1.
 pub const LAST_EPOCH: u64 = 1 << 63;
@@ -68,22 +69,23 @@ pub fn role(fields: &mut Fields) -> Result<Role, usize>
 }
 
 /// A base and a root, two digests.
-pub fn roots(fields: &mut Fields) -> Result<([u8; 32], [u8; 32]), usize>
-    ensures { Tells (λ roots. roots) result fields.new (roots_at fields.old) }
+#[tactic(auto, unfolding(crate::specs::Texts::value_at))]
+pub fn value(fields: &mut Fields) -> Result<Value, usize>
+    ensures { Tells (λ value. value) result fields.new (value_at fields.old) }
 {
     let base = digest(fields)?;
     let root = digest(fields)?;
-    Ok((base, root))
+    Ok(Value { base, root })
 }
 
 /// A flag in one byte, 0 for no and 1 for yes, and for 1 a base and a root.
 #[tactic(auto, unfolding(ar_bytes::specs::Joined::optional_at))]
-pub fn value(fields: &mut Fields) -> Result<Option<([u8; 32], [u8; 32])>, usize>
-    ensures { Tells (λ value. value) result fields.new (optional_at roots_at fields.old) }
+pub fn optional_value(fields: &mut Fields) -> Result<Option<Value>, usize>
+    ensures { Tells (λ value. value) result fields.new (optional_at value_at fields.old) }
 {
     if !fields.take_flag()? {
         return Ok(None);
     }
-    let roots = roots(fields)?;
-    Ok(Some(roots))
+    let value = value(fields)?;
+    Ok(Some(value))
 }

@@ -21,3 +21,4 @@ pub use fault::BookFault;
 pub use party::{Party, Role, has_party};
 pub use statement::{Statement, TEXT_LEN, confirmation_statement};
 pub use text::{SeenText, Text};
+pub use told::{optional_value_told, value_told};

@@ -6,10 +6,11 @@ ghost use Rattle.ar_statement.specs.Claims.{Claim, claim_of, text_of};
 ghost use Rattle.ar_statement.specs.Ranges.{IsValid};
 ghost use Rattle.ar_statement.specs.Texts.{party_at, endorse_at, handover_at, propose_at, vote_at, confirm_at, absent_at, answer_at, status_at, roll_at, object_at, fields_at, statement_at};
 
-use crate::fields::{digest, name, role, roots, value};
+use crate::fields::{digest, name, optional_value, role, value};
 use crate::party::Party;
 use crate::statement::Statement;
 use ar_bytes::Fields;
+use vote_quorum::Value;
 
 #[tactic(auto, unfolding(crate::specs::Texts::party_at))]
 fn party(fields: &mut Fields) -> Result<Party, usize>
@@ -44,7 +45,7 @@ fn propose<'a>(signer: Party, fields: &mut Fields) -> Result<Statement<'a>, usiz
     ensures { Tells claim_of result fields.new (propose_at signer fields.old) }
 {
     let epoch = fields.take_u64()?;
-    let (base, root) = roots(fields)?;
+    let Value { base, root } = value(fields)?;
     Ok(Statement::Propose {
         log: signer.number,
         epoch,
@@ -58,7 +59,7 @@ fn vote<'a>(signer: Party, fields: &mut Fields) -> Result<Statement<'a>, usize>
     ensures { Tells claim_of result fields.new (vote_at signer fields.old) }
 {
     let epoch = fields.take_u64()?;
-    let (base, root) = roots(fields)?;
+    let Value { base, root } = value(fields)?;
     Ok(Statement::Vote {
         log: signer.number,
         epoch,
@@ -73,7 +74,8 @@ fn confirm<'a>(signer: Party, fields: &mut Fields<'a>) -> Result<Statement<'a>, 
 {
     let epoch = fields.take_u64()?;
     let name = name(fields)?;
-    let (certificate, root) = roots(fields)?;
+    let certificate = digest(fields)?;
+    let root = digest(fields)?;
     Ok(Statement::Confirm {
         signer,
         epoch,
@@ -103,7 +105,8 @@ fn answer<'a>(fields: &mut Fields<'a>) -> Result<Statement<'a>, usize>
     ensures { Tells claim_of result fields.new (answer_at fields.old) }
 {
     let name = name(fields)?;
-    let (certificate, challenge) = roots(fields)?;
+    let certificate = digest(fields)?;
+    let challenge = digest(fields)?;
     Ok(Statement::Answer {
         name,
         certificate,
@@ -116,7 +119,7 @@ fn status<'a>(signer: Party, fields: &mut Fields) -> Result<Statement<'a>, usize
     ensures { Tells claim_of result fields.new (status_at signer fields.old) }
 {
     let epoch = fields.take_u64()?;
-    let value = value(fields)?;
+    let value = optional_value(fields)?;
     Ok(Statement::Status {
         log: signer.number,
         epoch,
@@ -196,9 +199,11 @@ impl<'a> Statement<'a> {
     /// The statement with this text, or `None` exactly where no statement has it.
     pub fn read(bytes: &'a [u8]) -> Option<Statement<'a>>
         // What is read is a statement with this text.
-        ensures found { IfSome result (λ s. IsValid (claim_of s) × (text_of (claim_of s) ≡ bytes.now)) }
+        ensures found { IfSome result (λ s.
+            IsValid (claim_of s) × (text_of (claim_of s) ≡ bytes.now)) }
         // A statement with this text is read.
-        ensures only { (claim : Claim) → IsValid claim → text_of claim ≡ bytes.now → option_map claim_of result ≡ Some claim }
+        ensures only { (claim : Claim) → IsValid claim → text_of claim ≡ bytes.now
+            → option_map claim_of result ≡ Some claim }
     {
         let statement = whole(bytes)?;
         if statement.is_in_range() {

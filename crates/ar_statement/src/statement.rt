@@ -6,6 +6,7 @@ use crate::fields::is_epoch;
 use crate::party::{Party, Role};
 use ar_bytes::u32_of;
 use ar_names::NameView;
+use vote_quorum::Value;
 
 /// The most bytes that the text of a statement has.
 pub const TEXT_LEN: usize = 330;
@@ -67,7 +68,7 @@ pub enum Statement<'a> {
         log: u16,
         epoch: u64,
         /// The base and the root; `None` where it voted for nothing.
-        value: Option<([u8; 32], [u8; 32])>,
+        value: Option<Value>,
     },
     /// The log's or authority's key behind that of this generation: the text of an LMS public key
     /// (RFC 8554, section 5.3).

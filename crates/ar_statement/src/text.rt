@@ -23,11 +23,15 @@ impl Model for Text {
 
     ghost invariant = { λ t. IsPadded t.len t.bytes };
 
-    ghost inverse = { λ text. record { len = length text; bytes = text ++ replicate (330 - length text) 0 } };
+    ghost inverse = { λ text. record {
+      len = length text;
+      bytes = text ++ replicate (330 - length text) 0;
+    } };
 
     ghost use Rattle.std.proofs.Common.{refl};
 
-    ghost inverse_ok = { λ t h. Prim.rw (len_again t.len t.bytes h, bytes_again t.len t.bytes h) refl };
+    ghost inverse_ok = { λ t h. Prim.rw
+        (len_again t.len t.bytes h, bytes_again t.len t.bytes h) refl };
 }
 
 impl Text {

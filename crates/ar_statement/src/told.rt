@@ -2,28 +2,24 @@ ghost use Rattle.std.specs.Prelude.{◌<◌, ◌^◌, IfSome};
 ghost use Rattle.ar_base.specs.Bytes.{IsDigest};
 ghost use Rattle.ar_names.specs.Names.{IsName};
 ghost use Rattle.ar_statement.specs.Claims.{claim_of};
-ghost use Rattle.ar_statement.specs.Ranges.{AreRoots, HasFields, IsHeld, IsKeyText};
+ghost use Rattle.ar_statement.specs.Ranges.{HasFields, IsHeld, IsKeyText, IsValue};
 
 use crate::statement::Statement;
 use ar_bytes::{are_bytes, digest_told};
 use ar_names::NameView;
-
-fn roots_told(base: &[u8; 32], root: &[u8; 32])
-    ensures { AreRoots (base.now, root.now) }
-{
-    digest_told(base);
-    digest_told(root);
-}
+use vote_quorum::Value;
 
 fn ballot_told(epoch: u64, base: &[u8; 32], root: &[u8; 32])
     ensures { (epoch < 2 ^ 64) × (IsDigest base.now × IsDigest root.now) }
 {
     let _epoch = epoch;
-    roots_told(base, root);
+    digest_told(base);
+    digest_told(root);
 }
 
 fn confirm_told(epoch: u64, name: &NameView, certificate: &[u8; 32], root: &[u8; 32])
-    ensures { (epoch < 2 ^ 64) × (IsName name.now × (IsDigest certificate.now × IsDigest root.now)) }
+    ensures { (epoch < 2 ^ 64)
+        × (IsName name.now × (IsDigest certificate.now × IsDigest root.now)) }
 {
     absence_told(epoch, name, root);
     digest_told(certificate);
@@ -45,13 +41,28 @@ fn answer_told(name: &NameView, certificate: &[u8; 32], challenge: &[u8; 32])
     digest_told(challenge);
 }
 
-fn status_told(epoch: u64, value: &Option<([u8; 32], [u8; 32])>)
-    ensures { (epoch < 2 ^ 64) × IfSome value.now AreRoots }
+/// Tells a proof that the base and the root are digests. It does nothing.
+pub fn value_told(value: &Value)
+    ensures { IsValue value.now }
+{
+    digest_told(&value.base);
+    digest_told(&value.root);
+}
+
+/// The same of a value that is there or not.
+pub fn optional_value_told(value: &Option<Value>)
+    ensures { IfSome value.now IsValue }
+{
+    if let Some(value) = value {
+        value_told(value);
+    }
+}
+
+fn status_told(epoch: u64, value: &Option<Value>)
+    ensures { (epoch < 2 ^ 64) × IfSome value.now IsValue }
 {
     let _epoch = epoch;
-    if let Some(roots) = value {
-        roots_told(&roots.0, &roots.1);
-    }
+    optional_value_told(value);
 }
 
 fn roll_told(generation: u32, key: &[u8; 56])

@@ -2,13 +2,14 @@ ghost use Rattle.std.specs.Prelude.{◌≡◌, ◌+◌, ◌≤◌, ◌++◌, len
 ghost use Rattle.std.specs.Int.{w32, w64};
 ghost use Rattle.ar_bytes.specs.RoundTrip.{number_text};
 ghost use Rattle.ar_bytes.specs.Joined.{optional_text};
-ghost use Rattle.ar_statement.specs.Claims.{head, log_party, owner_party, name_text, roots_text, text_of, claim_of};
+ghost use Rattle.ar_statement.specs.Claims.{head, log_party, owner_party, name_text, text_of, claim_of, value_text};
 ghost use Rattle.ar_statement.specs.declared.party.Role.TheVariants.{LogServer, Owner};
 
 use crate::party::{Party, Role};
 use crate::statement::{Statement, TEXT_LEN};
 use ar_bytes::{write_bytes, write_u8, write_u16, write_u32, write_u64};
 use ar_names::NameView;
+use vote_quorum::Value;
 
 /// Begins a text with its kind and its signer.
 fn put_head(out: &mut [u8; TEXT_LEN], kind: u8, signer: Party) -> usize
@@ -48,7 +49,7 @@ fn put_epoch(out: &mut [u8; TEXT_LEN], kind: u8, signer: Party, epoch: u64) -> u
 
 /// Two digests at a place.
 #[tactic(auto, using(crate::proofs::Rooms::same_later))]
-fn put_roots(out: &mut [u8; TEXT_LEN], place: usize, first: &[u8; 32], second: &[u8; 32]) -> usize
+fn put_digests(out: &mut [u8; TEXT_LEN], place: usize, first: &[u8; 32], second: &[u8; 32]) -> usize
     requires { place + 64 ≤ 330 }
     ensures len { result ≡ place + 64 }
     ensures front { take result out.new ≡ take place out.old ++ (first.now ++ second.now) }
@@ -83,11 +84,12 @@ fn put_ballot(
     root: &[u8; 32],
 ) -> usize
     ensures len { result ≡ 76 }
-    ensures front { take result out.new ≡ head kind (log_party log) ++ (number_text w64 epoch ++ (base.now ++ root.now)) }
+    ensures front { take result out.new ≡ head kind (log_party log)
+        ++ (number_text w64 epoch ++ (base.now ++ root.now)) }
     ensures behind { drop result out.new ≡ drop result out.old }
 {
     let place = put_epoch(out, kind, Role::LogServer.party(log), epoch);
-    put_roots(out, place, base, root)
+    put_digests(out, place, base, root)
 }
 
 /// The text that a name has a certificate.
@@ -101,12 +103,14 @@ fn put_confirm(
     root: &[u8; 32],
 ) -> usize
     ensures within { result ≤ 330 }
-    ensures front { take result out.new ≡ head 6 signer ++ (number_text w64 epoch ++ (name_text name.now ++ (certificate.now ++ root.now))) }
+    ensures front { take result out.new
+        ≡ head 6 signer ++ (number_text w64 epoch
+        ++ (name_text name.now ++ (certificate.now ++ root.now))) }
     ensures behind { drop result out.new ≡ drop result out.old }
 {
     let place = put_epoch(out, 6, signer, epoch);
     let place = put_name(out, place, name);
-    put_roots(out, place, certificate, root)
+    put_digests(out, place, certificate, root)
 }
 
 /// The text that a name has no certificate.
@@ -119,7 +123,8 @@ fn put_absent(
     root: &[u8; 32],
 ) -> usize
     ensures within { result ≤ 330 }
-    ensures front { take result out.new ≡ head 7 signer ++ (number_text w64 epoch ++ (name_text name.now ++ root.now)) }
+    ensures front { take result out.new
+        ≡ head 7 signer ++ (number_text w64 epoch ++ (name_text name.now ++ root.now)) }
     ensures behind { drop result out.new ≡ drop result out.old }
 {
     let place = put_epoch(out, 7, signer, epoch);
@@ -136,33 +141,29 @@ fn put_answer(
     challenge: &[u8; 32],
 ) -> usize
     ensures within { result ≤ 330 }
-    ensures front { take result out.new ≡ head 8 (owner_party 0) ++ (name_text name.now ++ (certificate.now ++ challenge.now)) }
+    ensures front { take result out.new
+        ≡ head 8 (owner_party 0) ++ (name_text name.now ++ (certificate.now ++ challenge.now)) }
     ensures behind { drop result out.new ≡ drop result out.old }
 {
     let place = put_head(out, 8, Role::Owner.party(0));
     let place = put_name(out, place, name);
-    put_roots(out, place, certificate, challenge)
+    put_digests(out, place, certificate, challenge)
 }
 
 /// The text of what a log did in an epoch.
 #[tactic(auto, using(crate::proofs::Rooms::same_later), unfolding(ar_bytes::specs::Joined::optional_text))]
-fn put_status(
-    out: &mut [u8; TEXT_LEN],
-    log: u16,
-    epoch: u64,
-    value: &Option<([u8; 32], [u8; 32])>,
-) -> usize
+fn put_status(out: &mut [u8; TEXT_LEN], log: u16, epoch: u64, value: &Option<Value>) -> usize
     ensures within { result ≤ 330 }
-    ensures front { take result out.new ≡ head 9 (log_party log) ++ (number_text w64 epoch ++ optional_text roots_text value.now) }
+    ensures front { take result out.new
+        ≡ head 9 (log_party log) ++ (number_text w64 epoch ++ optional_text value_text value.now) }
     ensures behind { drop result out.new ≡ drop result out.old }
 {
     let place = put_epoch(out, 9, Role::LogServer.party(log), epoch);
     match value {
         None => write_u8(out, place, 0),
-        Some(roots) => {
-            let (base, root) = *roots;
+        Some(value) => {
             let place = write_u8(out, place, 1);
-            put_roots(out, place, &base, &root)
+            put_digests(out, place, &value.base, &value.root)
         }
     }
 }
@@ -171,7 +172,8 @@ fn put_status(
 #[tactic(auto, using(crate::proofs::Rooms::same_later))]
 fn put_roll(out: &mut [u8; TEXT_LEN], signer: Party, generation: u32, key: &[u8; 56]) -> usize
     ensures len { result ≡ 64 }
-    ensures front { take result out.new ≡ head 10 signer ++ (number_text w32 generation ++ key.now) }
+    ensures front { take result out.new
+        ≡ head 10 signer ++ (number_text w32 generation ++ key.now) }
     ensures behind { drop result out.new ≡ drop result out.old }
 {
     let place = put_head(out, 10, signer);

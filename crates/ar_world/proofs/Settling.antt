@@ -32,7 +32,7 @@ noted-there logs message number was is there =
     ap (logs_with (slice_set logs number (Some is)) message number) (put-there logs number (Some is) (honest-below logs number was there))
     ∙ set-set logs number (Some is) (Some (with_taken message is))
 
-answer-settled : (w : World) (message number : ℕ) (node : LogNode) (answer : log.Answer) → log_at w number ≡ Some node
+answer-settled : (w : World) (message number : ℕ) (node : LogNode) (answer : log.LogAnswer) → log_at w number ≡ Some node
     → log_made w number (delivered_as w.pool message (log_party number) (log_does node node.keys (events.Take message) answer))
     ≡ log_settled w message number (log_answers node answer)
 answer-settled w message number node (Ok reply) there =

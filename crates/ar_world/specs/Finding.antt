@@ -8,7 +8,7 @@ use Rattle.ar_statement.specs.declared.party.Role.TheVariants.{LogServer, Author
 use Rattle.owner_core.specs.State as owners
 use Rattle.ar_nodes.specs.Finding.{honest_in, checking_in, is_owner, is_forger, set_if}
 use Rattle.ar_nodes.specs.Parties.{AuthorityNode, CheckParts, Forger, LogNode}
-use Rattle.ar_nodes.specs.Pool.{Pooled, bytes_in, numbered, most_messages, most_bytes}
+use Rattle.ar_nodes.specs.Pool.{Pooled, bytes_in, numbered, most_messages, most_pool_bytes}
 use Rattle.ar_nodes.specs.declared.fault.WorldFault.{WorldFault}
 use Rattle.ar_nodes.specs.declared.fault.WorldFault.TheVariants.{Absent, Limit}
 use Rattle.ar_world.specs.State.{Drafted, Moved, World}
@@ -79,7 +79,7 @@ with_forger w forger = record w { forgers = set_if w.forgers (position (is_forge
 
 -- the pool is not full: a line that may send needs that
 unfoldable pub has_room : World → Bool
-has_room w = nat_lt (length w.pool) most_messages && nat_lt (bytes_in w.pool) most_bytes
+has_room w = nat_lt (length w.pool) most_messages && nat_lt (bytes_in w.pool) most_pool_bytes
 
 abbrev pub room : World → Result (Unit {0}) WorldFault
 room w = need (has_room w) Limit

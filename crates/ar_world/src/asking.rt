@@ -28,7 +28,8 @@ fn question_text(
     second: u16,
     client: u16,
 ) -> Result<Vec<u8>, AllocError>
-    ensures { IfOk result (λ text. text.items ≡ message_text (ConfirmAsk client name.now first second)) }
+    ensures { IfOk result (λ text.
+        text.items ≡ message_text (ConfirmAsk client name.now first second)) }
 {
     let name = name.to_name(alloc)?;
     let message = Message::ConfirmAsk {
@@ -47,7 +48,8 @@ fn post_one(
     sender: Party,
     outgoing: Outgoing,
 ) -> Result<Items<Happening>, AllocError>
-    ensures pool { OnOk result (pool.new.messages ≡ pool.old.messages ++ map (pooled_from sender) (outgoing ∷ [])) }
+    ensures pool { OnOk result
+        (pool.new.messages ≡ pool.old.messages ++ map (pooled_from sender) (outgoing ∷ [])) }
     ensures said { IfOk result (λ said. said
         ≡ entries_from (length pool.old.messages + 1) (map (pooled_from sender) (outgoing ∷ []))) }
     ensures err { OnErr result (pool.new.messages ≡ pool.old.messages) }
@@ -68,10 +70,12 @@ fn ask(
 ) -> Result<Items<Happening>, AllocError>
     ensures pool { OnOk result (pool.new.messages
         ≡ pool.old.messages
-        ++ map (pooled_from (client_party client)) (question log name.now authorities.0 authorities.1 client).messages) }
+        ++ map (pooled_from (client_party client))
+        (question log name.now authorities.0 authorities.1 client).messages) }
     ensures said { IfOk result (λ said. said
         ≡ entries_from (length pool.old.messages + 1)
-        (map (pooled_from (client_party client)) (question log name.now authorities.0 authorities.1 client).messages)) }
+        (map (pooled_from (client_party client))
+        (question log name.now authorities.0 authorities.1 client).messages)) }
     ensures err { OnErr result (pool.new.messages ≡ pool.old.messages) }
 {
     let (first, second) = authorities;
@@ -90,7 +94,8 @@ impl<C: OwnerCheck> World<C> {
         authorities: (u16, u16),
         client: u16,
     ) -> Result<Items<Happening>, WorldFault>
-        ensures { StepsBy result self.old self.new (ask_line self.old log name.now authorities.0 authorities.1 client) }
+        ensures { StepsBy result self.old self.new
+            (ask_line self.old log name.now authorities.0 authorities.1 client) }
     {
         let (first, second) = authorities;
         self.need_there(1, Role::LogServer, log)?;

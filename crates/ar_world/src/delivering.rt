@@ -88,7 +88,8 @@ impl<C: OwnerCheck> World<C> {
         message: u64,
         number: u16,
     ) -> Result<Items<Happening>, WorldFault>
-        ensures { StepsBySome result self.old self.new (λ says. deliver_line says self.old message (log_party number)) }
+        ensures { StepsBySome result self.old self.new (λ says.
+            deliver_line says self.old message (log_party number)) }
     {
         self.can_deliver_to_log(message, number)?;
         logs_take(alloc, &mut self.pool, &mut self.logs, message, number)
@@ -102,7 +103,8 @@ impl<C: OwnerCheck> World<C> {
         message: u64,
         number: u16,
     ) -> Result<Items<Happening>, WorldFault>
-        ensures { StepsBySome result self.old self.new (λ says. deliver_line says self.old message (authority_party number)) }
+        ensures { StepsBySome result self.old self.new (λ says.
+            deliver_line says self.old message (authority_party number)) }
     {
         self.can_deliver_to_authority(message, number)?;
         authorities_take(
@@ -122,7 +124,8 @@ impl<C: OwnerCheck> World<C> {
         message: u64,
         number: u16,
     ) -> Result<Items<Happening>, WorldFault>
-        ensures { StepsBySome result self.old self.new (λ says. deliver_line says self.old message (owner_party number)) }
+        ensures { StepsBySome result self.old self.new (λ says.
+            deliver_line says self.old message (owner_party number)) }
     {
         if !self.pool.has(message) {
             return Err(WorldFault::Absent(1));
@@ -156,7 +159,8 @@ impl<C: OwnerCheck> World<C> {
         message: u64,
         who: Party,
     ) -> Result<Items<Happening>, WorldFault>
-        ensures { StepsBySome result self.old self.new (λ says. deliver_line says self.old message who) }
+        ensures { StepsBySome result self.old self.new
+            (λ says. deliver_line says self.old message who) }
     {
         match who.role {
             Role::LogServer => self.deliver_to_log(alloc, message, who.number),
@@ -177,7 +181,8 @@ impl<C: OwnerCheck> World<C> {
 
     /// Whether a message that goes to all logs is due to this one: it is not addressed to its sender.
     fn is_due_other(&self, message: &Pooled, who: Party) -> bool
-        ensures { result ≡ (not (is_sender message.now.from who) && is_due self.now message.now who) }
+        ensures { result ≡ (not
+            (is_sender message.now.from who) && is_due self.now message.now who) }
     {
         !is_sender(message.from, who) && self.is_due(message, who)
     }
@@ -192,7 +197,8 @@ impl<C: OwnerCheck> World<C> {
     /// The first of so many logs to which a message is due that goes to all logs.
     #[tactic(auto, using(crate::proofs::Due::due_to_logs))]
     fn due_log(&self, message: &Pooled, count: u16) -> Option<Party>
-        ensures { result ≡ find (is_due self.now message.now) (addressed count message.now.from target.Logs) }
+        ensures { result ≡ find (is_due self.now message.now)
+            (addressed count message.now.from target.Logs) }
     {
         for number in 0..count {
             let who = Role::LogServer.party(number);

@@ -43,7 +43,8 @@ fn first_certificate(
 ) -> Result<Cert, AllocError>
     requires ascend { are_authorities words.now.trusted ≡ true }
     requires wait { may_wait words.now.wait ≡ true }
-    ensures { IfOk result (λ cert. cert ≡ first_certificate owner.now name.now (terms_of words.now)) }
+    ensures { IfOk result (λ cert.
+        cert ≡ first_certificate owner.now name.now (terms_of words.now)) }
 {
     let policy = policy(alloc, words)?;
     Ok(Cert {
@@ -64,7 +65,8 @@ fn next_certificate(
     revoked: bool,
 ) -> Result<Cert, AllocError>
     requires { old.now.serial < 4096 }
-    ensures { IfOk result (λ cert. cert ≡ next_certificate owner.now old.now old.now.policy revoked) }
+    ensures { IfOk result (λ cert.
+        cert ≡ next_certificate owner.now old.now old.now.policy revoked) }
 {
     let mut cert = old.copy(alloc)?;
     cert.serial = old.serial + 1;
@@ -84,7 +86,8 @@ fn updated_certificate(
     requires serial { old.now.serial < 4096 }
     requires ascend { are_authorities words.now.trusted ≡ true }
     requires wait { may_wait words.now.wait ≡ true }
-    ensures { IfOk result (λ cert. cert ≡ next_certificate owner.now old.now (terms_of words.now) false) }
+    ensures { IfOk result (λ cert.
+        cert ≡ next_certificate owner.now old.now (terms_of words.now) false) }
 {
     let policy = policy(alloc, words)?;
     let mut cert = next_certificate(alloc, owner, old, false)?;
@@ -107,9 +110,12 @@ fn enter_draft(
     requires pool { length sent.messages ≤ pool.old.room }
     requires said { vec_len said.old + 1 + length sent.messages ≤ vec_capacity said.old }
     ensures drafts { drafts.new.items ≡ drafts.old.items ++ draft ∷ [] }
-    ensures pool { pool.new.messages ≡ pool.old.messages ++ map (pooled_from (owner_party draft.owner)) sent.messages }
-    ensures said { said.new.items ≡ (said.old.items ++ Draft (length drafts.old.items + 1) (digest_of draft.cert) ∷ [])
-        ++ entries_from (length pool.old.messages + 1) (map (pooled_from (owner_party draft.owner)) sent.messages) }
+    ensures pool { pool.new.messages
+        ≡ pool.old.messages ++ map (pooled_from (owner_party draft.owner)) sent.messages }
+    ensures said { said.new.items
+        ≡ (said.old.items ++ Draft (length drafts.old.items + 1) (digest_of draft.cert) ∷ [])
+        ++ entries_from (length pool.old.messages + 1)
+        (map (pooled_from (owner_party draft.owner)) sent.messages) }
 {
     let happening = Happening::Draft {
         draft: drafts.len() as u64 + 1,
@@ -124,8 +130,10 @@ fn enter_draft(
 
 /// An owner makes a certificate its draft, and asks authorities to endorse it.
 fn begin(owner: &mut Owner, alloc: Global, cert: Cert, asks: &[u16]) -> Result<Sent, WorldFault>
-    ensures owner { IfOk result (λ sent. owner.new ≡ record owner.old { drafts = begun_draft owner.old.drafts cert }) }
-    ensures sent { IfOk result (λ sent. map (pooled_from (owner_party owner.old.number)) sent.messages
+    ensures owner { IfOk result (λ sent.
+        owner.new ≡ record owner.old { drafts = begun_draft owner.old.drafts cert }) }
+    ensures sent { IfOk result (λ sent.
+        map (pooled_from (owner_party owner.old.number)) sent.messages
         ≡ asked owner.old cert asks.now) }
     ensures len { IfOk result (λ sent. length sent.messages ≡ length asks.now) }
     ensures err { IfErr result (λ fault. (fault ≡ Memory) × (owner.new ≡ owner.old)) }
@@ -146,13 +154,16 @@ fn draft(
     asks: &[u16],
 ) -> Result<Items<Happening>, WorldFault>
     requires { length asks.now ≤ 16 }
-    ensures owner { IfOk result (λ said. owner.new ≡ record owner.old { drafts = begun_draft owner.old.drafts cert }) }
+    ensures owner { IfOk result (λ said.
+        owner.new ≡ record owner.old { drafts = begun_draft owner.old.drafts cert }) }
     ensures drafts { IfOk result (λ said. drafts.new.items
         ≡ drafts.old.items ++ record { owner = owner.old.number; cert = cert } ∷ []) }
-    ensures pool { IfOk result (λ said. pool.new.messages ≡ pool.old.messages ++ asked owner.old cert asks.now) }
+    ensures pool { IfOk result (λ said.
+        pool.new.messages ≡ pool.old.messages ++ asked owner.old cert asks.now) }
     ensures said { IfOk result (λ said. said ≡ Draft (length drafts.old.items + 1) (digest_of cert)
         ∷ entries_from (length pool.old.messages + 1) (asked owner.old cert asks.now)) }
-    ensures err { IfErr result (λ fault. (fault ≡ Memory) × (owner.new ≡ owner.old) × (drafts.new.items ≡ drafts.old.items)
+    ensures err { IfErr result (λ fault.
+        (fault ≡ Memory) × (owner.new ≡ owner.old) × (drafts.new.items ≡ drafts.old.items)
         × (pool.new.messages ≡ pool.old.messages)) }
 {
     let copy = cert.copy(alloc)?;
@@ -220,7 +231,8 @@ impl<C: OwnerCheck> World<C> {
         policy: &PolicyWords,
         asks: &Numbers,
     ) -> Result<usize, WorldFault>
-        ensures place { IfOk result (λ place. position (is_owner owner) self.now.owners ≡ Some place) }
+        ensures place { IfOk result (λ place.
+            position (is_owner owner) self.now.owners ≡ Some place) }
         ensures within { IfOk result (λ place. place < length self.now.owners) }
         ensures ascend { OnOk result (are_authorities policy.now.trusted ≡ true) }
         ensures wait { OnOk result (may_wait policy.now.wait ≡ true) }
@@ -246,7 +258,8 @@ impl<C: OwnerCheck> World<C> {
         policy: &PolicyWords,
         asks: &Numbers,
     ) -> Result<Items<Happening>, WorldFault>
-        ensures { StepsBy result self.old self.new (register_line self.old owner name.now policy.now asks.now) }
+        ensures { StepsBy result self.old self.new
+            (register_line self.old owner name.now policy.now asks.now) }
     {
         let place = self.may_register(owner, policy, asks)?;
         let cert = first_certificate(alloc, &self.owners[place], name, policy)?;
@@ -264,7 +277,8 @@ impl<C: OwnerCheck> World<C> {
         policy: &PolicyWords,
         asks: &Numbers,
     ) -> Result<(usize, usize), WorldFault>
-        ensures place { IfOk result (λ places. position (is_owner owner) self.now.owners ≡ Some places.0) }
+        ensures place { IfOk result (λ places.
+            position (is_owner owner) self.now.owners ≡ Some places.0) }
         ensures within { IfOk result (λ places. places.0 < length self.now.owners) }
         ensures draft { IfOk result (λ places. draft ≡ places.1 + 1) }
         ensures found { IfOk result (λ places. places.1 < length self.now.drafts) }
@@ -272,7 +286,8 @@ impl<C: OwnerCheck> World<C> {
         ensures wait { OnOk result (may_wait policy.now.wait ≡ true) }
         ensures asks { OnOk result (known_asks self.now 8 asks.now ≡ Ok tt) }
         ensures room { OnOk result (draft_room self.now ≡ Ok tt) }
-        ensures err { IfErr result (λ fault. update_line self.now owner draft policy.now asks.now ≡ Err fault) }
+        ensures err { IfErr result (λ fault.
+            update_line self.now owner draft policy.now asks.now ≡ Err fault) }
     {
         let place = self.owner_named(1, owner)?;
         let old = self.draft_named(2, draft)?;
@@ -292,7 +307,8 @@ impl<C: OwnerCheck> World<C> {
         policy: &PolicyWords,
         asks: &Numbers,
     ) -> Result<Items<Happening>, WorldFault>
-        ensures { StepsBy result self.old self.new (update_line self.old owner draft policy.now asks.now) }
+        ensures { StepsBy result self.old self.new
+            (update_line self.old owner draft policy.now asks.now) }
     {
         let (place, old) = self.may_update(owner, draft, policy, asks)?;
         let old = &self.drafts[old].cert;
@@ -310,13 +326,15 @@ impl<C: OwnerCheck> World<C> {
         draft: u64,
         asks: &Numbers,
     ) -> Result<(usize, usize), WorldFault>
-        ensures place { IfOk result (λ places. position (is_owner owner) self.now.owners ≡ Some places.0) }
+        ensures place { IfOk result (λ places.
+            position (is_owner owner) self.now.owners ≡ Some places.0) }
         ensures within { IfOk result (λ places. places.0 < length self.now.owners) }
         ensures draft { IfOk result (λ places. draft ≡ places.1 + 1) }
         ensures found { IfOk result (λ places. places.1 < length self.now.drafts) }
         ensures asks { OnOk result (known_asks self.now 3 asks.now ≡ Ok tt) }
         ensures room { OnOk result (draft_room self.now ≡ Ok tt) }
-        ensures err { IfErr result (λ fault. revoke_line self.now owner draft asks.now ≡ Err fault) }
+        ensures err { IfErr result (λ fault.
+            revoke_line self.now owner draft asks.now ≡ Err fault) }
     {
         let place = self.owner_named(1, owner)?;
         let old = self.draft_named(2, draft)?;

@@ -21,7 +21,8 @@ impl<C: OwnerCheck> World<C> {
     /// The bytes of the pieces of a line that may send.
     #[tactic(auto, using(crate::proofs::Forgers::composed_laws))]
     fn composed_in(&self, alloc: Global, pieces: &Pieces) -> Result<Vec<u8>, WorldFault>
-        ensures { GivesUnless Memory (λ bytes. bytes.items) result (composed_in self.now pieces.now) }
+        ensures { GivesUnless Memory (λ bytes.
+            bytes.items) result (composed_in self.now pieces.now) }
     {
         let bytes = composed(alloc, &self.pool, pieces)?;
         self.need_room()?;
@@ -36,10 +37,12 @@ impl<C: OwnerCheck> World<C> {
         party: Party,
         pieces: &Pieces,
     ) -> Result<(usize, Vec<u8>), WorldFault>
-        ensures place { IfOk result (λ found. position (is_forger party) self.now.forgers ≡ Some found.0) }
+        ensures place { IfOk result (λ found.
+            position (is_forger party) self.now.forgers ≡ Some found.0) }
         ensures within { IfOk result (λ found. found.0 < length self.now.forgers) }
         ensures text { IfOk result (λ found. composed_in self.now pieces.now ≡ Ok found.1.items) }
-        ensures err { IfErr result (λ fault. (fault ≡ Memory) ⊎ (sign_line self.now party pieces.now ≡ Err fault)) }
+        ensures err { IfErr result (λ fault.
+            (fault ≡ Memory) ⊎ (sign_line self.now party pieces.now ≡ Err fault)) }
     {
         let Some(place) = forger_place(&self.forgers, party) else {
             return Err(WorldFault::Absent(1));

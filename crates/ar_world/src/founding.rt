@@ -33,7 +33,8 @@ impl<C: OwnerCheck> World<C> {
         alloc: Global,
         secret: [u8; 32],
     ) -> Result<Items<Happening>, WorldFault>
-        ensures { StepsBy result self.old self.new (led_to phase.SecretTold (Ok (secret_line self.old secret))) }
+        ensures { StepsBy result self.old self.new
+            (led_to phase.SecretTold (Ok (secret_line self.old secret))) }
     {
         self.setup.tell_secret(secret);
         self.phase = Phase::SecretTold;
@@ -47,7 +48,8 @@ impl<C: OwnerCheck> World<C> {
         lms: u32,
         ots: u32,
     ) -> Result<Items<Happening>, WorldFault>
-        ensures { StepsBy result self.old self.new (led_to phase.KeysTold (keys_line self.old lms ots)) }
+        ensures { StepsBy result self.old self.new
+            (led_to phase.KeysTold (keys_line self.old lms ots)) }
     {
         let Some(lms) = type_to_make(lms) else {
             return Err(WorldFault::Absent(1));
@@ -67,7 +69,8 @@ impl<C: OwnerCheck> World<C> {
         count: u16,
         quorum: u16,
     ) -> Result<Items<Happening>, WorldFault>
-        ensures { StepsBy result self.old self.new (led_to phase.LogsMade (logs_line self.old count quorum)) }
+        ensures { StepsBy result self.old self.new
+            (led_to phase.LogsMade (logs_line self.old count quorum)) }
     {
         if !is_party_count(count as usize) {
             return Err(WorldFault::Absent(1));
@@ -96,7 +99,8 @@ impl<C: OwnerCheck> World<C> {
         count: u16,
     ) -> Result<Items<Happening>, WorldFault>
         requires { may_come self.old.phase phase.AuthoritiesMade ≡ true }
-        ensures { StepsBy result self.old self.new (led_to phase.AuthoritiesMade (authorities_line self.old count)) }
+        ensures { StepsBy result self.old self.new
+            (led_to phase.AuthoritiesMade (authorities_line self.old count)) }
     {
         let founded = found(alloc, &self.setup, &self.log_keys, count)?;
         let logs = Vec::with_capacity(alloc, founded.cores.len())?;
@@ -115,7 +119,8 @@ impl<C: OwnerCheck> World<C> {
         requires phase { self.old.phase ≡ phase.LogsMade }
         requires own { AreOwn self.old.setup founded }
         requires logs { (logs.items ≡ []) × (length founded.cores ≤ vec_capacity logs) }
-        requires authorities { (authorities.items ≡ []) × (length founded.states ≤ vec_capacity authorities) }
+        requires authorities { (authorities.items ≡ [])
+            × (length founded.states ≤ vec_capacity authorities) }
         ensures world { self.new ≡ with_parties self.old founded }
         ensures said { result ≡ founded.said }
     {
@@ -142,7 +147,8 @@ impl<C: OwnerCheck> World<C> {
 
 /// Takes the log with a number away: its first key.
 fn take_log(logs: &mut Vec<Option<HonestLog>>, number: u16) -> Option<LmsKey>
-    ensures key { result ≡ option_and_then (λ node. first_key node.keys) (honest_in logs.old.items number) }
+    ensures key { result ≡ option_and_then (λ node.
+        first_key node.keys) (honest_in logs.old.items number) }
     ensures items { MatchOption result (logs.new.items ≡ logs.old.items)
         (λ _. logs.new.items ≡ slice_set logs.old.items number None) }
     ensures len { length logs.new.items ≡ length logs.old.items }
@@ -157,7 +163,8 @@ fn take_authority<C: OwnerCheck>(
     authorities: &mut Vec<Option<HonestAuthority<C>>>,
     number: u16,
 ) -> Option<LmsKey>
-    ensures key { result ≡ option_and_then (λ node. first_key node.keys) (honest_in authorities.old.items number) }
+    ensures key { result ≡ option_and_then (λ node.
+        first_key node.keys) (honest_in authorities.old.items number) }
     ensures items { MatchOption result (authorities.new.items ≡ authorities.old.items)
         (λ _. authorities.new.items ≡ slice_set authorities.old.items number None) }
 {
@@ -170,7 +177,11 @@ fn take_authority<C: OwnerCheck>(
 fn turn(forgers: &mut Vec<Forger>, said: &mut Vec<Happening>, party: Party, key: LmsKey)
     requires forgers { vec_len forgers.old < vec_capacity forgers.old }
     requires said { vec_len said.old < vec_capacity said.old }
-    ensures forgers { forgers.new.items ≡ forgers.old.items ++ record { party = party; key = key; next = 0 } ∷ [] }
+    ensures forgers { forgers.new.items ≡ forgers.old.items ++ record {
+      party = party;
+      key = key;
+      next = 0;
+    } ∷ [] }
     ensures said { said.new.items ≡ said.old.items ++ Dishonest party ∷ [] }
 {
     let forger = Forger {
@@ -192,7 +203,8 @@ impl<C: OwnerCheck> World<C> {
         party: Party,
     ) -> Result<Items<Happening>, WorldFault>
         requires { may_come self.old.phase phase.DishonestTold ≡ true }
-        ensures { StepsBy result self.old self.new (led_to phase.DishonestTold (dishonest_line self.old party)) }
+        ensures { StepsBy result self.old self.new
+            (led_to phase.DishonestTold (dishonest_line self.old party)) }
     {
         match party.role {
             Role::LogServer => self.turn_log(alloc, party),
@@ -205,7 +217,8 @@ impl<C: OwnerCheck> World<C> {
     fn turn_log(&mut self, alloc: Global, party: Party) -> Result<Items<Happening>, WorldFault>
         requires phase { may_come self.old.phase phase.DishonestTold ≡ true }
         requires role { party.role ≡ LogServer }
-        ensures { StepsBy result self.old self.new (led_to phase.DishonestTold (dishonest_line self.old party)) }
+        ensures { StepsBy result self.old self.new
+            (led_to phase.DishonestTold (dishonest_line self.old party)) }
     {
         let mut said = Vec::with_capacity(alloc, 1)?;
         self.forgers.reserve(1)?;
@@ -225,7 +238,8 @@ impl<C: OwnerCheck> World<C> {
     ) -> Result<Items<Happening>, WorldFault>
         requires phase { may_come self.old.phase phase.DishonestTold ≡ true }
         requires role { party.role ≡ Authority }
-        ensures { StepsBy result self.old self.new (led_to phase.DishonestTold (dishonest_line self.old party)) }
+        ensures { StepsBy result self.old self.new
+            (led_to phase.DishonestTold (dishonest_line self.old party)) }
     {
         let mut said = Vec::with_capacity(alloc, 1)?;
         self.forgers.reserve(1)?;

@@ -69,7 +69,8 @@ fn taken(
     age: u64,
     bytes: &[u8],
 ) -> Result<Judged, AllocError>
-    ensures { IfOk result (λ t. t ≡ record { name = name.now; now = now; age = age; bytes = bytes.now }) }
+    ensures { IfOk result (λ t.
+        t ≡ record { name = name.now; now = now; age = age; bytes = bytes.now }) }
 {
     Ok(Judged {
         name: name.to_name(alloc)?,
@@ -87,8 +88,10 @@ fn judge(
     t: &Judged,
 ) -> Result<(Items<Happening>, bool), AllocError>
     ensures said { IfOk result (λ made. made.0
-        ≡ happening.Judged number (said_of t.entry.now.name (verdict_on clients.now t.entry.now)) ∷ []) }
-    ensures accepted { IfOk result (λ made. made.1 ≡ is_accepted (verdict_on clients.now t.entry.now)) }
+        ≡ happening.Judged number (said_of t.entry.now.name (verdict_on clients.now t.entry.now))
+        ∷ []) }
+    ensures accepted { IfOk result (λ made.
+        made.1 ≡ is_accepted (verdict_on clients.now t.entry.now)) }
 {
     let name = t.name.view().to_name(alloc)?;
     let verdict = client_rule::judge(clients, t.name.text(), &t.bytes, t.now, t.age);
@@ -107,8 +110,10 @@ fn judge_and_keep(
     number: u64,
     t: Judged,
 ) -> Result<Items<Happening>, AllocError>
-    ensures said { IfOk result (λ said. said ≡ happening.Judged number (said_of t.name (verdict_on clients.now t)) ∷ []) }
-    ensures judged { OnOk result (judged.new.items ≡ accepted_with judged.old.items t (verdict_on clients.now t)) }
+    ensures said { IfOk result (λ said.
+        said ≡ happening.Judged number (said_of t.name (verdict_on clients.now t)) ∷ []) }
+    ensures judged { OnOk result
+        (judged.new.items ≡ accepted_with judged.old.items t (verdict_on clients.now t)) }
     ensures err { OnErr result (judged.new.items ≡ judged.old.items) }
 {
     judged.reserve(1)?;

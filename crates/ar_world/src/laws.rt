@@ -23,7 +23,8 @@ ghost use Rattle.ar_world.specs.declared.phase.Phase.TheVariants.{Running};
 /// Lines of the setup come before all others, and the others behind the authorities. A line that is taken leads to its
 /// phase.
 pub fn the_setup_comes_first()
-    ensures setup { (says : Outcome) (w : World) (l : SetupLine) → w.phase ≡ Running → step says w (line.Setup l) ≡ Err Order }
+    ensures setup { (says : Outcome) (w : World) (l : SetupLine) → w.phase ≡ Running
+        → step says w (line.Setup l) ≡ Err Order }
     ensures others { (says : Outcome) (w : World) (l : EventLine) → is_peopled w.phase ≡ false
         → step says w (line.Event l) ≡ Err Order }
     ensures reached { (says : Outcome) (w : World) (l : SetupLine)
@@ -37,7 +38,8 @@ pub fn the_setup_comes_first()
 pub fn the_printed_messages_are_the_pool()
     ensures line { (says : Outcome) (w : World) (l : Line) → IfOk (step says w l) (Tells w.pool) }
     ensures script { (saying : Saying) (checks : List CheckParts) (input : List ℕ)
-        → entries_in (run saying checks input).said ≡ entries_from 1 (run saying checks input).world.pool }
+        → entries_in (run saying checks input).said
+        ≡ entries_from 1 (run saying checks input).world.pool }
 {}
 
 /// Small scripts that stop at their first wrong line write that line's number, and why it is wrong.
@@ -56,16 +58,27 @@ pub fn small_scripts_stop_where_they_should()
 /// did without refusing.
 pub fn what_is_told_of_a_world_is_its_own()
     ensures nothing { (checks : List CheckParts) → held_of (first_world checks)
-        ≡ record { directory = no_directory; dishonest = []; logs = []; authorities = []; judged = []; learned = [] } }
-    ensures message { (w : World) (number : ℕ) (p : Pooled) → message_at w number ≡ Some p → bytes_at w number ≡ Some p.bytes }
-    ensures log { (w : World) (number : ℕ) (node : LogNode) → log_at w number ≡ Some node → taken_at w number ≡ Some node.taken }
+        ≡ record {
+          directory = no_directory;
+          dishonest = [];
+          logs = [];
+          authorities = [];
+          judged = [];
+          learned = [];
+        } }
+    ensures message { (w : World) (number : ℕ) (p : Pooled) → message_at w number ≡ Some p
+        → bytes_at w number ≡ Some p.bytes }
+    ensures log { (w : World) (number : ℕ) (node : LogNode) → log_at w number ≡ Some node
+        → taken_at w number ≡ Some node.taken }
 {}
 
 /// A delivery is what its party makes of the message, apart from its world, and what becomes of the world where the party has
 /// replied so. Thus a party may take its messages apart from the world, and what it replied is settled later.
 pub fn a_delivery_is_a_reply_that_is_settled()
-    ensures log { (says : Outcome) (w : World) (message number : ℕ) (node : LogNode) → log_at w number ≡ Some node
-        → delivery says w message number (a_log node) ≡ log_settled w message number (log_apart w message node) }
+    ensures log { (says : Outcome) (w : World) (message number : ℕ) (node : LogNode)
+        → log_at w number ≡ Some node
+        → delivery says w message number (a_log node)
+        ≡ log_settled w message number (log_apart w message node) }
     ensures authority { (says : Outcome) (w : World) (message number : ℕ) (node : AuthorityNode)
         → delivery says w message number (an_authority node)
         ≡ authority_settled w message number (authority_apart says w message node) }

@@ -54,7 +54,8 @@ fn learn_note(
     requires { vec_len rolls.old < vec_capacity rolls.old }
     ensures refused { IfOk result (λ why. why ≡ refused_by clients.old (Some note.now)) }
     ensures clients { OnOk result (clients.new ≡ knows_by clients.old (Some note.now)) }
-    ensures rolls { OnOk result (rolls.new.items ≡ rolls_by clients.old rolls.old.items (Some note.now)) }
+    ensures rolls { OnOk result
+        (rolls.new.items ≡ rolls_by clients.old rolls.old.items (Some note.now)) }
     ensures err { OnErr result ((clients.new ≡ clients.old) × (rolls.new.items ≡ rolls.old.items)) }
 {
     match note.teach(alloc, clients) {
@@ -75,9 +76,12 @@ fn learn_text(
     bytes: &[u8],
 ) -> Result<Option<Unlearnt>, AllocError>
     requires { vec_len rolls.old < vec_capacity rolls.old }
-    ensures refused { IfOk result (λ why. why ≡ refused_by clients.old (note_of (message_in bytes.now))) }
-    ensures clients { OnOk result (clients.new ≡ knows_by clients.old (note_of (message_in bytes.now))) }
-    ensures rolls { OnOk result (rolls.new.items ≡ rolls_by clients.old rolls.old.items (note_of (message_in bytes.now))) }
+    ensures refused { IfOk result (λ why.
+        why ≡ refused_by clients.old (note_of (message_in bytes.now))) }
+    ensures clients { OnOk result
+        (clients.new ≡ knows_by clients.old (note_of (message_in bytes.now))) }
+    ensures rolls { OnOk result
+        (rolls.new.items ≡ rolls_by clients.old rolls.old.items (note_of (message_in bytes.now))) }
     ensures err { OnErr result ((clients.new ≡ clients.old) × (rolls.new.items ≡ rolls.old.items)) }
 {
     match RollNote::read(alloc, bytes)? {
@@ -94,9 +98,12 @@ fn learn(
     number: u64,
     bytes: &[u8],
 ) -> Result<Items<Happening>, AllocError>
-    ensures said { IfOk result (λ said. said ≡ Learnt number (refused_by clients.old (note_of (message_in bytes.now))) ∷ []) }
-    ensures clients { OnOk result (clients.new ≡ knows_by clients.old (note_of (message_in bytes.now))) }
-    ensures rolls { OnOk result (rolls.new.items ≡ rolls_by clients.old rolls.old.items (note_of (message_in bytes.now))) }
+    ensures said { IfOk result (λ said.
+        said ≡ Learnt number (refused_by clients.old (note_of (message_in bytes.now))) ∷ []) }
+    ensures clients { OnOk result
+        (clients.new ≡ knows_by clients.old (note_of (message_in bytes.now))) }
+    ensures rolls { OnOk result
+        (rolls.new.items ≡ rolls_by clients.old rolls.old.items (note_of (message_in bytes.now))) }
     ensures err { OnErr result ((clients.new ≡ clients.old) × (rolls.new.items ≡ rolls.old.items)) }
 {
     rolls.reserve(1)?;
@@ -123,10 +130,12 @@ fn learn_there(
         ≡ Learnt number (refused_by (clients_in known.old) (note_of (message_in bytes.now))) ∷ []) }
     ensures there { is_some known.new ≡ true }
     ensures genesis { genesis_in known.new ≡ genesis_in known.old }
-    ensures clients { OnOk result (clients_in known.new ≡ knows_by (clients_in known.old) (note_of (message_in bytes.now))) }
+    ensures clients { OnOk result
+        (clients_in known.new ≡ knows_by (clients_in known.old) (note_of (message_in bytes.now))) }
     ensures rolls { OnOk result (rolls.new.items
         ≡ rolls_by (clients_in known.old) rolls.old.items (note_of (message_in bytes.now))) }
-    ensures err { OnErr result ((clients_in known.new ≡ clients_in known.old) × (rolls.new.items ≡ rolls.old.items)) }
+    ensures err { OnErr result ((clients_in known.new ≡ clients_in known.old)
+        × (rolls.new.items ≡ rolls.old.items)) }
 {
     match known {
         Some(known) => learn(alloc, &mut known.clients, rolls, number, bytes),

@@ -24,7 +24,8 @@ impl<C: OwnerCheck> World<C> {
     /// The place of the owner with this number, which the word with that number names.
     #[tactic(auto, using(ar_nodes::proofs::Found::found_owners, crate::proofs::Refused::names_owner))]
     pub(crate) fn owner_named(&self, word: usize, number: u16) -> Result<usize, WorldFault>
-        ensures place { IfOk result (λ place. position (is_owner number) self.now.owners ≡ Some place) }
+        ensures place { IfOk result (λ place.
+            position (is_owner number) self.now.owners ≡ Some place) }
         ensures within { IfOk result (λ place. place < length self.now.owners) }
         ensures known { OnOk result (is_ok (named word (owner_at self.now number)) ≡ true) }
         ensures err { IfErr result (λ fault. named word (owner_at self.now number) ≡ Err fault) }

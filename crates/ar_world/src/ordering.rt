@@ -59,7 +59,8 @@ impl<C: OwnerCheck> World<C> {
         input: &LogInput,
     ) -> Result<Items<Happening>, WorldFault>
         requires { IsPlain (input_of input.now) }
-        ensures { StepsBy result self.old self.new (log_order self.old number what event (input_of input.now)) }
+        ensures { StepsBy result self.old self.new
+            (log_order self.old number what event (input_of input.now)) }
     {
         self.need_log(number)?;
         self.need_room()?;

@@ -42,7 +42,8 @@ fn new_owner(
     number: u16,
 ) -> Result<Owner, AllocError>
     ensures { IfOk result (λ owner. owner
-        ≡ first_owner number genesis.now (owner_key secret.now number) (leaves_of (owner_key secret.now number).lms)) }
+        ≡ first_owner number genesis.now (owner_key secret.now number)
+        (leaves_of (owner_key secret.now number).lms)) }
 {
     let key = owner_key(alloc, secret, number)?;
     Owner::new(alloc, number, genesis.copy(alloc)?, key)
@@ -58,8 +59,10 @@ fn add_owner(
 ) -> Result<Items<Happening>, AllocError>
     ensures owners { OnOk result (owners.new.items
         ≡ owners.old.items
-        ++ first_owner number genesis.now (owner_key secret.now number) (leaves_of (owner_key secret.now number).lms) ∷ []) }
-    ensures said { IfOk result (λ said. said ≡ key_made (owner_party number) (owner_key secret.now number) ∷ []) }
+        ++ first_owner number genesis.now (owner_key secret.now number)
+        (leaves_of (owner_key secret.now number).lms) ∷ []) }
+    ensures said { IfOk result (λ said.
+        said ≡ key_made (owner_party number) (owner_key secret.now number) ∷ []) }
     ensures err { OnErr result (owners.new.items ≡ owners.old.items) }
 {
     owners.reserve(1)?;
@@ -100,7 +103,8 @@ impl<C: OwnerCheck> World<C> {
         name: &NameView<'_>,
         owner: u16,
     ) -> Result<Items<Happening>, WorldFault>
-        ensures { StepsBy result self.old self.new (lesson_line self.old lesson authority name.now owner) }
+        ensures { StepsBy result self.old self.new
+            (lesson_line self.old lesson authority name.now owner) }
     {
         if !is_checking(&self.authorities, authority) {
             return Err(WorldFault::Absent(1));

@@ -38,7 +38,8 @@ impl<C: OwnerCheck> World<C> {
         line: &SetupLine,
     ) -> Result<Items<Happening>, WorldFault>
         requires { may_come self.old.phase (leads_to line.now) ≡ true }
-        ensures { StepsBy result self.old self.new (led_to (leads_to line.now) (setup_effect self.old line.now)) }
+        ensures { StepsBy result self.old self.new
+            (led_to (leads_to line.now) (setup_effect self.old line.now)) }
     {
         match line {
             SetupLine::Secret { secret } => self.secret_line(alloc, *secret),
@@ -57,7 +58,8 @@ impl<C: OwnerCheck> World<C> {
         line: &EventLine,
     ) -> Result<Items<Happening>, WorldFault>
         requires { HasParties self.old }
-        ensures { StepsBySome result self.old self.new (λ says. event_effect says self.old line.now) }
+        ensures { StepsBySome result self.old self.new
+            (λ says. event_effect says self.old line.now) }
     {
         match line {
             EventLine::Owner { owner } => self.owner_line(alloc, *owner),
@@ -125,7 +127,8 @@ impl<C: OwnerCheck> World<C> {
     /// A line that is none of the setup, which may come now. No line of the setup may come behind it.
     fn run_line(&mut self, alloc: Global, line: &EventLine) -> Result<Items<Happening>, WorldFault>
         requires { HasParties self.old }
-        ensures { StepsBySome result self.old self.new (λ says. led_to phases.Running (event_effect says self.old line.now)) }
+        ensures { StepsBySome result self.old self.new (λ says.
+            led_to phases.Running (event_effect says self.old line.now)) }
     {
         let said = self.event_line(alloc, line)?;
         self.run();

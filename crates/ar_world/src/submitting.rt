@@ -26,7 +26,8 @@ impl<C: OwnerCheck> World<C> {
     /// The places of the owner that objects and of the draft, where the line is not refused.
     #[tactic(auto, using(crate::proofs::Refused::object_refusals))]
     fn may_object(&self, owner: u16, draft: u64) -> Result<(usize, usize), WorldFault>
-        ensures place { IfOk result (λ places. position (is_owner owner) self.now.owners ≡ Some places.0) }
+        ensures place { IfOk result (λ places.
+            position (is_owner owner) self.now.owners ≡ Some places.0) }
         ensures within { IfOk result (λ places. places.0 < length self.now.owners) }
         ensures draft { IfOk result (λ places. draft ≡ places.1 + 1) }
         ensures found { IfOk result (λ places. places.1 < length self.now.drafts) }
@@ -87,7 +88,8 @@ impl<C: OwnerCheck> World<C> {
         requires place { position (is_owner number) self.old.owners ≡ Some place }
         requires within { place < length self.old.owners }
         requires fits { length handover.items < 2 ^ 16 }
-        ensures { self.new ≡ attached_by self.old (owner_at self.old number) digest.now handover.items }
+        ensures { self.new ≡ attached_by self.old
+            (owner_at self.old number) digest.now handover.items }
     {
         self.owners[place].attach(digest, handover)?;
         Ok(())
@@ -97,7 +99,8 @@ impl<C: OwnerCheck> World<C> {
     #[tactic(auto, using(crate::proofs::Answered::attached_nowhere))]
     fn attach(&mut self, holder: u16, digest: &[u8; 32], handover: Vec<u8>)
         requires { length handover.items < 2 ^ 16 }
-        ensures { self.new ≡ attached_by self.old (owner_at self.old holder) digest.now handover.items }
+        ensures { self.new ≡ attached_by self.old
+            (owner_at self.old holder) digest.now handover.items }
     {
         if let Some(place) = self.place_of_owner(holder) {
             let _ = self.attach_at(place, holder, digest, handover);
@@ -115,10 +118,12 @@ impl<C: OwnerCheck> World<C> {
         digest: &[u8; 32],
     ) -> Result<Items<Happening>, WorldFault>
         requires { place < length self.old.owners }
-        ensures { (me : OwnerState) (found : DraftParts) → me ≡ slice_index_or self.old.owners place me
+        ensures { (me : OwnerState) (found : DraftParts)
+            → me ≡ slice_index_or self.old.owners place me
             → position (is_owner number) self.old.owners ≡ Some place
             → found.owner ≡ holder → digest_of found.cert ≡ digest.now
-            → StepsBy result self.old self.new (Ok (handed self.old number draft found (handover_row me digest.now))) }
+            → StepsBy result self.old self.new
+            (Ok (handed self.old number draft found (handover_row me digest.now))) }
     {
         let said = Vec::with_capacity(alloc, 1)?;
         let owner = Role::Owner.party(number);
@@ -135,7 +140,8 @@ impl<C: OwnerCheck> World<C> {
     /// The places of the owner that signs and of the draft, where the line is not refused.
     #[tactic(auto, using(crate::proofs::Refused::handover_refusals))]
     fn may_hand_over(&self, owner: u16, draft: u64) -> Result<(usize, usize), WorldFault>
-        ensures place { IfOk result (λ places. position (is_owner owner) self.now.owners ≡ Some places.0) }
+        ensures place { IfOk result (λ places.
+            position (is_owner owner) self.now.owners ≡ Some places.0) }
         ensures within { IfOk result (λ places. places.0 < length self.now.owners) }
         ensures draft { IfOk result (λ places. draft ≡ places.1 + 1) }
         ensures found { IfOk result (λ places. places.1 < length self.now.drafts) }

@@ -70,7 +70,8 @@ impl<C: OwnerCheck> Model for World<C> {
       pool = w.pool.messages;
     } };
 
-    ghost invariant = { λ w. IsKeptWorld w.phase w.setup w.log_keys w.directories w.drafts.items w.logs.items };
+    ghost invariant = { λ w. IsKeptWorld w.phase w.setup w.log_keys w.directories w.drafts.items
+        w.logs.items };
 }
 
 impl<C: OwnerCheck> World<C> {

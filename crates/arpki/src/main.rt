@@ -7,10 +7,8 @@
 
 use ar_io::{StdSink, StdSource, words};
 use arpki_play::arpki_main;
-use kept_disk::MemDisk;
 use log_restart::Disks;
 use owner_check::empty_books;
-use std::alloc::Global;
 use std::process::ExitCode;
 
 /// The status where there is no memory for the words and the checks.
@@ -19,21 +17,13 @@ const OUT_OF_MEMORY: u8 = 6;
 /// The most authorities of a script.
 const MOST_AUTHORITIES: usize = 16;
 
-/// Two empty disks, for a log that restarts.
-fn disks(alloc: Global) -> Disks {
-    Disks {
-        before: MemDisk::new(alloc, Vec::new(alloc)),
-        after: MemDisk::new(alloc, Vec::new(alloc)),
-    }
-}
-
 fn main(rt: HostRuntime) -> ExitCode {
     let (Ok(words), Ok(checks)) = (words(&rt), empty_books(rt.alloc(), MOST_AUTHORITIES)) else {
         return ExitCode::from(OUT_OF_MEMORY);
     };
     let mut source = StdSource::new(rt.stdin());
     let mut sink = StdSink::new(rt.stdout());
-    let mut disks = disks(rt.alloc());
+    let mut disks = Disks::empty(rt.alloc());
     let status = arpki_main(
         rt.alloc(),
         &words,

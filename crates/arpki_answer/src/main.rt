@@ -10,7 +10,7 @@ ghost use Rattle.std.specs.Prelude.{◌≡◌, ◌≢◌, ◌+◌, ◌<◌, ◌�
 ghost use Rattle.ar_base.specs.Faults.{HasRisen};
 ghost use Rattle.ar_io.specs.Wrote.{Unchanged};
 ghost use Rattle.ar_run.specs.Answers.{written_of};
-ghost use Rattle.ar_run.specs.Runs.{TakesAtMost, most_bytes};
+ghost use Rattle.ar_run.specs.Runs.{TakesAtMost, most_read_bytes};
 ghost use Rattle.ar_run.specs.Writing.{Writes};
 ghost use Rattle.arpki_answer.specs.Answers.{Answers, BreaksOff, command_of, texts, usage};
 
@@ -51,19 +51,24 @@ fn answer<S: Source, K: Sink>(alloc: Global, words: &[String], source: &mut S, s
     ensures statuses { result ≤ 6 }
 
     // At 0 to 3 the whole answer to the input was written, and the status is the answer's.
-    ensures answered { result < 4 → Answers (command_of (texts words.now)) (S.left source.old) (S.left source.new)
+    ensures answered { result < 4
+        → Answers (command_of (texts words.now)) (S.left source.old) (S.left source.new)
         K.wrote sink.old sink.new result }
     ensures usage { result ≡ 2 → command_of (texts words.now) ≡ None }
-    ensures no_form { command_of (texts words.now) ≡ None → (source.new ≡ source.old) × ((result ≡ 2) ⊎ (result ≡ 5)) }
+    ensures no_form { command_of (texts words.now) ≡ None
+        → (source.new ≡ source.old) × ((result ≡ 2) ⊎ (result ≡ 5)) }
 
     // A fault has its cause in a count of faults, and none is hidden. Before it no more than a front of the answer was written.
     ensures source_fault { result ≡ 4 → HasRisen (S.faults source.old) (S.faults source.new)
         × Unchanged K.wrote sink.old sink.new }
     ensures sink_fault { result ≡ 5 → HasRisen (K.faults sink.old) (K.faults sink.new)
-        × BreaksOff (command_of (texts words.now)) (S.left source.old) (S.left source.new) K.wrote sink.old sink.new }
+        × BreaksOff (command_of (texts words.now)) (S.left source.old)
+        (S.left source.new) K.wrote sink.old sink.new }
     ensures memory { result ≡ 6 → Unchanged K.wrote sink.old sink.new }
-    ensures source_taken { result ≡ 4 → TakesAtMost most_bytes (S.left source.old) (S.left source.new) }
-    ensures memory_taken { result ≡ 6 → TakesAtMost (most_bytes + 1) (S.left source.old) (S.left source.new) }
+    ensures source_taken { result ≡ 4
+        → TakesAtMost most_read_bytes (S.left source.old) (S.left source.new) }
+    ensures memory_taken { result ≡ 6
+        → TakesAtMost (most_read_bytes + 1) (S.left source.old) (S.left source.new) }
     ensures source_uncounted { result ≢ 4 → S.faults source.new ≡ S.faults source.old }
     ensures sink_uncounted { result ≢ 5 → K.faults sink.new ≡ K.faults sink.old }
 {

@@ -12,7 +12,7 @@ use Rattle.party_keys.proofs.Bounds.{length_first}
 use Rattle.lms_tree.specs.declared.public_key.LmsPublic.{LmsPublic}
 use Rattle.ar_lines.specs.Forms.{bytes_of_hex, key_of_hex, name_of, number_of}
 use Rattle.ar_lines.specs.Lines.{is_text}
-use Rattle.arpki_ask.specs.Inquiries.{authorities_at, confirmation_at, directory_at, first_keys_at, inquiry_at, key_at, keys_at, logs_at, name_at, number_at, learnt_of_hex, most_rolls, roll_at, rolls_at}
+use Rattle.arpki_ask.specs.Inquiries.{authorities_at, confirmation_at, directory_at, first_keys_at, inquiry_at, key_in_line, keys_at, logs_at, name_at, number_at, learnt_of_hex, most_rolls, roll_at, rolls_at}
 use Rattle.ar_lines.specs.Readings.{start_of_lines}
 use Rattle.script_text.specs.Forms.{party_count_of, quorum_of}
 use Rattle.ar_lines.specs.Rows.{is_next}
@@ -49,7 +49,7 @@ question_reads question h =
 
 -- ---- the inquiry of `check`
 
-key_reads : (key : LmsPublic) (next : ℕ) (ahead : List (List ℕ)) → IsKey key → key_at (before next (key_line key ∷ ahead)) ≡ Ok (key, before (next + 1) ahead)
+key_reads : (key : LmsPublic) (next : ℕ) (ahead : List (List ℕ)) → IsKey key → key_in_line (before next (key_line key ∷ ahead)) ≡ Ok (key, before (next + 1) ahead)
 key_reads key next ahead h = value_reads (codes "key") (hex_of_key key) key_of_hex key next ahead refl (key_is_word key h) (key_of_hex-key key h)
 
 keys_read : (keys : List LmsPublic) (next : ℕ) (ahead : List (List ℕ)) → All IsKey keys → keys_at (length keys) (before next (map key_line keys ++ ahead)) ≡ Ok (keys, before (next + length keys) ahead)

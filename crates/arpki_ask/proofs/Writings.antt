@@ -4,7 +4,7 @@ use Rattle.std.specs.Fmt.{decimal}
 use Rattle.hex.specs.Hex.{encode_lower}
 use Rattle.lms_tree.specs.declared.public_key.LmsPublic.{LmsPublic}
 use Rattle.party_keys.specs.Directory.{Directory, directory_with}
-use Rattle.arpki_ask.specs.Inquiries.{Inquiry, authorities_at, confirmation_at, directory_at, first_keys_at, inquiry_at, key_at, keys_at, logs_at, name_at, number_at, learnt_of_hex, most_rolls, roll_at, rolls_at}
+use Rattle.arpki_ask.specs.Inquiries.{Inquiry, authorities_at, confirmation_at, directory_at, first_keys_at, inquiry_at, key_in_line, keys_at, logs_at, name_at, number_at, learnt_of_hex, most_rolls, roll_at, rolls_at}
 use Rattle.ar_lines.specs.Forms.{bytes_of_hex, key_of_hex, name_of, number_of}
 use Rattle.ar_lines.specs.Lines.{lines_of}
 use Rattle.script_text.specs.Forms.{party_count_of, quorum_of}
@@ -44,7 +44,7 @@ question_alone input question h = question_is (start_of_lines input) question h
 
 -- ---- the inquiry of `check`
 
-key_is : (at new : LineCursor) (key : LmsPublic) → key_at at ≡ Ok (key, new) → at.ahead ≡ key_line key ∷ new.ahead
+key_is : (at new : LineCursor) (key : LmsPublic) → key_in_line at ≡ Ok (key, new) → at.ahead ≡ key_line key ∷ new.ahead
 key_is at new key h = value_is (codes "key") key_of_hex hex_of_key at new key key_hex_own h
 
 name_is : (at new : LineCursor) (name : List ℕ) → name_at at ≡ Ok (name, new) → at.ahead ≡ named (codes "name") name ∷ new.ahead
@@ -80,7 +80,7 @@ keys_are zero at new keys h =
     let same = ok_is {A = List LmsPublic × LineCursor} ([], at) (keys, new) h in
     (ap (λ (x : List LmsPublic × LineCursor). map key_line x.0 ++ x.1.ahead) same, sym (ap (λ (x : List LmsPublic × LineCursor). length x.0) same))
 keys_are (suc count) at new keys h =
-    let key = bind_ok (key_at at) _ (keys, new) h in
+    let key = bind_ok (key_in_line at) _ (keys, new) h in
     let others = bind_ok (keys_at count key.0.1) _ (keys, new) key.2 in
     let more = keys_are count key.0.1 others.0.1 others.0.0 others.1 in
     let same = ok_is (key.0.0 ∷ others.0.0, others.0.1) (keys, new) others.2 in (

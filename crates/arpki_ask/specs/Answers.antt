@@ -13,7 +13,7 @@ use Rattle.ar_lines.specs.Refusals.{refusal_text}
 use Rattle.ar_lines.specs.declared.refusal.Reason.TheVariants.{Limit}
 use Rattle.ar_lines.specs.declared.refusal.Refusal.{Refusal}
 use Rattle.ar_run.specs.Answers.{Answer, one_line}
-use Rattle.ar_run.specs.Runs.{most_bytes}
+use Rattle.ar_run.specs.Runs.{most_read_bytes}
 use Rattle.report_text.specs.Verdicts.{said_of}
 use Rattle.arpki_ask.specs.Inquiries.{Inquiry, inquiry_at}
 use Rattle.arpki_ask.specs.Questions.{Question, question_at}
@@ -71,7 +71,7 @@ answer_of Check input = unless_refused found (inquiry_at (start_of_lines input))
 
 -- this answer to an input, where the input is not too long
 abbrev pub unless_long : List ℕ → Answer → Answer
-unless_long input answer = if nat_lt most_bytes (length input) then refused_line too_long else answer
+unless_long input answer = if nat_lt most_read_bytes (length input) then refused_line too_long else answer
 
 -- the answer of a command to an input
 abbrev pub answer_to : Command → List ℕ → Answer

@@ -31,14 +31,14 @@ abbrev pub authorities_at : LineCursor → LineReading ℕ
 authorities_at at = value_at (codes "authorities") party_count_of at
 
 -- `key <112 hex>`: the key of the next party
-abbrev pub key_at : LineCursor → LineReading LmsPublic
-key_at at = value_at (codes "key") key_of_hex at
+abbrev pub key_in_line : LineCursor → LineReading LmsPublic
+key_in_line at = value_at (codes "key") key_of_hex at
 
 -- so many keys, a line each
 unfoldable pub keys_at : ℕ → LineCursor → LineReading (List LmsPublic)
 keys_at zero at = Ok ([], at)
 keys_at (suc count) at = do
-  key ← key_at at
+  key ← key_in_line at
   others ← keys_at count key.1
   Ok (key.0 ∷ others.0, others.1)
 

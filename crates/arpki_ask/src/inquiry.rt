@@ -31,7 +31,15 @@ impl Model for Inquiry {
 
     ghost Value = { Spec };
 
-    ghost view = { λ i. record { asked = record { keys = i.directory; name = i.name; epoch = i.now; age = i.age }; confirmation = i.confirmation.items } };
+    ghost view = { λ i. record {
+      asked = record {
+        keys = i.directory;
+        name = i.name;
+        epoch = i.now;
+        age = i.age;
+      };
+      confirmation = i.confirmation.items;
+    } };
 }
 
 /// The lines of an input.
@@ -72,7 +80,8 @@ fn judged(alloc: Global, inquiry: Inquiry) -> Result<Answer, AllocError>
 
 /// The answer to an input that is not too long.
 pub fn answer(alloc: Global, input: &[u8]) -> Result<Answer, AllocError>
-    ensures { IfOk result (λ answer. answer ≡ unless_refused found (inquiry_at (start_of_lines input.now))) }
+    ensures { IfOk result (λ answer.
+        answer ≡ unless_refused found (inquiry_at (start_of_lines input.now))) }
 {
     match read(alloc, input) {
         Ok(inquiry) => judged(alloc, inquiry),

@@ -20,7 +20,8 @@ fn status(said: &Said) -> u8
 
 /// The answer that tells it.
 pub fn tell(alloc: Global, said: &Said) -> Result<Answer, AllocError>
-    ensures { IfOk result (λ answer. answer ≡ one_line (said_text said.now) (said_status said.now)) }
+    ensures { IfOk result (λ answer.
+        answer ≡ one_line (said_text said.now) (said_status said.now)) }
 {
     let mut line = Vec::new(alloc);
     say(alloc, said, &mut line)?;

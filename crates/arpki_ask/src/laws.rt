@@ -15,7 +15,8 @@ pub fn a_question_is_read_as_it_is_written()
 
 /// A question is read from the lines that write it, and from no others.
 pub fn only_written_questions_are_read()
-    ensures { (input : List ℕ) (question : Question) → question_at (start_of_lines input) ≡ Ok question
+    ensures { (input : List ℕ) (question : Question)
+        → question_at (start_of_lines input) ≡ Ok question
         → lines_of input ≡ question_lines question }
 {}
 
@@ -28,5 +29,6 @@ pub fn an_inquiry_is_read_as_it_is_written()
 /// An inquiry is read from the lines that write it, and from no others.
 pub fn only_written_inquiries_are_read()
     ensures { (input : List ℕ) (inquiry : Inquiry) → inquiry_at (start_of_lines input) ≡ Ok inquiry
-        → (asking : Asking) × (IsLearnt asking × ((lines_of input ≡ inquiry_lines asking) × (asking.inquiry ≡ inquiry))) }
+        → (asking : Asking) × (IsLearnt asking
+        × ((lines_of input ≡ inquiry_lines asking) × (asking.inquiry ≡ inquiry))) }
 {}

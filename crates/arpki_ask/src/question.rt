@@ -25,7 +25,11 @@ impl Model for Question {
 
     ghost Value = { Spec };
 
-    ghost view = { λ q. record { key = q.key; message = q.message.items; signature = q.signature.items } };
+    ghost view = { λ q. record {
+      key = q.key;
+      message = q.message.items;
+      signature = q.signature.items;
+    } };
 }
 
 /// A line with a public key.
@@ -40,7 +44,8 @@ fn key(lines: &mut Lines) -> Result<LmsPublic, Refusal>
 /// A line with the hex of some bytes.
 #[tactic(auto, unfolding(ar_lines::specs::Readings::word_at))]
 fn bytes(alloc: Global, lines: &mut Lines) -> Result<Vec<u8>, LineFault>
-    ensures { FollowsUnless (λ bytes. bytes.items) result lines.new (word_at bytes_of_hex lines.old) }
+    ensures { FollowsUnless (λ bytes.
+        bytes.items) result lines.new (word_at bytes_of_hex lines.old) }
 {
     let word = lines.line()?;
     word.bytes(alloc)
@@ -65,7 +70,8 @@ fn read(alloc: Global, input: &[u8]) -> Result<Question, LineFault>
 
 /// The answer to an input that is not too long.
 pub fn answer(alloc: Global, input: &[u8]) -> Result<Answer, AllocError>
-    ensures { IfOk result (λ answer. answer ≡ unless_refused judged (question_at (start_of_lines input.now))) }
+    ensures { IfOk result (λ answer.
+        answer ≡ unless_refused judged (question_at (start_of_lines input.now))) }
 {
     match read(alloc, input) {
         Ok(question) => {

@@ -3,7 +3,7 @@
 //! `specs/Inquiries.antt` says for each call which lines it reads, and `specs/Written.antt` how they are written.
 
 ghost use Rattle.std.specs.Prelude.{◌≡◌, true, IfOk, length};
-ghost use Rattle.arpki_ask.specs.Inquiries.{authorities_at, confirmation_at, directory_at, first_keys_at, key_at, keys_at, logs_at, name_at, number_at};
+ghost use Rattle.arpki_ask.specs.Inquiries.{authorities_at, confirmation_at, directory_at, first_keys_at, key_in_line, keys_at, logs_at, name_at, number_at};
 ghost use Rattle.script_text.specs.Forms.{party_count_of, quorum_of};
 ghost use Rattle.ar_lines.specs.Readings.{Follows, FollowsUnless, spelled};
 ghost use Rattle.party_keys.specs.Directory.{is_party_count, is_quorum};
@@ -58,7 +58,7 @@ fn authorities(lines: &mut Lines) -> Result<u16, Refusal>
 /// `key <112 hex>`: the key of the next party.
 #[tactic(auto, unfolding(ar_lines::specs::Rows::value_at))]
 pub fn key(lines: &mut Lines) -> Result<LmsPublic, Refusal>
-    ensures { Follows (λ key. key) result lines.new (key_at lines.old) }
+    ensures { Follows (λ key. key) result lines.new (key_in_line lines.old) }
 {
     let field = lines.field(b"key")?;
     field.key()

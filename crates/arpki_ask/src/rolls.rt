@@ -44,7 +44,8 @@ fn learnt_from(
 
 /// The directory that learnt from the RollNote that a word spells.
 fn learnt(alloc: Global, word: &Word, directory: Directory) -> Result<Directory, LineFault>
-    ensures { ReadsUnless (λ learnt. learnt) result (spelled word.now (learnt_of_hex directory word.now.text)) }
+    ensures { ReadsUnless (λ learnt.
+        learnt) result (spelled word.now (learnt_of_hex directory word.now.text)) }
 {
     let bytes = word.bytes(alloc)?;
     match learnt_from(alloc, directory, &bytes)? {
@@ -65,7 +66,8 @@ fn roll(alloc: Global, lines: &mut Lines, directory: Directory) -> Result<Direct
 /// The directory that learnt from the lines `roll`, of which there are at most 64.
 #[tactic(auto, using(crate::proofs::RollLines::roll_lines))]
 pub fn rolls(alloc: Global, lines: &mut Lines, directory: Directory) -> Result<Directory, LineFault>
-    ensures { FollowsUnless (λ learnt. learnt) result lines.new (rolls_at most_rolls directory lines.old) }
+    ensures { FollowsUnless (λ learnt.
+        learnt) result lines.new (rolls_at most_rolls directory lines.old) }
 {
     let mut directory = directory;
     for _ in 0..MOST_ROLLS {

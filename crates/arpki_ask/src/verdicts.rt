@@ -9,7 +9,8 @@ use std::alloc::{AllocError, Global};
 
 /// The answer that tells a verdict on a signature.
 pub fn tell(alloc: Global, verdict: Verdict) -> Result<Answer, AllocError>
-    ensures { IfOk result (λ answer. answer ≡ one_line (verdict_text verdict) (verdict_status verdict)) }
+    ensures { IfOk result (λ answer.
+        answer ≡ one_line (verdict_text verdict) (verdict_status verdict)) }
 {
     match verdict {
         Verdict::Valid => Answer::one_line(alloc, b"valid".to_vec(alloc)?, 0),

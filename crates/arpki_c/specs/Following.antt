@@ -18,12 +18,12 @@ use Rattle.client_rule.specs.declared.judgement.Judgement.TheVariants as judgeme
 use Rattle.party_keys.specs.Directory.{Directory}
 use Rattle.arpki_c.specs.Stored.{book_stored, changes_in}
 use Rattle.arpki_c.specs.Told.{accepted_answer, asked_by, fault_answer, judgement_answer, no_memory, said}
-use Rattle.arpki_c.specs.declared.answers.Answer.{Answer}
+use Rattle.arpki_c.specs.declared.answers.CallAnswer.{CallAnswer}
 use Rattle.arpki_c.specs.declared.followed.Followed.{Followed}
 use Rattle.arpki_c.specs.declared.keys.KeysFault.{KeysFault}
 use Rattle.arpki_c.specs.declared.pins.PinFault.{PinFault}
 use Rattle.arpki_c.specs.declared.pins.PinFault.TheVariants as pin_fault
-use Rattle.arpki_c.specs.declared.questions.Question.{Question}
+use Rattle.arpki_c.specs.declared.questions.CallQuestion.{CallQuestion}
 
 -- ---- what a confirmation shows, whether or not it is accepted
 
@@ -55,7 +55,7 @@ at_front text = text ++ drop (length text) (replicate 412 0)
 -- ---- 12 full, 13 bad pin, 14 bad links
 
 -- an answer behind so many links, and nothing to keep
-abbrev pub keeping_nothing : Answer → ℕ → Followed
+abbrev pub keeping_nothing : CallAnswer → ℕ → Followed
 keeping_nothing answer links = record { answer = answer; first_len = 0; links = links; keep = 0; first = replicate 412 0 }
 
 -- an outcome with a number, behind so many links
@@ -116,7 +116,7 @@ unless_wrong (Ok told) = told
 unless_wrong (Err wrong) = fault_following wrong
 
 -- to who trusts the directory, or whose keys make none
-abbrev pub following_told : Result Directory KeysFault → Question → List ℕ → List ℕ → Followed
+abbrev pub following_told : Result Directory KeysFault → CallQuestion → List ℕ → List ℕ → Followed
 following_told (Err wrong) question pin links = keeping_nothing (fault_answer wrong) 0
 following_told (Ok keys) question pin links = unless_wrong (following_by (asked_by keys question) question.confirmation.now pin links)
 

@@ -8,10 +8,10 @@ use Rattle.arpki_c.specs.Given.{directory_from}
 use Rattle.arpki_c.specs.Learning.{lesson_told}
 use Rattle.arpki_c.specs.declared.keys.Entry.{Entry}
 use Rattle.arpki_c.specs.declared.keys.KeysFault.{KeysFault}
-use Rattle.arpki_c.specs.declared.learning.Lesson.{Lesson}
+use Rattle.arpki_c.specs.declared.learning.CallLesson.{CallLesson}
 
 -- the entries of a caller who was told this: where the outcome is 0, the new one stands behind the others
-abbrev pub keeping : List Entry → Lesson → List Entry
+abbrev pub keeping : List Entry → CallLesson → List Entry
 keeping entries lesson = if lesson.outcome == 0 then entries ++ lesson.entry ∷ [] else entries
 
 -- the entries of a caller who learns from a note, with these keys of generation 0

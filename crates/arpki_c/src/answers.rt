@@ -22,7 +22,7 @@ const NO_POSSESSION: u32 = 5;
 /// What is told of a confirmation or of a server. What an outcome does not speak of is zero.
 #[repr(C)]
 #[derive(Clone, Copy, PartialEq, Eq)]
-pub struct Answer {
+pub struct CallAnswer {
     /// The epoch at whose end the name has the certificate, or none.
     pub epoch: u64,
     /// The serial number of the certificate.
@@ -39,12 +39,12 @@ pub struct Answer {
     pub check: u32,
 }
 
-impl Answer {
+impl CallAnswer {
     /// An outcome with a number, and nothing else.
-    pub(crate) fn said(outcome: u32, check: u32) -> Answer
+    pub(crate) fn said(outcome: u32, check: u32) -> CallAnswer
         ensures { result ≡ said outcome check }
     {
-        Answer {
+        CallAnswer {
             epoch: 0,
             serial: 0,
             subject: [0; 56],
@@ -56,10 +56,10 @@ impl Answer {
     }
 
     /// A certificate that is accepted.
-    fn accepted(certificate: &CertView, digest: [u8; 32], epoch: u64, root: [u8; 32]) -> Answer
+    fn accepted(certificate: &CertView, digest: [u8; 32], epoch: u64, root: [u8; 32]) -> CallAnswer
         ensures { result ≡ accepted_answer certificate.now digest epoch root }
     {
-        Answer {
+        CallAnswer {
             epoch,
             serial: certificate.serial(),
             subject: certificate.subject().bytes(),
@@ -71,18 +71,18 @@ impl Answer {
     }
 
     /// That the name has none.
-    fn absent(epoch: u64, root: [u8; 32]) -> Answer
+    fn absent(epoch: u64, root: [u8; 32]) -> CallAnswer
         ensures { result ≡ absent_answer epoch root }
     {
-        Answer {
+        CallAnswer {
             epoch,
             root,
-            ..Answer::said(ABSENT, 0)
+            ..CallAnswer::said(ABSENT, 0)
         }
     }
 
     /// What is told of a judgement.
-    pub(crate) fn of_judgement(judgement: &Judgement) -> Answer
+    pub(crate) fn of_judgement(judgement: &Judgement) -> CallAnswer
         ensures { result ≡ judgement_answer judgement.now }
     {
         match judgement {
@@ -91,14 +91,14 @@ impl Answer {
                 digest,
                 epoch,
                 root,
-            } => Answer::accepted(certificate, *digest, *epoch, *root),
-            Judgement::Absent { epoch, root } => Answer::absent(*epoch, *root),
-            Judgement::Refused(check) => Answer::said(REFUSED, u32::from(*check)),
+            } => CallAnswer::accepted(certificate, *digest, *epoch, *root),
+            Judgement::Absent { epoch, root } => CallAnswer::absent(*epoch, *root),
+            Judgement::Refused(check) => CallAnswer::said(REFUSED, u32::from(*check)),
         }
     }
 
     /// What is told of a connection.
-    pub(crate) fn of_connection(connection: &Connection) -> Answer
+    pub(crate) fn of_connection(connection: &Connection) -> CallAnswer
         ensures { result ≡ connection_answer connection.now }
     {
         match connection {
@@ -107,22 +107,22 @@ impl Answer {
                 digest,
                 epoch,
                 root,
-            } => Answer::accepted(certificate, *digest, *epoch, *root),
-            Connection::Absent { epoch, root } => Answer::absent(*epoch, *root),
-            Connection::Refused(check) => Answer::said(REFUSED, u32::from(*check)),
+            } => CallAnswer::accepted(certificate, *digest, *epoch, *root),
+            Connection::Absent { epoch, root } => CallAnswer::absent(*epoch, *root),
+            Connection::Refused(check) => CallAnswer::said(REFUSED, u32::from(*check)),
             Connection::NoPossession(condition) => {
-                Answer::said(NO_POSSESSION, u32::from(*condition))
+                CallAnswer::said(NO_POSSESSION, u32::from(*condition))
             }
         }
     }
 
     /// What is told of keys that make no directory.
-    pub(crate) fn of_fault(fault: KeysFault) -> Answer
+    pub(crate) fn of_fault(fault: KeysFault) -> CallAnswer
         ensures { result ≡ fault_answer fault }
     {
         match fault {
-            KeysFault::Memory => Answer::said(NO_MEMORY, 0),
-            _ => Answer::said(BAD_KEYS, fault.number()),
+            KeysFault::Memory => CallAnswer::said(NO_MEMORY, 0),
+            _ => CallAnswer::said(BAD_KEYS, fault.number()),
         }
     }
 }

@@ -1,7 +1,7 @@
 ghost use Rattle.std.specs.Prelude.{◌≡◌, length};
 ghost use Rattle.arpki_c.specs.Following.{at_front, fault_following, first_text, following, keeping_nothing, link_following, pinning, said_behind};
 
-use crate::answers::{Answer, NO_MEMORY, REFUSED};
+use crate::answers::{CallAnswer, NO_MEMORY, REFUSED};
 use crate::pins::PinFault;
 use ar_bytes::{write_bytes, write_u8, write_u16};
 use ar_cert::CertView;
@@ -43,7 +43,7 @@ const FIRST_SIZE: usize = 412;
 pub struct Followed {
     /// What is told of the confirmation. Beside the outcomes of a confirmation alone there are 6 gone, 7 no links, 8 bad
     /// endorsement, 9 bad update, 10 wrong end, 11 long, 12 full, 13 bad pin, 14 bad links.
-    pub answer: Answer,
+    pub answer: CallAnswer,
     /// How many bytes of `first` are to be kept.
     pub first_len: usize,
     /// How many links hold, from the first on.
@@ -72,7 +72,7 @@ fn first_text(certificate: &CertView) -> ([u8; FIRST_SIZE], usize)
 
 impl Followed {
     /// An answer behind so many links, and nothing to keep.
-    pub(crate) fn keeping_nothing(answer: Answer, links: usize) -> Followed
+    pub(crate) fn keeping_nothing(answer: CallAnswer, links: usize) -> Followed
         ensures { result ≡ keeping_nothing answer links }
     {
         Followed {
@@ -88,7 +88,7 @@ impl Followed {
     fn said(outcome: u32, check: u32, links: usize) -> Followed
         ensures { result ≡ said_behind outcome check links }
     {
-        Followed::keeping_nothing(Answer::said(outcome, check), links)
+        Followed::keeping_nothing(CallAnswer::said(outcome, check), links)
     }
 
     /// A certificate that is pinned now.
@@ -96,11 +96,11 @@ impl Followed {
         ensures { result ≡ pinning shown.now }
     {
         let Judgement::Accepted { certificate, .. } = shown else {
-            return Followed::keeping_nothing(Answer::of_judgement(shown), 0);
+            return Followed::keeping_nothing(CallAnswer::of_judgement(shown), 0);
         };
         let (first, first_len) = first_text(certificate);
         Followed {
-            answer: Answer::of_judgement(shown),
+            answer: CallAnswer::of_judgement(shown),
             first_len,
             links: 0,
             keep: KEEP_FIRST,
@@ -126,11 +126,11 @@ impl Followed {
     pub(crate) fn of_pinned(pinned: Pinned, shown: &Judgement) -> Followed
         ensures { result ≡ following pinned shown.now }
     {
-        let judged = Answer::of_judgement(shown);
+        let judged = CallAnswer::of_judgement(shown);
         match pinned {
             Pinned::Refused(check) => Followed::said(REFUSED, u32::from(check), 0),
             Pinned::Gone => Followed::keeping_nothing(
-                Answer {
+                CallAnswer {
                     outcome: GONE,
                     ..judged
                 },

@@ -5,11 +5,11 @@ ghost use Rattle.arpki_c.specs.Given.{directory_given};
 ghost use Rattle.arpki_c.specs.Told.{asked_by};
 ghost use Rattle.arpki_c.specs.declared.pins.PinFault.TheVariants.{Memory};
 
-use crate::answers::Answer;
+use crate::answers::CallAnswer;
 use crate::followed::Followed;
 use crate::keys::{Keys, directory_of};
 use crate::pins::{PinFault, book_of, changes_of};
-use crate::questions::Question;
+use crate::questions::CallQuestion;
 use client_rule::{ConfView, Judgement};
 use party_keys::Directory;
 use std::alloc::Global;
@@ -37,12 +37,13 @@ fn shown(confirmation: &[u8]) -> Judgement<'_>
 fn following_by(
     alloc: Global,
     directory: &Directory,
-    question: &Question,
+    question: &CallQuestion,
     pin: &[u8],
     links: &[u8],
 ) -> Result<Followed, PinFault>
     ensures { GivesUnless Memory (λ told. told) result
-        (following_by (asked_by directory.now question.now) question.now.confirmation.now pin.now links.now) }
+        (following_by (asked_by directory.now question.now) question.now.confirmation.now pin.now
+        links.now) }
 {
     let mut book = book_of(alloc, question.name, pin)?;
     let changes = changes_of(alloc, links, PinFault::Links)?;
@@ -62,15 +63,16 @@ fn following_by(
 fn following_told(
     alloc: Global,
     keys: &Keys,
-    question: &Question,
+    question: &CallQuestion,
     pin: &[u8],
     links: &[u8],
 ) -> Followed
-    ensures { IsFollowingUnlessMemory result (following_told (directory_given keys.now) question.now pin.now links.now) }
+    ensures { IsFollowingUnlessMemory result
+        (following_told (directory_given keys.now) question.now pin.now links.now) }
 {
     let directory = match directory_of(alloc, keys) {
         Ok(directory) => directory,
-        Err(fault) => return Followed::keeping_nothing(Answer::of_fault(fault), 0),
+        Err(fault) => return Followed::keeping_nothing(CallAnswer::of_fault(fault), 0),
     };
     match following_by(alloc, &directory, question, pin, links) {
         Ok(told) => told,
@@ -85,12 +87,13 @@ fn following_told(
 pub extern "C" fn arpki_follow(
     alloc: Global,
     keys: &Keys,
-    question: &Question,
+    question: &CallQuestion,
     pin: &[u8],
     links: &[u8],
     followed: &mut Followed,
 ) -> u32
-    ensures told { IsFollowingUnlessMemory followed.new (following_told (directory_given keys.now) question.now pin.now links.now) }
+    ensures told { IsFollowingUnlessMemory followed.new
+        (following_told (directory_given keys.now) question.now pin.now links.now) }
     ensures outcome { result ≡ followed.new.answer.outcome }
 {
     *followed = following_told(alloc, keys, question, pin, links);

@@ -2,26 +2,26 @@ ghost use Rattle.std.specs.Prelude.{◌≡◌, ◌⊎◌};
 ghost use Rattle.arpki_c.specs.Given.{directory_given};
 ghost use Rattle.arpki_c.specs.Told.{IsUnlessMemory, connection_told, judgement_told};
 
-use crate::answers::Answer;
+use crate::answers::CallAnswer;
 use crate::keys::{Keys, directory_of};
-use crate::questions::Question;
+use crate::questions::CallQuestion;
 use client_rule::judge;
 use possession::connect;
 use std::alloc::Global;
 
 /// What is told of a confirmation.
-fn judged(alloc: Global, keys: &Keys, question: &Question) -> Answer
+fn judged(alloc: Global, keys: &Keys, question: &CallQuestion) -> CallAnswer
     ensures { IsUnlessMemory result (judgement_told (directory_given keys.now) question.now) }
 {
     match directory_of(alloc, keys) {
-        Ok(directory) => Answer::of_judgement(&judge(
+        Ok(directory) => CallAnswer::of_judgement(&judge(
             &directory,
             question.name,
             question.confirmation,
             question.epoch,
             question.age,
         )),
-        Err(fault) => Answer::of_fault(fault),
+        Err(fault) => CallAnswer::of_fault(fault),
     }
 }
 
@@ -31,10 +31,11 @@ fn judged(alloc: Global, keys: &Keys, question: &Question) -> Answer
 pub extern "C" fn arpki_judge(
     alloc: Global,
     keys: &Keys,
-    question: &Question,
-    answer: &mut Answer,
+    question: &CallQuestion,
+    answer: &mut CallAnswer,
 ) -> u32
-    ensures told { IsUnlessMemory answer.new (judgement_told (directory_given keys.now) question.now) }
+    ensures told { IsUnlessMemory answer.new
+        (judgement_told (directory_given keys.now) question.now) }
     ensures outcome { result ≡ answer.new.outcome }
 {
     *answer = judged(alloc, keys, question);
@@ -45,14 +46,15 @@ pub extern "C" fn arpki_judge(
 fn connected(
     alloc: Global,
     keys: &Keys,
-    question: &Question,
+    question: &CallQuestion,
     challenge: &[u8; 32],
     response: &[u8],
-) -> Answer
-    ensures { IsUnlessMemory result (connection_told (directory_given keys.now) question.now challenge.now response.now) }
+) -> CallAnswer
+    ensures { IsUnlessMemory result
+        (connection_told (directory_given keys.now) question.now challenge.now response.now) }
 {
     match directory_of(alloc, keys) {
-        Ok(directory) => Answer::of_connection(&connect(
+        Ok(directory) => CallAnswer::of_connection(&connect(
             &directory,
             question.name,
             question.confirmation,
@@ -61,7 +63,7 @@ fn connected(
             challenge,
             response,
         )),
-        Err(fault) => Answer::of_fault(fault),
+        Err(fault) => CallAnswer::of_fault(fault),
     }
 }
 
@@ -71,12 +73,13 @@ fn connected(
 pub extern "C" fn arpki_connect(
     alloc: Global,
     keys: &Keys,
-    question: &Question,
+    question: &CallQuestion,
     challenge: &[u8; 32],
     response: &[u8],
-    answer: &mut Answer,
+    answer: &mut CallAnswer,
 ) -> u32
-    ensures told { IsUnlessMemory answer.new (connection_told (directory_given keys.now) question.now challenge.now response.now) }
+    ensures told { IsUnlessMemory answer.new
+        (connection_told (directory_given keys.now) question.now challenge.now response.now) }
     ensures outcome { result ≡ answer.new.outcome }
 {
     *answer = connected(alloc, keys, question, challenge, response);

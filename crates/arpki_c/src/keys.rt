@@ -108,7 +108,8 @@ fn read_keys(
     texts: &[[u8; 56]],
     fault: KeysFault,
 ) -> Result<Vec<LmsPublic>, KeysFault>
-    ensures tells { GivesUnless Memory (λ keys. keys.items) result (keys_behind fault [] texts.now) }
+    ensures tells { GivesUnless Memory (λ keys.
+        keys.items) result (keys_behind fault [] texts.now) }
     ensures count { IfOk result (λ keys. length keys.items ≡ length texts.now) }
 {
     let mut keys = Vec::new(alloc);

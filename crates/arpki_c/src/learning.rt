@@ -29,7 +29,7 @@ const OTHER_KEY: u32 = 7;
 /// What is learnt of a RollNote. The entry is zero but where the outcome is 0.
 #[repr(C)]
 #[derive(Clone, Copy, PartialEq, Eq)]
-pub struct Lesson {
+pub struct CallLesson {
     /// The key that was learnt.
     pub entry: Entry,
     /// 0 learnt, 1 known, 2 no note, 3 no memory, 4 bad keys, 5 unknown party, 6 bad signature, 7 other key.
@@ -50,12 +50,12 @@ fn entry_of(note: &RollNote) -> Entry
     }
 }
 
-impl Lesson {
+impl CallLesson {
     /// An outcome with a number, and no entry.
-    fn said(outcome: u32, check: u32) -> Lesson
+    fn said(outcome: u32, check: u32) -> CallLesson
         ensures { result ≡ said_lesson outcome check }
     {
-        Lesson {
+        CallLesson {
             entry: Entry {
                 generation: 0,
                 number: 0,
@@ -68,59 +68,64 @@ impl Lesson {
     }
 
     /// What is told of keys that make no directory.
-    fn of_fault(fault: KeysFault) -> Lesson
+    fn of_fault(fault: KeysFault) -> CallLesson
         ensures { result ≡ fault_lesson fault }
     {
         match fault {
-            KeysFault::Memory => Lesson::said(NO_MEMORY, 0),
-            _ => Lesson::said(BAD_KEYS, fault.number()),
+            KeysFault::Memory => CallLesson::said(NO_MEMORY, 0),
+            _ => CallLesson::said(BAD_KEYS, fault.number()),
         }
     }
 
     /// What is told of a note, by what the directory learnt.
-    fn of_learned(learned: Result<Learned, LearnFault>, note: &RollNote) -> Lesson
+    fn of_learned(learned: Result<Learned, LearnFault>, note: &RollNote) -> CallLesson
         ensures { result ≡ learnt_lesson learned note.now }
     {
         match learned {
-            Ok(Learned::New) => Lesson {
+            Ok(Learned::New) => CallLesson {
                 entry: entry_of(note),
                 outcome: LEARNT,
                 check: 0,
             },
-            Ok(Learned::Again) => Lesson::said(KNOWN, 0),
-            Err(LearnFault::Unknown) => Lesson::said(UNKNOWN_PARTY, 0),
-            Err(LearnFault::Bad(test)) => Lesson::said(BAD_SIGNATURE, u32::from(test)),
-            Err(LearnFault::Other) => Lesson::said(OTHER_KEY, 0),
-            Err(LearnFault::Memory) => Lesson::said(NO_MEMORY, 0),
+            Ok(Learned::Again) => CallLesson::said(KNOWN, 0),
+            Err(LearnFault::Unknown) => CallLesson::said(UNKNOWN_PARTY, 0),
+            Err(LearnFault::Bad(test)) => CallLesson::said(BAD_SIGNATURE, u32::from(test)),
+            Err(LearnFault::Other) => CallLesson::said(OTHER_KEY, 0),
+            Err(LearnFault::Memory) => CallLesson::said(NO_MEMORY, 0),
         }
     }
 }
 
 /// What a directory learns of bytes.
-fn lesson_on(alloc: Global, directory: Directory, bytes: &[u8]) -> Lesson
+fn lesson_on(alloc: Global, directory: Directory, bytes: &[u8]) -> CallLesson
     ensures { IsUnlessNoMemory result (lesson_on directory (note_of (message_in bytes.now))) }
 {
     let mut directory = directory;
     match RollNote::read(alloc, bytes) {
-        Ok(Some(note)) => Lesson::of_learned(note.teach(alloc, &mut directory), &note),
-        Ok(None) => Lesson::said(NO_NOTE, 0),
-        Err(AllocError) => Lesson::said(NO_MEMORY, 0),
+        Ok(Some(note)) => CallLesson::of_learned(note.teach(alloc, &mut directory), &note),
+        Ok(None) => CallLesson::said(NO_NOTE, 0),
+        Err(AllocError) => CallLesson::said(NO_MEMORY, 0),
     }
 }
 
 /// What is learnt of a RollNote.
-fn learnt(alloc: Global, keys: &Keys, note: &[u8]) -> Lesson
+fn learnt(alloc: Global, keys: &Keys, note: &[u8]) -> CallLesson
     ensures { IsUnlessNoMemory result (lesson_told (directory_given keys.now) note.now) }
 {
     match directory_of(alloc, keys) {
         Ok(directory) => lesson_on(alloc, directory, note),
-        Err(fault) => Lesson::of_fault(fault),
+        Err(fault) => CallLesson::of_fault(fault),
     }
 }
 
 /// Learns from the bytes of a RollNote: writes the lesson, all of it, and returns its outcome.
 #[unsafe(no_mangle)]
-pub extern "C" fn arpki_learn(alloc: Global, keys: &Keys, note: &[u8], lesson: &mut Lesson) -> u32
+pub extern "C" fn arpki_learn(
+    alloc: Global,
+    keys: &Keys,
+    note: &[u8],
+    lesson: &mut CallLesson,
+) -> u32
     ensures told { IsUnlessNoMemory lesson.new (lesson_told (directory_given keys.now) note.now) }
     ensures outcome { result ≡ lesson.new.outcome }
 {

@@ -3,7 +3,7 @@
 //!
 //! What a client knows is plain data of the caller's: keys (`Keys`), and of each name that it pins the bytes of a pin. Each
 //! call makes of them what the libraries below work with, answers, and keeps nothing: there is no handle and no state, so
-//! threads share what they only read. An answer (`Answer`, `Followed`, `Lesson`) is written whole, whatever it is, and the
+//! threads share what they only read. An answer (`CallAnswer`, `Followed`, `CallLesson`) is written whole, whatever it is, and the
 //! number that a call returns stands in it too.
 //!
 //! In `specs/`, `Given` says which directory a caller's keys make, `Stored` which book the bytes of a pin make, `Told` what
@@ -27,11 +27,11 @@ mod signatures;
 #[cfg(test)]
 mod tests;
 
-pub use answers::Answer;
+pub use answers::CallAnswer;
 pub use followed::Followed;
 pub use following::arpki_follow;
 pub use judging::{arpki_connect, arpki_judge};
 pub use keys::{Entry, Keys};
-pub use learning::{Lesson, arpki_learn};
-pub use questions::Question;
+pub use learning::{CallLesson, arpki_learn};
+pub use questions::CallQuestion;
 pub use signatures::{arpki_abi, arpki_verify};

@@ -46,7 +46,8 @@ impl<T: Drop> From<AllocFailed<T>> for PinFault {
 /// The change that stands next, or this fault where none does.
 #[tactic(auto, unfolding(crate::specs::Stored::next_change))]
 fn next_change(alloc: Global, fields: &mut Fields, fault: PinFault) -> Result<Change, PinFault>
-    ensures { GivesUnless Memory (λ change. (change, fields.new)) result (next_change fault fields.old) }
+    ensures { GivesUnless Memory (λ change.
+        (change, fields.new)) result (next_change fault fields.old) }
 {
     match Change::take(alloc, fields) {
         Ok(change) => Ok(change),

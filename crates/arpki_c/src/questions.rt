@@ -1,7 +1,7 @@
 /// What a caller asks of a confirmation.
 #[repr(C)]
 #[derive(Drop)]
-pub struct Question<'a> {
+pub struct CallQuestion<'a> {
     /// The name of the domain.
     pub name: &'a [u8],
     /// The bytes of the confirmation.

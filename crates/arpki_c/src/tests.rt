@@ -1,8 +1,8 @@
 ghost use Rattle.std.specs.Prelude.{◌≤◌};
 
 use crate::{
-    Answer, Entry, Followed, Keys, Lesson, Question, arpki_abi, arpki_connect, arpki_follow,
-    arpki_judge, arpki_learn, arpki_verify,
+    CallAnswer, CallLesson, CallQuestion, Entry, Followed, Keys, arpki_abi, arpki_connect,
+    arpki_follow, arpki_judge, arpki_learn, arpki_verify,
 };
 use std::alloc::Global;
 use std::test::Fail;
@@ -158,8 +158,8 @@ fn note() -> [u8; 1362] {
 }
 
 // An answer that nothing writes: each number in it is this one.
-fn every(byte: u8) -> Answer {
-    Answer {
+fn every(byte: u8) -> CallAnswer {
+    CallAnswer {
         epoch: u64::from(byte),
         serial: u64::from(byte),
         subject: [byte; 56],
@@ -171,8 +171,8 @@ fn every(byte: u8) -> Answer {
 }
 
 // An outcome with a number, and nothing else.
-fn alone(outcome: u32, check: u32) -> Answer {
-    Answer {
+fn alone(outcome: u32, check: u32) -> CallAnswer {
+    CallAnswer {
         outcome,
         check,
         ..every(0)
@@ -180,8 +180,8 @@ fn alone(outcome: u32, check: u32) -> Answer {
 }
 
 // That the certificate is accepted.
-fn accepted() -> Answer {
-    Answer {
+fn accepted() -> CallAnswer {
+    CallAnswer {
         epoch: 5,
         subject: filled(0x11, [0x22; 32]),
         certificate: certificate_digest(),
@@ -191,8 +191,8 @@ fn accepted() -> Answer {
 }
 
 // The question about a name, at an age of 4.
-fn question<'a>(name: &'a [u8], epoch: u64, confirmation: &'a [u8]) -> Question<'a> {
-    Question {
+fn question<'a>(name: &'a [u8], epoch: u64, confirmation: &'a [u8]) -> CallQuestion<'a> {
+    CallQuestion {
         name,
         confirmation,
         epoch,
@@ -201,7 +201,7 @@ fn question<'a>(name: &'a [u8], epoch: u64, confirmation: &'a [u8]) -> Question<
 }
 
 // What is judged of a confirmation of a name, in an epoch, with a quorum.
-fn judged(alloc: Global, quorum: usize, name: &[u8], epoch: u64, bytes: &[u8]) -> Answer {
+fn judged(alloc: Global, quorum: usize, name: &[u8], epoch: u64, bytes: &[u8]) -> CallAnswer {
     let (logs, authorities) = (logs(), authorities());
     let keys = Keys {
         logs: &logs,
@@ -215,7 +215,7 @@ fn judged(alloc: Global, quorum: usize, name: &[u8], epoch: u64, bytes: &[u8]) -
 }
 
 // What is made of a server that responds so to a challenge.
-fn connected(alloc: Global, name: &[u8], response: &[u8]) -> Answer {
+fn connected(alloc: Global, name: &[u8], response: &[u8]) -> CallAnswer {
     let (logs, authorities) = (logs(), authorities());
     let keys = Keys {
         logs: &logs,
@@ -259,7 +259,7 @@ fn pinned(alloc: Global, epoch: u64, pin: &[u8], links: &[u8]) -> Followed {
 }
 
 // An answer, and nothing to keep.
-fn keeping_nothing(answer: Answer) -> Followed {
+fn keeping_nothing(answer: CallAnswer) -> Followed {
     Followed {
         answer,
         first_len: 0,
@@ -314,7 +314,7 @@ fn pinned_cut(
 }
 
 // What is learnt of bytes behind these entries.
-fn learnt(alloc: Global, entries: &[Entry], bytes: &[u8]) -> Lesson {
+fn learnt(alloc: Global, entries: &[Entry], bytes: &[u8]) -> CallLesson {
     let (logs, authorities) = (logs(), authorities());
     let keys = Keys {
         logs: &logs,
@@ -322,7 +322,7 @@ fn learnt(alloc: Global, entries: &[Entry], bytes: &[u8]) -> Lesson {
         learnt: entries,
         quorum: 3,
     };
-    let mut lesson = Lesson {
+    let mut lesson = CallLesson {
         entry: Entry {
             generation: 77,
             number: 77,

@@ -48,7 +48,8 @@ fn written(alloc: Global, message: &Message, room: usize) -> io::Result<Vec<u8>>
 
 #[inline(never)]
 fn read_message(alloc: Global, text: &[u8]) -> Result<Message, MessageFault>
-    ensures { GivesOrWants Memory (λ message. message) result (with_error Form (message_in text.now)) }
+    ensures { GivesOrWants Memory (λ message.
+        message) result (with_error Form (message_in text.now)) }
 {
     Message::read(alloc, text)
 }

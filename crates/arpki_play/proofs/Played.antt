@@ -7,7 +7,7 @@ use Rattle.script_make.specs.Script.{script}
 use Rattle.ar_base.specs.Faults.{HasRisen}
 use Rattle.ar_io.specs.Wrote.{Appended, AppendedFront}
 use Rattle.ar_run.specs.Answers.{Answer, written_of}
-use Rattle.ar_run.specs.Runs.{TakesAll, most_bytes}
+use Rattle.ar_run.specs.Runs.{TakesAll, most_read_bytes}
 use Rattle.ar_run.specs.declared.fault.Fault.{Fault}
 use Rattle.ar_run.specs.declared.fault.Fault.TheVariants as fault
 use Rattle.owner_check.specs.declared.answer.Outcome.TheVariants.{Failed}
@@ -26,19 +26,19 @@ use Rattle.arpki_play.specs.declared.request.Request.TheVariants.{Play}
 
 -- one of which all is there
 pub script-there : {K : Type 0} (faults : K → ℕ) (wrote : K → List ℕ → Type 0) (a b : K) (checks : List CheckParts) (script input : List ℕ) (result : Result ℕ Fault)
-    → script ≡ input → length input ≤ most_bytes → (length script ≤ most_bytes → IsPlayed (run_with checks) faults wrote a b script result)
+    → script ≡ input → length input ≤ most_read_bytes → (length script ≤ most_read_bytes → IsPlayed (run_with checks) faults wrote a b script result)
     → IsPlayed (run_with checks) faults wrote a b input result
 script-there faults wrote a b checks script input result is few plays = script-same (run_with checks) faults wrote a b script input result is few plays
 
 -- one that is too long: nothing is asked
 pub script-long : {K : Type 0} (faults : K → ℕ) (wrote : K → List ℕ → Type 0) (a b : K) (checks : List CheckParts) (input : List ℕ) (result : Result ℕ Fault)
-    → most_bytes < length input → RefusesLong faults wrote a b result → IsPlayed (run_with checks) faults wrote a b input result
+    → most_read_bytes < length input → RefusesLong faults wrote a b result → IsPlayed (run_with checks) faults wrote a b input result
 script-long faults wrote a b checks input result many refuses = long-played (run_with checks) faults wrote a b input (λ _ _. Failed) result many refuses
 
 pub ruleset script_laws = (script-there, script-long)
 
 -- each run is safe
-each-safe : (checks : List CheckParts) (input : List ℕ) (saying : Saying) → length input ≤ most_bytes → IsSafeRun (run_with checks input saying)
+each-safe : (checks : List CheckParts) (input : List ℕ) (saying : Saying) → length input ≤ most_read_bytes → IsSafeRun (run_with checks input saying)
 each-safe checks input saying few = safe-run saying checks input
 
 pub input-answered : {K : Type 0} (faults : K → ℕ) (wrote : K → List ℕ → Type 0) (a b : K) (checks : List CheckParts) (input : List ℕ) (old new : Option (List ℕ)) (result : Result ℕ Fault)

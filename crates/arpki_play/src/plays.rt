@@ -3,7 +3,7 @@
 ghost use Rattle.std.specs.Prelude.{◌≡◌, ◌≢◌, ◌<◌, ◌≤◌, ◌+◌, [], ◌∷◌, ℕ, List, Err, Some, IfOk, length};
 ghost use Rattle.ar_base.specs.Faults.{HasRisen};
 ghost use Rattle.ar_io.specs.Wrote.{Unchanged};
-ghost use Rattle.ar_run.specs.Runs.{IsInput, TakesAtMost, most_bytes};
+ghost use Rattle.ar_run.specs.Runs.{IsInput, TakesAtMost, most_read_bytes};
 ghost use Rattle.ar_nodes.specs.Parties.{checks_told};
 ghost use Rattle.run_safety.specs.Headline.{IsSafeRun};
 ghost use Rattle.script_make.specs.Script.{script};
@@ -29,8 +29,10 @@ fn play_short<C: OwnerCheck, K: Sink>(
     script: &[u8],
     sink: &mut K,
 ) -> Result<u8, Fault>
-    ensures played { length script.now ≤ most_bytes
-        → IsPlayed (run_with (checks_told C.told C.answers checks.items)) K.faults K.wrote sink.old sink.new script.now result }
+    ensures played { length script.now ≤ most_read_bytes
+        → IsPlayed (run_with
+        (checks_told C.told C.answers checks.items)) K.faults K.wrote sink.old sink.new
+        script.now result }
     ensures bound { IfOk result (λ status. status < 4) }
 {
     match play(alloc, checks, script, sink) {
@@ -48,7 +50,9 @@ fn play_script<C: OwnerCheck, K: Sink>(
     sink: &mut K,
 ) -> Result<u8, Fault>
     ensures played { (input : List ℕ) → IsInput script input
-        → IsPlayed (run_with (checks_told C.told C.answers checks.items)) K.faults K.wrote sink.old sink.new input result }
+        → IsPlayed (run_with
+        (checks_told C.told C.answers checks.items)) K.faults K.wrote sink.old sink.new input
+        result }
     ensures bound { IfOk result (λ status. status < 4) }
 {
     match script {
@@ -65,20 +69,27 @@ pub(crate) fn play_input<C: OwnerCheck, S: Source, K: Sink>(
     source: &mut S,
     sink: &mut K,
 ) -> Result<u8, Fault>
-    ensures ok { IfOk result (λ status. PlaysWhole (run_with (checks_told C.told C.answers checks.items)) IsSafeRun
+    ensures ok { IfOk result (λ status.
+        PlaysWhole (run_with (checks_told C.told C.answers checks.items)) IsSafeRun
         (S.left source.old) (S.left source.new) K.wrote sink.old sink.new status) }
     ensures bound { IfOk result (λ status. status < 4) }
-    ensures source { result ≡ Err Fault.Source → HasRisen (S.faults source.old) (S.faults source.new)
+    ensures source { result ≡ Err Fault.Source
+        → HasRisen (S.faults source.old) (S.faults source.new)
         × Unchanged K.wrote sink.old sink.new }
     ensures sink { result ≡ Err Fault.Sink → HasRisen (K.faults sink.old) (K.faults sink.new)
-        × PlaysFront (run_with (checks_told C.told C.answers checks.items)) IsSafeRun (S.left source.old) (S.left source.new)
+        × PlaysFront (run_with (checks_told C.told C.answers checks.items)) IsSafeRun
+        (S.left source.old) (S.left source.new)
         K.wrote sink.old sink.new }
-    ensures memory { result ≡ Err Fault.Memory → Stops (checks_told C.told C.answers checks.items) (Some Play)
+    ensures memory { result ≡ Err Fault.Memory
+        → Stops (checks_told C.told C.answers checks.items) (Some Play)
         (S.left source.old) (S.left source.new) K.wrote sink.old sink.new }
-    ensures source_uncounted { result ≢ Err Fault.Source → S.faults source.new ≡ S.faults source.old }
+    ensures source_uncounted { result ≢ Err Fault.Source
+        → S.faults source.new ≡ S.faults source.old }
     ensures sink_uncounted { result ≢ Err Fault.Sink → K.faults sink.new ≡ K.faults sink.old }
-    ensures source_taken { result ≡ Err Fault.Source → TakesAtMost most_bytes (S.left source.old) (S.left source.new) }
-    ensures memory_taken { result ≡ Err Fault.Memory → TakesAtMost (most_bytes + 1) (S.left source.old) (S.left source.new) }
+    ensures source_taken { result ≡ Err Fault.Source
+        → TakesAtMost most_read_bytes (S.left source.old) (S.left source.new) }
+    ensures memory_taken { result ≡ Err Fault.Memory
+        → TakesAtMost (most_read_bytes + 1) (S.left source.old) (S.left source.new) }
     ensures source_faults { S.faults source.old ≤ S.faults source.new }
     ensures sink_faults { K.faults sink.old ≤ K.faults sink.new }
 {
@@ -97,7 +108,8 @@ fn summary_line(
     counts: &Counts,
     output: &[u8; 32],
 ) -> Result<Vec<u8>, AllocError>
-    ensures { IfOk result (λ line. line.items ≡ summary_line domains.now messages counts.now output.now) }
+    ensures { IfOk result (λ line.
+        line.items ≡ summary_line domains.now messages counts.now output.now) }
 {
     let number = domains.number();
     let parts = [
@@ -151,7 +163,8 @@ fn play_quietly<C: OwnerCheck>(
     checks: Vec<C>,
     text: &[u8],
 ) -> Result<(Vec<u8>, u8), AllocError>
-    ensures told { IfOk result (Sums (checks_told C.told C.answers checks.items) domains.now text.now) }
+    ensures told { IfOk result
+        (Sums (checks_told C.told C.answers checks.items) domains.now text.now) }
     ensures bound { IfOk result (λ told. told.1 < 4) }
 {
     let mut quiet = QuietSink::new();
@@ -168,7 +181,8 @@ fn make_and_play<C: OwnerCheck>(
     domains: &Domains,
     checks: Vec<C>,
 ) -> Result<(Vec<u8>, u8), AllocError>
-    ensures told { IfOk result (Sums (checks_told C.told C.answers checks.items) domains.now (script domains.now)) }
+    ensures told { IfOk result
+        (Sums (checks_told C.told C.answers checks.items) domains.now (script domains.now)) }
     ensures bound { IfOk result (λ told. told.1 < 4) }
 {
     let text = domains.script(alloc)?;
@@ -183,10 +197,13 @@ pub(crate) fn run_made<C: OwnerCheck, K: Sink>(
     checks: Vec<C>,
     sink: &mut K,
 ) -> Result<u8, Fault>
-    ensures ok { IfOk result (λ status. RunsWhole (checks_told C.told C.answers checks.items) domains.now K.wrote sink.old sink.new status) }
+    ensures ok { IfOk result (λ status.
+        RunsWhole (checks_told C.told C.answers checks.items) domains.now K.wrote sink.old
+        sink.new status) }
     ensures bound { IfOk result (λ status. status < 4) }
     ensures sink { result ≡ Err Fault.Sink → HasRisen (K.faults sink.old) (K.faults sink.new)
-        × RunsFront (checks_told C.told C.answers checks.items) domains.now K.wrote sink.old sink.new }
+        × RunsFront (checks_told C.told C.answers checks.items) domains.now K.wrote sink.old
+        sink.new }
     ensures memory { result ≡ Err Fault.Memory → Unchanged K.wrote sink.old sink.new }
     ensures no_source { result ≢ Err Fault.Source }
     ensures uncounted { result ≢ Err Fault.Sink → K.faults sink.new ≡ K.faults sink.old }

@@ -2,7 +2,7 @@ ghost use Rattle.std.specs.Prelude.{◌≡◌, ◌≢◌, ◌+◌, ◌<◌, ◌�
 ghost use Rattle.ar_base.specs.Faults.{HasRisen};
 ghost use Rattle.ar_io.specs.Wrote.{Appended, AppendedFront, Unchanged};
 ghost use Rattle.ar_run.specs.Answers.{written_of};
-ghost use Rattle.ar_run.specs.Runs.{TakesAtMost, most_bytes};
+ghost use Rattle.ar_run.specs.Runs.{TakesAtMost, most_read_bytes};
 ghost use Rattle.ar_run.specs.Writing.{Writes};
 ghost use Rattle.ar_nodes.specs.Parties.{checks_told};
 ghost use Rattle.arpki_play.specs.Program.{Answers, BreaksOff, Stops};
@@ -53,12 +53,15 @@ pub fn arpki_main<C: OwnerCheck, S: Source, K: Sink>(
     ensures statuses { result ≤ 6 }
 
     // At 0 to 3 the whole answer to the input was written, and the status is the answer's.
-    ensures answered { result < 4 → Answers (checks_told C.told C.answers checks.items) (request_of (texts words.now))
-        (S.left source.old) (S.left source.new) K.wrote sink.old sink.new disks.old disks.new result }
+    ensures answered { result < 4
+        → Answers (checks_told C.told C.answers checks.items) (request_of (texts words.now))
+        (S.left source.old) (S.left source.new) K.wrote sink.old sink.new disks.old disks.new
+        result }
 
     // Words of no form are answered by the usage line, and nothing is read.
     ensures usage { result ≡ 2 → request_of (texts words.now) ≡ None }
-    ensures no_form { request_of (texts words.now) ≡ None → (source.new ≡ source.old) × ((result ≡ 2) ⊎ (result ≡ 5)) }
+    ensures no_form { request_of (texts words.now) ≡ None
+        → (source.new ≡ source.old) × ((result ≡ 2) ⊎ (result ≡ 5)) }
 
     // A script is made, or made and played, without an input: nothing is read.
     ensures make { (domains : ℕ) → request_of (texts words.now) ≡ Some (Make domains)
@@ -73,16 +76,20 @@ pub fn arpki_main<C: OwnerCheck, S: Source, K: Sink>(
     ensures sink_fault { result ≡ 5 → HasRisen (K.faults sink.old) (K.faults sink.new)
         × BreaksOff (checks_told C.told C.answers checks.items) (request_of (texts words.now))
         (S.left source.old) (S.left source.new) K.wrote sink.old sink.new disks.old disks.new }
-    ensures memory { result ≡ 6 → Stops (checks_told C.told C.answers checks.items) (request_of (texts words.now))
+    ensures memory { result ≡ 6
+        → Stops (checks_told C.told C.answers checks.items) (request_of (texts words.now))
         (S.left source.old) (S.left source.new) K.wrote sink.old sink.new }
 
     // The two disks are as they were, but where a log restarted: at 0, and where its line could not be written.
     ensures disks { result ≢ 0 → result ≢ 5 → disks.new ≡ disks.old }
-    ensures other_disks { ((asked : Asked) → request_of (texts words.now) ≢ Some (Restart asked)) → disks.new ≡ disks.old }
+    ensures other_disks { ((asked : Asked) → request_of (texts words.now) ≢ Some (Restart asked))
+        → disks.new ≡ disks.old }
 
     // What was taken before a fault: no more than an input may have, and than one byte more for want of memory.
-    ensures source_taken { result ≡ 4 → TakesAtMost most_bytes (S.left source.old) (S.left source.new) }
-    ensures memory_taken { result ≡ 6 → TakesAtMost (most_bytes + 1) (S.left source.old) (S.left source.new) }
+    ensures source_taken { result ≡ 4
+        → TakesAtMost most_read_bytes (S.left source.old) (S.left source.new) }
+    ensures memory_taken { result ≡ 6
+        → TakesAtMost (most_read_bytes + 1) (S.left source.old) (S.left source.new) }
 
     ensures source_uncounted { result ≢ 4 → S.faults source.new ≡ S.faults source.old }
     ensures sink_uncounted { result ≢ 5 → K.faults sink.new ≡ K.faults sink.old }

@@ -31,13 +31,13 @@ use Rattle.authority_core.specs.EndorseRow.{asked_of, endorse_due, endorse_row, 
 use Rattle.authority_core.specs.Refusals.{of_signers}
 use Rattle.authority_core.specs.RollRows.{learning, roll_by, roll_note_by, roll_note_row, roll_row, rolling}
 use Rattle.authority_core.specs.Row.{message_row, row}
-use Rattle.authority_core.specs.State.{Answer, AuthorityState}
-use Rattle.authority_core.specs.declared.entries.Asked.{Asked}
+use Rattle.authority_core.specs.State.{AuthorityAnswer, AuthorityState}
+use Rattle.authority_core.specs.declared.entries.Approved.{Approved}
 use Rattle.authority_core.proofs.Keeping.{Passed, due-state, same-state}
 use Rattle.authority_core.proofs.Standing.{rolled_out}
 
 -- what is seen behind an answer was seen before, or is one of the claims that were verified
-abbrev Sees : AuthorityState → List Claimed → Answer → Type 0
+abbrev Sees : AuthorityState → List Claimed → AuthorityAnswer → Type 0
 Sees s claims answer = (later : AuthorityState) (sent : Unsigned) → answer ≡ Ok (later, sent) → SeesClaimed s.keys claims s.past.seen later.past.seen
 
 -- where the authority sees what it saw before
@@ -70,7 +70,7 @@ half-row-sees s part first_signature later sent e =
     (sees-claims s.keys claims s.past.seen
     (passed-signed s part.second (parties_of part part.first) claims part (order-first checks _ (later, sent) e)))
 
-endorsing-sees : (s : AuthorityState) (owner : ℕ) (a : Asked) (said : Outcome) (claims : List Claimed) → Sees s claims (endorsing s owner a said)
+endorsing-sees : (s : AuthorityState) (owner : ℕ) (a : Approved) (said : Outcome) (claims : List Claimed) → Sees s claims (endorsing s owner a said)
 unfolding endorsing
 endorsing-sees s owner a said claims later sent e =
     same-sees s later claims (λ i. (due-state (endorse_due s.me s.past a said) _ _ later sent e i).past.seen)

@@ -27,7 +27,7 @@ use Rattle.authority_core.specs.Confirming.{confirming_checks, confirming_with, 
 use Rattle.authority_core.specs.Refusals.{of_book, of_message, of_signers}
 use Rattle.authority_core.specs.RollRows.{roll_note_by, roll_note_row}
 use Rattle.authority_core.specs.Row.{message_row}
-use Rattle.authority_core.specs.State.{Answer, AuthorityState, StepsBy, if_due}
+use Rattle.authority_core.specs.State.{AuthorityAnswer, AuthorityState, StepsBy, if_due}
 use Rattle.authority_core.specs.declared.refusal.AuthorityRefusal.{AuthorityRefusal}
 use Rattle.authority_core.specs.declared.refusal.AuthorityRefusal.TheVariants.{BadPath, CheckFault, FewVotes, NotForAuthority, SameAuthority}
 
@@ -110,7 +110,7 @@ retired_row s (ConfirmAsk client name first second) said = λ e. absurd cc
 retired_row s (Confirmation client epoch name root body log log_signature first first_signature second second_signature) said = λ e. absurd cc
 
 -- a call that steps by such an answer does not say so
-pub stepped_no_fault : (result : Result Unsigned AuthorityRefusal) (old new : AuthorityState) (answer : Answer) → StepsBy result old new answer → IsNoFault answer → IsNoFault result
+pub stepped_no_fault : (result : Result Unsigned AuthorityRefusal) (old new : AuthorityState) (answer : AuthorityAnswer) → StepsBy result old new answer → IsNoFault answer → IsNoFault result
 stepped_no_fault (Ok sent) old new answer steps so e = absurd cc
 stepped_no_fault (Err refusal) old new answer steps so e = elim steps.1 [
   | inl wants ↦ absurd cc

@@ -29,16 +29,16 @@ use Rattle.authority_core.specs.EndorseRow.{asked_of, endorse_due, endorse_row, 
 use Rattle.authority_core.specs.Refusals.{of_learning, of_roll}
 use Rattle.authority_core.specs.RollRows.{learning, roll_by, roll_message, roll_note_by, roll_note_row, roll_row, rolling}
 use Rattle.authority_core.specs.Row.{message_row, row}
-use Rattle.authority_core.specs.State.{Answer, AuthorityState, entering, if_due, most_sent, sends}
-use Rattle.authority_core.specs.declared.entries.Asked.{Asked}
+use Rattle.authority_core.specs.State.{AuthorityAnswer, AuthorityState, entering, if_due, most_sent, sends}
+use Rattle.authority_core.specs.declared.entries.Approved.{Approved}
 use Rattle.authority_core.specs.declared.entries.Kept.{Kept}
 use Rattle.authority_core.specs.declared.refusal.AuthorityRefusal.{AuthorityRefusal}
 
 -- where a row answers, it sends few messages
-abbrev SendsFew : Answer → Type 0
+abbrev SendsFew : AuthorityAnswer → Type 0
 SendsFew answer = (later : AuthorityState) (sent : Unsigned) → answer ≡ Ok (later, sent) → length sent.sent.messages ≤ most_sent
 
-abbrev sent-by : Answer → Unsigned → Unsigned
+abbrev sent-by : AuthorityAnswer → Unsigned → Unsigned
 sent-by (Ok answer) other = answer.1
 sent-by (Err refusal) other = other
 
@@ -55,13 +55,13 @@ due-few (Ok due) next len to bytes = answered next (sends len to bytes due) (ome
 due-few (Err refusal) next len to bytes = refused refusal
 
 -- where checks stand before it
-ordered-few : (checks : Result (Unit {0}) AuthorityRefusal) (answer : Answer) → SendsFew answer → SendsFew (result_and checks answer)
+ordered-few : (checks : Result (Unit {0}) AuthorityRefusal) (answer : AuthorityAnswer) → SendsFew answer → SendsFew (result_and checks answer)
 ordered-few (Ok u) answer few = few
 ordered-few (Err refusal) answer few = refused refusal
 
 -- ---- each row
 
-endorsing-few : (s : AuthorityState) (owner : ℕ) (a : Asked) (said : Outcome) → SendsFew (endorsing s owner a said)
+endorsing-few : (s : AuthorityState) (owner : ℕ) (a : Approved) (said : Outcome) → SendsFew (endorsing s owner a said)
 unfolding endorsing
 endorsing-few s owner a said =
     due-few (endorse_due s.me s.past a said) (record s { past = after_endorse s.me s.past a }) s.signature_len (One (owner_party owner))

@@ -33,7 +33,7 @@ use Rattle.ar_council.specs.Votes.{SawVotes}
 use Rattle.authority_core.specs.Calls.{MayConfirm, after_endorse, after_half_confirmed, after_learn, after_log_confirmed, after_roll, confirming, fresh_authority, is_same_asked, is_same_kept, is_same_path, kept_claim, kept_value, seen_of_half, seen_of_log, seen_confirmed, seen_of_votes}
 use Rattle.authority_core.specs.Honest.{HasAsked, HasKept, HonestAuthority, ToldBy}
 use Rattle.authority_core.specs.Record.{AuthorityRecord}
-use Rattle.authority_core.specs.declared.entries.Asked.{Asked}
+use Rattle.authority_core.specs.declared.entries.Approved.{Approved}
 use Rattle.authority_core.specs.declared.entries.Kept.{Kept}
 
 -- ---- what is told stays told
@@ -43,7 +43,7 @@ kept-more : (council : Council) (seen seen' : List SeenText) (kept kept' : List 
 kept-more council seen seen' kept kept' s k epoch name certificate root has =
     (has.0, (k has.0 has.1.0, has.1.1, has.1.2, has.1.3, has.1.4, has.1.5, votes-more council seen seen' s epoch (record { base = has.0.base; root = root }) has.1.6))
 
-told-more : (council : Council) (me : ℕ) (seen seen' : List SeenText) (asked asked' : List Asked) (kept kept' : List Kept) → Within seen seen' → Within asked asked' → Within kept kept' → (claim : Claim)
+told-more : (council : Council) (me : ℕ) (seen seen' : List SeenText) (asked asked' : List Approved) (kept kept' : List Kept) → Within seen seen' → Within asked asked' → Within kept kept' → (claim : Claim)
     → ToldBy council me seen asked kept claim → ToldBy council me seen' asked' kept' claim
 unfolding ToldBy
 told-more council me seen seen' asked asked' kept kept' s a k (endorse authority certificate) t = (t.0, (t.1.0, (a t.1.0 t.1.1.0, t.1.1.1)))
@@ -59,14 +59,14 @@ told-more council me seen seen' asked asked' kept kept' s a k (answer name certi
 told-more council me seen seen' asked asked' kept kept' s a k (status log epoch value) t = t
 told-more council me seen seen' asked asked' kept kept' s a k (object certificate) t = t
 
-texts-more : (council : Council) (me : ℕ) (r : AuthorityRecord) (seen' : List SeenText) (asked' : List Asked) (kept' : List Kept) → Within r.seen seen' → Within r.asked asked' → Within r.kept kept'
+texts-more : (council : Council) (me : ℕ) (r : AuthorityRecord) (seen' : List SeenText) (asked' : List Approved) (kept' : List Kept) → Within r.seen seen' → Within r.asked asked' → Within r.kept kept'
     → HonestAuthority council me r → All (IsTextOf (ToldBy council me seen' asked' kept')) (texts_of r.signed)
 texts-more council me r seen' asked' kept' s a k h =
     All-weaker (IsTextOf (ToldBy council me r.seen r.asked r.kept)) (IsTextOf (ToldBy council me seen' asked' kept'))
     (λ text t. record { claim = t.claim; valid = t.valid; holds = told-more council me r.seen seen' r.asked asked' r.kept kept' s a k t.claim t.holds; is = t.is }) (texts_of r.signed) h.told
 
 -- one more statement, of which the entries tell
-honest-signing : (council : Council) (me : ℕ) (r : AuthorityRecord) (more : List SeenText) (asked' : List Asked) (kept' : List Kept) (claim : Claim) → HonestAuthority council me r
+honest-signing : (council : Council) (me : ℕ) (r : AuthorityRecord) (more : List SeenText) (asked' : List Approved) (kept' : List Kept) (claim : Claim) → HonestAuthority council me r
     → All (λ s. IsMember council s.party) more → Within r.asked asked' → Within r.kept kept' → IsValid claim → is_roll (text_of claim) ≡ false
     → ToldBy council me (seen_after r.seen more) asked' kept' claim
     → HonestAuthority council me (record { seen = seen_after r.seen more; signed = after_entry r.signed (text_of claim); asked = asked'; kept = kept' })
@@ -80,10 +80,10 @@ honest-signing council me r more asked' kept' claim h members a k valid plain to
 
 -- ---- lists with one more
 
-pub asked-has : (asked : List Asked) (a : Asked) → HasAsked (with_one is_same_asked asked a) a.certificate
+pub asked-has : (asked : List Approved) (a : Approved) → HasAsked (with_one is_same_asked asked a) a.certificate
 asked-has asked a = one-some (λ b. b.certificate ≡ a.certificate) is_same_asked asked a refl same
   where
-    same : (b : Asked) → is_same_asked b a ≡ true → b.certificate ≡ a.certificate
+    same : (b : Approved) → is_same_asked b a ≡ true → b.certificate ≡ a.certificate
     same b is =
         let two = and_parts (bytes_eq b.name a.name) (bytes_eq b.key a.key && bytes_eq b.certificate a.certificate) is in
         let rest = and_parts (bytes_eq b.key a.key) (bytes_eq b.certificate a.certificate) two.1 in
@@ -123,7 +123,7 @@ pub honest-fresh : (council : Council) (me leaves : ℕ) → 0 < leaves → Hone
 honest-fresh council me leaves some =
     record { sound = empty-book leaves some; told = λ k d less. absurd (omega (arith, less)); sees_members = λ k d less. absurd (omega (arith, less)) }
 
-pub honest-endorse : (council : Council) (me : ℕ) (r : AuthorityRecord) (a : Asked) → HonestAuthority council me r → me < 2 ^ 16 → IsDigest a.certificate → HonestAuthority council me (after_endorse me r a)
+pub honest-endorse : (council : Council) (me : ℕ) (r : AuthorityRecord) (a : Approved) → HonestAuthority council me r → me < 2 ^ 16 → IsDigest a.certificate → HonestAuthority council me (after_endorse me r a)
 unfolding ToldBy
 honest-endorse council me r a h small digest =
     honest-signing council me r [] (with_one is_same_asked r.asked a) r.kept (endorse me a.certificate) h (All-nil (λ (s : SeenText). IsMember council s.party)) (one-keeps is_same_asked r.asked a) (same-within r.kept)
@@ -144,7 +144,7 @@ claim-plain : (me : ℕ) (epoch : ℕ) (name : List ℕ) (certificate : Option (
 claim-plain me epoch name None root = is_roll-kind (confirmation_by (authority_party me) epoch name None root)
 claim-plain me epoch name (Some certificate) root = is_roll-kind (confirmation_by (authority_party me) epoch name (Some certificate) root)
 
-claim-told : (council : Council) (me : ℕ) (seen : List SeenText) (asked : List Asked) (kept : List Kept) (epoch : ℕ) (name : List ℕ) (certificate : Option (List ℕ)) (root : List ℕ)
+claim-told : (council : Council) (me : ℕ) (seen : List SeenText) (asked : List Approved) (kept : List Kept) (epoch : ℕ) (name : List ℕ) (certificate : Option (List ℕ)) (root : List ℕ)
     → HasKept council seen kept epoch name certificate root → ToldBy council me seen asked kept (confirmation_by (authority_party me) epoch name certificate root)
 unfolding ToldBy
 claim-told council me seen asked kept epoch name None root has = (refl, has)
@@ -227,7 +227,7 @@ honest-roll council me r key h small may =
       sees_members = h.sees_members;
     }
 
-pub endorse-signed : (me : ℕ) (r : AuthorityRecord) (a : Asked) → HasRoom r.signed (text_of (endorse me a.certificate) ∷ []) → Contains (texts_of (after_endorse me r a).signed) (text_of (endorse me a.certificate))
+pub endorse-signed : (me : ℕ) (r : AuthorityRecord) (a : Approved) → HasRoom r.signed (text_of (endorse me a.certificate) ∷ []) → Contains (texts_of (after_endorse me r a).signed) (text_of (endorse me a.certificate))
 endorse-signed me r a room = entry-has r.signed (text_of (endorse me a.certificate)) room
 
 pub confirm-signed : (me : ℕ) (r : AuthorityRecord) (log : ℕ) (voters : List ℕ) (k : Kept) → HasRoom r.signed (text_of (kept_claim (authority_party me) k) ∷ [])

@@ -40,17 +40,17 @@ use Rattle.ar_message.specs.Shown.{shows}
 use Rattle.authority_core.specs.Confirming.{confirmed_by, confirming_checks, content_tests, kept_of, log_claimed, meant_for, parties_of, vote_count, voted_by, voters_of}
 use Rattle.authority_core.specs.Honest.{HonestAuthority}
 use Rattle.authority_core.specs.Refusals.{of_signers}
-use Rattle.authority_core.specs.State.{Answer, AuthorityState, IsAuthority, if_due}
+use Rattle.authority_core.specs.State.{AuthorityAnswer, AuthorityState, IsAuthority, if_due}
 use Rattle.authority_core.specs.declared.refusal.AuthorityRefusal.{AuthorityRefusal}
 use Rattle.authority_core.specs.declared.refusal.AuthorityRefusal.TheVariants.{BadPath, FewVotes, SameAuthority}
 use Rattle.authority_core.specs.RollRows.{learning, rolling}
-use Rattle.authority_core.specs.declared.entries.Asked.{Asked}
+use Rattle.authority_core.specs.declared.entries.Approved.{Approved}
 use Rattle.authority_core.proofs.Growing.{honest-endorse, honest-first, honest-learn, honest-roll, honest-second}
 
 -- ---- answers
 
 -- where two equal answers leave the authority
-pub same-state : (one other : AuthorityState × Unsigned) → (let answer : Answer = Ok one in answer) ≡ Ok other → other.0 ≡ one.0
+pub same-state : (one other : AuthorityState × Unsigned) → (let answer : AuthorityAnswer = Ok one in answer) ≡ Ok other → other.0 ≡ one.0
 same-state one other is = let same : other ≡ one = cc in ap (λ (p : AuthorityState × Unsigned). p.0) same
 
 -- where the authority stands behind an answer that something is due
@@ -68,7 +68,7 @@ second-holds refusal other false test tests is = absurd cc
 abbrev pub Passed : AuthorityState → ℕ → List Party → List Claimed → Confirming → Type 0
 Passed s chosen parties claims part = confirming_checks s chosen parties claims part ≡ Ok tt
 
-behind-first : (s : AuthorityState) (chosen : ℕ) (parties : List Party) (claims : List Claimed) (part : Confirming) → Passed s chosen parties claims part
+pub behind-first : (s : AuthorityState) (chosen : ℕ) (parties : List Party) (claims : List Claimed) (part : Confirming) → Passed s chosen parties claims part
     → result_and (with_error of_signers (signers_answer s.keys parties claims)) (first_failing (content_tests s.keys.quorum part)) ≡ Ok tt
 unfolding confirming_checks
 behind-first s chosen parties claims part is = order-then (first_failing (meant_for s.me chosen)) _ tt is
@@ -170,7 +170,7 @@ half-keeps s part first_signature is confirming-is passed =
 
 -- ---- an endorsement
 
-pub endorse-keeps : (s : AuthorityState) (a : Asked) → IsAuthority s → IsDigest a.certificate → IsAuthority (record s { past = after_endorse s.me s.past a })
+pub endorse-keeps : (s : AuthorityState) (a : Approved) → IsAuthority s → IsDigest a.certificate → IsAuthority (record s { past = after_endorse s.me s.past a })
 endorse-keeps s a is digest =
     record { number = is.number; bytes = is.bytes; honest = honest-endorse (council_of s.keys) s.me s.past a is.honest is.number digest }
 

@@ -43,8 +43,8 @@ use Rattle.authority_core.specs.Record.{AuthorityRecord}
 use Rattle.authority_core.specs.Refusals.{of_book, of_learning, of_roll}
 use Rattle.authority_core.specs.RollRows.{learning, roll_by, roll_message, roll_note_by, roll_note_row, roll_row, rolling}
 use Rattle.authority_core.specs.Row.{message_row, row}
-use Rattle.authority_core.specs.State.{Answer, AuthorityState, entering, if_due, sends}
-use Rattle.authority_core.specs.declared.entries.Asked.{Asked}
+use Rattle.authority_core.specs.State.{AuthorityAnswer, AuthorityState, entering, if_due, sends}
+use Rattle.authority_core.specs.declared.entries.Approved.{Approved}
 use Rattle.authority_core.specs.declared.entries.Kept.{Kept}
 use Rattle.authority_core.specs.declared.refusal.AuthorityRefusal.{AuthorityRefusal}
 
@@ -61,7 +61,7 @@ grows_on r later last one two = record {
   kept = begins_on r.kept later.kept last.kept two.kept one.kept;
 }
 
-pub endorse_adds : (me : ℕ) (r : AuthorityRecord) (a : Asked) → AuthorityGrows r (after_endorse me r a)
+pub endorse_adds : (me : ℕ) (r : AuthorityRecord) (a : Approved) → AuthorityGrows r (after_endorse me r a)
 endorse_adds me r a = record {
   seen = begins_itself r.seen;
   signed = entry_later r.signed (text_of (endorse me a.certificate));
@@ -110,16 +110,16 @@ pub record IsStepOf (s later : AuthorityState) (sent : Unsigned) : Type 0 where
   pub grows : AuthorityGrows s.past later.past
   pub served : AllByRecursion (IsServedIn later) sent.blanks
 
-abbrev pub StepsOf : AuthorityState → Answer → Type 0
+abbrev pub StepsOf : AuthorityState → AuthorityAnswer → Type 0
 StepsOf s answer = (later : AuthorityState) (sent : Unsigned) → answer ≡ Ok (later, sent) → IsStepOf s later sent
 
-abbrev answer_in : Answer → AuthorityState × Unsigned → AuthorityState × Unsigned
+abbrev answer_in : AuthorityAnswer → AuthorityState × Unsigned → AuthorityState × Unsigned
 answer_in (Ok made) other = made
 answer_in (Err refusal) other = other
 
 answered : (s next : AuthorityState) (sends : Unsigned) → IsStepOf s next sends → StepsOf s (Ok (next, sends))
 answered s next sends step later sent is =
-    subst (λ (made : AuthorityState × Unsigned). IsStepOf s made.0 made.1) (ap (λ (a : Answer). answer_in a (next, sends)) is) step
+    subst (λ (made : AuthorityState × Unsigned). IsStepOf s made.0 made.1) (ap (λ (a : AuthorityAnswer). answer_in a (next, sends)) is) step
 
 refused : (s : AuthorityState) (refusal : AuthorityRefusal) → StepsOf s (Err refusal)
 refused s refusal later sent is = absurd cc
@@ -142,7 +142,7 @@ due_step s next claim len to bytes grows signed = by (entering s.past claim) ref
 
 -- ---- each row
 
-endorsing_step : (s : AuthorityState) (owner : ℕ) (a : Asked) (said : Outcome) → StepsOf s (endorsing s owner a said)
+endorsing_step : (s : AuthorityState) (owner : ℕ) (a : Approved) (said : Outcome) → StepsOf s (endorsing s owner a said)
 unfolding endorsing
 endorsing_step s owner a Failed later sent is = absurd cc
 endorsing_step s owner a No later sent is = absurd cc

@@ -9,3 +9,4 @@ pub mod Rows
 pub mod Sending
 pub mod Signing
 pub mod Standing
+pub mod Verified

@@ -34,18 +34,18 @@ use Rattle.authority_core.specs.Honest.{HasAsked}
 use Rattle.authority_core.specs.Record.{AuthorityRecord}
 use Rattle.authority_core.specs.RollRows.{LearnsBy, RollsBy, learning, roll_by, roll_note_by, roll_note_row, roll_row, rolling}
 use Rattle.authority_core.specs.Row.{message_row, row}
-use Rattle.authority_core.specs.State.{Answer, AuthorityState, EntersBy, IsAuthority, StepsBy}
+use Rattle.authority_core.specs.State.{AuthorityAnswer, AuthorityState, EntersBy, IsAuthority, StepsBy}
 use Rattle.authority_core.specs.declared.refusal.AuthorityRefusal.{AuthorityRefusal}
-use Rattle.authority_core.specs.declared.entries.Asked.{Asked}
+use Rattle.authority_core.specs.declared.entries.Approved.{Approved}
 use Rattle.authority_core.proofs.Growing.{asked-has}
 use Rattle.authority_core.proofs.Keeping.{due-state, endorse-keeps, half-keeps, log-keeps, note-keeps, passed-many, passed-shown, roll-keeps, same-state}
 use Rattle.authority_core.proofs.Standing.{rolled_out}
 
 -- what is true of where an authority stands behind an answer
-abbrev pub Leaves : Answer → Type 0
+abbrev pub Leaves : AuthorityAnswer → Type 0
 Leaves answer = (later : AuthorityState) (sent : Unsigned) → answer ≡ Ok (later, sent) → IsAuthority later
 
-pub endorsing-keeps : (s : AuthorityState) (owner : ℕ) (a : Asked) (said : Outcome) → IsAuthority s → IsDigest a.certificate → Leaves (endorsing s owner a said)
+pub endorsing-keeps : (s : AuthorityState) (owner : ℕ) (a : Approved) (said : Outcome) → IsAuthority s → IsDigest a.certificate → Leaves (endorsing s owner a said)
 unfolding endorsing
 endorsing-keeps s owner a said is digest later sent e = subst IsAuthority (sym (due-state (endorse_due s.me s.past a said) _ _ later sent e)) (endorse-keeps s a is digest)
 
@@ -109,7 +109,7 @@ read-keeps s retired bytes said is are = by (message_in bytes) refl
 
 -- ---- what an answer Ok shows
 
-yes-only : (s : AuthorityState) (owner : ℕ) (a : Asked) (said : Outcome) (later : AuthorityState) (sent : Unsigned) → endorsing s owner a said ≡ Ok (later, sent)
+yes-only : (s : AuthorityState) (owner : ℕ) (a : Approved) (said : Outcome) (later : AuthorityState) (sent : Unsigned) → endorsing s owner a said ≡ Ok (later, sent)
     → (said ≡ Yes) × HasAsked later.past.asked a.certificate
 unfolding endorsing
 yes-only s owner a Failed later sent e = absurd cc
@@ -141,7 +141,7 @@ half-row-many s part first_signature later sent e =
 -- ---- a call that steps by a row
 
 -- where a call leaves an authority that stepped by a row which leaves one
-pub steps-keep : (result : Result Unsigned AuthorityRefusal) (old new : AuthorityState) (answer : Answer) → IsAuthority old → StepsBy result old new answer → Leaves answer → IsAuthority new
+pub steps-keep : (result : Result Unsigned AuthorityRefusal) (old new : AuthorityState) (answer : AuthorityAnswer) → IsAuthority old → StepsBy result old new answer → Leaves answer → IsAuthority new
 steps-keep (Ok sent) old new answer is steps leaves = leaves new sent steps
 steps-keep (Err refusal) old new answer is steps leaves = subst IsAuthority (sym steps.0) is
 

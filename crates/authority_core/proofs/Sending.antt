@@ -16,7 +16,7 @@ use Rattle.authority_core.specs.ConfirmRows.{confirmation_with, half_claims, hal
 use Rattle.authority_core.specs.Confirming.{confirming_checks, confirming_with, kept_of, parties_of}
 use Rattle.party_keys.specs.Signers.{seen_in}
 use Rattle.authority_core.specs.Record.{AuthorityRecord}
-use Rattle.authority_core.specs.State.{Answer, AuthorityState, EntersBy, Prepared, StepsBy, entering, if_due, prepared, sent_with}
+use Rattle.authority_core.specs.State.{AuthorityAnswer, AuthorityState, EntersBy, Prepared, StepsBy, entering, if_due, prepared, sent_with}
 use Rattle.authority_core.specs.declared.entries.Kept.{Kept}
 use Rattle.authority_core.specs.declared.refusal.AuthorityRefusal.{AuthorityRefusal}
 
@@ -40,7 +40,7 @@ entered_steps s seen k p (Err refusal) later e = (
 -- ---- behind the checks
 
 -- where the checks pass, the row is what follows them, and what is seen is what they tell
-passed : (checks : Result (Unit {0}) AuthorityRefusal) (claims seen : List SeenText) (answer : Answer) → result_and checks (Ok claims) ≡ Ok seen → (answer ≡ result_and checks answer) × (seen ≡ claims)
+passed : (checks : Result (Unit {0}) AuthorityRefusal) (claims seen : List SeenText) (answer : AuthorityAnswer) → result_and checks (Ok claims) ≡ Ok seen → (answer ≡ result_and checks answer) × (seen ≡ claims)
 passed (Ok u) claims seen answer e = (refl, cc)
 passed (Err refusal) claims seen answer e = absurd cc
 
@@ -71,12 +71,12 @@ half_row_is s part first_signature seen k p kept-is checked p-is =
 -- ---- the whole of a confirmation, by what the record made of it
 
 -- what is sent is by that
-sends_so : (s : AuthorityState) (made : Result DueParts AuthorityRefusal) (later : AuthorityRecord) (seen : List SeenText) (k : Kept) (p : Prepared) (result : Result Unsigned AuthorityRefusal) (answer : Answer)
+sends_so : (s : AuthorityState) (made : Result DueParts AuthorityRefusal) (later : AuthorityRecord) (seen : List SeenText) (k : Kept) (p : Prepared) (result : Result Unsigned AuthorityRefusal) (answer : AuthorityAnswer)
     → EntersBy made s.past later (entering s.past (kept_claim (authority_party s.me) k)) (confirming s.me s.past seen k)
     → result ≡ if_due made (sent_with p) → confirming_with s seen k p ≡ answer → StepsBy result s (record s { past = later }) answer
 sends_so s made later seen k p result answer e is row =
     subst (λ (r : Result Unsigned AuthorityRefusal). StepsBy r s (record s { past = later }) answer) (sym is)
-    (subst (λ (a : Answer). StepsBy (if_due made (sent_with p)) s (record s { past = later }) a) row (entered_steps s seen k p made later e))
+    (subst (λ (a : AuthorityAnswer). StepsBy (if_due made (sent_with p)) s (record s { past = later }) a) row (entered_steps s seen k p made later e))
 
 pub log_steps : (s now : AuthorityState) (part : Confirming) (seen : List SeenText) (k : Kept) (p : Prepared) (made : Result DueParts AuthorityRefusal) (later : AuthorityRecord) (result : Result Unsigned AuthorityRefusal)
     → s ≡ now → k ≡ kept_of part

@@ -32,7 +32,7 @@ use Rattle.key_roll.proofs.Rings.{next_keys, owed_by}
 use Rattle.key_roll.proofs.Books.{IsSameBook, due_for, entry-same}
 use Rattle.ar_statement.specs.declared.fault.BookFault.TheVariants.{Spent}
 use Rattle.key_roll.specs.declared.fault.RollFault.TheVariants.{Last}
-use Rattle.key_roll.specs.declared.signed.Signed.{Signed}
+use Rattle.key_roll.specs.declared.signed.SignedText.{SignedText}
 use Rattle.lms_tree.specs.Key.{public_of}
 use Rattle.lms_tree.specs.KeyParts.{KeyParts}
 use Rattle.lms_tree.specs.PublicKey.{key_text}
@@ -51,8 +51,8 @@ use Rattle.authority_core.specs.Keyed.{IsRingOf, SendsBy}
 use Rattle.authority_core.specs.Refusals.{of_book}
 use Rattle.authority_core.specs.RollRows.{learning, roll_by, roll_message, roll_note_by, roll_note_row, roll_row, rolling}
 use Rattle.authority_core.specs.Row.{message_row, row}
-use Rattle.authority_core.specs.State.{Answer, AuthorityState, StepsBy, entering, if_due, most_sent, sends}
-use Rattle.authority_core.specs.declared.entries.Asked.{Asked}
+use Rattle.authority_core.specs.State.{AuthorityAnswer, AuthorityState, StepsBy, entering, if_due, most_sent, sends}
+use Rattle.authority_core.specs.declared.entries.Approved.{Approved}
 use Rattle.authority_core.specs.declared.entries.Kept.{Kept}
 use Rattle.authority_core.specs.declared.refusal.AuthorityRefusal.{AuthorityRefusal}
 use Rattle.authority_core.specs.declared.refusal.AuthorityRefusal.TheVariants.{Memory}
@@ -114,7 +114,7 @@ pub owed : (s : AuthorityState) (keys : List KeyParts) (due : DueParts) → IsRi
 owed s keys due is of-book = owed_by s.past.signed s.signature_len keys due is of-book.upto of-book.counts_on
 
 -- an entry is of a generation up to this one
-abbrev IsUpTo : ℕ → Signed → Type 0
+abbrev IsUpTo : ℕ → SignedText → Type 0
 IsUpTo newest s = s.generation ≤ newest
 
 entry-upto : (book : RollBook) (text : List ℕ) → IsRollBook book → All (IsUpTo book.newest) (after_entry book text).list
@@ -134,7 +134,7 @@ of-entry : (book : RollBook) (newest : ℕ) (place : Option ℕ) (due : DueParts
 of-entry book newest None due all e = absurd cc
 of-entry book newest (Some k) due all e = by (slice_get book.list k) refl e
   where
-    by : (found : Option Signed) → slice_get book.list k ≡ found → ok_or (option_map (due_for book k) found) Spent ≡ Ok due → IsDueOf book.leaves newest due
+    by : (found : Option SignedText) → slice_get book.list k ≡ found → ok_or (option_map (due_for book k) found) Spent ≡ Ok due → IsDueOf book.leaves newest due
     by None at is = absurd cc
     by (Some s) at is =
         let same : due_for book k s ≡ due = cc in
@@ -166,7 +166,7 @@ pub record IsSignedBy (s : AuthorityState) (keys : List KeyParts) (later : Autho
   pub fills : CanFill keys sent
   pub stays : IsSameKeys s later
 
-abbrev pub Signs : AuthorityState → List KeyParts → Answer → Type 0
+abbrev pub Signs : AuthorityState → List KeyParts → AuthorityAnswer → Type 0
 Signs s keys answer = (later : AuthorityState) (sent : Unsigned) → answer ≡ Ok (later, sent) → IsSignedBy s keys later sent
 
 -- what is due of an answer is due of the keys
@@ -181,14 +181,14 @@ due-signs s keys (Ok due) next to bytes owes less same later sent is =
 due-signs s keys (Err refusal) next to bytes owes less same later sent is = absurd cc
 
 -- where checks stand before it
-ordered-signs : (s : AuthorityState) (keys : List KeyParts) (checks : Result (Unit {0}) AuthorityRefusal) (answer : Answer) → Signs s keys answer → Signs s keys (result_and checks answer)
+ordered-signs : (s : AuthorityState) (keys : List KeyParts) (checks : Result (Unit {0}) AuthorityRefusal) (answer : AuthorityAnswer) → Signs s keys answer → Signs s keys (result_and checks answer)
 ordered-signs s keys (Ok u) answer signs = signs
 ordered-signs s keys (Err refusal) answer signs = λ later sent is. absurd cc
 
 entering-same : (s : AuthorityState) (seen : List SeenText) (k : Kept) → IsSameKeys s (record s { past = confirming s.me s.past seen k })
 entering-same s seen k = record { book = entry-same s.past.signed (text_of (kept_claim (authority_party s.me) k)); len = refl }
 
-endorse-signs : (s : AuthorityState) (keys : List KeyParts) (owner : ℕ) (a : Asked) (said : Outcome) → IsRingOf s keys → IsRollBook s.past.signed → Signs s keys (endorsing s owner a said)
+endorse-signs : (s : AuthorityState) (keys : List KeyParts) (owner : ℕ) (a : Approved) (said : Outcome) → IsRingOf s keys → IsRollBook s.past.signed → Signs s keys (endorsing s owner a said)
 unfolding endorsing
 endorse-signs s keys owner a said is sound =
     due-signs s keys (endorse_due s.me s.past a said) (record s { past = after_endorse s.me s.past a }) (One (owner_party owner)) (message_text (endorsed_message s owner a.certificate))

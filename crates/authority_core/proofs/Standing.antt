@@ -29,8 +29,8 @@ use Rattle.party_keys.specs.Signers.{seen_in}
 use Rattle.authority_core.specs.EndorseRow.{asked_of, endorse_due, endorse_row, endorsing}
 use Rattle.authority_core.specs.RollRows.{learning, roll_by, roll_message, roll_note_by, roll_note_row, roll_row, rolling}
 use Rattle.authority_core.specs.Row.{message_row, row}
-use Rattle.authority_core.specs.State.{Answer, AuthorityState, sends}
-use Rattle.authority_core.specs.declared.entries.Asked.{Asked}
+use Rattle.authority_core.specs.State.{AuthorityAnswer, AuthorityState, sends}
+use Rattle.authority_core.specs.declared.entries.Approved.{Approved}
 use Rattle.authority_core.specs.declared.entries.Kept.{Kept}
 use Rattle.authority_core.specs.declared.refusal.AuthorityRefusal.{AuthorityRefusal}
 use Rattle.authority_core.proofs.Keeping.{due-state, same-state}
@@ -40,17 +40,17 @@ abbrev IsSame : AuthorityState → AuthorityState → Type 0
 IsSame s later = (later.me ≡ s.me) × (council_of later.keys ≡ council_of s.keys)
 
 -- where a row answers, it leaves the authority the same
-abbrev StaysBy : AuthorityState → Answer → Type 0
+abbrev StaysBy : AuthorityState → AuthorityAnswer → Type 0
 StaysBy s answer = (later : AuthorityState) (sent : Unsigned) → answer ≡ Ok (later, sent) → IsSame s later
 
 -- where checks stand before it
-ordered-stays : (s : AuthorityState) (checks : Result (Unit {0}) AuthorityRefusal) (answer : Answer) → StaysBy s answer → StaysBy s (result_and checks answer)
+ordered-stays : (s : AuthorityState) (checks : Result (Unit {0}) AuthorityRefusal) (answer : AuthorityAnswer) → StaysBy s answer → StaysBy s (result_and checks answer)
 ordered-stays s (Ok u) answer stays = stays
 ordered-stays s (Err refusal) answer stays = λ later sent is. absurd cc
 
 -- ---- each row
 
-endorsing-stays : (s : AuthorityState) (owner : ℕ) (a : Asked) (said : Outcome) → StaysBy s (endorsing s owner a said)
+endorsing-stays : (s : AuthorityState) (owner : ℕ) (a : Approved) (said : Outcome) → StaysBy s (endorsing s owner a said)
 unfolding endorsing
 endorsing-stays s owner a said later sent is = subst (IsSame s) (sym (due-state (endorse_due s.me s.past a said) _ _ later sent is)) (refl, refl)
 

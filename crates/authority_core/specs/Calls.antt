@@ -18,9 +18,10 @@ use Rattle.ar_council.specs.Council.{Council}
 use Rattle.ar_council.specs.Seen.{seen_after}
 use Rattle.party_keys.specs.Learning.{Announced, roll_claim}
 use Rattle.party_keys.specs.Seen.{seen_of}
-use Rattle.ar_council.specs.Values.{IsValue, is_same_digest, vote_claim}
+use Rattle.ar_council.specs.Values.{is_same_digest, vote_claim}
+use Rattle.ar_statement.specs.Ranges.{IsValue}
 use Rattle.authority_core.specs.Record.{AuthorityRecord}
-use Rattle.authority_core.specs.declared.entries.Asked.{Asked}
+use Rattle.authority_core.specs.declared.entries.Approved.{Approved}
 use Rattle.authority_core.specs.declared.entries.Kept.{Kept}
 
 -- an authority that has done nothing yet, whose keys have this many leaves
@@ -29,11 +30,11 @@ fresh_authority leaves = record { seen = []; signed = empty_book leaves; asked =
 
 -- ---- an endorsement
 
-abbrev pub is_same_asked : Asked → Asked → Bool
+abbrev pub is_same_asked : Approved → Approved → Bool
 is_same_asked a b = bytes_eq a.name b.name && (bytes_eq a.key b.key && bytes_eq a.certificate b.certificate)
 
 -- the check said yes, and the authority endorses the certificate
-abbrev pub after_endorse : ℕ → AuthorityRecord → Asked → AuthorityRecord
+abbrev pub after_endorse : ℕ → AuthorityRecord → Approved → AuthorityRecord
 after_endorse me r a = record {
   seen = r.seen;
   signed = after_entry r.signed (text_of (endorse me a.certificate));

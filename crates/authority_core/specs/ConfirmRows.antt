@@ -8,14 +8,14 @@ use Rattle.ar_message.specs.declared.message.Message.{Message}
 use Rattle.ar_message.specs.declared.message.Message.TheVariants.{Confirmation, HalfConfirmed}
 use Rattle.party_keys.specs.Signers.{Claimed, seen_in}
 use Rattle.authority_core.specs.Confirming.{confirmed_by, confirming_checks, confirming_too, kept_of, log_claimed, parties_of, votes_claimed}
-use Rattle.authority_core.specs.State.{Answer, AuthorityState}
+use Rattle.authority_core.specs.State.{AuthorityAnswer, AuthorityState}
 
 -- ---- the first of two authorities
 
 abbrev pub log_claims : Confirming → List Claimed
 log_claims part = log_claimed part ∷ votes_claimed part
 
-unfoldable pub log_confirmed_row : AuthorityState → Confirming → Answer
+unfoldable pub log_confirmed_row : AuthorityState → Confirming → AuthorityAnswer
 log_confirmed_row s part =
     result_and (confirming_checks s part.first (parties_of part part.second) (log_claims part) part)
     (confirming_too s (map seen_in (log_claims part)) (kept_of part) (One (authority_party part.second)) (λ signature. HalfConfirmed part signature))
@@ -31,7 +31,7 @@ abbrev pub confirmation_with : Confirming → List ℕ → List ℕ → Message
 confirmation_with part first_signature signature =
     Confirmation part.client part.epoch part.name part.root part.body part.log part.signature part.first first_signature part.second signature
 
-unfoldable pub half_confirmed_row : AuthorityState → Confirming → List ℕ → Answer
+unfoldable pub half_confirmed_row : AuthorityState → Confirming → List ℕ → AuthorityAnswer
 half_confirmed_row s part first_signature =
     result_and (confirming_checks s part.second (parties_of part part.first) (half_claims part first_signature) part)
     (confirming_too s (map seen_in (half_claims part first_signature)) (kept_of part) (One (client_party part.client)) (confirmation_with part first_signature))

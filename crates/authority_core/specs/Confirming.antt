@@ -22,7 +22,7 @@ use Rattle.vote_quorum.specs.Numbers.{distinct_count}
 use Rattle.vote_quorum.specs.declared.value.Value.{Value}
 use Rattle.authority_core.specs.Calls.{confirming, kept_claim}
 use Rattle.authority_core.specs.Refusals.{of_signers}
-use Rattle.authority_core.specs.State.{Answer, AuthorityState, Prepared, entering, if_due, prepared, sent_with}
+use Rattle.authority_core.specs.State.{AuthorityAnswer, AuthorityState, Prepared, entering, if_due, prepared, sent_with}
 use Rattle.authority_core.specs.declared.entries.Kept.{Kept}
 use Rattle.authority_core.specs.declared.refusal.AuthorityRefusal.{AuthorityRefusal}
 use Rattle.authority_core.specs.declared.refusal.AuthorityRefusal.TheVariants.{BadPath, FewVotes, NotForAuthority, SameAuthority}
@@ -97,12 +97,12 @@ confirming_checks s chosen parties claims part =
 -- ---- what the authority does
 
 -- it confirms it too, by what it saw, and sends what was prepared
-unfoldable pub confirming_with : AuthorityState → List SeenText → Kept → Prepared → Answer
+unfoldable pub confirming_with : AuthorityState → List SeenText → Kept → Prepared → AuthorityAnswer
 confirming_with s seen k p =
     if_due (entering s.past (kept_claim (authority_party s.me) k))
     (λ due. (record s { past = confirming s.me s.past seen k }, sent_with p due))
 
 -- the same with this message, whose last field is its signature
-abbrev pub confirming_too : AuthorityState → List SeenText → Kept → Address → (List ℕ → Message) → Answer
+abbrev pub confirming_too : AuthorityState → List SeenText → Kept → Address → (List ℕ → Message) → AuthorityAnswer
 confirming_too s seen k to message =
     confirming_with s seen k (prepared s.signature_len to (message_text (message (zeros s.signature_len))))

@@ -9,12 +9,12 @@ use Rattle.ar_council.specs.Seen.{SeesMembers}
 use Rattle.ar_council.specs.Council.{Council}
 use Rattle.ar_council.specs.Votes.{SawVotes}
 use Rattle.authority_core.specs.Record.{AuthorityRecord}
-use Rattle.authority_core.specs.declared.entries.Asked.{Asked}
+use Rattle.authority_core.specs.declared.entries.Approved.{Approved}
 use Rattle.authority_core.specs.declared.entries.Kept.{Kept}
 
 -- its check said yes to a certificate with this digest
-abbrev pub HasAsked : List Asked → List ℕ → Type 0
-HasAsked asked certificate = (a : Asked) × (Contains asked a × (a.certificate ≡ certificate))
+abbrev pub HasAsked : List Approved → List ℕ → Type 0
+HasAsked asked certificate = (a : Approved) × (Contains asked a × (a.certificate ≡ certificate))
 
 -- it keeps this of a log, and votes of a quorum for the root over one base were seen
 abbrev pub HasKept : Council → List SeenText → List Kept → ℕ → List ℕ → Option (List ℕ) → List ℕ → Type 0
@@ -24,7 +24,7 @@ HasKept council seen kept epoch name certificate root =
 
 -- The authority with this number may have signed a statement, as far as its entries tell: it endorses only certificates to
 -- which its check said yes, confirms only what it keeps with a quorum's votes, and rolls; it signs nothing else.
-unfoldable pub ToldBy : Council → ℕ → List SeenText → List Asked → List Kept → Claim → Type 0
+unfoldable pub ToldBy : Council → ℕ → List SeenText → List Approved → List Kept → Claim → Type 0
 ToldBy council me seen asked kept (endorse authority certificate) = (authority ≡ me) × HasAsked asked certificate
 ToldBy council me seen asked kept (confirm signer epoch name certificate root) =
     (signer ≡ authority_party me) × HasKept council seen kept epoch name (Some certificate) root

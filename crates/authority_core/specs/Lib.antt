@@ -11,3 +11,4 @@ pub mod Refusals
 pub mod RollRows
 pub mod Row
 pub mod State
+pub mod Verifying

@@ -19,7 +19,7 @@ use Rattle.party_keys.specs.declared.learning.Learned.{Learned}
 use Rattle.authority_core.specs.Calls.{after_learn, after_roll}
 use Rattle.authority_core.specs.Record.{AuthorityRecord}
 use Rattle.authority_core.specs.Refusals.{of_learning, of_roll}
-use Rattle.authority_core.specs.State.{Answer, AuthorityState, sends}
+use Rattle.authority_core.specs.State.{AuthorityAnswer, AuthorityState, sends}
 use Rattle.authority_core.specs.declared.refusal.AuthorityRefusal.{AuthorityRefusal}
 use Rattle.authority_core.specs.declared.refusal.AuthorityRefusal.TheVariants.{Memory}
 
@@ -29,11 +29,11 @@ use Rattle.authority_core.specs.declared.refusal.AuthorityRefusal.TheVariants.{M
 abbrev pub learning : AuthorityState → Announced → AuthorityState
 learning s a = record s { keys = after_learning s.keys a; past = after_learn s.past a }
 
-abbrev pub roll_note_by : AuthorityState → Announced → Result Learned LearnFault → Answer
+abbrev pub roll_note_by : AuthorityState → Announced → Result Learned LearnFault → AuthorityAnswer
 roll_note_by s a (Ok _) = Ok (learning s a, nothing)
 roll_note_by s a (Err fault) = Err (of_learning a.party a.generation fault)
 
-unfoldable pub roll_note_row : AuthorityState → Announced → Answer
+unfoldable pub roll_note_row : AuthorityState → Announced → AuthorityAnswer
 roll_note_row s a = roll_note_by s a (learned s.keys a)
 
 -- ---- the order to roll
@@ -49,12 +49,12 @@ rolling s next = record s {
 abbrev pub roll_message : AuthorityState → LmsPublic → Message
 roll_message s next = RollNote (authority_party s.me) s.past.signed.newest next (zeros s.signature_len)
 
-abbrev pub roll_by : AuthorityState → LmsPublic → Result DueParts RollFault → Answer
+abbrev pub roll_by : AuthorityState → LmsPublic → Result DueParts RollFault → AuthorityAnswer
 roll_by s next (Ok due) =
     Ok (rolling s next, sends s.signature_len Logs (message_text (roll_message s next)) due)
 roll_by s next (Err fault) = Err (of_roll fault)
 
-unfoldable pub roll_row : AuthorityState → LmsPublic → Answer
+unfoldable pub roll_row : AuthorityState → LmsPublic → AuthorityAnswer
 roll_row s next = roll_by s next (announced s.past.signed (authority_party s.me) next)
 
 -- ---- the record's part of them

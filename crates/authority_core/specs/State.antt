@@ -32,12 +32,12 @@ pub record IsAuthority (s : AuthorityState) : Type 0 where
 -- ---- answers
 
 -- the answer to a message or an order: where the authority stands then and what it sends, or why it refuses
-abbrev pub Answer : Type 0
-Answer = Result (AuthorityState × Unsigned) AuthorityRefusal
+abbrev pub AuthorityAnswer : Type 0
+AuthorityAnswer = Result (AuthorityState × Unsigned) AuthorityRefusal
 
 -- A call answered as the row does, and the authority stands where the row says; or it refused so, or wanted memory, and the
 -- authority stands as before.
-abbrev pub StepsBy : Result Unsigned AuthorityRefusal → AuthorityState → AuthorityState → Answer → Type 0
+abbrev pub StepsBy : Result Unsigned AuthorityRefusal → AuthorityState → AuthorityState → AuthorityAnswer → Type 0
 StepsBy = StepsUnless Memory (λ new sent. (new, sent))
 
 -- ---- what is sent

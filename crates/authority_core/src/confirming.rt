@@ -83,7 +83,11 @@ pub(crate) fn kept_of(alloc: Global, part: &Confirming) -> Result<Kept, AllocErr
 
 /// A party is said to have confirmed what is kept.
 fn confirmed_by<'a>(party: Party, kept: &Kept, signature: &'a [u8]) -> Claimed<'a>
-    ensures { result ≡ record { party = party; text = text_of (kept_claim party kept.now); signature = signature.now } }
+    ensures { result ≡ record {
+      party = party;
+      text = text_of (kept_claim party kept.now);
+      signature = signature.now;
+    } }
 {
     let text = Text::of(&kept_statement(party, kept));
     Claimed::new(party, text, signature)
@@ -108,7 +112,8 @@ fn add_votes<'a>(
     votes: &'a [Vote],
     claims: &mut Vec<Claimed<'a>>,
 ) -> Result<(), AllocError>
-    ensures { OnOk result (claims.new.items ≡ claims.old.items ++ map (voted_by part.now) votes.now) }
+    ensures { OnOk result
+        (claims.new.items ≡ claims.old.items ++ map (voted_by part.now) votes.now) }
 {
     for vote in votes {
         claims.push(voted_by(part, vote))?;
@@ -158,7 +163,8 @@ pub(crate) fn half_claims<'a>(
 }
 
 fn add_voters(votes: &[Vote], parties: &mut Vec<Party>) -> Result<(), AllocError>
-    ensures { OnOk result (parties.new.items ≡ parties.old.items ++ map (λ v. log_party v.log) votes.now) }
+    ensures { OnOk result
+        (parties.new.items ≡ parties.old.items ++ map (λ v. log_party v.log) votes.now) }
 {
     for vote in votes {
         parties.push(Role::LogServer.party(vote.log))?;

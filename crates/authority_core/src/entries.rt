@@ -4,7 +4,7 @@ use tree_proof::Bottom;
 
 /// What an authority's check said yes to: that the key is the name's, as the certificate with this digest says.
 #[derive(Debug, Drop)]
-pub struct Asked {
+pub struct Approved {
     /// The name that the certificate is of.
     pub name: Name,
     /// The text of the certificate's subject key (RFC 8554, section 5.3).

@@ -1,8 +1,8 @@
-ghost use Rattle.std.specs.Prelude.{◌≡◌, true, IfOk, Err, None, Some, Ok, is_none, is_some, OnOk, OnErr};
+ghost use Rattle.std.specs.Prelude.{◌≡◌, true, IfOk, IsOk, Err, None, Some, Ok, is_none, is_some, OnOk, OnErr};
 ghost use Rattle.std.specs.Option.{option_map};
-ghost use Rattle.ar_base.specs.Gives.{GivesUnless, with_error};
+ghost use Rattle.ar_base.specs.Gives.{GivesOrWants, with_error};
 ghost use Rattle.ar_message.specs.Messages.{IsMessage, message_in};
-ghost use Rattle.authority_core.specs.Checked.{FailsByFault, IsAsTold, KeepsAnswer, KeepsAnswers, TellsAsBefore, TellsBy};
+ghost use Rattle.authority_core.specs.Checked.{ChecksBy, FailsByFault, KeepsAnswers, TellsAsBefore, TellsBy};
 ghost use Rattle.authority_core.specs.EndorseRow.{asked_of, endorse_row, outcome_by};
 ghost use Rattle.authority_core.specs.Keyed.{SendsBy};
 ghost use Rattle.authority_core.specs.RollRows.{roll_row};
@@ -56,11 +56,10 @@ impl<C: OwnerCheck> AuthorityCore<C> {
         owner: u16,
         cert: Cert,
     ) -> Result<Unsigned, AuthorityRefusal>
-        ensures row { StepsBy result self.old.state self.new.state (endorse_row self.old.state (is_none self.old.check) owner cert (outcome_by result)) }
-        ensures retired { is_none self.new.check ≡ is_none self.old.check }
-        ensures answers { KeepsAnswer C.answers self.old.check self.new.check (Some (asked_of cert)) result }
-        ensures told { TellsAsBefore C.told self.old.check self.new.check }
-        ensures by { IsAsTold C.told C.answers self.old.check (Some (asked_of cert)) result }
+        ensures row { StepsBy result self.old.state self.new.state
+            (endorse_row self.old.state (is_none self.old.check) owner cert (outcome_by result)) }
+        ensures checks { ChecksBy C.told C.answers self.old.check self.new.check
+            (Some (asked_of cert)) result }
         ensures fault { FailsByFault C.faults self.old.check self.new.check result }
     {
         match &mut self.check {
@@ -73,11 +72,10 @@ impl<C: OwnerCheck> AuthorityCore<C> {
     #[tactic(auto, unfolding(crate::specs::Row::message_row))]
     fn take(&mut self, alloc: Global, message: Message) -> Result<Unsigned, AuthorityRefusal>
         requires { IsMessage message }
-        ensures row { StepsBy result self.old.state self.new.state (message_row self.old.state (is_none self.old.check) message (outcome_by result)) }
-        ensures retired { is_none self.new.check ≡ is_none self.old.check }
-        ensures answers { KeepsAnswer C.answers self.old.check self.new.check (asked_in (Ok message)) result }
-        ensures told { TellsAsBefore C.told self.old.check self.new.check }
-        ensures by { IsAsTold C.told C.answers self.old.check (asked_in (Ok message)) result }
+        ensures row { StepsBy result self.old.state self.new.state
+            (message_row self.old.state (is_none self.old.check) message (outcome_by result)) }
+        ensures checks { ChecksBy C.told C.answers self.old.check self.new.check
+            (asked_in (Ok message)) result }
         ensures fault { FailsByFault C.faults self.old.check self.new.check result }
     {
         match message {
@@ -89,23 +87,24 @@ impl<C: OwnerCheck> AuthorityCore<C> {
     /// Takes a message: what the authority sends for it, with zero bytes where a signature of its own is due, or why it
     /// refuses.
     ///
-    /// The answer is that of `specs/Row.antt`, by what the check answered; `Memory` may stand in its place. The check is
-    /// asked at most once, after all memory was taken, and in no step but that of a request to endorse: its list then has
-    /// one answer more. `CheckFault` comes only where the count of its faults rose, and `NotOwner` exactly where it
-    /// answered no. After a refusal the authority stands as before, and so does the check after each but `CheckFault`,
-    /// `NotOwner` and `Spent` of such a request.
+    /// The answer is that of `specs/Row.antt`, by what the check answered; `Memory` may stand in its place, but not in
+    /// that of `Form`. The check is asked at most once, after all memory was taken, and in no step but that of a request to
+    /// endorse: its list then has one answer more. `CheckFault` comes only where the count of its faults rose, and
+    /// `NotOwner` exactly where it answered no. After a refusal the authority stands as before, and so does the check after
+    /// each but `CheckFault`, `NotOwner` and `Spent` of such a request.
     pub fn step(&mut self, alloc: Global, bytes: &[u8]) -> Result<Unsigned, AuthorityRefusal>
         // The answer, and where the authority stands then.
-        ensures row { StepsBy result self.old.state self.new.state (row self.old.state (is_none self.old.check) (message_in bytes.now) (outcome_by result)) }
-        // The check is there where it was.
-        ensures retired { is_none self.new.check ≡ is_none self.old.check }
-        // Its list has this answer behind it where it was asked, and what it tells stays.
-        ensures answers { KeepsAnswer C.answers self.old.check self.new.check (asked_in (message_in bytes.now)) result }
-        ensures told { TellsAsBefore C.told self.old.check self.new.check }
-        // The answer is by what the check tells.
-        ensures by { IsAsTold C.told C.answers self.old.check (asked_in (message_in bytes.now)) result }
+        ensures row { StepsBy result self.old.state self.new.state
+            (row self.old.state (is_none self.old.check) (message_in bytes.now)
+            (outcome_by result)) }
+        // The check is there where it was, its list has this answer behind it where it was asked, what it tells stays, and the
+        // answer is by what it tells.
+        ensures checks { ChecksBy C.told C.answers self.old.check self.new.check
+            (asked_in (message_in bytes.now)) result }
         // When it failed.
         ensures fault { FailsByFault C.faults self.old.check self.new.check result }
+        // When memory may be wanting.
+        ensures memory { result ≡ Err refusal.Memory → IsOk (message_in bytes.now) }
     {
         let message = read(alloc, bytes)?;
         self.take(alloc, message)
@@ -118,7 +117,8 @@ impl<C: OwnerCheck> AuthorityCore<C> {
     /// generation is 999, but that `Memory` may come in place of it. After a refusal the authority stands as before. All
     /// memory is taken before the first change.
     pub fn roll(&mut self, alloc: Global, next: &LmsPublic) -> Result<Unsigned, AuthorityRefusal>
-        ensures row { StepsBy result self.old.state self.new.state (roll_row self.old.state next.now) }
+        ensures row { StepsBy result self.old.state self.new.state
+            (roll_row self.old.state next.now) }
         ensures check { self.new.check ≡ self.old.check }
     {
         self.state.roll(alloc, next)
@@ -131,7 +131,8 @@ impl<C: OwnerCheck> AuthorityCore<C> {
         requires { is_some self.old.check ≡ true }
         ensures state { self.new.state ≡ self.old.state }
         ensures retired { is_none self.new.check ≡ is_none self.old.check }
-        ensures ok { OnOk result (TellsBy (option_map (learnt name.now key.now)) C.told self.old.check self.new.check) }
+        ensures ok { OnOk result
+            (TellsBy (option_map (learnt name.now key.now)) C.told self.old.check self.new.check) }
         ensures err { OnErr result (TellsAsBefore C.told self.old.check self.new.check) }
         ensures answers { KeepsAnswers C.answers self.old.check self.new.check }
     {
@@ -148,7 +149,8 @@ impl<C: OwnerCheck> AuthorityCore<C> {
         requires { is_some self.old.check ≡ true }
         ensures state { self.new.state ≡ self.old.state }
         ensures retired { is_none self.new.check ≡ is_none self.old.check }
-        ensures told { TellsBy (option_map (forgotten name.now key.now)) C.told self.old.check self.new.check }
+        ensures told { TellsBy (option_map
+            (forgotten name.now key.now)) C.told self.old.check self.new.check }
         ensures answers { KeepsAnswers C.answers self.old.check self.new.check }
     {
         match &mut self.check {
@@ -167,7 +169,8 @@ impl<C: OwnerCheck> Keyless for AuthorityCore<C> {
 
     ghost most_sent = { most_sent };
 
-    ghost goes_on = { λ keys result old new key. SendsBy keys result old.state new.state (roll_row old.state key) };
+    ghost goes_on = { λ keys result old new key. SendsBy keys result old.state new.state
+        (roll_row old.state key) };
 
     ghost keeps = { λ old new. new.check ≡ old.check };
 
@@ -187,7 +190,8 @@ impl<C: OwnerCheck> Keyless for AuthorityCore<C> {
 // The message with this text, each of whose fields is in its range. It asks no check, so none fails.
 #[tactic(auto, using(crate::proofs::Faults::read_no_fault))]
 fn read(alloc: Global, bytes: &[u8]) -> Result<Message, AuthorityRefusal>
-    ensures answer { GivesUnless refusal.Memory (λ message. message) result (with_error refusal.Form (message_in bytes.now)) }
+    ensures answer { GivesOrWants refusal.Memory (λ message.
+        message) result (with_error refusal.Form (message_in bytes.now)) }
     ensures range { IfOk result IsMessage }
     ensures fault { result ≡ Err refusal.CheckFault → ⊥ }
 {

@@ -23,9 +23,10 @@ mod refusal;
 mod reply;
 mod state;
 mod stepping;
+mod verifying;
 
 pub use authority::{Authority, answer, new_authority};
-pub use entries::{Asked, Kept};
+pub use entries::{Approved, Kept};
 pub use keyless::AuthorityCore;
 pub use record::AuthorityRecord;
 pub use refusal::AuthorityRefusal;

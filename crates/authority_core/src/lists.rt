@@ -5,26 +5,26 @@ ghost use Rattle.std.specs.List.{list_any};
 ghost use Rattle.ar_base.specs.Adding.{with_one};
 ghost use Rattle.authority_core.specs.Calls.{are_same, is_same_asked, is_same_bottom, is_same_kept};
 
-use crate::entries::{Asked, Kept};
+use crate::entries::{Approved, Kept};
 use ar_council::is_same_digest;
 use tree_proof::Bottom;
 
 // ---- what the check said yes to
 
-fn is_same_asked(a: &Asked, b: &Asked) -> bool
+fn is_same_asked(a: &Approved, b: &Approved) -> bool
     ensures { result ≡ is_same_asked a.now b.now }
 {
     a.name.text() == b.name.text() && a.key == b.key && a.certificate == b.certificate
 }
 
-fn has_asked(asked: &[Asked], a: &Asked) -> bool
+fn has_asked(asked: &[Approved], a: &Approved) -> bool
     ensures { result ≡ list_any (λ b. is_same_asked b a.now) asked.now }
 {
     asked.iter().any(|b| is_same_asked(b, a))
 }
 
 /// Puts one more behind what the check said yes to, unless it is there. There is room for it.
-pub(crate) fn put_asked(asked: &mut Vec<Asked>, a: Asked)
+pub(crate) fn put_asked(asked: &mut Vec<Approved>, a: Approved)
     requires { vec_len asked.old < vec_capacity asked.old }
     ensures { asked.new.items ≡ with_one is_same_asked asked.old.items a }
 {

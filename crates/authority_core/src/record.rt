@@ -12,15 +12,16 @@ ghost use Rattle.authority_core.specs.Refusals.{of_book};
 ghost use Rattle.authority_core.specs.declared.refusal.AuthorityRefusal.TheVariants as refusal;
 ghost use Rattle.authority_core.specs.declared.refusal.AuthorityRefusal.TheVariants.{CheckFault};
 
-use crate::entries::{Asked, Kept};
+use crate::entries::{Approved, Kept};
 use crate::lists::{put_asked, put_kept};
 use crate::refusal::{AuthorityRefusal, of_learning};
+use crate::verifying::VerifyingDirectory;
 use ar_council::{see, see_each, seen_text};
 use ar_statement::{Party, Role, SeenText, Statement, confirmation_statement};
 use key_roll::{LAST_GENERATION, RollBook, RollDue};
 use lms_tree::LmsPublic;
 use owner_check::OwnerCheck;
-use party_keys::{Announced, Directory};
+use party_keys::Announced;
 use std::alloc::Global;
 use std::marker::Model;
 
@@ -29,7 +30,7 @@ use std::marker::Model;
 pub struct AuthorityRecord {
     pub(crate) seen: Vec<SeenText>,
     pub(crate) signed: RollBook,
-    pub(crate) asked: Vec<Asked>,
+    pub(crate) asked: Vec<Approved>,
     pub(crate) kept: Vec<Kept>,
 }
 
@@ -39,7 +40,12 @@ impl Model for AuthorityRecord {
 
     ghost Value = { AuthorityRecord };
 
-    ghost view = { λ r. record { seen = r.seen.items; signed = r.signed.book; asked = r.asked.items; kept = r.kept.items } };
+    ghost view = { λ r. record {
+      seen = r.seen.items;
+      signed = r.signed.book;
+      asked = r.asked.items;
+      kept = r.kept.items;
+    } };
 }
 
 /// The statement by which a party confirms what is kept.
@@ -62,8 +68,11 @@ fn enter(
     statement: &Statement,
 ) -> Result<RollDue, AuthorityRefusal>
     requires { is_roll (text_of (claim_of statement.now)) ≡ false }
-    ensures answer { GivesUnless refusal.Memory (λ due. due) result (with_error of_book (entered signed.old.book (text_of (claim_of statement.now)))) }
-    ensures ok { OnOk result (signed.new.book ≡ after_entry signed.old.book (text_of (claim_of statement.now))) }
+    ensures answer { GivesUnless refusal.Memory (λ due.
+        due) result (with_error of_book
+        (entered signed.old.book (text_of (claim_of statement.now)))) }
+    ensures ok { OnOk result
+        (signed.new.book ≡ after_entry signed.old.book (text_of (claim_of statement.now))) }
     ensures err { OnErr result (signed.new ≡ signed.old) }
 {
     let due = signed.enter(alloc, statement)?;
@@ -77,8 +86,12 @@ fn enter_kept(
     me: u16,
     kept: &Kept,
 ) -> Result<RollDue, AuthorityRefusal>
-    ensures answer { GivesUnless refusal.Memory (λ due. due) result (with_error of_book (entered signed.old.book (text_of (kept_claim (authority_party me) kept.now)))) }
-    ensures ok { OnOk result (signed.new.book ≡ after_entry signed.old.book (text_of (kept_claim (authority_party me) kept.now))) }
+    ensures answer { GivesUnless refusal.Memory (λ due.
+        due) result (with_error of_book
+        (entered signed.old.book (text_of (kept_claim (authority_party me) kept.now)))) }
+    ensures ok { OnOk result
+        (signed.new.book ≡ after_entry signed.old.book
+        (text_of (kept_claim (authority_party me) kept.now))) }
     ensures err { OnErr result (signed.new ≡ signed.old) }
 {
     let statement = kept_statement(Role::Authority.party(me), kept);
@@ -114,7 +127,7 @@ impl AuthorityRecord {
     }
 
     /// What the check said yes to, in order.
-    pub fn asked(&self) -> &[Asked]
+    pub fn asked(&self) -> &[Approved]
         ensures { result.now ≡ self.now.asked }
     {
         &self.asked
@@ -132,14 +145,16 @@ impl AuthorityRecord {
         &mut self,
         alloc: Global,
         me: u16,
-        asked: Asked,
+        asked: Approved,
         check: &mut C,
     ) -> Result<RollDue, AuthorityRefusal>
-        ensures row { EntersBy result self.old self.new (endorse_due me self.old asked (outcome_by result)) (after_endorse me self.old asked) }
+        ensures row { EntersBy result self.old self.new
+            (endorse_due me self.old asked (outcome_by result)) (after_endorse me self.old asked) }
         ensures answers { C.answers check.new ≡ answers_after (C.answers check.old) asked result }
         ensures told { C.told check.new ≡ C.told check.old }
         ensures by { SaysAsTold (C.told check.old) (C.answers check.old) asked result }
-        ensures fault { result ≡ Err CheckFault → HasRisen (C.faults check.old) (C.faults check.new) }
+        ensures fault { result ≡ Err CheckFault
+            → HasRisen (C.faults check.old) (C.faults check.new) }
     {
         self.asked.reserve(1)?;
         self.signed.reserve(alloc, 1)?;
@@ -159,7 +174,7 @@ impl AuthorityRecord {
     pub(crate) fn learn(
         &mut self,
         alloc: Global,
-        keys: &mut Directory,
+        keys: &mut VerifyingDirectory,
         announced: &Announced,
     ) -> Result<(), AuthorityRefusal>
         ensures { LearnsBy result self.old self.new keys.old keys.new announced.now }
@@ -182,7 +197,7 @@ impl AuthorityRecord {
     pub(crate) fn roll(
         &mut self,
         alloc: Global,
-        keys: &mut Directory,
+        keys: &mut VerifyingDirectory,
         me: u16,
         next: &LmsPublic,
     ) -> Result<RollDue, AuthorityRefusal>
@@ -209,7 +224,9 @@ impl AuthorityRecord {
         seen: &[SeenText],
         kept: Kept,
     ) -> Result<RollDue, AuthorityRefusal>
-        ensures { EntersBy result self.old self.new (entering self.old (kept_claim (authority_party me) kept)) (confirming me self.old seen.now kept) }
+        ensures { EntersBy result self.old self.new
+            (entering self.old (kept_claim (authority_party me) kept))
+            (confirming me self.old seen.now kept) }
     {
         self.seen.reserve(seen.len())?;
         self.kept.reserve(1)?;

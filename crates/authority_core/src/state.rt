@@ -11,6 +11,7 @@ ghost use Rattle.owner_check.specs.declared.answer.Outcome.TheVariants.{Yes};
 
 use crate::record::AuthorityRecord;
 use crate::refusal::AuthorityRefusal;
+use crate::verifying::VerifyingDirectory;
 use ar_message::{Message, Unsigned};
 use party_keys::{Announced, Directory};
 use std::alloc::Global;
@@ -21,7 +22,7 @@ use std::marker::Model;
 #[derive(Debug, Drop)]
 pub struct AuthorityState {
     pub(crate) me: u16,
-    pub(crate) keys: Directory,
+    pub(crate) keys: VerifyingDirectory,
     pub(crate) signature_len: u16,
     pub(crate) past: AuthorityRecord,
 }
@@ -32,9 +33,15 @@ impl Model for AuthorityState {
 
     ghost Value = { AuthorityState };
 
-    ghost view = { λ s. record { me = s.me; keys = s.keys; signature_len = s.signature_len; past = s.past } };
+    ghost view = { λ s. record {
+      me = s.me;
+      keys = s.keys;
+      signature_len = s.signature_len;
+      past = s.past;
+    } };
 
-    ghost invariant = { λ s. IsAuthority (record { me = s.me; keys = s.keys; signature_len = s.signature_len; past = s.past }) };
+    ghost invariant = { λ s. IsAuthority
+        (record { me = s.me; keys = s.keys; signature_len = s.signature_len; past = s.past }) };
 }
 
 impl AuthorityState {
@@ -48,13 +55,20 @@ impl AuthorityState {
         signature_len: u16,
     ) -> AuthorityState
         requires { 0 < leaves }
-        ensures { result ≡ record { me = me; keys = keys; signature_len = signature_len; past = fresh_authority leaves } }
+        ensures { result ≡ record {
+          me = me;
+          keys = keys;
+          signature_len = signature_len;
+          past = fresh_authority leaves;
+        } }
     {
+        let known = VerifyingDirectory::new(alloc, keys);
+        let past = AuthorityRecord::new(alloc, leaves);
         AuthorityState {
             me,
-            keys,
+            keys: known,
             signature_len,
-            past: AuthorityRecord::new(alloc, leaves),
+            past,
         }
     }
 
@@ -76,7 +90,7 @@ impl AuthorityState {
     pub fn directory(&self) -> &Directory
         ensures { result.now ≡ self.now.keys }
     {
-        &self.keys
+        self.keys.directory()
     }
 
     /// What it remembers, which is what an honest authority does.

@@ -1,6 +1,6 @@
 //! The rows of an authority, without its keys. Each keeps its record honest.
 
-ghost use Rattle.std.specs.Prelude.{◌≡◌, ◌<◌, IfOk, map, Err, Ok};
+ghost use Rattle.std.specs.Prelude.{◌≡◌, ◌<◌, ◌≤◌, length, drop, IfOk, map, Err, Ok};
 ghost use Rattle.std.specs.Result.{result_and};
 ghost use Rattle.ar_base.specs.Faults.{HasRisen};
 ghost use Rattle.ar_base.specs.Gives.{GivesUnless};
@@ -9,20 +9,20 @@ ghost use Rattle.ar_message.specs.declared.address.Address.TheVariants as addres
 ghost use Rattle.ar_message.specs.declared.message.Message.TheVariants as message;
 ghost use Rattle.ar_message.specs.Filling.{zeros};
 ghost use Rattle.ar_statement.specs.Claims.{authority_party, client_party, owner_party, party};
-ghost use Rattle.authority_core.specs.Calls.{confirming, kept_claim};
-ghost use Rattle.authority_core.specs.Confirming.{confirming_with, confirming_checks, kept_of, parties_of};
+ghost use Rattle.authority_core.specs.Confirming.{confirming_with, confirming_checks, kept_of, parties_of, votes_claimed};
 ghost use Rattle.party_keys.specs.Signers.{seen_in};
 ghost use Rattle.authority_core.specs.ConfirmRows.{confirmation_with, half_claims, half_confirmed_row, log_claims, log_confirmed_row};
 ghost use Rattle.authority_core.specs.EndorseRow.{SaysAsTold, answers_after, asked_of, endorsed_message, endorsing, outcome_by};
 ghost use Rattle.authority_core.specs.RollRows.{roll_message, roll_note_row, roll_row};
-ghost use Rattle.authority_core.specs.State.{StepsBy, entering, if_due, prepared, sent_with};
+ghost use Rattle.authority_core.specs.State.{StepsBy, prepared};
 ghost use Rattle.authority_core.specs.declared.refusal.AuthorityRefusal.TheVariants as refusal;
 
 use crate::confirming::{check_content, half_claims, kept_of, log_claims, parties_of, seen_in};
-use crate::entries::{Asked, Kept};
+use crate::entries::{Approved, Kept};
 use crate::refusal::AuthorityRefusal;
 use crate::reply::{Prepared, discard, prepare, send, send_entered};
 use crate::state::AuthorityState;
+use crate::verifying::VerifiedVotes;
 use ar_cert::Cert;
 use ar_council::key_told;
 use ar_message::{Address, Confirming, Message, Signature, Unsigned};
@@ -33,10 +33,10 @@ use party_keys::{Announced, Claimed};
 use std::alloc::{AllocError, Global};
 
 /// What the check is asked of a certificate.
-fn asked_of(cert: Cert) -> Asked
+fn asked_of(cert: Cert) -> Approved
     ensures { result ≡ asked_of cert }
 {
-    Asked {
+    Approved {
         key: cert.subject.bytes(),
         certificate: cert.digest(),
         name: cert.name,
@@ -53,7 +53,9 @@ impl AuthorityState {
         owner: u16,
         certificate: &[u8; 32],
     ) -> Result<Prepared, AllocError>
-        ensures { IfOk result (λ p. p ≡ prepared self.now.signature_len (address.One (owner_party owner)) (message_text (endorsed_message self.now owner certificate.now))) }
+        ensures { IfOk result (λ p.
+            p ≡ prepared self.now.signature_len (address.One (owner_party owner))
+            (message_text (endorsed_message self.now owner certificate.now))) }
     {
         let message = Message::Endorsed {
             owner,
@@ -75,11 +77,14 @@ impl AuthorityState {
         cert: Cert,
         check: &mut C,
     ) -> Result<Unsigned, AuthorityRefusal>
-        ensures row { StepsBy result self.old self.new (endorsing self.old owner (asked_of cert) (outcome_by result)) }
-        ensures answers { C.answers check.new ≡ answers_after (C.answers check.old) (asked_of cert) result }
+        ensures row { StepsBy result self.old self.new
+            (endorsing self.old owner (asked_of cert) (outcome_by result)) }
+        ensures answers { C.answers check.new
+            ≡ answers_after (C.answers check.old) (asked_of cert) result }
         ensures told { C.told check.new ≡ C.told check.old }
         ensures by { SaysAsTold (C.told check.old) (C.answers check.old) (asked_of cert) result }
-        ensures fault { result ≡ Err refusal.CheckFault → HasRisen (C.faults check.old) (C.faults check.new) }
+        ensures fault { result ≡ Err refusal.CheckFault
+            → HasRisen (C.faults check.old) (C.faults check.new) }
     {
         let asked = asked_of(cert);
         let ready = self.prepare_endorsed(alloc, owner, &asked.certificate)?;
@@ -94,7 +99,7 @@ impl AuthorityState {
 
     // ---- confirmations
 
-    // The checks of a confirmation that is for the authority `chosen`.
+    // The checks of a confirmation that is for the authority `chosen`. Behind so many claims stand those of the votes.
     #[tactic(auto, unfolding(crate::specs::Confirming::confirming_checks))]
     fn check(
         &self,
@@ -102,14 +107,18 @@ impl AuthorityState {
         chosen: u16,
         parties: &[Party],
         claims: &[Claimed],
+        front: usize,
         part: &Confirming,
     ) -> Result<(), AuthorityRefusal>
-        ensures { GivesUnless refusal.Memory (λ u. u) result (confirming_checks self.now chosen parties.now claims.now part.now) }
+        requires few { front ≤ length claims.now }
+        requires votes { drop front claims.now ≡ votes_claimed part.now }
+        ensures { GivesUnless refusal.Memory (λ u.
+            u) result (confirming_checks self.now chosen parties.now claims.now part.now) }
     {
         if chosen != self.me {
             return Err(AuthorityRefusal::NotForAuthority);
         }
-        self.keys.check_signers(parties, claims)?;
+        self.keys.check_signers(parties, claims, front, part)?;
         check_content(alloc, self.keys.quorum(), part)
     }
 
@@ -122,11 +131,13 @@ impl AuthorityState {
     ) -> Result<Vec<SeenText>, AuthorityRefusal>
         requires { kept.now ≡ kept_of part.now }
         ensures { GivesUnless refusal.Memory (λ seen. seen.items) result
-            (result_and (confirming_checks self.now part.now.first (parties_of part.now part.now.second) (log_claims part.now) part.now) (Ok (map seen_in (log_claims part.now)))) }
+            (result_and (confirming_checks self.now part.now.first
+            (parties_of part.now part.now.second) (log_claims part.now) part.now)
+            (Ok (map seen_in (log_claims part.now)))) }
     {
         let parties = parties_of(alloc, part, part.second)?;
         let claims = log_claims(alloc, part, kept)?;
-        self.check(alloc, part.first, &parties, &claims, part)?;
+        self.check(alloc, part.first, &parties, &claims, 1, part)?;
         let seen = seen_in(alloc, &claims)?;
         Ok(seen)
     }
@@ -141,19 +152,23 @@ impl AuthorityState {
     ) -> Result<Vec<SeenText>, AuthorityRefusal>
         requires { kept.now ≡ kept_of part.now }
         ensures { GivesUnless refusal.Memory (λ seen. seen.items) result
-            (result_and (confirming_checks self.now part.now.second (parties_of part.now part.now.first) (half_claims part.now first_signature.now) part.now)
+            (result_and (confirming_checks self.now part.now.second
+            (parties_of part.now part.now.first)
+            (half_claims part.now first_signature.now) part.now)
             (Ok (map seen_in (half_claims part.now first_signature.now)))) }
     {
         let parties = parties_of(alloc, part, part.first)?;
         let claims = half_claims(alloc, part, kept, first_signature)?;
-        self.check(alloc, part.second, &parties, &claims, part)?;
+        self.check(alloc, part.second, &parties, &claims, 2, part)?;
         let seen = seen_in(alloc, &claims)?;
         Ok(seen)
     }
 
     // The message to the second authority.
     fn prepare_half(&self, alloc: Global, part: Confirming) -> Result<Prepared, AllocError>
-        ensures { IfOk result (λ p. p ≡ prepared self.now.signature_len (address.One (authority_party part.second)) (message_text (message.HalfConfirmed part (zeros self.now.signature_len)))) }
+        ensures { IfOk result (λ p.
+            p ≡ prepared self.now.signature_len (address.One (authority_party part.second))
+            (message_text (message.HalfConfirmed part (zeros self.now.signature_len)))) }
     {
         let to = Address::One(Role::Authority.party(part.second));
         let message = Message::HalfConfirmed {
@@ -170,7 +185,10 @@ impl AuthorityState {
         part: Confirming,
         first_signature: Signature,
     ) -> Result<Prepared, AllocError>
-        ensures { IfOk result (λ p. p ≡ prepared self.now.signature_len (address.One (client_party part.client)) (message_text (confirmation_with part first_signature (zeros self.now.signature_len)))) }
+        ensures { IfOk result (λ p.
+            p ≡ prepared self.now.signature_len (address.One (client_party part.client))
+            (message_text (confirmation_with part first_signature
+            (zeros self.now.signature_len)))) }
     {
         let to = Address::One(Role::Client.party(part.client));
         let message = Message::Confirmation {
@@ -201,7 +219,9 @@ impl AuthorityState {
     {
         let kept = kept_of(alloc, &part)?;
         let seen = self.accept_log(alloc, &part, &kept)?;
+        let verified = VerifiedVotes::of(alloc, &part)?;
         let ready = self.prepare_half(alloc, part)?;
+        self.keys.keep(verified);
         let entered = self.past.confirm(alloc, self.me, &seen, kept);
         send_entered(ready, entered)
     }
@@ -215,11 +235,14 @@ impl AuthorityState {
         first_signature: Signature,
     ) -> Result<Unsigned, AuthorityRefusal>
         requires { IsConfirming part }
-        ensures { StepsBy result self.old self.new (half_confirmed_row self.old part first_signature) }
+        ensures { StepsBy result self.old self.new
+            (half_confirmed_row self.old part first_signature) }
     {
         let kept = kept_of(alloc, &part)?;
         let seen = self.accept_half(alloc, &part, &kept, first_signature.as_slice())?;
+        let verified = VerifiedVotes::of(alloc, &part)?;
         let ready = self.prepare_confirmation(alloc, part, first_signature)?;
+        self.keys.keep(verified);
         let entered = self.past.confirm(alloc, self.me, &seen, kept);
         send_entered(ready, entered)
     }
@@ -241,7 +264,9 @@ impl AuthorityState {
 
     // The message to the logs.
     fn prepare_roll(&self, alloc: Global, next: &LmsPublic) -> Result<Prepared, AllocError>
-        ensures { IfOk result (λ p. p ≡ prepared self.now.signature_len address.Logs (message_text (roll_message self.now next.now))) }
+        ensures { IfOk result (λ p.
+            p ≡ prepared self.now.signature_len address.Logs
+            (message_text (roll_message self.now next.now))) }
     {
         let message = Message::RollNote {
             party: Role::Authority.party(self.me),

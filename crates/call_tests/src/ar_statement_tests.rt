@@ -1,6 +1,7 @@
 use ar_names::NameView;
 use ar_statement::{Role, Statement, TEXT_LEN, Text};
 use std::process::Abort;
+use vote_quorum::Value;
 
 const KEY: [u8; 56] = [
     0, 0, 0, 5, 0, 0, 0, 3, 0, 1, 2, 3, 4, 5, 6, 7, 8, 9, 10, 11, 12, 13, 14, 15, 16, 17, 18, 19,
@@ -85,7 +86,10 @@ fn statements_of_an_epoch_have_their_texts(rt: HostRuntime) {
         Statement::Status {
             log: 7,
             epoch: 2,
-            value: Some(([12; 32], [13; 32])),
+            value: Some(Value {
+                base: [12; 32],
+                root: [13; 32],
+            }),
         },
         b"\x09\x01\x00\x07\x00\x00\x00\x00\x00\x00\x00\x02\x01\x0c\x0c\x0c\x0c\x0c\x0c\x0c\x0c\x0c\x0c\x0c\x0c\x0c\x0c\x0c\x0c\x0c\x0c\x0c\x0c\x0c\x0c\x0c\x0c\x0c\x0c\x0c\x0c\x0c\x0c\x0c\x0c\x0d\x0d\x0d\x0d\x0d\x0d\x0d\x0d\x0d\x0d\x0d\x0d\x0d\x0d\x0d\x0d\x0d\x0d\x0d\x0d\x0d\x0d\x0d\x0d\x0d\x0d\x0d\x0d\x0d\x0d\x0d\x0d",
     );

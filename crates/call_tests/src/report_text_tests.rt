@@ -1,6 +1,6 @@
 use ar_base::Items;
 use ar_statement::{Party, Role};
-use report_text::{Code, Happening, Shown, Unlearnt, Values, What, print};
+use report_text::{Code, CodeValue, Happening, Unlearnt, Values, What, print};
 use std::alloc::{AllocError, Global};
 use std::test::Fail;
 
@@ -67,8 +67,8 @@ fn is_refused_so(
 
 #[test]
 fn steps_of_logs_that_are_refused(rt: HostRuntime) -> Result<(), Fail> {
-    let full = Values::Two(Shown::Number(2), Shown::Full);
-    let no_root = Values::Two(Shown::NoRoot, Shown::Number(0));
+    let full = Values::Two(CodeValue::Number(2), CodeValue::Full);
+    let no_root = Values::Two(CodeValue::NoRoot, CodeValue::Number(0));
     let rows = [
         (
             0,
@@ -97,9 +97,12 @@ fn steps_of_logs_that_are_refused(rt: HostRuntime) -> Result<(), Fail> {
 #[test]
 fn steps_of_others_that_are_refused(rt: HostRuntime) -> Result<(), Fail> {
     let (authority, owner) = (Role::Authority, Role::Owner);
-    let of_one = Values::Two(Shown::Party(authority.party(1)), Shown::Number(4294967295));
-    let of_digest = Values::One(Shown::Digest([0xab; 32]));
-    let of_zero = Values::Two(Shown::Party(authority.party(0)), Shown::Number(5));
+    let of_one = Values::Two(
+        CodeValue::Party(authority.party(1)),
+        CodeValue::Number(4294967295),
+    );
+    let of_digest = Values::One(CodeValue::Digest([0xab; 32]));
+    let of_zero = Values::Two(CodeValue::Party(authority.party(0)), CodeValue::Number(5));
     let rolled = "A1 roll refused A11 A1 4294967295";
     let submitted =
         "D7 submit 3 refused O2 abababababababababababababababababababababababababababababababab";

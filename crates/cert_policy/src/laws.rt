@@ -14,27 +14,33 @@ ghost use Rattle.cert_policy.specs.declared.refusal.PolicyRefusal.TheVariants.{H
 /// Each list of clauses stands in order of number.
 pub fn clauses_stand_in_order()
     ensures follow { (old new : CertTerms) (endorsers : List ℕ) (handover : Bool)
-        → IsStrictlyIncreasing (map (λ c. number_of c.0) (follow_clauses old new endorsers handover)) }
+        → IsStrictlyIncreasing (map (λ c.
+        number_of c.0) (follow_clauses old new endorsers handover)) }
     ensures recovery { (old new : CertTerms) (endorsers : List ℕ) (pending : Bool)
-        → IsStrictlyIncreasing (map (λ c. number_of c.0) (recovery_clauses old new endorsers pending)) }
+        → IsStrictlyIncreasing (map (λ c.
+        number_of c.0) (recovery_clauses old new endorsers pending)) }
     ensures registration { (new : CertTerms) (endorsers : List ℕ)
         → IsStrictlyIncreasing (map (λ c. number_of c.0) (registration_clauses new endorsers)) }
 {}
 
 /// The answer is the least clause that fails.
 pub fn the_least_clause_answers()
-    ensures fails { (clauses : List Clause) (refusal : PolicyRefusal) → first_failing clauses ≡ Err refusal
+    ensures fails { (clauses : List Clause) (refusal : PolicyRefusal)
+        → first_failing clauses ≡ Err refusal
         → Contains clauses (refusal, false) }
     ensures least { (clauses : List Clause) (refusal : PolicyRefusal)
-        → IsStrictlyIncreasing (map (λ c. number_of c.0) clauses) → first_failing clauses ≡ Err refusal
+        → IsStrictlyIncreasing (map (λ c. number_of c.0) clauses)
+        → first_failing clauses ≡ Err refusal
         → All (λ c. number_of c.0 < number_of refusal → IsTrue c.1) clauses }
 {}
 
 /// Endorsers count as a set: neither their order nor repeats change a count.
 pub fn endorsers_count_as_a_set()
-    ensures distinct { (one other : List ℕ) → ((number : ℕ) → Contains one number ↔ Contains other number)
+    ensures distinct { (one other : List ℕ)
+        → ((number : ℕ) → Contains one number ↔ Contains other number)
         → distinct_count one ≡ distinct_count other }
-    ensures among { (trusted one other : List ℕ) → ((number : ℕ) → Contains one number ↔ Contains other number)
+    ensures among { (trusted one other : List ℕ)
+        → ((number : ℕ) → Contains one number ↔ Contains other number)
         → shared_count one trusted ≡ shared_count other trusted }
 {}
 
@@ -51,7 +57,8 @@ pub fn clauses_are_facts()
 /// is pending.
 pub fn each_manner_has_its_facts()
     ensures { (manner : Manner) (old new : CertTerms) (endorsers : List ℕ) (handover pending : Bool)
-        → (update_answer old new endorsers handover pending ≡ Ok manner) ↔ IsUpdate manner old new endorsers handover pending }
+        → (update_answer old new endorsers handover pending ≡ Ok manner)
+        ↔ IsUpdate manner old new endorsers handover pending }
 {}
 
 /// Each update keeps the common clauses, in whatever manner it is taken.
@@ -62,13 +69,16 @@ pub fn each_update_succeeds()
 
 /// Without a wait an update is judged as a certificate that follows, whatever is pending.
 pub fn no_wait_is_no_recovery()
-    ensures { (old new : CertTerms) (endorsers : List ℕ) (handover pending : Bool) → old.policy.wait ≡ None
-        → update_answer old new endorsers handover pending ≡ in_manner Full (follow_answer old new endorsers handover) }
+    ensures { (old new : CertTerms) (endorsers : List ℕ) (handover pending : Bool)
+        → old.policy.wait ≡ None
+        → update_answer old new endorsers handover pending
+        ≡ in_manner Full (follow_answer old new endorsers handover) }
 {}
 
 /// An update is refused by the sixth or the seventh clause only where the old policy has no wait.
 pub fn only_without_a_wait_are_the_own_clauses_refusals()
-    ensures { (old new : CertTerms) (endorsers : List ℕ) (handover pending : Bool) (refusal : PolicyRefusal)
+    ensures { (old new : CertTerms) (endorsers : List ℕ) (handover pending : Bool)
+        (refusal : PolicyRefusal)
         → update_answer old new endorsers handover pending ≡ Err refusal
         → (refusal ≡ Threshold) ⊎ (refusal ≡ Handover) → old.policy.wait ≡ None }
 {}

@@ -20,8 +20,10 @@ pub fn follows(
     endorsers: &[u16],
     handover: bool,
 ) -> Result<(), PolicyRefusal>
-    ensures answer { result ≡ follow_answer (cert_terms old.now) (cert_terms new.now) endorsers.now handover }
-    ensures ok { IsOk result ↔ Follows (cert_terms old.now) (cert_terms new.now) endorsers.now handover }
+    ensures answer { result ≡ follow_answer (cert_terms old.now)
+        (cert_terms new.now) endorsers.now handover }
+    ensures ok { IsOk result
+        ↔ Follows (cert_terms old.now) (cert_terms new.now) endorsers.now handover }
 {
     meets_common(old, new, endorsers)?;
     meets_own(old, endorsers, handover)?;
@@ -44,9 +46,12 @@ pub fn update(
     handover: bool,
     pending: bool,
 ) -> Result<Manner, PolicyRefusal>
-    ensures answer { result ≡ update_answer (cert_terms old.now) (cert_terms new.now) endorsers.now handover pending }
-    ensures full { (result ≡ Ok Full) ↔ Follows (cert_terms old.now) (cert_terms new.now) endorsers.now handover }
-    ensures recovery { (result ≡ Ok Recovery) ↔ Recovers (cert_terms old.now) (cert_terms new.now) endorsers.now handover pending }
+    ensures answer { result ≡ update_answer (cert_terms old.now)
+        (cert_terms new.now) endorsers.now handover pending }
+    ensures full { (result ≡ Ok Full)
+        ↔ Follows (cert_terms old.now) (cert_terms new.now) endorsers.now handover }
+    ensures recovery { (result ≡ Ok Recovery)
+        ↔ Recovers (cert_terms old.now) (cert_terms new.now) endorsers.now handover pending }
 {
     if old.policy.wait.is_some() && meets_own(old, endorsers, handover).is_err() {
         recovers(old, new, endorsers, pending)?;
@@ -84,7 +89,8 @@ pub fn registrable(new: &Facts, endorsers: &[u16]) -> Result<(), PolicyRefusal>
 
 // Whether the first five clauses hold, or else the least that fails.
 fn meets_common(old: &Facts, new: &Facts, endorsers: &[u16]) -> Result<(), PolicyRefusal>
-    ensures { result ≡ first_failing (common_clauses (cert_terms old.now) (cert_terms new.now) endorsers.now) }
+    ensures { result ≡ first_failing
+        (common_clauses (cert_terms old.now) (cert_terms new.now) endorsers.now) }
 {
     if old.revoked {
         return Err(PolicyRefusal::Revoked);
@@ -119,7 +125,8 @@ fn meets_own(old: &Facts, endorsers: &[u16], handover: bool) -> Result<(), Polic
 
 // Whether the clauses of a recovery hold, or else the least that fails.
 fn recovers(old: &Facts, new: &Facts, endorsers: &[u16], pending: bool) -> Result<(), PolicyRefusal>
-    ensures { result ≡ first_failing (recovery_clauses (cert_terms old.now) (cert_terms new.now) endorsers.now pending) }
+    ensures { result ≡ first_failing
+        (recovery_clauses (cert_terms old.now) (cert_terms new.now) endorsers.now pending) }
 {
     meets_common(old, new, endorsers)?;
     if !is_well_formed(&new.policy) {

@@ -161,7 +161,8 @@ impl PinBook {
         links: &[Change],
     ) -> Result<Pinned, AllocError>
         ensures { IfOk result (λ answer. answer
-            ≡ answer_to directory.now self.now (newest_pinned self.now name.now) certificate.now links.now) }
+            ≡ answer_to directory.now self.now
+            (newest_pinned self.now name.now) certificate.now links.now) }
     {
         match self.newest(name) {
             Some(newest) => self.answer_behind(alloc, directory, newest, certificate, links),
@@ -193,7 +194,8 @@ impl PinBook {
         links: &[Change],
     ) -> Result<Pinned, AllocError>
         ensures answer { IfOk result (λ answer. answer
-            ≡ answer_to directory.now self.old (newest_pinned self.old name.now) certificate.now links.now) }
+            ≡ answer_to directory.now self.old
+            (newest_pinned self.old name.now) certificate.now links.now) }
         ensures kept { IfOk result (λ answer. self.new
             ≡ kept_with certificate.now self.old name.now links.now answer) }
         ensures err { OnErr result (self.new ≡ self.old) }
@@ -209,7 +211,8 @@ impl PinBook {
 
     // Whether a name that has no certificate is pinned.
     fn answer_absent(&self, name: &[u8]) -> Pinned
-        ensures { result ≡ (if is_some (pinned_chain self.now name.now) then pinned.Gone else pinned.Absent) }
+        ensures { result ≡ (if is_some (pinned_chain self.now name.now) then pinned.Gone
+            else pinned.Absent) }
     {
         if self.chain(name).is_some() {
             Pinned::Gone
@@ -235,7 +238,12 @@ impl PinBook {
         age: u64,
     ) -> Result<Pinned, AllocError>
         ensures answer { IfOk result (λ answer.
-            pinned_by self.old (record { keys = directory.now; name = name.now; epoch = now; age = age })
+            pinned_by self.old (record {
+              keys = directory.now;
+              name = name.now;
+              epoch = now;
+              age = age;
+            })
             bytes.now links.now ≡ (answer, self.new)) }
         ensures err { OnErr result (self.new ≡ self.old) }
     {

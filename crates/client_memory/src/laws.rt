@@ -21,7 +21,8 @@ pub fn what_is_kept_follows()
 
 /// What is kept of a name only grows at its end, as long as no call forgets it.
 pub fn what_is_kept_only_grows()
-    ensures { (book : List Pin) (calls : List Call) (name : List ℕ) → AllByRecursion (Spares name) calls
+    ensures { (book : List Pin) (calls : List Call) (name : List ℕ)
+        → AllByRecursion (Spares name) calls
         → BeginsWith (kept_of (after_calls book calls) name) (kept_of book name) }
 {}
 
@@ -30,10 +31,14 @@ pub fn what_is_kept_only_grows()
 /// endorsements valid under the directory's keys, the first behind the newest certificate that was pinned, and where
 /// the last is the certificate that the client's rule accepts. All other names stay as they were.
 pub fn what_is_pinned_was_vouched_for()
-    ensures first { (asked : Asked) (bytes : List ℕ) (book : List Pin) (links : List Change) (later : List Pin)
-        → pinned_by book asked bytes links ≡ (pinned.First, later) → PinsFirst asked bytes book later }
-    ensures moved { (asked : Asked) (bytes : List ℕ) (book : List Pin) (links : List Change) (count : ℕ) (later : List Pin)
-        → pinned_by book asked bytes links ≡ (pinned.Moved count, later) → Moves asked bytes links count book later }
+    ensures first { (asked : Asked) (bytes : List ℕ) (book : List Pin) (links : List Change)
+        (later : List Pin)
+        → pinned_by book asked bytes links ≡ (pinned.First, later)
+        → PinsFirst asked bytes book later }
+    ensures moved { (asked : Asked) (bytes : List ℕ) (book : List Pin) (links : List Change)
+        (count : ℕ) (later : List Pin)
+        → pinned_by book asked bytes links ≡ (pinned.Moved count, later)
+        → Moves asked bytes links count book later }
 {}
 
 /// Every other answer leaves all that is kept as it was.
@@ -52,5 +57,6 @@ pub fn one_name_is_forgotten()
 
 /// Two certificates that are taken for one are equal in all that they say, whatever their digests are.
 pub fn the_same_are_equal()
-    ensures { (one other : Certificate) → IsCertificate one → IsCertificate other → is_this one other ≡ true → one ≡ other }
+    ensures { (one other : Certificate) → IsCertificate one → IsCertificate other
+        → is_this one other ≡ true → one ≡ other }
 {}

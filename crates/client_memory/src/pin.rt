@@ -92,7 +92,8 @@ pub(crate) fn strike(pins: &mut Vec<Pin>, name: &[u8])
 impl Pin {
     /// Puts copies of these behind the changes. The only error is want of memory.
     fn extend(&mut self, alloc: Global, links: &[Change]) -> Result<(), AllocError>
-        ensures ok { OnOk result (self.new ≡ record { name = self.old.name; chain = self.old.chain ++ links.now }) }
+        ensures ok { OnOk result
+            (self.new ≡ record { name = self.old.name; chain = self.old.chain ++ links.now }) }
         ensures err { OnErr result (self.new ≡ self.old) }
     {
         let mut copies = copy_changes(alloc, links)?;

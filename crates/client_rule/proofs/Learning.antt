@@ -14,7 +14,7 @@ use Rattle.party_keys.specs.declared.fault.LearnFault.{LearnFault}
 use Rattle.party_keys.specs.declared.learning.Learned.{Learned}
 use Rattle.party_keys.specs.declared.learning.Learned.TheVariants.{Again, New}
 use Rattle.party_keys.proofs.Growing.{lasts}
-use Rattle.client_rule.specs.Meaning.{HasParties, Confirms, HoldsAll, Passes, learnt}
+use Rattle.client_rule.specs.Meaning.{HasParties, SignsConfirmation, HoldsAll, Passes, learnt}
 use Rattle.client_rule.specs.Rule.{claim_on, judgement, Asked}
 use Rattle.client_rule.specs.declared.judgement.Judgement.TheVariants.{Accepted, Absent}
 use Rattle.client_rule.proofs.Meanings.{accepted, absence}
@@ -57,7 +57,7 @@ still_known keys later c many h = record {
 -- ---- what is signed
 
 still_signed : (keys : Directory) (announced : List Announced) (about : Subject) (body : Body) (signer : Party) (signature : List ℕ)
-    → Confirms keys about body signer signature → Confirms (after_all keys announced) about body signer signature
+    → SignsConfirmation keys about body signer signature → SignsConfirmation (after_all keys announced) about body signer signature
 still_signed keys announced about body signer signature e = lasts keys announced signer (text_of (claim_on about body signer)) signature (Ok tt) tt e
 
 -- ---- the checks

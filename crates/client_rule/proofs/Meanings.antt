@@ -19,7 +19,7 @@ use Rattle.party_keys.specs.Signatures.{verified}
 use Rattle.party_keys.specs.declared.fault.VerifyFault.{VerifyFault}
 use Rattle.ar_message.specs.Shown.{is_shown}
 use Rattle.client_rule.specs.Rule.{has_parties, confirms, is_young, is_live, is_current, refusal_of, claim_on, taken, unless_refused, judgement_on, judgement, Asked}
-use Rattle.client_rule.specs.Meaning.{Check, same_name, parties, log_signature, first_signature, second_signature, path, not_later, young, live, current, number_of, all_checks, HasParties, Confirms, IsShown, IsYoung, IsLive, IsCurrent, Holds, HoldsAll, HoldsUpTo, Accepts, AcceptsNone, Refuses}
+use Rattle.client_rule.specs.Meaning.{Check, same_name, parties, log_signature, first_signature, second_signature, path, not_later, young, live, current, number_of, all_checks, HasParties, SignsConfirmation, IsShown, IsYoung, IsLive, IsCurrent, Holds, HoldsAll, HoldsUpTo, Accepts, AcceptsNone, Refuses}
 use Rattle.client_rule.specs.declared.judgement.Judgement.{Judgement}
 use Rattle.client_rule.specs.declared.judgement.Judgement.TheVariants.{Accepted, Absent, Refused}
 
@@ -39,7 +39,7 @@ ok_decides : (r : Result (Unit {0}) VerifyFault) → Decides (is_ok r) (r ≡ Ok
 ok_decides (Ok u) = ((λ h. refl), (λ h. refl))
 ok_decides (Err fault) = ((λ h. absurd cc), (λ h. absurd cc))
 
-confirms_decides : (keys : Directory) (about : Subject) (body : Body) (signer : Party) (signature : List ℕ) → Decides (confirms keys about body signer signature) (Confirms keys about body signer signature)
+confirms_decides : (keys : Directory) (about : Subject) (body : Body) (signer : Party) (signature : List ℕ) → Decides (confirms keys about body signer signature) (SignsConfirmation keys about body signer signature)
 unfolding confirms
 confirms_decides keys about body signer signature = ok_decides (verified keys signer (text_of (claim_on about body signer)) signature)
 

@@ -64,8 +64,8 @@ pub record HasParties (keys : Directory) (c : Confirmation) : Type 0 where
   pub two : c.first.number ≢ c.second.number
 
 -- the party's signature of its own statement is verified under the directory
-abbrev pub Confirms : Directory → Subject → Body → Party → List ℕ → Type 0
-Confirms keys about body signer signature = IsVerified keys signer (text_of (claim_on about body signer)) signature
+abbrev pub SignsConfirmation : Directory → Subject → Body → Party → List ℕ → Type 0
+SignsConfirmation keys about body signer signature = IsVerified keys signer (text_of (claim_on about body signer)) signature
 
 -- The table with the root has this for the name: the certificate is the name's, and the steps show it under
 -- the key of the name; or they show that this key has no value.
@@ -102,9 +102,9 @@ pub record IsTimely (asked : Asked) (epoch : ℕ) (body : Body) : Type 0 where
 abbrev pub Holds : Asked → Confirmation → Check → Type 0
 Holds asked c same_name = c.about.name ≡ asked.name
 Holds asked c parties = HasParties asked.keys c
-Holds asked c log_signature = Confirms asked.keys c.about c.body (log_party c.log.number) c.log.signature
-Holds asked c first_signature = Confirms asked.keys c.about c.body (authority_party c.first.number) c.first.signature
-Holds asked c second_signature = Confirms asked.keys c.about c.body (authority_party c.second.number) c.second.signature
+Holds asked c log_signature = SignsConfirmation asked.keys c.about c.body (log_party c.log.number) c.log.signature
+Holds asked c first_signature = SignsConfirmation asked.keys c.about c.body (authority_party c.first.number) c.first.signature
+Holds asked c second_signature = SignsConfirmation asked.keys c.about c.body (authority_party c.second.number) c.second.signature
 Holds asked c path = IsShown c.about c.body c.steps
 Holds asked c not_later = c.about.epoch ≤ asked.epoch
 Holds asked c young = IsYoung (asked.epoch - c.about.epoch) asked.age c.body

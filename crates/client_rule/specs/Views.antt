@@ -6,9 +6,9 @@ use Rattle.ar_cert.specs.Certificate.{digest_of}
 use Rattle.ar_message.specs.Confirmation.{Body, present, absent}
 
 -- what the table has for the name
-abbrev pub body_of : Shown → Body
-body_of (Present certificate digest) = present certificate
-body_of (Absent bottom) = absent bottom
+abbrev pub body_shown : Shown → Body
+body_shown (Present certificate digest) = present certificate
+body_shown (Absent bottom) = absent bottom
 
 -- the digest that is kept beside a certificate is its own
 abbrev pub HasDigest : Shown → Type 0

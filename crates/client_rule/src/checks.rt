@@ -3,7 +3,7 @@ ghost use Rattle.ar_statement.specs.Claims.{text_of};
 ghost use Rattle.ar_message.specs.Confirmation.{digest_in};
 ghost use Rattle.ar_message.specs.Shown.{is_shown};
 ghost use Rattle.client_rule.specs.Rule.{claim_on, confirms, has_parties, is_current, is_live, is_young, refusal_of};
-ghost use Rattle.client_rule.specs.Views.{body_of, HasDigest};
+ghost use Rattle.client_rule.specs.Views.{body_shown, HasDigest};
 
 use crate::shown::Shown;
 use ar_message::ConfView;
@@ -26,7 +26,7 @@ fn has_parties(directory: &Directory, view: &ConfView) -> bool
 // The digest of the name's certificate, if it has one.
 fn digest_in(shown: &Shown) -> Option<[u8; 32]>
     requires { HasDigest shown.now }
-    ensures { result ≡ digest_in (body_of shown.now) }
+    ensures { result ≡ digest_in (body_shown shown.now) }
 {
     match shown {
         Shown::Present { digest, .. } => Some(*digest),
@@ -37,7 +37,7 @@ fn digest_in(shown: &Shown) -> Option<[u8; 32]>
 // The text of what a party signs.
 fn text_on(view: &ConfView, shown: &Shown, signer: Party) -> Text
     requires { HasDigest shown.now }
-    ensures { result ≡ text_of (claim_on view.now.about (body_of shown.now) signer) }
+    ensures { result ≡ text_of (claim_on view.now.about (body_shown shown.now) signer) }
 {
     let name = NameView::from_name(view.name());
     let statement = confirmation_statement(
@@ -60,7 +60,8 @@ fn confirms(
     signature: &[u8],
 ) -> bool
     requires { HasDigest shown.now }
-    ensures { result ≡ confirms directory.now view.now.about (body_of shown.now) signer signature.now }
+    ensures { result ≡ confirms directory.now view.now.about
+        (body_shown shown.now) signer signature.now }
 {
     let text = text_on(view, shown, signer);
     directory.verify(signer, text.as_bytes(), signature).is_ok()
@@ -70,7 +71,7 @@ fn confirms(
 #[tactic(auto, unfolding(ar_message::specs::Shown::is_shown))]
 fn is_shown(view: &ConfView, shown: &Shown) -> bool
     requires { HasDigest shown.now }
-    ensures { result ≡ is_shown view.now.about (body_of shown.now) view.now.steps }
+    ensures { result ≡ is_shown view.now.about (body_shown shown.now) view.now.steps }
 {
     let key = name_digest(view.name());
     match shown {
@@ -88,7 +89,7 @@ fn is_shown(view: &ConfView, shown: &Shown) -> bool
 
 // Whether the confirmation is young enough so many epochs after its own.
 fn is_young(shown: &Shown, after: u64, age: u64) -> bool
-    ensures { result ≡ is_young after age (body_of shown.now) }
+    ensures { result ≡ is_young after age (body_shown shown.now) }
 {
     match shown {
         Shown::Present { certificate, .. } => {
@@ -100,7 +101,7 @@ fn is_young(shown: &Shown, after: u64, age: u64) -> bool
 
 // Whether the certificate, if there is one, is not revoked.
 fn is_live(shown: &Shown) -> bool
-    ensures { result ≡ is_live (body_of shown.now) }
+    ensures { result ≡ is_live (body_shown shown.now) }
 {
     match shown {
         Shown::Present { certificate, .. } => !certificate.revoked(),
@@ -110,7 +111,7 @@ fn is_live(shown: &Shown) -> bool
 
 // Whether the certificate, if there is one, has not expired.
 fn is_current(shown: &Shown, now: u64) -> bool
-    ensures { result ≡ is_current now (body_of shown.now) }
+    ensures { result ≡ is_current now (body_shown shown.now) }
 {
     match shown {
         Shown::Present { certificate, .. } => now <= certificate.until(),
@@ -129,8 +130,13 @@ pub(crate) fn refusal(
     age: u64,
 ) -> Result<(), u8>
     requires digest { HasDigest shown.now }
-    requires body { body_of shown.now ≡ view.now.body }
-    ensures { result ≡ refusal_of (record { keys = directory.now; name = name.now; epoch = now; age = age }) view.now }
+    requires body { body_shown shown.now ≡ view.now.body }
+    ensures { result ≡ refusal_of (record {
+      keys = directory.now;
+      name = name.now;
+      epoch = now;
+      age = age;
+    }) view.now }
 {
     if view.name() != name {
         return Err(2);

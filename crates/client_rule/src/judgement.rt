@@ -1,6 +1,6 @@
 ghost use Rattle.std.specs.Prelude.{◌≡◌};
 ghost use Rattle.client_rule.specs.Rule.{judgement, taken};
-ghost use Rattle.client_rule.specs.Views.{body_of, HasDigest};
+ghost use Rattle.client_rule.specs.Views.{body_shown, HasDigest};
 
 use crate::checks::refusal;
 use crate::shown::{Shown, shown_by};
@@ -36,7 +36,7 @@ pub enum Judgement<'a> {
 // What the confirmation says, where no check refuses it.
 fn taken<'a>(view: &ConfView<'a>, shown: Shown<'a>) -> Judgement<'a>
     requires { HasDigest shown }
-    ensures { result ≡ taken view.now.about (body_of shown.entry) }
+    ensures { result ≡ taken view.now.about (body_shown shown.entry) }
 {
     let (epoch, root) = (view.epoch(), view.root());
     match shown {
@@ -63,7 +63,12 @@ pub fn judge<'a>(
     now: u64,
     age: u64,
 ) -> Judgement<'a>
-    ensures { result ≡ judgement (record { keys = directory.now; name = name.now; epoch = now; age = age }) bytes.now }
+    ensures { result ≡ judgement (record {
+      keys = directory.now;
+      name = name.now;
+      epoch = now;
+      age = age;
+    }) bytes.now }
 {
     let Some(view) = ConfView::read(bytes) else {
         return Judgement::Refused(1);

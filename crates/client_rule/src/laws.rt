@@ -22,7 +22,8 @@ ghost use Rattle.client_rule.specs.declared.judgement.Judgement.TheVariants.{Abs
 /// steps that show it under the root, the ages, and a certificate that is neither revoked nor expired.
 /// They are refused by a number exactly where that check does not hold and all before it do.
 pub fn a_judgement_means_its_facts()
-    ensures accepted { (asked : Asked) (bytes : List ℕ) (certificate : Certificate) (digest : List ℕ) (epoch : ℕ) (root : List ℕ)
+    ensures accepted { (asked : Asked) (bytes : List ℕ) (certificate : Certificate)
+        (digest : List ℕ) (epoch : ℕ) (root : List ℕ)
         → (judgement asked bytes ≡ Accepted certificate digest epoch root)
         ↔ Accepts asked bytes certificate digest epoch root }
     ensures absent { (asked : Asked) (bytes : List ℕ) (epoch : ℕ) (root : List ℕ)
@@ -36,7 +37,8 @@ pub fn a_judgement_means_its_facts()
 /// What is accepted in an epoch, with a certificate or with none, is accepted so in each earlier epoch that is
 /// not before its own, by the same directory, with the same age.
 pub fn what_is_accepted_was_accepted_before()
-    ensures accepted { (asked : Asked) (bytes : List ℕ) (certificate : Certificate) (digest : List ℕ) (epoch : ℕ) (root : List ℕ) (now : ℕ)
+    ensures accepted { (asked : Asked) (bytes : List ℕ) (certificate : Certificate)
+        (digest : List ℕ) (epoch : ℕ) (root : List ℕ) (now : ℕ)
         → judgement asked bytes ≡ Accepted certificate digest epoch root
         → epoch ≤ now → now ≤ asked.epoch
         → judgement (earlier asked now) bytes ≡ Accepted certificate digest epoch root }
@@ -48,10 +50,12 @@ pub fn what_is_accepted_was_accepted_before()
 
 /// What is accepted by a directory, a certificate or that there is none, is accepted so when the directory has learnt more.
 pub fn what_is_accepted_stays_so()
-    ensures accepted { (asked : Asked) (announced : List Announced) (bytes : List ℕ) (certificate : Certificate) (digest : List ℕ) (epoch : ℕ) (root : List ℕ)
+    ensures accepted { (asked : Asked) (announced : List Announced) (bytes : List ℕ)
+        (certificate : Certificate) (digest : List ℕ) (epoch : ℕ) (root : List ℕ)
         → judgement asked bytes ≡ Accepted certificate digest epoch root
         → judgement (learnt asked announced) bytes ≡ Accepted certificate digest epoch root }
-    ensures absent { (asked : Asked) (announced : List Announced) (bytes : List ℕ) (epoch : ℕ) (root : List ℕ)
+    ensures absent { (asked : Asked) (announced : List Announced) (bytes : List ℕ) (epoch : ℕ)
+        (root : List ℕ)
         → judgement asked bytes ≡ Absent epoch root
         → judgement (learnt asked announced) bytes ≡ Absent epoch root }
 {}
@@ -60,12 +64,21 @@ pub fn what_is_accepted_stays_so()
 /// confirmation that it accepts, the statements of the log and of the two authorities; and of the note of a Roll, from
 /// which its directory learns a key or has learnt it before, the Roll.
 pub fn what_is_taken_was_claimed()
-    ensures log { (asked : Asked) (bytes : List ℕ) (c : Confirmation) → AreBytes bytes → Passes asked bytes c
-        → IsVerifiedIn asked.keys (claimed_in_bytes bytes) (seen_of (log_party c.log.number) (claim_on c.about c.body (log_party c.log.number))) }
-    ensures first { (asked : Asked) (bytes : List ℕ) (c : Confirmation) → AreBytes bytes → Passes asked bytes c
-        → IsVerifiedIn asked.keys (claimed_in_bytes bytes) (seen_of (authority_party c.first.number) (claim_on c.about c.body (authority_party c.first.number))) }
-    ensures second { (asked : Asked) (bytes : List ℕ) (c : Confirmation) → AreBytes bytes → Passes asked bytes c
-        → IsVerifiedIn asked.keys (claimed_in_bytes bytes) (seen_of (authority_party c.second.number) (claim_on c.about c.body (authority_party c.second.number))) }
-    ensures note { (keys : Directory) (bytes : List ℕ) (a : Announced) (how : Learned) → note_of (message_in bytes) ≡ Some a → learned keys a ≡ Ok how
+    ensures log { (asked : Asked) (bytes : List ℕ) (c : Confirmation) → AreBytes bytes
+        → Passes asked bytes c
+        → IsVerifiedIn asked.keys (claimed_in_bytes bytes)
+        (seen_of (log_party c.log.number) (claim_on c.about c.body (log_party c.log.number))) }
+    ensures first { (asked : Asked) (bytes : List ℕ) (c : Confirmation) → AreBytes bytes
+        → Passes asked bytes c
+        → IsVerifiedIn asked.keys (claimed_in_bytes bytes)
+        (seen_of (authority_party c.first.number)
+        (claim_on c.about c.body (authority_party c.first.number))) }
+    ensures second { (asked : Asked) (bytes : List ℕ) (c : Confirmation) → AreBytes bytes
+        → Passes asked bytes c
+        → IsVerifiedIn asked.keys (claimed_in_bytes bytes)
+        (seen_of (authority_party c.second.number)
+        (claim_on c.about c.body (authority_party c.second.number))) }
+    ensures note { (keys : Directory) (bytes : List ℕ) (a : Announced) (how : Learned)
+        → note_of (message_in bytes) ≡ Some a → learned keys a ≡ Ok how
         → IsVerifiedIn keys (claimed_in_bytes bytes) (seen_of a.party (roll_claim a)) }
 {}

@@ -31,7 +31,12 @@ impl Model for RollNote {
 
     ghost Value = { Announced };
 
-    ghost view = { λ n. record { party = n.party; generation = n.generation; key = n.key; signature = n.signature } };
+    ghost view = { λ n. record {
+      party = n.party;
+      generation = n.generation;
+      key = n.key;
+      signature = n.signature;
+    } };
 }
 
 /// The note that a message is, where it is one.
@@ -80,7 +85,8 @@ impl RollNote {
 
     /// A directory takes it: what is learnt, or why nothing is. After an error the directory is as it was.
     pub fn teach(&self, alloc: Global, directory: &mut Directory) -> Result<Learned, LearnFault>
-        ensures answer { GivesOrWants Memory (λ learned. learned) result (learned directory.old self.now) }
+        ensures answer { GivesOrWants Memory (λ learned.
+            learned) result (learned directory.old self.now) }
         ensures ok { OnOk result (directory.new ≡ after_learning directory.old self.now) }
         ensures err { OnErr result (directory.new ≡ directory.old) }
     {

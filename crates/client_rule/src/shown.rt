@@ -1,8 +1,8 @@
 ghost use Rattle.std.specs.Prelude.{◌≡◌};
-ghost use Rattle.client_rule.specs.Views.{body_of, HasDigest};
+ghost use Rattle.client_rule.specs.Views.{body_shown, HasDigest};
 
 use ar_cert::CertView;
-use ar_message::ConfView;
+use ar_message::{BodyView, ConfView};
 use tree_proof::Bottom;
 
 /// What a confirmation says of its name.
@@ -19,18 +19,17 @@ pub(crate) enum Shown<'a> {
 
 /// What the confirmation says of its name.
 pub(crate) fn shown_by<'a>(view: &ConfView<'a>) -> Shown<'a>
-    ensures body { body_of result ≡ view.now.body }
+    ensures body { body_shown result ≡ view.now.body }
     ensures digest { HasDigest result }
 {
-    match (view.cert(), view.bottom()) {
-        (Some(certificate), _) => {
+    match view.body() {
+        BodyView::Present(certificate) => {
             let digest = certificate.digest();
             Shown::Present {
                 certificate,
                 digest,
             }
         }
-        (None, Some(bottom)) => Shown::Absent(bottom),
-        (None, None) => unreachable!(),
+        BodyView::Absent(bottom) => Shown::Absent(bottom),
     }
 }

@@ -13,12 +13,20 @@ fn done(disk: &mut FileDisk, what: Call) -> Result<bool, Fail> {
     }
 }
 
+/// Does a disk give these bytes, and no more, where 16 are asked for?
+fn gives(disk: &mut FileDisk, seen: &[u8]) -> Result<bool, Fail> {
+    let mut buffer = [0; 16];
+    let count = disk.read(0, &mut buffer)?;
+    Ok(&buffer[..count] == seen)
+}
+
 #[test]
 fn the_file_has_what_a_read_gives(rt: HostRuntime) -> Result<(), Fail> {
     let path = file_of(&rt, "run", FIRST)?;
     let mut disk = FileDisk::open(&rt, path.as_str())?;
     for (what, seen, _) in RUN {
         assert!(rt; done(&mut disk, what)?, "{what:?}");
+        assert!(rt; gives(&mut disk, seen)?, "{what:?}");
         assert!(rt; has_bytes(&rt, path.as_str(), seen)?, "{what:?}");
     }
     fs::remove_file(&rt, path.as_str())?;
@@ -53,27 +61,46 @@ fn what_is_no_regular_file_is_not_opened(rt: HostRuntime) -> Result<(), Fail> {
     Ok(())
 }
 
-/// Opens a file that has `abc`, and has another put these bytes in their place. Whether its length and its bytes are then given,
-/// and whether each call fails behind that.
-fn changed(rt: &HostRuntime, path: &str, bytes: &[u8]) -> Result<(bool, bool, bool), Fail> {
+/// Opens a file that has `abc`, and has another put these bytes in their place.
+fn changed(rt: &HostRuntime, path: &str, bytes: &[u8]) -> Result<FileDisk, Fail> {
     fs::write(rt, path, b"abc".as_slice())?;
-    let mut disk = FileDisk::open(rt, path)?;
+    let disk = FileDisk::open(rt, path)?;
     fs::write(rt, path, bytes)?;
-    let has_length = disk.len().is_ok();
-    let gives = disk.read(0, &mut [0; 9]).is_ok();
-    Ok((has_length, gives, each_fails(&mut disk)))
+    Ok(disk)
+}
+
+/// Does the disk of such a file give its length? Where it does not, each call fails behind that.
+fn has_length(rt: &HostRuntime, path: &str, bytes: &[u8]) -> Result<bool, Fail> {
+    let mut disk = changed(rt, path, bytes)?;
+    let passes = disk.len().is_ok();
+    if !passes && !each_fails(&mut disk) {
+        return Err("a call passes behind a length that failed".into());
+    }
+    Ok(passes)
+}
+
+/// Does it give the three bytes? Where it does not, each call fails behind that.
+fn is_read(rt: &HostRuntime, path: &str, bytes: &[u8]) -> Result<bool, Fail> {
+    let mut disk = changed(rt, path, bytes)?;
+    let passes = disk.read(0, &mut [0; 9]).is_ok();
+    if !passes && !each_fails(&mut disk) {
+        return Err("a call passes behind a read that failed".into());
+    }
+    Ok(passes)
 }
 
 #[test]
 fn a_file_that_another_changed_is_found_out_for_good(rt: HostRuntime) -> Result<(), Fail> {
     let path = path_of(&rt, "changed")?;
-    let changes: [(&[u8], (bool, bool, bool)); 3] = [
-        (b"abcd", (false, false, true)),
-        (b"ab", (false, false, true)),
-        (b"abX", (true, false, true)),
+    // What another puts there, and whether the disk gives the length and the bytes.
+    let changes: [(&[u8], bool, bool); 3] = [
+        (b"abcd", false, true),
+        (b"ab", false, false),
+        (b"abX", true, false),
     ];
-    for (bytes, expected) in changes {
-        assert_eq!(rt; changed(&rt, path.as_str(), bytes)?, expected);
+    for (bytes, length, read) in changes {
+        assert_eq!(rt; has_length(&rt, path.as_str(), bytes)?, length);
+        assert_eq!(rt; is_read(&rt, path.as_str(), bytes)?, read);
         assert!(rt; has_bytes(&rt, path.as_str(), bytes)?);
     }
     fs::remove_file(&rt, path.as_str())?;

@@ -112,6 +112,7 @@ fn a_change_takes_room_that_was_reserved(rt: HostRuntime) -> Result<(), Fail> {
         let mut disk = disk_of(alloc, b"abc", room, changes)?;
         assert_eq!(rt; done(&mut disk, what)?, passes, "{what:?}");
         assert_eq!(rt; disk.faults(), if passes { 0 } else { 1 });
+        assert!(rt; passes || disk.bytes() == b"abc".as_slice(), "{what:?}");
     }
     Ok(())
 }

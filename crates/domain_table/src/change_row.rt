@@ -43,7 +43,9 @@ fn parts(rows: &[Row], i: usize) -> (&[Row], &[Row])
 fn make_room(rows: &mut Vec<Row>, i: usize) -> Result<(), AllocError>
     requires { i < length rows.old.items }
     ensures same { data_in rows.new.items ≡ data_in rows.old.items }
-    ensures ok { OnOk result ((d : Row) → vec_len (get_or rows.new.items i d).chain < vec_capacity (get_or rows.new.items i d).chain) }
+    ensures ok { OnOk result ((d : Row)
+        → vec_len (get_or rows.new.items i d).chain
+        < vec_capacity (get_or rows.new.items i d).chain) }
 {
     rows[i].chain.reserve(1)
 }
@@ -51,7 +53,8 @@ fn make_room(rows: &mut Vec<Row>, i: usize) -> Result<(), AllocError>
 /// Appends a change, for which there is room, to the chain of a row. Nothing waits then.
 fn grow(row: &mut Row, change: Change, marks: Marks)
     requires { vec_len row.old.chain < vec_capacity row.old.chain }
-    ensures { data_of row.new ≡ with_row (data_of row.old) ((data_of row.old).chain ++ change ∷ []) None marks }
+    ensures { data_of row.new
+        ≡ with_row (data_of row.old) ((data_of row.old).chain ++ change ∷ []) None marks }
 {
     row.chain.push_reserved(change);
     row.waiting = None;
@@ -70,8 +73,12 @@ fn retrie(
     requires key { new.now.key ≡ old.now.key }
     requires pending_key { new.now.pending_key ≡ old.now.pending_key }
     requires pending { new.now.pending_value ≡ None }
-    requires tree { trie.old ≡ from_entries (marked (marks_of (data_in front.now) ++ old.now ∷ marks_of (data_in back.now))) }
-    ensures ok { OnOk result (trie.new ≡ from_entries (marked (marks_of (data_in front.now) ++ new.now ∷ marks_of (data_in back.now)))) }
+    requires tree { trie.old
+        ≡ from_entries (marked
+        (marks_of (data_in front.now) ++ old.now ∷ marks_of (data_in back.now))) }
+    ensures ok { OnOk result
+        (trie.new ≡ from_entries
+        (marked (marks_of (data_in front.now) ++ new.now ∷ marks_of (data_in back.now)))) }
     ensures err { OnErr result (trie.new ≡ trie.old) }
 {
     match old.pending_value {
@@ -92,7 +99,9 @@ pub(crate) fn append(
     requires place { i < length rows.old.items }
     requires are { AreRows (data_in rows.old.items) }
     requires tree { trie.old ≡ from_entries (marked (marks_of (data_in rows.old.items))) }
-    ensures ok { OnOk result ((d : RowData) → IsChanged (data_in rows.old.items) (data_in rows.new.items) trie.new i (get_or (data_in rows.old.items) i d)
+    ensures ok { OnOk result ((d : RowData)
+        → IsChanged (data_in rows.old.items) (data_in rows.new.items) trie.new i
+        (get_or (data_in rows.old.items) i d)
         ((get_or (data_in rows.old.items) i d).chain ++ change ∷ []) None) }
     ensures back { IfErr result (λ e. e.0 ≡ change) }
     ensures same { OnErr result (data_in rows.new.items ≡ data_in rows.old.items) }
@@ -118,7 +127,8 @@ pub(crate) fn append(
 
 /// The change waits in a row since this epoch, or nothing waits there where none is told.
 fn hold(row: &mut Row, change: Change, since: Option<u64>, marks: Marks)
-    ensures { data_of row.new ≡ with_row (data_of row.old) (data_of row.old).chain (waits change since) marks }
+    ensures { data_of row.new
+        ≡ with_row (data_of row.old) (data_of row.old).chain (waits change since) marks }
 {
     row.waiting = match since {
         Some(since) => Some(Waiting { change, since }),
@@ -140,7 +150,9 @@ pub(crate) fn wait(
     requires place { i < length rows.old.items }
     requires are { AreRows (data_in rows.old.items) }
     requires tree { trie.old ≡ from_entries (marked (marks_of (data_in rows.old.items))) }
-    ensures ok { OnOk result ((d : RowData) → IsChanged (data_in rows.old.items) (data_in rows.new.items) trie.new i (get_or (data_in rows.old.items) i d)
+    ensures ok { OnOk result ((d : RowData)
+        → IsChanged (data_in rows.old.items) (data_in rows.new.items) trie.new i
+        (get_or (data_in rows.old.items) i d)
         (get_or (data_in rows.old.items) i d).chain (waits change since)) }
     ensures back { IfErr result (λ e. e.0 ≡ change) }
     ensures same { OnErr result (data_in rows.new.items ≡ data_in rows.old.items) }

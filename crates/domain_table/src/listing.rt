@@ -14,7 +14,8 @@ fn put_first(
     key: &[u8; 32],
     value: &[u8; 32],
 ) -> Result<(), AllocError>
-    ensures { OnOk result ((es : List Entry) → list.old.entries ≡ entries (entries_of es) → list.new.entries ≡ entries (entries_of ((key.now, value.now) ∷ es))) }
+    ensures { OnOk result ((es : List Entry) → list.old.entries ≡ entries (entries_of es)
+        → list.new.entries ≡ entries (entries_of ((key.now, value.now) ∷ es))) }
 {
     list.insert(*key, *value)?;
     Ok(())
@@ -22,7 +23,8 @@ fn put_first(
 
 /// Adds the entry of what waits, if something does, in front of others.
 fn put_pending(list: &mut BTreeMap<[u8; 32], [u8; 32]>, marks: &Marks) -> Result<(), AllocError>
-    ensures { OnOk result ((es : List Entry) → list.old.entries ≡ entries (entries_of es) → list.new.entries ≡ entries (entries_of (cons_option (pending_entry marks.now) es))) }
+    ensures { OnOk result ((es : List Entry) → list.old.entries ≡ entries (entries_of es)
+        → list.new.entries ≡ entries (entries_of (cons_option (pending_entry marks.now) es))) }
 {
     match &marks.pending_value {
         None => Ok(()),
@@ -33,7 +35,9 @@ fn put_pending(list: &mut BTreeMap<[u8; 32], [u8; 32]>, marks: &Marks) -> Result
 /// Adds the entries of what waits in rows, from the last to the first.
 fn list_pending(list: &mut BTreeMap<[u8; 32], [u8; 32]>, rows: &[Row]) -> Result<(), AllocError>
     requires { list.old.entries ≡ [] }
-    ensures { OnOk result (list.new.entries ≡ entries (entries_of (filter_map pending_entry (marks_of (data_in rows.now))))) }
+    ensures { OnOk result
+        (list.new.entries ≡ entries
+        (entries_of (filter_map pending_entry (marks_of (data_in rows.now))))) }
 {
     let mut i = rows.len();
     while i > 0 {
@@ -45,7 +49,9 @@ fn list_pending(list: &mut BTreeMap<[u8; 32], [u8; 32]>, rows: &[Row]) -> Result
 
 /// Adds the entries of the names of rows, from the last to the first, in front of others.
 fn list_names(list: &mut BTreeMap<[u8; 32], [u8; 32]>, rows: &[Row]) -> Result<(), AllocError>
-    ensures { OnOk result ((es : List Entry) → list.old.entries ≡ entries (entries_of es) → list.new.entries ≡ entries (entries_of (map name_entry (marks_of (data_in rows.now)) ++ es))) }
+    ensures { OnOk result ((es : List Entry) → list.old.entries ≡ entries (entries_of es)
+        → list.new.entries ≡ entries
+        (entries_of (map name_entry (marks_of (data_in rows.now)) ++ es))) }
 {
     let mut i = rows.len();
     while i > 0 {
@@ -61,7 +67,8 @@ pub(crate) fn list_entries(
     alloc: Global,
     rows: &[Row],
 ) -> Result<Vec<([u8; 32], [u8; 32])>, AllocError>
-    ensures { IfOk result (λ list. list.items ≡ entries (entries_of (marked (marks_of (data_in rows.now))))) }
+    ensures { IfOk result (λ list.
+        list.items ≡ entries (entries_of (marked (marks_of (data_in rows.now))))) }
 {
     let mut list = BTreeMap::new(alloc);
     list_pending(&mut list, rows)?;

@@ -46,8 +46,11 @@ fn retrie_come(
     back: &[Row],
 ) -> Result<(), AllocError>
     requires free { marks.now.pending_value ≡ None }
-    requires tree { trie.old ≡ from_entries (marked (marks_of (data_in front.now) ++ marks_of (data_in back.now))) }
-    ensures ok { OnOk result (trie.new ≡ from_entries (marked (marks_of (data_in front.now) ++ marks.now ∷ marks_of (data_in back.now)))) }
+    requires tree { trie.old
+        ≡ from_entries (marked (marks_of (data_in front.now) ++ marks_of (data_in back.now))) }
+    ensures ok { OnOk result
+        (trie.new ≡ from_entries
+        (marked (marks_of (data_in front.now) ++ marks.now ∷ marks_of (data_in back.now)))) }
     ensures err { OnErr result (trie.new ≡ trie.old) }
 {
     refresh(alloc, trie, front, marks, back, &marks.key)?;
@@ -91,7 +94,8 @@ fn row_with(name: Vec<u8>, chain: Vec<Change>, change: Change, marks: Marks) -> 
 fn set_in(rows: &mut Vec<Row>, i: usize, row: Row)
     requires place { i ≤ length rows.old.items }
     requires room { vec_len rows.old < vec_capacity rows.old }
-    ensures { data_in rows.new.items ≡ take i (data_in rows.old.items) ++ data_of row ∷ drop i (data_in rows.old.items) }
+    ensures { data_in rows.new.items ≡ take i (data_in rows.old.items) ++ data_of row
+        ∷ drop i (data_in rows.old.items) }
 {
     match rows.insert(i, row) {
         Ok(()) => {}
@@ -121,7 +125,8 @@ pub(crate) fn come(
 ) -> Result<(), (Change, AllocError)>
     requires place { i ≤ length rows.old.items }
     requires tree { trie.old ≡ from_entries (marked (marks_of (data_in rows.old.items))) }
-    ensures ok { OnOk result (IsCome (data_in rows.old.items) (data_in rows.new.items) trie.new i change) }
+    ensures ok { OnOk result
+        (IsCome (data_in rows.old.items) (data_in rows.new.items) trie.new i change) }
     ensures back { IfErr result (λ e. e.0 ≡ change) }
     ensures same { OnErr result (data_in rows.new.items ≡ data_in rows.old.items) }
     ensures same_tree { OnErr result (trie.new ≡ trie.old) }

@@ -32,7 +32,9 @@ fn ripen_row(
     requires place { i < length rows.old.items }
     requires are { AreRows (data_in rows.old.items) }
     requires tree { trie.old ≡ from_entries (marked (marks_of (data_in rows.old.items))) }
-    ensures { OnOk result ((first : List RowData) → IsRipeUpTo epoch first (data_in rows.old.items) trie.old i → IsRipeUpTo epoch first (data_in rows.new.items) trie.new (i + 1)) }
+    ensures { OnOk result ((first : List RowData)
+        → IsRipeUpTo epoch first (data_in rows.old.items) trie.old i
+        → IsRipeUpTo epoch first (data_in rows.new.items) trie.new (i + 1)) }
 {
     if !is_ripe(&rows[i], epoch) {
         return Ok(());
@@ -57,8 +59,10 @@ pub(crate) fn ripen_rows(
     requires are { AreRows (data_in rows.old.items) }
     requires tree { trie.old ≡ from_entries (marked (marks_of (data_in rows.old.items))) }
     ensures are { OnOk result (AreRows (data_in rows.new.items)) }
-    ensures tree { OnOk result (trie.new ≡ from_entries (marked (marks_of (data_in rows.new.items)))) }
-    ensures ripe { OnOk result (table_of (data_in rows.new.items) ≡ ripen (table_of (data_in rows.old.items)) epoch) }
+    ensures tree { OnOk result
+        (trie.new ≡ from_entries (marked (marks_of (data_in rows.new.items)))) }
+    ensures ripe { OnOk result (table_of (data_in rows.new.items)
+        ≡ ripen (table_of (data_in rows.old.items)) epoch) }
 {
     let mut i = 0;
     while i < rows.len() {

@@ -27,7 +27,8 @@ fn is_before(row: &Row, name: &[u8]) -> bool
 /// The place of a name among rows whose names ascend: the rows before it have lesser names.
 pub(crate) fn place(rows: &[Row], name: &[u8]) -> usize
     ensures in_range { result ≤ length rows.now }
-    ensures point { IsPartitionedBy (λ r. is_lt (key_cmp r.name.items name.now)) rows.now → IsPlace rows.now name.now result }
+    ensures point { IsPartitionedBy (λ r. is_lt (key_cmp r.name.items name.now)) rows.now
+        → IsPlace rows.now name.now result }
 {
     rows.partition_point(|row| is_before(row, name))
 }
@@ -86,7 +87,8 @@ fn judge_first(change: &Change) -> Result<Manner, PolicyRefusal>
 /// How a change is taken behind the changes of a row as they stand at the epoch.
 fn judge_next(row: &Row, epoch: u64, change: &Change) -> Result<Manner, PolicyRefusal>
     requires { 0 < length row.now.chain.items }
-    ensures { result ≡ manner_of (newest_at epoch (Some (data_of row.now))) (pending_at epoch (Some (data_of row.now))) change.now }
+    ensures { result ≡ manner_of (newest_at epoch (Some (data_of row.now)))
+        (pending_at epoch (Some (data_of row.now))) change.now }
 {
     if is_ripe(row, epoch) {
         let Some(waiting) = &row.waiting else {
@@ -113,9 +115,11 @@ fn has_name(row: &Row, name: &[u8]) -> bool
 /// The place of the row with this name, or the place that the name has among the others.
 pub(crate) fn find(rows: &[Row], name: &[u8]) -> Result<usize, usize>
     requires { IsTrue (is_sorted key_cmp (map chain_pair (data_in rows.now))) }
-    ensures found { IfOk result (λ i. (i < length rows.now) × ((d : Row) → (get_or rows.now i d).name.items ≡ name.now)) }
+    ensures found { IfOk result (λ i.
+        (i < length rows.now) × ((d : Row) → (get_or rows.now i d).name.items ≡ name.now)) }
     ensures absent { IfErr result (λ i. (i ≤ length rows.now) × (IsPlace rows.now name.now i
-        × ((k : ℕ) (d : Row) → k < length rows.now → eq_by_cmp key_cmp name.now (get_or rows.now k d).name.items ≡ false))) }
+        × ((k : ℕ) (d : Row) → k < length rows.now
+        → eq_by_cmp key_cmp name.now (get_or rows.now k d).name.items ≡ false))) }
 {
     let i = place(rows, name);
     if i == rows.len() {
@@ -131,8 +135,11 @@ pub(crate) fn find(rows: &[Row], name: &[u8]) -> Result<usize, usize>
 /// The row with this name.
 pub(crate) fn row_of<'a>(rows: &'a [Row], name: &[u8]) -> Option<&'a Row>
     requires { IsTrue (is_sorted key_cmp (map chain_pair (data_in rows.now))) }
-    ensures chain { option_map (λ row. row.now.chain.items) result ≡ get (table_of (data_in rows.now)).chains name.now }
-    ensures waiting { option_and_then (λ row. option_map pending_of row.now.waiting) result ≡ get (table_of (data_in rows.now)).waiting name.now }
+    ensures chain { option_map (λ row.
+        row.now.chain.items) result ≡ get (table_of (data_in rows.now)).chains name.now }
+    ensures waiting { option_and_then (λ row.
+        option_map pending_of row.now.waiting) result
+        ≡ get (table_of (data_in rows.now)).waiting name.now }
 {
     match find(rows, name) {
         Ok(i) => Some(&rows[i]),
@@ -158,7 +165,8 @@ pub(crate) fn name_of(change: &Change) -> &[u8]
 /// How a change is taken at an epoch among rows.
 pub(crate) fn judge_rows(rows: &[Row], epoch: u64, change: &Change) -> Result<Manner, PolicyRefusal>
     requires { AreRows (data_in rows.now) }
-    ensures { result ≡ manner_of (newest (chain_of (ripen (table_of (data_in rows.now)) epoch) change.now.cert.name))
+    ensures { result ≡ manner_of
+        (newest (chain_of (ripen (table_of (data_in rows.now)) epoch) change.now.cert.name))
         (get (ripen (table_of (data_in rows.now)) epoch).waiting change.now.cert.name) change.now }
 {
     match find(rows, name_of(change)) {

@@ -136,7 +136,9 @@ impl Table {
         // The whole table after it.
         ensures ok { OnOk result (Some self.new ≡ apply self.old epoch (change ∷ [])) }
         // When it is refused.
-        ensures refused { (refusal : ChangeRefusal) → (result ≡ Err (change, faults.Change refusal)) ↔ (judge self.old epoch change ≡ Err refusal) }
+        ensures refused { (refusal : ChangeRefusal)
+            → (result ≡ Err (change, faults.Change refusal))
+            ↔ (judge self.old epoch change ≡ Err refusal) }
         // What an error leaves.
         ensures back { IfErr result (λ e. e.0 ≡ change) }
         ensures same { OnErr result (self.new ≡ self.old) }

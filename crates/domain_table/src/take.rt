@@ -40,7 +40,8 @@ fn take_behind(
     requires judged { judge_ripe (table_of (data_in rows.old.items)) change ≡ Ok manner }
     requires name { (d : Row) → (get_or rows.old.items i d).name.items ≡ change.cert.name }
     ensures kept { IfOk result (λ kept. IsKept (data_in rows.new.items) trie.new kept) }
-    ensures ok { OnOk result (table_of (data_in rows.new.items) ≡ taken (table_of (data_in rows.old.items)) epoch change manner) }
+    ensures ok { OnOk result (table_of (data_in rows.new.items)
+        ≡ taken (table_of (data_in rows.old.items)) epoch change manner) }
     ensures back { IfErr result (λ e. e.0 ≡ change) }
     ensures same { OnErr result (data_in rows.new.items ≡ data_in rows.old.items) }
     ensures same_tree { OnErr result (trie.new ≡ trie.old) }
@@ -76,7 +77,8 @@ pub(crate) fn take(
     requires kept { IsKept (data_in rows.old.items) trie.old kept }
     requires judged { judge_ripe (table_of (data_in rows.old.items)) change ≡ Ok manner }
     ensures kept { IfOk result (λ kept. IsKept (data_in rows.new.items) trie.new kept) }
-    ensures ok { OnOk result (table_of (data_in rows.new.items) ≡ taken (table_of (data_in rows.old.items)) epoch change manner) }
+    ensures ok { OnOk result (table_of (data_in rows.new.items)
+        ≡ taken (table_of (data_in rows.old.items)) epoch change manner) }
     ensures back { IfErr result (λ e. e.0 ≡ change) }
     ensures same { OnErr result (data_in rows.new.items ≡ data_in rows.old.items) }
     ensures same_tree { OnErr result (trie.new ≡ trie.old) }

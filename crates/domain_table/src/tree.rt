@@ -32,7 +32,8 @@ fn name_value(rows: &[Row], key: &[u8; 32]) -> Option<[u8; 32]>
 
 /// The value of the first that waits, of those with this key.
 fn pending_value(rows: &[Row], key: &[u8; 32]) -> Option<[u8; 32]>
-    ensures { result ≡ find key_cmp key.now (filter_map pending_entry (marks_of (data_in rows.now))) }
+    ensures { result ≡ find key_cmp key.now
+        (filter_map pending_entry (marks_of (data_in rows.now))) }
 {
     for row in rows {
         if row.marks.pending_value.is_some() && is_key(key, &row.marks.pending_key) {
@@ -44,7 +45,8 @@ fn pending_value(rows: &[Row], key: &[u8; 32]) -> Option<[u8; 32]>
 
 /// The value of the first name with this key, among rows with other marks between them.
 fn name_at(front: &[Row], marks: &Marks, back: &[Row], key: &[u8; 32]) -> Option<[u8; 32]>
-    ensures { result ≡ find key_cmp key.now (map name_entry (marks_of (data_in front.now) ++ marks.now ∷ marks_of (data_in back.now))) }
+    ensures { result ≡ find key_cmp key.now
+        (map name_entry (marks_of (data_in front.now) ++ marks.now ∷ marks_of (data_in back.now))) }
 {
     if let Some(value) = name_value(front, key) {
         return Some(value);
@@ -69,7 +71,9 @@ fn own_pending(marks: &Marks, key: &[u8; 32]) -> Option<[u8; 32]>
 
 /// The value of the first that waits, of those with this key, among rows with other marks between them.
 fn pending_at(front: &[Row], marks: &Marks, back: &[Row], key: &[u8; 32]) -> Option<[u8; 32]>
-    ensures { result ≡ find key_cmp key.now (filter_map pending_entry (marks_of (data_in front.now) ++ marks.now ∷ marks_of (data_in back.now))) }
+    ensures { result ≡ find key_cmp key.now
+        (filter_map pending_entry
+        (marks_of (data_in front.now) ++ marks.now ∷ marks_of (data_in back.now))) }
 {
     if let Some(value) = pending_value(front, key) {
         return Some(value);
@@ -83,7 +87,8 @@ fn pending_at(front: &[Row], marks: &Marks, back: &[Row], key: &[u8; 32]) -> Opt
 /// The value of a key among rows with other marks between them: names come first.
 #[tactic(auto, using(crate::proofs::Keyed::find_both))]
 fn value_at(front: &[Row], marks: &Marks, back: &[Row], key: &[u8; 32]) -> Option<[u8; 32]>
-    ensures { result ≡ find key_cmp key.now (marked (marks_of (data_in front.now) ++ marks.now ∷ marks_of (data_in back.now))) }
+    ensures { result ≡ find key_cmp key.now
+        (marked (marks_of (data_in front.now) ++ marks.now ∷ marks_of (data_in back.now))) }
 {
     if let Some(value) = name_at(front, marks, back, key) {
         return Some(value);
@@ -124,7 +129,11 @@ pub(crate) fn refresh(
     back: &[Row],
     key: &[u8; 32],
 ) -> Result<(), AllocError>
-    ensures ok { OnOk result (trie.new ≡ with_entry trie.old key.now (find key_cmp key.now (marked (marks_of (data_in front.now) ++ marks.now ∷ marks_of (data_in back.now))))) }
+    ensures ok { OnOk result
+        (trie.new ≡ with_entry trie.old key.now
+        (find key_cmp key.now
+        (marked (marks_of (data_in front.now) ++ marks.now
+        ∷ marks_of (data_in back.now))))) }
     ensures err { OnErr result (trie.new ≡ trie.old) }
 {
     let value = value_at(front, marks, back, key);
@@ -143,8 +152,12 @@ pub(crate) fn retrie_name(
     requires key { new.now.key ≡ old.now.key }
     requires pending_key { new.now.pending_key ≡ old.now.pending_key }
     requires pending { new.now.pending_value ≡ old.now.pending_value }
-    requires tree { trie.old ≡ from_entries (marked (marks_of (data_in front.now) ++ old.now ∷ marks_of (data_in back.now))) }
-    ensures ok { OnOk result (trie.new ≡ from_entries (marked (marks_of (data_in front.now) ++ new.now ∷ marks_of (data_in back.now)))) }
+    requires tree { trie.old
+        ≡ from_entries (marked
+        (marks_of (data_in front.now) ++ old.now ∷ marks_of (data_in back.now))) }
+    ensures ok { OnOk result
+        (trie.new ≡ from_entries
+        (marked (marks_of (data_in front.now) ++ new.now ∷ marks_of (data_in back.now)))) }
     ensures err { OnErr result (trie.new ≡ trie.old) }
 {
     refresh(alloc, trie, front, new, back, &new.key)?;
@@ -163,8 +176,12 @@ pub(crate) fn retrie_pending(
     requires key { new.now.key ≡ old.now.key }
     requires pending_key { new.now.pending_key ≡ old.now.pending_key }
     requires value { new.now.value ≡ old.now.value }
-    requires tree { trie.old ≡ from_entries (marked (marks_of (data_in front.now) ++ old.now ∷ marks_of (data_in back.now))) }
-    ensures ok { OnOk result (trie.new ≡ from_entries (marked (marks_of (data_in front.now) ++ new.now ∷ marks_of (data_in back.now)))) }
+    requires tree { trie.old
+        ≡ from_entries (marked
+        (marks_of (data_in front.now) ++ old.now ∷ marks_of (data_in back.now))) }
+    ensures ok { OnOk result
+        (trie.new ≡ from_entries
+        (marked (marks_of (data_in front.now) ++ new.now ∷ marks_of (data_in back.now)))) }
     ensures err { OnErr result (trie.new ≡ trie.old) }
 {
     refresh(alloc, trie, front, new, back, &new.pending_key)?;
@@ -183,8 +200,12 @@ pub(crate) fn retrie_both(
 ) -> Result<(), AllocError>
     requires key { new.now.key ≡ old.now.key }
     requires pending_key { new.now.pending_key ≡ old.now.pending_key }
-    requires tree { trie.old ≡ from_entries (marked (marks_of (data_in front.now) ++ old.now ∷ marks_of (data_in back.now))) }
-    ensures ok { OnOk result (trie.new ≡ from_entries (marked (marks_of (data_in front.now) ++ new.now ∷ marks_of (data_in back.now)))) }
+    requires tree { trie.old
+        ≡ from_entries (marked
+        (marks_of (data_in front.now) ++ old.now ∷ marks_of (data_in back.now))) }
+    ensures ok { OnOk result
+        (trie.new ≡ from_entries
+        (marked (marks_of (data_in front.now) ++ new.now ∷ marks_of (data_in back.now)))) }
     ensures err { OnErr result (trie.new ≡ trie.old) }
 {
     let mut copy = trie.copy(alloc)?;

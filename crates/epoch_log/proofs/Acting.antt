@@ -9,7 +9,7 @@ use Rattle.ar_cert.specs.Changes.{Change}
 use Rattle.vote_quorum.specs.declared.value.Value.{Value}
 use Rattle.ar_council.proofs.Lists.{find-nothing, find-some}
 use Rattle.ar_council.specs.Room.{HasRoom}
-use Rattle.ar_council.specs.Values.{IsValue}
+use Rattle.ar_statement.specs.Ranges.{IsValue}
 use Rattle.epoch_log.specs.Calls.{MayConfirm, MayState, after_confirm, after_roll, casting, confirmation_text, confirmed_of, own_status_text, own_value, own_vote_text, proposing, stating, vote_of}
 use Rattle.epoch_log.specs.Ending.{own_vote}
 use Rattle.epoch_log.specs.Record.{base_of}

@@ -21,9 +21,10 @@ use Rattle.ar_council.proofs.Seeing.{seen-has}
 use Rattle.ar_council.specs.Council.{Council, IsMember}
 use Rattle.ar_council.specs.Room.{HasRoom}
 use Rattle.ar_council.specs.Seen.{seen_after}
-use Rattle.ar_council.specs.Values.{IsValue, status_claim, vote_claim}
+use Rattle.ar_council.specs.Values.{status_claim, vote_claim}
+use Rattle.ar_statement.specs.Ranges.{IsValue}
 use Rattle.ar_council.specs.Votes.{SawVotes}
-use Rattle.epoch_log.specs.Calls.{AreEndorsers, IsProposed, IsTurn, MayDecide, MaySkip, MayState, MayVote, SignedStatus, after_ballot, after_decide, after_endorsed, after_learn, after_propose, after_skip, after_state, after_status_seen, after_vote, casting, counting_own, decision_seen, endorsements_of, fresh, is_turn, own_status_text, own_value, own_vote_text, proposal_of, proposal_texts, propose_claim, proposing, seeing, stating, statuses_seen, vote_of, votes_seen, with_ballot, with_report}
+use Rattle.epoch_log.specs.Calls.{AreEndorsers, IsProposed, IsTurn, MayDecide, MaySkip, MayState, MayVote, SignedStatus, after_ballot, after_decide, after_endorsed, after_learn, after_propose, after_skip, after_state, after_status_seen, after_vote, casting, counting_own, decision_seen, endorsements_of, fresh, is_turn, own_status_text, own_value, own_vote_text, proposal_of, proposal_texts, propose_claim, proposing, seeing, stating, statuses_seen, vote_of, votes_seen, log_with_ballot, with_report}
 use Rattle.epoch_log.specs.Ending.{decided, may_end, skipped}
 use Rattle.epoch_log.specs.Record.{current, ending}
 use Rattle.epoch_log.specs.Right.{LeadsTo, SawEndorsements}
@@ -109,8 +110,8 @@ kept-propose s value changes kept turn may saw room =
     kept-closed (counting_own (casting (proposing s value) (vote_of s value changes)) value)
     (kept-own (casting (proposing s value) (vote_of s value changes)) value (kept-proposed s value changes kept may saw room) turn.0)
 
-pub kept-with_ballot : (s : LogState) (log : ℕ) (value : Value) (signature : Option (List ℕ)) → IsKept s → log < s.council.logs → IsKept (with_ballot s log value signature)
-kept-with_ballot s log value signature kept member =
+pub kept-log_with_ballot : (s : LogState) (log : ℕ) (value : Value) (signature : Option (List ℕ)) → IsKept s → log < s.council.logs → IsKept (log_with_ballot s log value signature)
+kept-log_with_ballot s log value signature kept member =
     let one : SeenText = seen_of (log_party log) (vote_claim log (epoch_of s) value) in
     let more : List SeenText = one ∷ [] in
     let saw = kept-seeing s more kept (All-cons (λ (t : SeenText). IsMember s.council t.party) one [] member (All-nil (λ (t : SeenText). IsMember s.council t.party))) in
@@ -118,7 +119,7 @@ kept-with_ballot s log value signature kept member =
     (record { log = member; saw = All-head (Contains (seen_after s.past.seen more)) one [] (seen-has more s.past.seen) })
 
 pub kept-ballot : (s : LogState) (log : ℕ) (value : Value) (signature : List ℕ) → IsKept s → log < s.council.logs → IsKept (after_ballot s log value signature).0
-kept-ballot s log value signature kept member = kept-closed (with_ballot s log value (Some signature)) (kept-with_ballot s log value (Some signature) kept member)
+kept-ballot s log value signature kept member = kept-closed (log_with_ballot s log value (Some signature)) (kept-log_with_ballot s log value (Some signature) kept member)
 
 pub kept-with_report : (s : LogState) (log : ℕ) (value : Option Value) (signature : Option (List ℕ)) → IsKept s → log < s.council.logs → IfSome value IsValue
     → IsKept (with_report s log value signature)

@@ -23,7 +23,8 @@ use Rattle.vote_quorum.specs.declared.value.Value.{Value}
 use Rattle.vote_quorum.proofs.Adding.{same_value}
 use Rattle.ar_council.proofs.Lists.{All-unmap}
 use Rattle.ar_council.specs.Council.{Council}
-use Rattle.ar_council.specs.Values.{IsValue, status_claim, vote_claim}
+use Rattle.ar_council.specs.Values.{status_claim, vote_claim}
+use Rattle.ar_statement.specs.Ranges.{IsValue}
 use Rattle.ar_council.specs.Votes.{SawVotes}
 use Rattle.epoch_log.specs.Calls.{with_status, with_vote}
 use Rattle.epoch_log.specs.Ending.{excludes_all, falls_short, is_excluded, votes_for}

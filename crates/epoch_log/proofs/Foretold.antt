@@ -8,7 +8,7 @@ use Rattle.ar_council.specs.Council.{Council}
 use Rattle.vote_quorum.specs.Ballots.{Ballot}
 use Rattle.vote_quorum.specs.Statuses.{Status}
 use Rattle.vote_quorum.specs.declared.value.Value.{Value}
-use Rattle.epoch_log.specs.Calls.{after_ballot, after_propose, after_status_seen, casting, own_value, proposing, stating, vote_of, with_ballot, with_report, with_status, with_vote}
+use Rattle.epoch_log.specs.Calls.{after_ballot, after_propose, after_status_seen, casting, own_value, proposing, stating, vote_of, log_with_ballot, with_report, with_status, with_vote}
 use Rattle.epoch_log.specs.Ending.{closed, own_vote}
 use Rattle.epoch_log.specs.Foreseeing.{IsForeseen, foretold, foretold_by, foretold_in, newest_by}
 use Rattle.epoch_log.specs.Plans.{verdict_at, verdict_of}
@@ -84,7 +84,7 @@ foreseen-ballot s log value signature own (Err error) mine is = tt
 foreseen-ballot s log value signature own (Ok f) mine is =
     subst (IsForeseen (after_ballot s log value signature))
     (sym (is ∙ ap (λ o. foretold s.council (epoch_of s) o (with_vote s.votes (log, value, Some signature)) s.statuses) mine))
-    (foreseen-closed (with_ballot s log value (Some signature)))
+    (foreseen-closed (log_with_ballot s log value (Some signature)))
 
 pub foreseen-status : (s : LogState) (log : ℕ) (value : Option Value) (signature : Option (List ℕ)) (own : Option Voted) (r : Result Foreseen AllocError) → own ≡ own_vote s.past.voted (epoch_of s)
     → IfOk r (λ f. f ≡ foretold s.council (epoch_of s) own s.votes (with_status s.statuses (log, value, signature)))
@@ -111,4 +111,4 @@ foreseen-propose s value changes vote (Ok f) none mine is =
     let own : Voted = vote_of s value changes in
     let told : f ≡ foretold s.council (epoch_of s) (own_vote (s.past.voted ++ own ∷ []) (epoch_of s)) (with_vote s.votes (s.me, value, None)) s.statuses =
     is ∙ ap (λ o. foretold s.council (epoch_of s) o (with_vote s.votes (s.me, value, None)) s.statuses) (ap Some mine ∙ sym (own-told s.past.voted own none)) in
-    subst (IsForeseen (after_propose s value changes)) (sym told) (foreseen-closed (with_ballot (casting (proposing s value) own) s.me value None))
+    subst (IsForeseen (after_propose s value changes)) (sym told) (foreseen-closed (log_with_ballot (casting (proposing s value) own) s.me value None))

@@ -2,7 +2,6 @@
 -- proposal, a Roll.
 use Rattle.std.proofs.Common.{◌≡◌, ◌≢◌, ℕ, ◌<◌, inl, List, [], ◌∷◌, ◌++◌, refl, sym, ap, ◌∙◌, subst, arith, true, false, Option, Some, None}
 use Rattle.std.specs.Prelude.{All, Contains}
-use Rattle.std.specs.Option.{option_map}
 use Rattle.std.proofs.lemmas.List.Elements.{All-push, All-weaker, Contains-push}
 use Rattle.std.proofs.lemmas.List.Quantifiers.{all_pairs_push}
 use Rattle.ar_cert.specs.Certificate.{digest_of}
@@ -26,13 +25,13 @@ use Rattle.ar_council.proofs.Seeing.{seen-all, seen-keeps}
 use Rattle.ar_council.specs.Council.{Council, IsMember}
 use Rattle.ar_council.specs.Room.{HasRoom}
 use Rattle.ar_council.specs.Seen.{seen_after}
-use Rattle.ar_council.specs.Values.{confirm_claim, roots_of, status_claim, value_of_roots, vote_claim}
+use Rattle.ar_council.specs.Values.{confirm_claim, status_claim, vote_claim}
 use Rattle.ar_council.proofs.Votes.{votes-more}
 use Rattle.ar_council.proofs.Texts.{own-text}
 use Rattle.epoch_log.specs.Honest.{HonestLog, IsUpToNow, SignsWhatItTells}
 use Rattle.epoch_log.specs.Record.{LogRecord, base_of, current}
 use Rattle.epoch_log.specs.Right.{AreSeen, Fits, IsRightVote, LeadsTo, SawEndorsements}
-use Rattle.epoch_log.specs.Told.{HasStated, Told, value_of}
+use Rattle.epoch_log.specs.Told.{Told, value_of}
 use Rattle.epoch_log.specs.declared.entries.Confirmed.{Confirmed}
 use Rattle.epoch_log.specs.declared.entries.Stated.{Stated}
 use Rattle.epoch_log.specs.declared.entries.Voted.{Voted}
@@ -192,11 +191,7 @@ honest-casting council me past v h now not-voted not-stated right valid plain ro
 
 told-status : (me : ℕ) (past : LogRecord) (s : Stated) → Told me past.voted (past.stated ++ s ∷ []) past.confirmed (status_claim me s.epoch s.value)
 unfolding Told
-told-status me past s = by s.value refl
-  where
-    by : (value : Option Value) → s.value ≡ value → (me ≡ me) × HasStated (past.stated ++ s ∷ []) s.epoch (option_map value_of_roots (option_map roots_of s.value))
-    by None is = (refl, subst (Contains (past.stated ++ s ∷ [])) (λ i. record { epoch = s.epoch; value = (is ∙ ap (λ o. option_map value_of_roots (option_map roots_of o)) (sym is)) i }) (Contains-push past.stated s))
-    by (Some value) is = (refl, subst (Contains (past.stated ++ s ∷ [])) (λ i. record { epoch = s.epoch; value = (is ∙ ap (λ o. option_map value_of_roots (option_map roots_of o)) (sym is)) i }) (Contains-push past.stated s))
+told-status me past s = (refl, Contains-push past.stated s)
 
 pub honest-stating : (council : Council) (me : ℕ) (past : LogRecord) (s : Stated) → HonestLog council me past
     → s.epoch ≡ current past.ended → All (λ t. t.epoch ≢ s.epoch) past.stated → Fits past.voted s.epoch s.value

@@ -2,7 +2,7 @@
 use Rattle.std.proofs.Common.{◌≡◌, ℕ, ◌<◌, ◌^◌, List, refl, sym, ap, ◌∙◌, subst, arith, Bool, true, false, cond, Some}
 use Rattle.std.specs.Prelude.{All, IfSome}
 use Rattle.ar_cert.specs.Changes.{Change, IsChange}
-use Rattle.ar_council.specs.Values.{IsValue}
+use Rattle.ar_statement.specs.Ranges.{IsValue}
 use Rattle.vote_quorum.specs.Statuses.{Status}
 use Rattle.vote_quorum.specs.declared.value.Value.{Value}
 use Rattle.domain_table.specs.Applying.{apply}

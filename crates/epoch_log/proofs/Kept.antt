@@ -16,7 +16,8 @@ use Rattle.ar_council.proofs.Lists.{Within, find-some}
 use Rattle.ar_council.proofs.Seeing.{seen-keeps}
 use Rattle.ar_council.specs.Council.{Council, IsMember}
 use Rattle.ar_council.specs.Seen.{seen_after}
-use Rattle.ar_council.specs.Values.{IsValue, status_claim, vote_claim}
+use Rattle.ar_council.specs.Values.{status_claim, vote_claim}
+use Rattle.ar_statement.specs.Ranges.{IsValue}
 use Rattle.ar_council.specs.Votes.{SawVotes}
 use Rattle.epoch_log.specs.Calls.{counting_status, counting_vote, seeing}
 use Rattle.epoch_log.specs.Ending.{closed, closed_by, closed_by_statuses, decided, excludes_all, has_quorum, may_end, own_vote, skipped, votes_for}

@@ -11,7 +11,7 @@ use Rattle.key_roll.proofs.Later.{entry_later, later_on, roll_later, same_book}
 use Rattle.party_keys.specs.Learning.{Announced, roll_claim}
 use Rattle.party_keys.specs.Seen.{seen_of}
 use Rattle.vote_quorum.specs.declared.value.Value.{Value}
-use Rattle.epoch_log.specs.Calls.{SignedStatus, after_ballot, after_confirm, after_decide, after_endorsed, after_learn, after_propose, after_roll, after_skip, after_state, after_status_seen, after_vote, casting, confirmation_text, confirmed_of, counting_own, decision_seen, endorsements_of, is_same_confirmation, is_turn, own_status_text, own_value, proposal_of, propose_claim, proposing, seeing, signed_votes, stating, statuses_seen, vote_of, with_ballot, with_report}
+use Rattle.epoch_log.specs.Calls.{SignedStatus, after_ballot, after_confirm, after_decide, after_endorsed, after_learn, after_propose, after_roll, after_skip, after_state, after_status_seen, after_vote, casting, confirmation_text, confirmed_of, counting_own, decision_seen, endorsements_of, is_same_confirmation, is_turn, own_status_text, own_value, proposal_of, propose_claim, proposing, seeing, signed_votes, stating, statuses_seen, vote_of, log_with_ballot, with_report}
 use Rattle.epoch_log.specs.Ending.{closed, closed_by, closed_by_statuses, decided, excludes_all, has_quorum, may_end, own_vote, skipped, votes_for, with_ending}
 use Rattle.epoch_log.specs.Later.{LogGrows}
 use Rattle.epoch_log.specs.Record.{LogRecord, current}
@@ -145,7 +145,7 @@ proposal_adds s value changes =
 
 pub ballot_adds : (s : LogState) (log : ℕ) (value : Value) (signature : List ℕ) → LogGrows s.past (after_ballot s log value signature).0.past
 ballot_adds s log value signature =
-    closing_grows s.past (with_ballot s log value (Some signature)) (seeing_grows s (seen_of (log_party log) (vote_claim log (epoch_of s) value) ∷ []))
+    closing_grows s.past (log_with_ballot s log value (Some signature)) (seeing_grows s (seen_of (log_party log) (vote_claim log (epoch_of s) value) ∷ []))
 
 pub status_adds : (s : LogState) (log : ℕ) (value : Option Value) (signature : Option (List ℕ)) → LogGrows s.past (after_status_seen s log value signature).0.past
 status_adds s log value signature =

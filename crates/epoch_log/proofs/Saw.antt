@@ -8,7 +8,7 @@ use Rattle.ar_council.specs.Values.{status_claim, vote_claim}
 use Rattle.ar_statement.specs.Claims.{log_party}
 use Rattle.ar_statement.specs.declared.text.SeenText.{SeenText}
 use Rattle.vote_quorum.specs.declared.value.Value.{Value}
-use Rattle.epoch_log.specs.Calls.{SignedStatus, after_ballot, after_decide, after_propose, after_skip, after_state, after_status_seen, casting, counting_own, decision_seen, is_turn, own_value, proposing, seeing, signed_votes, stating, statuses_seen, vote_of, with_ballot, with_report}
+use Rattle.epoch_log.specs.Calls.{SignedStatus, after_ballot, after_decide, after_propose, after_skip, after_state, after_status_seen, casting, counting_own, decision_seen, is_turn, own_value, proposing, seeing, signed_votes, stating, statuses_seen, vote_of, log_with_ballot, with_report}
 use Rattle.epoch_log.specs.Ending.{closed, closed_by, closed_by_statuses, decided, excludes_all, has_quorum, may_end, own_vote, skipped, votes_for}
 use Rattle.epoch_log.specs.State.{LogState, SeesMore, epoch_of, reports_of}
 use Rattle.epoch_log.specs.Told.{value_of}
@@ -55,7 +55,7 @@ proposal-more s value changes =
     (seeing-more (casting (proposing s value) (vote_of s value changes)) (seen_of (log_party s.me) (vote_claim s.me (epoch_of s) value) ∷ []))
 
 pub ballot-more : (s : LogState) (log : ℕ) (value : Value) (signature : List ℕ) → SeesMore s (after_ballot s log value signature).0
-ballot-more s log value signature = closing-more s (with_ballot s log value (Some signature)) (seeing-more s (seen_of (log_party log) (vote_claim log (epoch_of s) value) ∷ []))
+ballot-more s log value signature = closing-more s (log_with_ballot s log value (Some signature)) (seeing-more s (seen_of (log_party log) (vote_claim log (epoch_of s) value) ∷ []))
 
 pub report-more : (s : LogState) (log : ℕ) (value : Option Value) (signature : Option (List ℕ)) → SeesMore s (after_status_seen s log value signature).0
 report-more s log value signature = closing-more s (with_report s log value signature) (seeing-more s (seen_of (log_party log) (status_claim log (epoch_of s) value) ∷ []))

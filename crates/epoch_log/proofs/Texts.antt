@@ -7,11 +7,11 @@ use Rattle.ar_base.specs.Bytes.{IsDigest}
 use Rattle.ar_names.specs.Names.{IsName}
 use Rattle.ar_statement.specs.Claims.{log_party, propose, roll, text_of}
 use Rattle.ar_statement.specs.Fields.{is_epoch}
-use Rattle.ar_statement.specs.Ranges.{IsKeyText, IsValid, is_readable}
+use Rattle.ar_statement.specs.Ranges.{IsKeyText, IsValid, IsValue, is_readable}
 use Rattle.key_roll.specs.Rolls.{is_roll, named_generation}
 use Rattle.key_roll.proofs.Books.{is_roll-kind, named-roll}
 use Rattle.vote_quorum.specs.declared.value.Value.{Value}
-use Rattle.ar_council.specs.Values.{IsValue, confirm_claim, status_claim, vote_claim}
+use Rattle.ar_council.specs.Values.{confirm_claim, status_claim, vote_claim}
 
 pub in-range : (n : ℕ) → n < 2 ^ 63 → is_epoch (n + 1) ≡ true
 in-range n less = both_true (le-leb 1 (n + 1) (omega arith)) (le-leb (n + 1) (2 ^ 63) (omega (arith, less)))
@@ -34,7 +34,7 @@ valid-status me n None small less are = record {
   ranges = in-range n less;
 }
 valid-status me n (Some value) small less are = record {
-  held = record { signer = small; fields = (omega (arith, less), (are.base, are.root)) };
+  held = record { signer = small; fields = (omega (arith, less), are) };
   ranges = in-range n less;
 }
 

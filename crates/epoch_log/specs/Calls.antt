@@ -22,7 +22,8 @@ use Rattle.vote_quorum.specs.Numbers.{distinct_count}
 use Rattle.vote_quorum.specs.declared.value.Value.{Value}
 use Rattle.domain_table.specs.Tree.{root_of}
 use Rattle.ar_council.specs.Council.{Council}
-use Rattle.ar_council.specs.Values.{IsValue, is_same_digest, status_claim, vote_claim}
+use Rattle.ar_council.specs.Values.{is_same_digest, status_claim, vote_claim}
+use Rattle.ar_statement.specs.Ranges.{IsValue}
 use Rattle.ar_council.specs.Seen.{seen_after}
 use Rattle.party_keys.specs.Seen.{seen_of}
 use Rattle.epoch_log.specs.Ending.{closed, decided_if, own_vote, skipped_if}
@@ -74,8 +75,8 @@ abbrev pub counting_status : LogState → CountedStatus → LogState
 counting_status s status = record s { statuses = with_status s.statuses status }
 
 -- a log's ballot is seen and counted
-abbrev pub with_ballot : LogState → ℕ → Value → Option (List ℕ) → LogState
-with_ballot s log value signature =
+abbrev pub log_with_ballot : LogState → ℕ → Value → Option (List ℕ) → LogState
+log_with_ballot s log value signature =
     counting_vote (seeing s (seen_of (log_party log) (vote_claim log (epoch_of s) value) ∷ [])) (log, value, signature)
 
 -- a log's status is seen, and counted where it is the log's first
@@ -163,7 +164,7 @@ proposal_texts s value = text_of (propose_claim s value) ∷ (own_vote_text s va
 
 -- the log's own ballot is seen and counted at once
 abbrev pub counting_own : LogState → Value → LogState
-counting_own s value = with_ballot s s.me value None
+counting_own s value = log_with_ballot s s.me value None
 
 -- the log proposes: it signs the proposal and then its own vote, which is seen and counted, and the closing rule
 -- follows
@@ -174,7 +175,7 @@ after_propose s value changes = closed (counting_own (casting (proposing s value
 
 -- another log's ballot, or one of its own that comes as a message, is seen and counted, and the closing rule follows
 abbrev pub after_ballot : LogState → ℕ → Value → List ℕ → LogState × Closing
-after_ballot s log value signature = closed (with_ballot s log value (Some signature))
+after_ballot s log value signature = closed (log_with_ballot s log value (Some signature))
 
 -- ---- a status
 

@@ -9,5 +9,6 @@ pub mod Plans
 pub mod Record
 pub mod Right
 pub mod State
+pub mod Taking
 pub mod Telling
 pub mod Told

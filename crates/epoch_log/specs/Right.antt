@@ -13,7 +13,8 @@ use Rattle.domain_table.specs.Applying.{apply}
 use Rattle.domain_table.specs.Tables.{Table, chain_of, newest}
 use Rattle.domain_table.specs.Tree.{root_of}
 use Rattle.ar_council.specs.Council.{Council}
-use Rattle.ar_council.specs.Values.{IsValue, status_claim}
+use Rattle.ar_council.specs.Values.{status_claim}
+use Rattle.ar_statement.specs.Ranges.{IsValue}
 use Rattle.ar_council.specs.Votes.{SawVotes}
 use Rattle.epoch_log.specs.Record.{base_of, ending}
 use Rattle.epoch_log.specs.Told.{value_of}

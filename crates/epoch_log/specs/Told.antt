@@ -1,9 +1,8 @@
 -- Which statements a log's record tells of.
 use Rattle.std.specs.Prelude.{◌≡◌, ℕ, List, Contains, Option, Some, None}
-use Rattle.std.specs.Option.{option_map}
-use Rattle.ar_statement.specs.Claims.{Claim, endorse, handover, log_party, propose, vote, confirm, confirm_absent, answer, status, roll, object}
+use Rattle.ar_statement.specs.Claims.{Claim, endorse, handover, log_party, propose, vote, confirm, confirm_absent, answer, status, roll, object, value_with}
 use Rattle.vote_quorum.specs.declared.value.Value.{Value}
-use Rattle.ar_council.specs.Values.{confirm_claim, value_of_roots}
+use Rattle.ar_council.specs.Values.{confirm_claim}
 use Rattle.epoch_log.specs.declared.entries.Confirmed.{Confirmed}
 use Rattle.epoch_log.specs.declared.entries.Stated.{Stated}
 use Rattle.epoch_log.specs.declared.entries.Voted.{Voted}
@@ -37,8 +36,8 @@ HasConfirmed confirmed epoch name certificate root =
 -- confirmations are exactly those of the entries; its proposals and Rolls have none; and it signs nothing else.
 unfoldable pub Told : ℕ → List Voted → List Stated → List Confirmed → Claim → Type 0
 Told me voted stated confirmed (propose log epoch base root) = log ≡ me
-Told me voted stated confirmed (vote log epoch base root) = (log ≡ me) × HasVoted voted epoch (value_of_roots (base, root))
-Told me voted stated confirmed (status log epoch value) = (log ≡ me) × HasStated stated epoch (option_map value_of_roots value)
+Told me voted stated confirmed (vote log epoch base root) = (log ≡ me) × HasVoted voted epoch (value_with base root)
+Told me voted stated confirmed (status log epoch value) = (log ≡ me) × HasStated stated epoch value
 Told me voted stated confirmed (confirm signer epoch name certificate root) = (signer ≡ log_party me) × HasConfirmed confirmed epoch name (Some certificate) root
 Told me voted stated confirmed (confirm_absent signer epoch name root) = (signer ≡ log_party me) × HasConfirmed confirmed epoch name None root
 Told me voted stated confirmed (roll signer generation key) = signer ≡ log_party me

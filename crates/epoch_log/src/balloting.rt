@@ -1,9 +1,10 @@
 //! Ballots of other logs, and of the log itself.
-ghost use Rattle.std.specs.Prelude.{◌≡◌, ◌<◌, ℕ, List, Option, IfOk, OnOk, OnErr, vec_len, vec_capacity};
-ghost use Rattle.epoch_log.specs.Calls.{after_ballot, with_ballot};
+ghost use Rattle.std.specs.Prelude.{◌≡◌, ◌<◌, ℕ, List, Option, IfOk, OnOk, OnErr};
+ghost use Rattle.epoch_log.specs.Calls.{after_ballot, log_with_ballot};
 ghost use Rattle.epoch_log.specs.Log.{IsLog, moved, parts_of, state_in};
 ghost use Rattle.epoch_log.specs.Plans.{IsPlanIn};
 ghost use Rattle.epoch_log.specs.State.{epoch_of};
+ghost use Rattle.epoch_log.specs.Taking.{CountsBallot, HasRoomForBallot};
 
 use crate::Closing;
 use crate::closing::Plan;
@@ -19,7 +20,10 @@ impl Parts {
     /// How the epoch is to end where this ballot is counted too.
     fn plan_with_ballot(&self, alloc: Global, log: u16, value: &Value) -> Result<Plan, AllocError>
         requires { IsLog self.now }
-        ensures { IfOk result (λ plan. (signature : Option (List ℕ)) → IsPlanIn (with_ballot (state_in self.now) log value.now signature) self.now.table plan) }
+        ensures { IfOk result (λ plan.
+            (signature : Option (List ℕ))
+            → IsPlanIn (log_with_ballot
+            (state_in self.now) log value.now signature) self.now.table plan) }
     {
         let ballots = ballots_with(alloc, &self.votes, log, value)?;
         let reports = reports(alloc, &self.statuses)?;
@@ -29,11 +33,8 @@ impl Parts {
     /// Sees and counts a ballot. There is room for it.
     fn put_ballot(&mut self, epoch: u64, log: u16, value: Value, signature: Option<Items<u8>>)
         requires epoch { epoch ≡ epoch_of (state_in self.old) }
-        requires seen { vec_len self.old.past.seen < vec_capacity self.old.past.seen }
-        requires votes { vec_len self.old.votes < vec_capacity self.old.votes }
-        ensures parts { parts_of self.new ≡ moved (parts_of self.old) (with_ballot (state_in self.old) log value signature) }
-        ensures table { self.new.table ≡ self.old.table }
-        ensures ended { self.new.past.ended ≡ self.old.past.ended }
+        requires room { HasRoomForBallot self.old }
+        ensures { CountsBallot self.old self.new log value signature }
     {
         see(&mut self.past.seen, vote_text(log, epoch, &value));
         count_vote(&mut self.votes, (log, value, signature));
@@ -43,11 +44,8 @@ impl Parts {
     pub(crate) fn take_ballot(&mut self, log: u16, value: Value, signature: Option<Items<u8>>)
         requires kept { IsLog self.old }
         requires log { log < (state_in self.old).council.logs }
-        requires seen { vec_len self.old.past.seen < vec_capacity self.old.past.seen }
-        requires votes { vec_len self.old.votes < vec_capacity self.old.votes }
-        ensures parts { parts_of self.new ≡ moved (parts_of self.old) (with_ballot (state_in self.old) log value signature) }
-        ensures table { self.new.table ≡ self.old.table }
-        ensures ended { self.new.past.ended ≡ self.old.past.ended }
+        requires room { HasRoomForBallot self.old }
+        ensures counted { CountsBallot self.old self.new log value signature }
         ensures kept { IsLog self.new }
     {
         let epoch = self.epoch();
@@ -64,8 +62,11 @@ impl Parts {
     ) -> Result<Closing, AllocError>
         requires kept { IsLog self.old }
         requires log { log < (state_in self.old).council.logs }
-        ensures answer { IfOk result (λ closing. closing ≡ (after_ballot (state_in self.old) log value signature.now).1) }
-        ensures ok { OnOk result (parts_of self.new ≡ moved (parts_of self.old) (after_ballot (state_in self.old) log value signature.now).0) }
+        ensures answer { IfOk result (λ closing.
+            closing ≡ (after_ballot (state_in self.old) log value signature.now).1) }
+        ensures ok { OnOk result
+            (parts_of self.new ≡ moved (parts_of self.old)
+            (after_ballot (state_in self.old) log value signature.now).0) }
         ensures err { OnErr result (parts_of self.new ≡ parts_of self.old) }
         ensures kept { IsLog self.new }
     {

@@ -38,7 +38,8 @@ pub(crate) enum Plan {
 
 /// The logs that have a ballot for the value.
 fn logs_for(alloc: Global, ballots: &[(u16, Value)], value: &Value) -> Result<Vec<u16>, AllocError>
-    ensures { IfOk result (λ logs. logs.items ≡ map (λ b. b.0) (filter (λ b. is_same b.1 value.now) ballots.now)) }
+    ensures { IfOk result (λ logs.
+        logs.items ≡ map (λ b. b.0) (filter (λ b. is_same b.1 value.now) ballots.now)) }
 {
     ballots
         .iter()
@@ -67,7 +68,8 @@ fn backs(
     ballots: &[(u16, Value)],
     own: Option<&Voted>,
 ) -> Result<bool, AllocError>
-    ensures { IfOk result (λ enough. enough ≡ backs quorum ballots.now (option_map (λ v. v.now) own.entry)) }
+    ensures { IfOk result (λ enough.
+        enough ≡ backs quorum ballots.now (option_map (λ v. v.now) own.entry)) }
 {
     match own {
         Some(vote) => has_quorum(alloc, quorum, ballots, &vote.value()),
@@ -92,7 +94,9 @@ pub(crate) fn verdict_on(
     reports: &[(u16, Option<Value>)],
 ) -> Result<Verdict, AllocError>
     requires { AreStatuses (length directory.now.logs) reports.now }
-    ensures { IfOk result (λ verdict. verdict ≡ verdict_of (council_of directory.now) (option_map (λ v. v.now) own.entry) ballots.now reports.now) }
+    ensures { IfOk result (λ verdict.
+        verdict ≡ verdict_of (council_of directory.now) (option_map (λ v.
+        v.now) own.entry) ballots.now reports.now) }
 {
     if backs(alloc, directory.quorum(), ballots, own)? {
         return Ok(Verdict::Decided);
@@ -137,7 +141,8 @@ fn own_decision(
 ) -> Result<Decision, AllocError>
     requires sound { IsSound table.now }
     requires some { IsSome (option_map (λ v. v.now) own) }
-    requires applies { IfSome (option_map (λ v. v.now) own) (λ v. IsSome (apply table.now epoch v.changes)) }
+    requires applies { IfSome (option_map (λ v.
+        v.now) own) (λ v. IsSome (apply table.now epoch v.changes)) }
     ensures { IfOk result (IsOwnDecision epoch table.now (option_map (λ v. v.now) own.entry) room) }
 {
     match own {
@@ -158,8 +163,11 @@ pub(crate) fn plan_for(
 ) -> Result<Plan, AllocError>
     requires statuses { AreStatuses (length directory.now.logs) reports.items }
     requires sound { IsSound table.now }
-    requires applies { IfSome (option_map (λ v. v.now) own) (λ v. IsSome (apply table.now epoch v.changes)) }
-    ensures { IfOk result (IsPlan (council_of directory.now) epoch table.now (option_map (λ v. v.now) own.entry) ballots.now reports.items) }
+    requires applies { IfSome (option_map (λ v.
+        v.now) own) (λ v. IsSome (apply table.now epoch v.changes)) }
+    ensures { IfOk result
+        (IsPlan (council_of directory.now) epoch table.now (option_map (λ v.
+        v.now) own.entry) ballots.now reports.items) }
 {
     if epoch >= LAST_EPOCH {
         return Ok(Plan::Open);

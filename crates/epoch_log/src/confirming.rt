@@ -98,12 +98,21 @@ impl Parts {
     ) -> Result<RollDue, BookFault>
         requires kept { IsLog self.old }
         requires plain { is_roll (text_of (claim_of statement.now)) ≡ false }
-        ensures answer { GivesOrWants book_fault.Memory (λ due. due) result (entered (state_in self.old).past.signed (text_of (claim_of statement.now))) }
+        ensures answer { GivesOrWants book_fault.Memory (λ due.
+            due) result (entered (state_in self.old).past.signed
+            (text_of (claim_of statement.now))) }
         ensures ok { OnOk result (parts_of self.new ≡ moved (parts_of self.old)
-            (confirming (state_in self.old) (text_of (claim_of statement.now)) (record { epoch = epoch; name = name.now; certificate = certificate; root = root }))) }
+            (confirming (state_in self.old) (text_of (claim_of statement.now))
+            (record {
+              epoch = epoch;
+              name = name.now;
+              certificate = certificate;
+              root = root;
+            }))) }
         ensures err { OnErr result (parts_of self.new ≡ parts_of self.old) }
         ensures table { self.new.table ≡ self.old.table }
-        ensures leaf { OnOk result (HasRoom (state_in self.old).past.signed (text_of (claim_of statement.now) ∷ [])) }
+        ensures leaf { OnOk result
+            (HasRoom (state_in self.old).past.signed (text_of (claim_of statement.now) ∷ [])) }
     {
         leaf_for(&self.past.signed, statement)?;
         let name = name.view().to_name(alloc)?;
@@ -125,8 +134,12 @@ impl Parts {
     pub(crate) fn confirm(&mut self, alloc: Global, name: &Name) -> Result<RollDue, BookFault>
         requires kept { IsLog self.old }
         requires decided { IsSome (state_in self.old).newest }
-        ensures answer { IfSome (state_in self.old).newest (λ w. GivesOrWants book_fault.Memory (λ due. due) result (confirmed (state_in self.old) w name.now)) }
-        ensures ok { OnOk result (IfSome (state_in self.old).newest (λ w. parts_of self.new ≡ moved (parts_of self.old) (after_confirm (state_in self.old) w name.now))) }
+        ensures answer { IfSome (state_in self.old).newest (λ w.
+            GivesOrWants book_fault.Memory (λ due.
+            due) result (confirmed (state_in self.old) w name.now)) }
+        ensures ok { OnOk result (IfSome (state_in self.old).newest (λ w.
+            parts_of self.new ≡ moved (parts_of self.old)
+            (after_confirm (state_in self.old) w name.now))) }
         ensures err { OnErr result (parts_of self.new ≡ parts_of self.old) }
         ensures kept { IsLog self.new }
     {

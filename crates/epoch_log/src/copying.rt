@@ -42,7 +42,9 @@ pub(crate) fn votes_with(
     value: &Value,
     signature: Option<&[u8]>,
 ) -> Result<Vec<CountedVote>, AllocError>
-    ensures { IfOk result (λ list. list.items ≡ with_vote votes.now (log, value.now, option_map (λ s. s.now) signature.entry)) }
+    ensures { IfOk result (λ list.
+        list.items ≡ with_vote votes.now
+        (log, value.now, option_map (λ s. s.now) signature.entry)) }
 {
     let signature = signature_copy(alloc, signature)?;
     let mut list = counted_copies(alloc, votes)?;
@@ -59,7 +61,9 @@ pub(crate) fn statuses_with(
     value: &Option<Value>,
     signature: Option<&[u8]>,
 ) -> Result<Vec<CountedStatus>, AllocError>
-    ensures { IfOk result (λ list. list.items ≡ with_status statuses.now (log, value.now, option_map (λ s. s.now) signature.entry)) }
+    ensures { IfOk result (λ list.
+        list.items ≡ with_status statuses.now
+        (log, value.now, option_map (λ s. s.now) signature.entry)) }
 {
     let signature = signature_copy(alloc, signature)?;
     let mut list = counted_copies(alloc, statuses)?;

@@ -17,8 +17,8 @@ use crate::statements::changes_told;
 use crate::tables::table_after;
 use ar_base::Items;
 use ar_cert::Change;
-use ar_council::{see_each, seen_text, value_told, vote_statement};
-use ar_statement::{Role, SeenText};
+use ar_council::{see_each, seen_text, vote_statement};
+use ar_statement::{Role, SeenText, value_told};
 use std::alloc::{AllocError, Global};
 use vote_quorum::Value;
 
@@ -56,7 +56,9 @@ fn seen_by(
     changes: &[Change],
     votes: &[(u16, Vec<u8>)],
 ) -> Result<Vec<SeenText>, AllocError>
-    ensures { IfOk result (λ list. list.items ≡ votes_seen epoch value.now (votes_in votes.now) ++ flat_map endorsements_of changes.now) }
+    ensures { IfOk result (λ list.
+        list.items ≡ votes_seen epoch value.now (votes_in votes.now)
+        ++ flat_map endorsements_of changes.now) }
 {
     let mut seen = texts(alloc, epoch, value, votes)?;
     push_all_endorsements(&mut seen, changes)?;
@@ -88,9 +90,13 @@ impl Parts {
     ) -> Result<(), AllocError>
         requires kept { IsLog self.old }
         requires are { All IsChange changes.items }
-        requires applies { IsSome (apply self.old.table (epoch_of (state_in self.old)) changes.items) }
-        ensures ok { OnOk result (parts_of self.new ≡ moved (parts_of self.old) (after_decide (state_in self.old) value changes.items (votes_in votes.items))) }
-        ensures table { OnOk result (IsTableBehind (state_in self.old) changes.items self.old.table self.new.table) }
+        requires applies { IsSome (apply self.old.table
+            (epoch_of (state_in self.old)) changes.items) }
+        ensures ok { OnOk result
+            (parts_of self.new ≡ moved (parts_of self.old)
+            (after_decide (state_in self.old) value changes.items (votes_in votes.items))) }
+        ensures table { OnOk result
+            (IsTableBehind (state_in self.old) changes.items self.old.table self.new.table) }
         ensures err { OnErr result (parts_of self.new ≡ parts_of self.old) }
         ensures same { OnErr result (self.new.table ≡ self.old.table) }
     {
@@ -123,7 +129,10 @@ impl Parts {
     ) -> Result<(), AllocError>
         requires kept { IsLog self.old }
         requires may { CanDecide (state_in self.old) changes.items root (votes_in votes.items) }
-        ensures ok { OnOk result (parts_of self.new ≡ moved (parts_of self.old) (after_decide (state_in self.old) (to_root (state_in self.old) root) changes.items (votes_in votes.items))) }
+        ensures ok { OnOk result
+            (parts_of self.new ≡ moved (parts_of self.old)
+            (after_decide (state_in self.old) (to_root (state_in self.old) root) changes.items
+            (votes_in votes.items))) }
         ensures err { OnErr result (parts_of self.new ≡ parts_of self.old) }
         ensures kept { IsLog self.new }
     {

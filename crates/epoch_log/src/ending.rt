@@ -29,7 +29,10 @@ impl Parts {
     pub(crate) fn end_decided(&mut self, alloc: Global, epoch: u64, decision: Decision)
         requires epoch { epoch ≡ epoch_of (state_in self.old) }
         requires room { vec_len self.old.past.ended < vec_capacity self.old.past.ended }
-        ensures parts { parts_of self.new ≡ moved (parts_of self.old) (decided (state_in self.old) decision.changes.items decision.value decision.votes.items) }
+        ensures parts { parts_of self.new
+            ≡ moved (parts_of self.old)
+            (decided (state_in self.old) decision.changes.items decision.value
+            decision.votes.items) }
         ensures table { self.new.table ≡ decision.table }
     {
         let Decision {
@@ -61,8 +64,12 @@ impl Parts {
     pub(crate) fn decide_unless_last(&mut self, alloc: Global, epoch: u64, decision: Decision)
         requires epoch { epoch ≡ epoch_of (state_in self.old) }
         requires room { vec_len self.old.past.ended < vec_capacity self.old.past.ended }
-        ensures parts { parts_of self.new ≡ moved (parts_of self.old) (decided_if (state_in self.old) decision.changes.items decision.value decision.votes.items) }
-        ensures table { self.new.table ≡ table_if (state_in self.old) self.old.table decision.table }
+        ensures parts { parts_of self.new
+            ≡ moved (parts_of self.old)
+            (decided_if (state_in self.old) decision.changes.items decision.value
+            decision.votes.items) }
+        ensures table { self.new.table
+            ≡ table_if (state_in self.old) self.old.table decision.table }
     {
         if epoch < LAST_EPOCH {
             self.end_decided(alloc, epoch, decision);
@@ -79,7 +86,8 @@ impl Parts {
         requires epoch { epoch ≡ epoch_of (state_in self.old) }
         requires room { vec_len self.old.past.ended < vec_capacity self.old.past.ended }
         ensures counted { result ≡ self.old.statuses.items }
-        ensures parts { parts_of self.new ≡ moved (parts_of self.old) (skipped (state_in self.old) statuses.items) }
+        ensures parts { parts_of self.new
+            ≡ moved (parts_of self.old) (skipped (state_in self.old) statuses.items) }
         ensures table { self.new.table ≡ self.old.table }
     {
         self.past.ended.push_reserved(Ended {
@@ -101,7 +109,8 @@ impl Parts {
     )
         requires epoch { epoch ≡ epoch_of (state_in self.old) }
         requires room { vec_len self.old.past.ended < vec_capacity self.old.past.ended }
-        ensures parts { parts_of self.new ≡ moved (parts_of self.old) (skipped_if (state_in self.old) statuses.items) }
+        ensures parts { parts_of self.new
+            ≡ moved (parts_of self.old) (skipped_if (state_in self.old) statuses.items) }
         ensures table { self.new.table ≡ self.old.table }
     {
         if epoch < LAST_EPOCH {

@@ -62,8 +62,10 @@ impl Parts {
     ) -> Result<Plan, AllocError>
         requires kept { IsLog self.now }
         requires statuses { AreStatuses (state_in self.now).council.logs reports.items }
-        ensures { IfOk result (IsPlan (state_in self.now).council (epoch_of (state_in self.now)) self.now.table
-            (own_vote (state_in self.now).past.voted (epoch_of (state_in self.now))) ballots.now reports.items) }
+        ensures { IfOk result
+            (IsPlan (state_in self.now).council (epoch_of (state_in self.now)) self.now.table
+            (own_vote (state_in self.now).past.voted
+            (epoch_of (state_in self.now))) ballots.now reports.items) }
     {
         let epoch = self.epoch();
         plan_for(
@@ -83,7 +85,10 @@ impl Parts {
         requires room { vec_len self.old.past.ended < vec_capacity self.old.past.ended }
         requires none { decision.votes.items ≡ [] }
         requires votes { length self.old.votes.items ≤ vec_capacity decision.votes }
-        ensures parts { parts_of self.new ≡ moved (parts_of self.old) (decided (state_in self.old) decision.changes.items decision.value (votes_for self.old.votes.items decision.value)) }
+        ensures parts { parts_of self.new
+            ≡ moved (parts_of self.old)
+            (decided (state_in self.old) decision.changes.items decision.value
+            (votes_for self.old.votes.items decision.value)) }
         ensures table { self.new.table ≡ decision.table }
     {
         let counted = mem::replace(&mut self.votes, Vec::new(alloc));
@@ -112,7 +117,8 @@ impl Parts {
         requires room { vec_len self.old.past.ended < vec_capacity self.old.past.ended }
         requires plan { IsPlanIn (state_in self.old) self.old.table plan }
         ensures answer { result ≡ (closed (state_in self.old)).1 }
-        ensures parts { parts_of self.new ≡ moved (parts_of self.old) (closed (state_in self.old)).0 }
+        ensures parts { parts_of self.new
+            ≡ moved (parts_of self.old) (closed (state_in self.old)).0 }
         ensures kept { IsLog self.new }
     {
         let epoch = self.epoch();

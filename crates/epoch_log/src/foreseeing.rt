@@ -1,7 +1,7 @@
 //! What would become of the epoch, told before the step that may end it is made.
 ghost use Rattle.std.specs.Prelude.{◌≡◌, ◌≢◌, ◌<◌, ℕ, List, Option, None, Some, All, IfOk, IfSome, IsSome};
 ghost use Rattle.std.specs.Option.{option_map};
-ghost use Rattle.ar_council.specs.Values.{IsValue};
+ghost use Rattle.ar_statement.specs.Ranges.{IsValue};
 ghost use Rattle.vote_quorum.specs.Statuses.{AreStatuses};
 ghost use Rattle.epoch_log.specs.Calls.{after_ballot, after_propose, after_state, after_status_seen, own_value, stating, vote_of, with_status, with_vote};
 ghost use Rattle.epoch_log.specs.Foreseeing.{IsForeseen, foretold, newest_by};
@@ -18,8 +18,8 @@ use crate::parts::{CountedVote, Parts};
 use crate::{Newest, Voted};
 use ar_base::Items;
 use ar_cert::Change;
-use ar_council::ballot_told;
 use ar_statement::fields::LAST_EPOCH;
+use ar_statement::optional_value_told;
 use domain_table::copy_changes;
 use std::alloc::{AllocError, Global};
 use vote_quorum::Value;
@@ -46,7 +46,8 @@ fn decided_by(
     vote: &Voted,
     counted: Vec<CountedVote>,
 ) -> Result<Foreseen, AllocError>
-    ensures { IfOk result (λ f. f ≡ foreseen.Decided vote.now.changes (newest_by epoch vote.now counted.items)) }
+    ensures { IfOk result (λ f.
+        f ≡ foreseen.Decided vote.now.changes (newest_by epoch vote.now counted.items)) }
 {
     let changes = Items::from_vec(copy_changes(alloc, vote.changes.as_slice())?);
     let list = Vec::with_capacity(alloc, counted.len())?;
@@ -70,7 +71,9 @@ fn decided_by_own(
     counted: Vec<CountedVote>,
 ) -> Result<Foreseen, AllocError>
     requires { IsSome (option_map (λ v. v.now) own) }
-    ensures { IfOk result (λ f. IfSome (option_map (λ v. v.now) own.entry) (λ v. f ≡ foreseen.Decided v.changes (newest_by epoch v counted.items))) }
+    ensures { IfOk result (λ f.
+        IfSome (option_map (λ v. v.now) own.entry) (λ v.
+        f ≡ foreseen.Decided v.changes (newest_by epoch v counted.items))) }
 {
     match own {
         Some(vote) => decided_by(alloc, epoch, vote, counted),
@@ -89,7 +92,9 @@ impl Parts {
     ) -> Result<Verdict, AllocError>
         requires kept { IsLog self.now }
         requires statuses { AreStatuses (state_in self.now).council.logs reports.now }
-        ensures { IfOk result (λ verdict. verdict ≡ verdict_at (epoch_of (state_in self.now)) (state_in self.now).council (option_map (λ v. v.now) own.entry) ballots.now reports.now) }
+        ensures { IfOk result (λ verdict.
+            verdict ≡ verdict_at (epoch_of (state_in self.now)) (state_in self.now).council
+            (option_map (λ v. v.now) own.entry) ballots.now reports.now) }
     {
         if self.epoch() >= LAST_EPOCH {
             return Ok(Verdict::Open);
@@ -106,8 +111,12 @@ impl Parts {
         value: &Value,
     ) -> Result<Verdict, AllocError>
         requires { IsLog self.now }
-        ensures { IfOk result (λ verdict. (signature : Option (List ℕ)) → verdict ≡ verdict_at (epoch_of (state_in self.now)) (state_in self.now).council (option_map (λ v. v.now) own.entry)
-            (ballots_of (with_vote (state_in self.now).votes (log, value.now, signature))) (reports_of (state_in self.now).statuses)) }
+        ensures { IfOk result (λ verdict.
+            (signature : Option (List ℕ))
+            → verdict ≡ verdict_at (epoch_of (state_in self.now)) (state_in self.now).council
+            (option_map (λ v. v.now) own.entry)
+            (ballots_of (with_vote (state_in self.now).votes (log, value.now, signature)))
+            (reports_of (state_in self.now).statuses)) }
     {
         let ballots = ballots_with(alloc, &self.votes, log, value)?;
         let reports = reports(alloc, &self.statuses)?;
@@ -125,8 +134,13 @@ impl Parts {
         requires kept { IsLog self.now }
         requires log { log < (state_in self.now).council.logs }
         requires value { IfSome value.now IsValue }
-        ensures { IfOk result (λ verdict. (signature : Option (List ℕ)) → verdict ≡ verdict_at (epoch_of (state_in self.now)) (state_in self.now).council (option_map (λ v. v.now) own.entry)
-            (ballots_of (state_in self.now).votes) (reports_of (with_status (state_in self.now).statuses (log, value.now, signature)))) }
+        ensures { IfOk result (λ verdict.
+            (signature : Option (List ℕ))
+            → verdict ≡ verdict_at (epoch_of (state_in self.now)) (state_in self.now).council
+            (option_map (λ v. v.now) own.entry)
+            (ballots_of (state_in self.now).votes)
+            (reports_of (with_status (state_in self.now).statuses
+            (log, value.now, signature)))) }
     {
         let ballots = ballots(alloc, &self.votes)?;
         let reports = reports_with(alloc, &self.statuses, log, value)?;
@@ -143,8 +157,15 @@ impl Parts {
         signature: Option<&[u8]>,
     ) -> Result<Foreseen, AllocError>
         requires { IsLog self.now }
-        ensures { IfOk result (λ f. f ≡ foretold (state_in self.now).council (epoch_of (state_in self.now)) (option_map (λ v. v.now) own.entry)
-            (with_vote (state_in self.now).votes (log, value.now, option_map (λ s. s.now) signature.entry)) (state_in self.now).statuses) }
+        ensures { IfOk result (λ f.
+            f ≡ foretold (state_in self.now).council (epoch_of (state_in self.now))
+            (option_map (λ v. v.now) own.entry)
+            (with_vote (state_in self.now).votes (
+              log,
+              value.now,
+              option_map (λ s.
+                  s.now) signature.entry,
+            )) (state_in self.now).statuses) }
     {
         match self.verdict_with_ballot(alloc, own, log, value)? {
             Verdict::Open => Ok(Foreseen::Open),
@@ -171,8 +192,12 @@ impl Parts {
         requires kept { IsLog self.now }
         requires log { log < (state_in self.now).council.logs }
         requires value { IfSome value.now IsValue }
-        ensures { IfOk result (λ f. f ≡ foretold (state_in self.now).council (epoch_of (state_in self.now)) (option_map (λ v. v.now) own.entry)
-            (state_in self.now).votes (with_status (state_in self.now).statuses (log, value.now, option_map (λ s. s.now) signature.entry))) }
+        ensures { IfOk result (λ f.
+            f ≡ foretold (state_in self.now).council (epoch_of (state_in self.now))
+            (option_map (λ v. v.now) own.entry)
+            (state_in self.now).votes
+            (with_status (state_in self.now).statuses
+            (log, value.now, option_map (λ s. s.now) signature.entry))) }
     {
         match self.verdict_with_status(alloc, own, log, value)? {
             Verdict::Open => Ok(Foreseen::Open),
@@ -196,7 +221,8 @@ impl Parts {
         signature: &[u8],
     ) -> Result<Foreseen, AllocError>
         requires { IsLog self.now }
-        ensures { IfOk result (IsForeseen (after_ballot (state_in self.now) log value.now signature.now)) }
+        ensures { IfOk result
+            (IsForeseen (after_ballot (state_in self.now) log value.now signature.now)) }
     {
         let own = own_vote(&self.past.voted, self.epoch());
         self.foresee_with_ballot(alloc, own, log, value, Some(signature))
@@ -212,9 +238,11 @@ impl Parts {
     ) -> Result<Foreseen, AllocError>
         requires kept { IsLog self.now }
         requires log { log < (state_in self.now).council.logs }
-        ensures { IfOk result (IsForeseen (after_status_seen (state_in self.now) log value.now (Some signature.now))) }
+        ensures { IfOk result
+            (IsForeseen (after_status_seen (state_in self.now) log value.now
+            (Some signature.now))) }
     {
-        ballot_told(value);
+        optional_value_told(value);
         let own = own_vote(&self.past.voted, self.epoch());
         self.foresee_with_status(alloc, own, log, value, Some(signature))
     }
@@ -223,10 +251,12 @@ impl Parts {
     fn foresee_own_status(&self, alloc: Global) -> Result<Foreseen, AllocError>
         requires kept { IsLog self.now }
         requires log { (state_in self.now).me < (state_in self.now).council.logs }
-        ensures { IfOk result (IsForeseen (after_status_seen (stating (state_in self.now)) (state_in self.now).me (own_value (state_in self.now)) None)) }
+        ensures { IfOk result
+            (IsForeseen (after_status_seen (stating (state_in self.now)) (state_in self.now).me
+            (own_value (state_in self.now)) None)) }
     {
         let value = self.own_value();
-        ballot_told(&value);
+        optional_value_told(&value);
         let own = own_vote(&self.past.voted, self.epoch());
         self.foresee_with_status(alloc, own, self.number, &value, None)
     }
@@ -268,8 +298,10 @@ impl Parts {
         changes: &[Change],
     ) -> Result<Foreseen, AllocError>
         requires kept { IsLog self.now }
-        requires not_voted { All (λ v. v.epoch ≢ epoch_of (state_in self.now)) (state_in self.now).past.voted }
-        ensures { IfOk result (IsForeseen (after_propose (state_in self.now) value.now changes.now)) }
+        requires not_voted { All (λ v.
+            v.epoch ≢ epoch_of (state_in self.now)) (state_in self.now).past.voted }
+        ensures { IfOk result
+            (IsForeseen (after_propose (state_in self.now) value.now changes.now)) }
     {
         let vote = self.vote_copy(alloc, value, changes)?;
         self.foresee_with_ballot(alloc, Some(&vote), self.number, value, None)

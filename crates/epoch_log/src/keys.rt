@@ -22,7 +22,9 @@ use std::alloc::{AllocError, Global};
 impl Parts {
     /// Sees the endorsements of a change.
     fn see_endorsements(&mut self, alloc: Global, change: &Change) -> Result<(), AllocError>
-        ensures ok { OnOk result (parts_of self.new ≡ moved (parts_of self.old) (after_endorsed (state_in self.old) change.now)) }
+        ensures ok { OnOk result
+            (parts_of self.new ≡ moved (parts_of self.old)
+            (after_endorsed (state_in self.old) change.now)) }
         ensures err { OnErr result (parts_of self.new ≡ parts_of self.old) }
         ensures table { self.new.table ≡ self.old.table }
     {
@@ -36,7 +38,9 @@ impl Parts {
     pub(crate) fn endorsed(&mut self, alloc: Global, change: &Change) -> Result<(), AllocError>
         requires kept { IsLog self.old }
         requires endorsers { AreEndorsers (state_in self.old).council change.now }
-        ensures ok { OnOk result (parts_of self.new ≡ moved (parts_of self.old) (after_endorsed (state_in self.old) change.now)) }
+        ensures ok { OnOk result
+            (parts_of self.new ≡ moved (parts_of self.old)
+            (after_endorsed (state_in self.old) change.now)) }
         ensures err { OnErr result (parts_of self.new ≡ parts_of self.old) }
         ensures kept { IsLog self.new }
     {
@@ -84,7 +88,9 @@ impl Parts {
 
     /// Announces the next key, and adopts it.
     fn announce(&mut self, alloc: Global, next: &LmsPublic) -> Result<RollDue, RollFault>
-        ensures answer { GivesUnless roll_fault.Memory (λ due. due) result (announced (state_in self.old).past.signed (log_party (state_in self.old).me) next.now) }
+        ensures answer { GivesUnless roll_fault.Memory (λ due.
+            due) result (announced (state_in self.old).past.signed
+            (log_party (state_in self.old).me) next.now) }
         ensures ok { OnOk result (parts_of self.new ≡ rolling (parts_of self.old) next.now) }
         ensures err { OnErr result (parts_of self.new ≡ parts_of self.old) }
         ensures table { self.new.table ≡ self.old.table }
@@ -100,7 +106,9 @@ impl Parts {
     /// `EpochLog::roll`.
     pub(crate) fn roll(&mut self, alloc: Global, next: &LmsPublic) -> Result<RollDue, RollFault>
         requires { IsLog self.old }
-        ensures answer { GivesUnless roll_fault.Memory (λ due. due) result (announced (state_in self.old).past.signed (log_party (state_in self.old).me) next.now) }
+        ensures answer { GivesUnless roll_fault.Memory (λ due.
+            due) result (announced (state_in self.old).past.signed
+            (log_party (state_in self.old).me) next.now) }
         ensures ok { OnOk result (parts_of self.new ≡ rolling (parts_of self.old) next.now) }
         ensures err { OnErr result (parts_of self.new ≡ parts_of self.old) }
         ensures kept { IsLog self.new }

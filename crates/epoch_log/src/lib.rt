@@ -5,7 +5,8 @@
 //! `specs/Told.antt` and `specs/Right.antt` say of single entries. `specs/State.antt` says where a log stands and what is
 //! kept of that, `specs/Ending.antt` how an epoch ends, and `specs/Calls.antt` what each call makes of where a log stands,
 //! and when it may be made; `specs/Log.antt` says what a log in the program holds and keeps of that, and `specs/Answers.antt`
-//! what a call answers beside that, `specs/Telling.antt` where another log tells how an epoch ended,
+//! what a call answers beside that, `specs/Taking.antt` what becomes of what a log holds where it signs a statement of its own
+//! and where it counts a ballot or a status, `specs/Telling.antt` where another log tells how an epoch ended,
 //! `specs/Plans.antt` what is planned before an epoch ends with what is counted, and `specs/Foreseeing.antt` what is told of
 //! that before a step. `laws` says that each call keeps what is kept.
 //!

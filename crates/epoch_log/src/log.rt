@@ -55,7 +55,10 @@ impl EpochLog {
     /// The log with this number that has done nothing yet, whose keys have this many leaves each. It takes no memory.
     pub fn new(alloc: Global, number: u16, directory: Directory, leaves: u32) -> EpochLog
         requires { 0 < leaves }
-        ensures { result ≡ record { state = fresh number (council_of directory) leaves; keys = directory } }
+        ensures { result ≡ record {
+          state = fresh number (council_of directory) leaves;
+          keys = directory;
+        } }
     {
         EpochLog {
             parts: Parts::new(alloc, number, directory, leaves),
@@ -138,7 +141,8 @@ impl EpochLog {
     /// Sees the endorsements of a change, which is queued elsewhere. The only error is want of memory.
     pub fn endorsed(&mut self, alloc: Global, change: &Change) -> Result<(), AllocError>
         requires { AreEndorsers self.old.state.council change.now }
-        ensures ok { OnOk result (self.new ≡ moved self.old (after_endorsed self.old.state change.now)) }
+        ensures ok { OnOk result
+            (self.new ≡ moved self.old (after_endorsed self.old.state change.now)) }
         ensures err { OnErr result (self.new ≡ self.old) }
     {
         self.parts.endorsed(alloc, change)
@@ -157,10 +161,16 @@ impl EpochLog {
         root: [u8; 32],
     ) -> Result<(RollDue, Closing), BookFault>
         requires turn { IsTurn self.old.state.council self.old.state.me (epoch_of self.old.state) }
-        requires open { IsOpenTo self.old.state (record { base = base; root = root }) changes.items }
+        requires open { IsOpenTo self.old.state
+            (record { base = base; root = root }) changes.items }
         requires endorsed { All (SawEndorsements self.old.state.past.seen) changes.items }
-        ensures answer { GivesOrWants book_fault.Memory (λ r. r) result (proposed self.old.state (record { base = base; root = root }) changes.items) }
-        ensures ok { OnOk result (self.new ≡ moved self.old (after_propose self.old.state (record { base = base; root = root }) changes.items).0) }
+        ensures answer { GivesOrWants book_fault.Memory (λ r.
+            r) result (proposed self.old.state
+            (record { base = base; root = root }) changes.items) }
+        ensures ok { OnOk result
+            (self.new ≡ moved self.old
+            (after_propose self.old.state
+            (record { base = base; root = root }) changes.items).0) }
         ensures err { OnErr result (self.new ≡ self.old) }
     {
         self.parts.propose(alloc, Value { base, root }, changes)
@@ -177,10 +187,15 @@ impl EpochLog {
         changes: Vec<Change>,
         root: [u8; 32],
     ) -> Result<RollDue, BookFault>
-        requires open { IsOpenTo self.old.state (record { base = base; root = root }) changes.items }
+        requires open { IsOpenTo self.old.state
+            (record { base = base; root = root }) changes.items }
         requires proposal { IsProposed self.old.state proposer changes.items }
-        ensures answer { GivesOrWants book_fault.Memory (λ due. due) result (voted self.old.state (record { base = base; root = root })) }
-        ensures ok { OnOk result (self.new ≡ moved self.old (after_vote self.old.state proposer (record { base = base; root = root }) changes.items)) }
+        ensures answer { GivesOrWants book_fault.Memory (λ due.
+            due) result (voted self.old.state (record { base = base; root = root })) }
+        ensures ok { OnOk result
+            (self.new ≡ moved self.old
+            (after_vote self.old.state proposer
+            (record { base = base; root = root }) changes.items)) }
         ensures err { OnErr result (self.new ≡ self.old) }
     {
         self.parts
@@ -197,8 +212,10 @@ impl EpochLog {
         signature: &[u8],
     ) -> Result<Closing, AllocError>
         requires { log < self.old.state.council.logs }
-        ensures answer { IfOk result (λ closing. closing ≡ (after_ballot self.old.state log value signature.now).1) }
-        ensures ok { OnOk result (self.new ≡ moved self.old (after_ballot self.old.state log value signature.now).0) }
+        ensures answer { IfOk result (λ closing.
+            closing ≡ (after_ballot self.old.state log value signature.now).1) }
+        ensures ok { OnOk result
+            (self.new ≡ moved self.old (after_ballot self.old.state log value signature.now).0) }
         ensures err { OnErr result (self.new ≡ self.old) }
     {
         self.parts.ballot(alloc, log, value, signature)
@@ -227,8 +244,11 @@ impl EpochLog {
         signature: &[u8],
     ) -> Result<Closing, AllocError>
         requires { log < self.old.state.council.logs }
-        ensures answer { IfOk result (λ closing. closing ≡ (after_status_seen self.old.state log value (Some signature.now)).1) }
-        ensures ok { OnOk result (self.new ≡ moved self.old (after_status_seen self.old.state log value (Some signature.now)).0) }
+        ensures answer { IfOk result (λ closing.
+            closing ≡ (after_status_seen self.old.state log value (Some signature.now)).1) }
+        ensures ok { OnOk result
+            (self.new ≡ moved self.old
+            (after_status_seen self.old.state log value (Some signature.now)).0) }
         ensures err { OnErr result (self.new ≡ self.old) }
     {
         self.parts.status_seen(alloc, log, value, signature)
@@ -244,7 +264,10 @@ impl EpochLog {
         votes: Vec<(u16, Vec<u8>)>,
     ) -> Result<(), AllocError>
         requires { CanDecide self.old.state changes.items root (votes_in votes.items) }
-        ensures ok { OnOk result (self.new ≡ moved self.old (after_decide self.old.state (to_root self.old.state root) changes.items (votes_in votes.items))) }
+        ensures ok { OnOk result
+            (self.new ≡ moved self.old
+            (after_decide self.old.state (to_root self.old.state root) changes.items
+            (votes_in votes.items))) }
         ensures err { OnErr result (self.new ≡ self.old) }
     {
         self.parts.decide(alloc, changes, root, votes)
@@ -258,7 +281,8 @@ impl EpochLog {
         statuses: Vec<(u16, Option<Value>, Vec<u8>)>,
     ) -> Result<(), AllocError>
         requires { CanSkip self.old.state (statuses_in statuses.items) }
-        ensures ok { OnOk result (self.new ≡ moved self.old (after_skip self.old.state (statuses_in statuses.items))) }
+        ensures ok { OnOk result
+            (self.new ≡ moved self.old (after_skip self.old.state (statuses_in statuses.items))) }
         ensures err { OnErr result (self.new ≡ self.old) }
     {
         self.parts.skip(alloc, statuses)
@@ -269,8 +293,11 @@ impl EpochLog {
     /// It gives the leaf of the confirmation, and is `Spent` exactly where there is none.
     pub fn confirm(&mut self, alloc: Global, name: &Name) -> Result<RollDue, BookFault>
         requires { IsSome self.old.state.newest }
-        ensures answer { IfSome self.old.state.newest (λ w. GivesOrWants book_fault.Memory (λ due. due) result (confirmed self.old.state w name.now)) }
-        ensures ok { OnOk result (IfSome self.old.state.newest (λ w. self.new ≡ moved self.old (after_confirm self.old.state w name.now))) }
+        ensures answer { IfSome self.old.state.newest (λ w.
+            GivesOrWants book_fault.Memory (λ due.
+            due) result (confirmed self.old.state w name.now)) }
+        ensures ok { OnOk result (IfSome self.old.state.newest (λ w.
+            self.new ≡ moved self.old (after_confirm self.old.state w name.now))) }
         ensures err { OnErr result (self.new ≡ self.old) }
     {
         self.parts.confirm(alloc, name)
@@ -290,7 +317,9 @@ impl EpochLog {
     /// Announces the log's next key, which the log knows then. It gives the leaf of the Roll, and is `Last` exactly where
     /// the newest generation is 999, but that `Memory` may come in place of it.
     pub fn roll(&mut self, alloc: Global, next: &LmsPublic) -> Result<RollDue, RollFault>
-        ensures answer { GivesUnless roll_fault.Memory (λ due. due) result (announced self.old.state.past.signed (log_party self.old.state.me) next.now) }
+        ensures answer { GivesUnless roll_fault.Memory (λ due.
+            due) result (announced self.old.state.past.signed
+            (log_party self.old.state.me) next.now) }
         ensures ok { OnOk result (self.new ≡ rolling self.old next.now) }
         ensures err { OnErr result (self.new ≡ self.old) }
     {
@@ -318,7 +347,8 @@ impl EpochLog {
         value: &Value,
         signature: &[u8],
     ) -> Result<Foreseen, AllocError>
-        ensures { IfOk result (IsForeseen (after_ballot self.now.state log value.now signature.now)) }
+        ensures { IfOk result
+            (IsForeseen (after_ballot self.now.state log value.now signature.now)) }
     {
         self.parts.foresee_ballot(alloc, log, value, signature)
     }
@@ -339,7 +369,8 @@ impl EpochLog {
         signature: &[u8],
     ) -> Result<Foreseen, AllocError>
         requires { log < self.now.state.council.logs }
-        ensures { IfOk result (IsForeseen (after_status_seen self.now.state log value.now (Some signature.now))) }
+        ensures { IfOk result
+            (IsForeseen (after_status_seen self.now.state log value.now (Some signature.now))) }
     {
         self.parts.foresee_status(alloc, log, value, signature)
     }

@@ -42,7 +42,10 @@ pub(crate) struct Parts {
 /// What a log holds that has done nothing yet.
 fn nothing_yet(alloc: Global, number: u16, directory: Directory, leaves: u32) -> Parts
     requires { 0 < leaves }
-    ensures parts { parts_of result ≡ record { state = fresh number (council_of directory) leaves; keys = directory } }
+    ensures parts { parts_of result ≡ record {
+      state = fresh number (council_of directory) leaves;
+      keys = directory;
+    } }
     ensures table { result.table ≡ no_table }
 {
     Parts {
@@ -67,7 +70,8 @@ impl Parts {
     /// What a log holds that has done nothing yet.
     pub(crate) fn new(alloc: Global, number: u16, directory: Directory, leaves: u32) -> Parts
         requires { 0 < leaves }
-        ensures parts { parts_of result ≡ record { state = fresh number (council_of directory) leaves; keys = directory } }
+        ensures parts { parts_of result
+            ≡ record { state = fresh number (council_of directory) leaves; keys = directory } }
         ensures kept { IsLog result }
     {
         nothing_yet(alloc, number, directory, leaves)

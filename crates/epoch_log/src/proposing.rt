@@ -1,16 +1,17 @@
 //! The log's own proposal.
-ghost use Rattle.std.specs.Prelude.{◌≡◌, ◌<◌, None, Ok, Err, Some, All, IfErr, IfOk, IsOk, IsSome, OnOk, OnErr, vec_len, vec_capacity};
+ghost use Rattle.std.specs.Prelude.{◌≡◌, None, Ok, Err, Some, All, IfErr, IfOk, IsOk, IsSome, OnOk, OnErr};
 ghost use Rattle.ar_base.specs.Gives.{GivesOrWants};
 ghost use Rattle.ar_council.specs.Room.{HasRoom};
 ghost use Rattle.ar_statement.specs.Claims.{text_of};
 ghost use Rattle.ar_statement.specs.declared.fault.BookFault.TheVariants as book_fault;
 ghost use Rattle.domain_table.specs.Applying.{apply};
 ghost use Rattle.epoch_log.specs.Answers.{first_entered, proposed};
-ghost use Rattle.epoch_log.specs.Calls.{IsTurn, MayVote, after_propose, casting, own_vote_text, proposal_texts, propose_claim, proposing, vote_of, with_vote, IsOpenTo};
+ghost use Rattle.epoch_log.specs.Calls.{IsTurn, MayVote, after_propose, own_vote_text, proposal_texts, propose_claim, with_vote, IsOpenTo};
 ghost use Rattle.epoch_log.specs.Log.{IsLog, moved, parts_of, state_in};
 ghost use Rattle.epoch_log.specs.Plans.{IsPlan};
 ghost use Rattle.epoch_log.specs.Right.{SawEndorsements};
 ghost use Rattle.epoch_log.specs.State.{ballots_of, epoch_of, reports_of};
+ghost use Rattle.epoch_log.specs.Taking.{CanSignProposal, SignsProposal};
 ghost use Rattle.epoch_log.specs.Told.{value_of};
 
 use crate::closing::{Plan, plan_for};
@@ -21,7 +22,8 @@ use crate::statements::changes_told;
 use crate::{Closing, Voted};
 use ar_base::Items;
 use ar_cert::Change;
-use ar_council::{propose_statement, value_told, vote_statement};
+use ar_council::{propose_statement, vote_statement};
+use ar_statement::value_told;
 use key_roll::{BookFault, RollDue, forgo};
 use std::alloc::{AllocError, Global};
 use vote_quorum::Value;
@@ -31,9 +33,17 @@ impl Parts {
     /// not.
     fn proposal_leaves(&self, value: &Value) -> Result<(), BookFault>
         requires { IsLog self.now }
-        ensures room { OnOk result (HasRoom (state_in self.now).past.signed (proposal_texts (state_in self.now) value.now)) }
-        ensures some { OnOk result (IsOk (first_entered (state_in self.now).past.signed (text_of (propose_claim (state_in self.now) value.now)) (own_vote_text (state_in self.now) value.now))) }
-        ensures none { IfErr result (λ fault. first_entered (state_in self.now).past.signed (text_of (propose_claim (state_in self.now) value.now)) (own_vote_text (state_in self.now) value.now) ≡ Err fault) }
+        ensures room { OnOk result
+            (HasRoom (state_in self.now).past.signed
+            (proposal_texts (state_in self.now) value.now)) }
+        ensures some { OnOk result
+            (IsOk (first_entered (state_in self.now).past.signed
+            (text_of (propose_claim (state_in self.now) value.now))
+            (own_vote_text (state_in self.now) value.now))) }
+        ensures none { IfErr result (λ fault.
+            first_entered (state_in self.now).past.signed
+            (text_of (propose_claim (state_in self.now) value.now))
+            (own_vote_text (state_in self.now) value.now) ≡ Err fault) }
     {
         let epoch = self.epoch();
         let proposal = propose_statement(self.number, epoch, value);
@@ -44,9 +54,14 @@ impl Parts {
     /// How the epoch is to end where this vote is the log's own, and is counted.
     fn plan_with_own(&self, alloc: Global, vote: &Voted) -> Result<Plan, AllocError>
         requires kept { IsLog self.now }
-        requires applies { IsSome (apply self.now.table (epoch_of (state_in self.now)) vote.now.changes) }
-        ensures { IfOk result (IsPlan (state_in self.now).council (epoch_of (state_in self.now)) self.now.table (Some vote.now)
-            (ballots_of (with_vote (state_in self.now).votes ((state_in self.now).me, value_of vote.now, None))) (reports_of (state_in self.now).statuses)) }
+        requires applies { IsSome (apply self.now.table
+            (epoch_of (state_in self.now)) vote.now.changes) }
+        ensures { IfOk result
+            (IsPlan (state_in self.now).council (epoch_of (state_in self.now)) self.now.table
+            (Some vote.now)
+            (ballots_of (with_vote (state_in self.now).votes
+            ((state_in self.now).me, value_of vote.now, None)))
+            (reports_of (state_in self.now).statuses)) }
     {
         let value = vote.value();
         let ballots = ballots_with(alloc, &self.votes, self.number, &value)?;
@@ -64,16 +79,8 @@ impl Parts {
 
     /// Signs the proposal and then the own vote, and tells of the vote. There is room for them, and leaves.
     fn put_proposal(&mut self, alloc: Global, vote: Voted) -> RollDue
-        requires epoch { vote.epoch ≡ epoch_of (state_in self.old) }
-        requires leaves { HasRoom (state_in self.old).past.signed (proposal_texts (state_in self.old) (value_of vote)) }
-        requires room { 1 < self.old.past.signed.room }
-        requires voted { vec_len self.old.past.voted < vec_capacity self.old.past.voted }
-        ensures due { first_entered (state_in self.old).past.signed (text_of (propose_claim (state_in self.old) (value_of vote))) (own_vote_text (state_in self.old) (value_of vote)) ≡ Ok result }
-        ensures parts { parts_of self.new ≡ moved (parts_of self.old) (casting (proposing (state_in self.old) (value_of vote)) vote) }
-        ensures table { self.new.table ≡ self.old.table }
-        ensures seen { self.new.past.seen ≡ self.old.past.seen }
-        ensures ended { self.new.past.ended ≡ self.old.past.ended }
-        ensures votes { self.new.votes ≡ self.old.votes }
+        requires { CanSignProposal self.old vote }
+        ensures { SignsProposal self.old self.new vote result }
     {
         let value = vote.value();
         let proposal = propose_statement(self.number, vote.epoch, &value);
@@ -87,18 +94,10 @@ impl Parts {
     /// The same, which keeps what is kept.
     fn take_proposal(&mut self, alloc: Global, vote: Voted) -> RollDue
         requires kept { IsLog self.old }
-        requires epoch { vote.epoch ≡ epoch_of (state_in self.old) }
         requires may { MayVote (state_in self.old) (value_of vote) vote.changes }
         requires endorsed { All (SawEndorsements (state_in self.old).past.seen) vote.changes }
-        requires leaves { HasRoom (state_in self.old).past.signed (proposal_texts (state_in self.old) (value_of vote)) }
-        requires room { 1 < self.old.past.signed.room }
-        requires voted { vec_len self.old.past.voted < vec_capacity self.old.past.voted }
-        ensures due { first_entered (state_in self.old).past.signed (text_of (propose_claim (state_in self.old) (value_of vote))) (own_vote_text (state_in self.old) (value_of vote)) ≡ Ok result }
-        ensures parts { parts_of self.new ≡ moved (parts_of self.old) (casting (proposing (state_in self.old) (value_of vote)) (vote_of (state_in self.old) (value_of vote) vote.changes)) }
-        ensures table { self.new.table ≡ self.old.table }
-        ensures seen { self.new.past.seen ≡ self.old.past.seen }
-        ensures ended { self.new.past.ended ≡ self.old.past.ended }
-        ensures votes { self.new.votes ≡ self.old.votes }
+        requires can { CanSignProposal self.old vote }
+        ensures signed { SignsProposal self.old self.new vote result }
         ensures kept { IsLog self.new }
     {
         self.put_proposal(alloc, vote)
@@ -112,12 +111,17 @@ impl Parts {
         changes: Vec<Change>,
     ) -> Result<(RollDue, Closing), AllocError>
         requires kept { IsLog self.old }
-        requires turn { IsTurn (state_in self.old).council (state_in self.old).me (epoch_of (state_in self.old)) }
+        requires turn { IsTurn (state_in self.old).council (state_in self.old).me
+            (epoch_of (state_in self.old)) }
         requires may { MayVote (state_in self.old) value changes.items }
         requires endorsed { All (SawEndorsements (state_in self.old).past.seen) changes.items }
-        requires leaves { HasRoom (state_in self.old).past.signed (proposal_texts (state_in self.old) value) }
-        ensures answer { IfOk result (λ r. proposed (state_in self.old) value changes.items ≡ Ok r) }
-        ensures ok { OnOk result (parts_of self.new ≡ moved (parts_of self.old) (after_propose (state_in self.old) value changes.items).0) }
+        requires leaves { HasRoom (state_in self.old).past.signed
+            (proposal_texts (state_in self.old) value) }
+        ensures answer { IfOk result (λ r.
+            proposed (state_in self.old) value changes.items ≡ Ok r) }
+        ensures ok { OnOk result
+            (parts_of self.new ≡ moved (parts_of self.old)
+            (after_propose (state_in self.old) value changes.items).0) }
         ensures err { OnErr result (parts_of self.new ≡ parts_of self.old) }
         ensures kept { IsLog self.new }
     {
@@ -144,11 +148,15 @@ impl Parts {
         changes: Vec<Change>,
     ) -> Result<(RollDue, Closing), BookFault>
         requires kept { IsLog self.old }
-        requires turn { IsTurn (state_in self.old).council (state_in self.old).me (epoch_of (state_in self.old)) }
+        requires turn { IsTurn (state_in self.old).council (state_in self.old).me
+            (epoch_of (state_in self.old)) }
         requires open { IsOpenTo (state_in self.old) value changes.items }
         requires endorsed { All (SawEndorsements (state_in self.old).past.seen) changes.items }
-        ensures answer { GivesOrWants book_fault.Memory (λ r. r) result (proposed (state_in self.old) value changes.items) }
-        ensures ok { OnOk result (parts_of self.new ≡ moved (parts_of self.old) (after_propose (state_in self.old) value changes.items).0) }
+        ensures answer { GivesOrWants book_fault.Memory (λ r.
+            r) result (proposed (state_in self.old) value changes.items) }
+        ensures ok { OnOk result
+            (parts_of self.new ≡ moved (parts_of self.old)
+            (after_propose (state_in self.old) value changes.items).0) }
         ensures err { OnErr result (parts_of self.new ≡ parts_of self.old) }
         ensures kept { IsLog self.new }
     {

@@ -37,7 +37,8 @@ pub(crate) fn push_all_endorsements(
     list: &mut Vec<SeenText>,
     changes: &[Change],
 ) -> Result<(), AllocError>
-    ensures { OnOk result (list.new.items ≡ list.old.items ++ flat_map endorsements_of changes.now) }
+    ensures { OnOk result
+        (list.new.items ≡ list.old.items ++ flat_map endorsements_of changes.now) }
 {
     for change in changes {
         push_endorsements(list, change)?;

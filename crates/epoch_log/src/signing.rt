@@ -19,7 +19,8 @@ pub(crate) fn leaf_for(book: &RollBook, statement: &Statement) -> Result<(), Boo
     requires plain { is_roll (text_of (claim_of statement.now)) ≡ false }
     ensures room { OnOk result (HasRoom book.now.book (text_of (claim_of statement.now) ∷ [])) }
     ensures some { OnOk result (IsOk (entered book.now.book (text_of (claim_of statement.now)))) }
-    ensures none { IfErr result (λ fault. entered book.now.book (text_of (claim_of statement.now)) ≡ Err fault) }
+    ensures none { IfErr result (λ fault.
+        entered book.now.book (text_of (claim_of statement.now)) ≡ Err fault) }
 {
     if has_leaf(book, statement) {
         Ok(())
@@ -52,9 +53,15 @@ pub(crate) fn leaves_for(
 ) -> Result<(), BookFault>
     requires sound { IsRollBook book.now.book }
     requires plain { is_roll (text_of (claim_of first.now)) ≡ false }
-    ensures room { OnOk result (HasRoom book.now.book (text_of (claim_of first.now) ∷ (text_of (claim_of second.now) ∷ []))) }
-    ensures some { OnOk result (IsOk (first_entered book.now.book (text_of (claim_of first.now)) (text_of (claim_of second.now)))) }
-    ensures none { IfErr result (λ fault. first_entered book.now.book (text_of (claim_of first.now)) (text_of (claim_of second.now)) ≡ Err fault) }
+    ensures room { OnOk result
+        (HasRoom book.now.book
+        (text_of (claim_of first.now) ∷ (text_of (claim_of second.now) ∷ []))) }
+    ensures some { OnOk result
+        (IsOk (first_entered book.now.book (text_of (claim_of first.now))
+        (text_of (claim_of second.now)))) }
+    ensures none { IfErr result (λ fault.
+        first_entered book.now.book (text_of (claim_of first.now))
+        (text_of (claim_of second.now)) ≡ Err fault) }
 {
     if has_leaves(book, first, second) {
         Ok(())

@@ -1,7 +1,8 @@
 //! Skips of which other logs tell.
 ghost use Rattle.std.specs.Prelude.{◌≡◌, All, IfOk, IfSome, OnOk, OnErr};
 ghost use Rattle.party_keys.specs.Seen.{seen_of};
-ghost use Rattle.ar_council.specs.Values.{IsValue, status_claim};
+ghost use Rattle.ar_council.specs.Values.{status_claim};
+ghost use Rattle.ar_statement.specs.Ranges.{IsValue};
 ghost use Rattle.ar_statement.specs.Claims.{log_party};
 ghost use Rattle.epoch_log.specs.Calls.{after_skip, statuses_seen, CanSkip};
 ghost use Rattle.epoch_log.specs.State.{reports_of};
@@ -9,8 +10,8 @@ ghost use Rattle.epoch_log.specs.Log.{IsLog, moved, parts_of, state_in};
 ghost use Rattle.epoch_log.specs.Telling.{statuses_in};
 
 use crate::parts::Parts;
-use ar_council::{ballot_told, see_each, seen_text, status_statement};
-use ar_statement::{Role, SeenText};
+use ar_council::{see_each, seen_text, status_statement};
+use ar_statement::{Role, SeenText, optional_value_told};
 use std::alloc::{AllocError, Global};
 use vote_quorum::Value;
 
@@ -19,7 +20,7 @@ fn statuses_told(statuses: &[(u16, Option<Value>, Vec<u8>)])
     ensures { All (λ s. IfSome s.1 IsValue) (reports_of (statuses_in statuses.now)) }
 {
     for status in statuses {
-        ballot_told(&status.1);
+        optional_value_told(&status.1);
     }
 }
 
@@ -70,7 +71,9 @@ impl Parts {
         statuses: &[(u16, Option<Value>, Vec<u8>)],
     ) -> Result<(), AllocError>
         requires { IsLog self.old }
-        ensures ok { OnOk result (parts_of self.new ≡ moved (parts_of self.old) (after_skip (state_in self.old) (statuses_in statuses.now))) }
+        ensures ok { OnOk result
+            (parts_of self.new ≡ moved (parts_of self.old)
+            (after_skip (state_in self.old) (statuses_in statuses.now))) }
         ensures err { OnErr result (parts_of self.new ≡ parts_of self.old) }
         ensures table { self.new.table ≡ self.old.table }
     {
@@ -91,7 +94,9 @@ impl Parts {
     ) -> Result<(), AllocError>
         requires kept { IsLog self.old }
         requires may { CanSkip (state_in self.old) (statuses_in statuses.items) }
-        ensures ok { OnOk result (parts_of self.new ≡ moved (parts_of self.old) (after_skip (state_in self.old) (statuses_in statuses.items))) }
+        ensures ok { OnOk result
+            (parts_of self.new ≡ moved (parts_of self.old)
+            (after_skip (state_in self.old) (statuses_in statuses.items))) }
         ensures err { OnErr result (parts_of self.new ≡ parts_of self.old) }
         ensures kept { IsLog self.new }
     {

@@ -1,10 +1,11 @@
 //! Statuses of logs.
-ghost use Rattle.std.specs.Prelude.{◌≡◌, ◌<◌, ℕ, List, Option, Some, IfOk, IfSome, OnOk, OnErr, vec_len, vec_capacity};
-ghost use Rattle.ar_council.specs.Values.{IsValue};
+ghost use Rattle.std.specs.Prelude.{◌≡◌, ◌<◌, ℕ, List, Option, Some, IfOk, IfSome, OnOk, OnErr};
+ghost use Rattle.ar_statement.specs.Ranges.{IsValue};
 ghost use Rattle.epoch_log.specs.Calls.{after_status_seen, with_report};
 ghost use Rattle.epoch_log.specs.Log.{IsLog, moved, parts_of, state_in};
 ghost use Rattle.epoch_log.specs.Plans.{IsPlanIn};
 ghost use Rattle.epoch_log.specs.State.{epoch_of};
+ghost use Rattle.epoch_log.specs.Taking.{CountsReport, HasRoomForReport};
 
 use crate::Closing;
 use crate::closing::Plan;
@@ -12,7 +13,8 @@ use crate::counting::{ballots, count_status, reports_with};
 use crate::parts::Parts;
 use crate::skipping::status_text;
 use ar_base::Items;
-use ar_council::{ballot_told, see};
+use ar_council::see;
+use ar_statement::optional_value_told;
 use std::alloc::{AllocError, Global};
 use vote_quorum::Value;
 
@@ -27,7 +29,10 @@ impl Parts {
         requires kept { IsLog self.now }
         requires log { log < (state_in self.now).council.logs }
         requires value { IfSome value.now IsValue }
-        ensures { IfOk result (λ plan. (signature : Option (List ℕ)) → IsPlanIn (with_report (state_in self.now) log value.now signature) self.now.table plan) }
+        ensures { IfOk result (λ plan.
+            (signature : Option (List ℕ))
+            → IsPlanIn (with_report
+            (state_in self.now) log value.now signature) self.now.table plan) }
     {
         let ballots = ballots(alloc, &self.votes)?;
         let reports = reports_with(alloc, &self.statuses, log, value)?;
@@ -43,11 +48,8 @@ impl Parts {
         signature: Option<Items<u8>>,
     )
         requires epoch { epoch ≡ epoch_of (state_in self.old) }
-        requires seen { vec_len self.old.past.seen < vec_capacity self.old.past.seen }
-        requires statuses { vec_len self.old.statuses < vec_capacity self.old.statuses }
-        ensures parts { parts_of self.new ≡ moved (parts_of self.old) (with_report (state_in self.old) log value signature) }
-        ensures table { self.new.table ≡ self.old.table }
-        ensures ended { self.new.past.ended ≡ self.old.past.ended }
+        requires room { HasRoomForReport self.old }
+        ensures { CountsReport self.old self.new log value signature }
     {
         see(&mut self.past.seen, status_text(log, epoch, &value));
         count_status(&mut self.statuses, (log, value, signature));
@@ -63,11 +65,8 @@ impl Parts {
         requires kept { IsLog self.old }
         requires log { log < (state_in self.old).council.logs }
         requires value { IfSome value IsValue }
-        requires seen { vec_len self.old.past.seen < vec_capacity self.old.past.seen }
-        requires statuses { vec_len self.old.statuses < vec_capacity self.old.statuses }
-        ensures parts { parts_of self.new ≡ moved (parts_of self.old) (with_report (state_in self.old) log value signature) }
-        ensures table { self.new.table ≡ self.old.table }
-        ensures ended { self.new.past.ended ≡ self.old.past.ended }
+        requires room { HasRoomForReport self.old }
+        ensures counted { CountsReport self.old self.new log value signature }
         ensures kept { IsLog self.new }
     {
         let epoch = self.epoch();
@@ -84,12 +83,16 @@ impl Parts {
     ) -> Result<Closing, AllocError>
         requires kept { IsLog self.old }
         requires log { log < (state_in self.old).council.logs }
-        ensures answer { IfOk result (λ closing. closing ≡ (after_status_seen (state_in self.old) log value (Some signature.now)).1) }
-        ensures ok { OnOk result (parts_of self.new ≡ moved (parts_of self.old) (after_status_seen (state_in self.old) log value (Some signature.now)).0) }
+        ensures answer { IfOk result (λ closing.
+            closing ≡ (after_status_seen (state_in self.old) log value
+            (Some signature.now)).1) }
+        ensures ok { OnOk result
+            (parts_of self.new ≡ moved (parts_of self.old)
+            (after_status_seen (state_in self.old) log value (Some signature.now)).0) }
         ensures err { OnErr result (parts_of self.new ≡ parts_of self.old) }
         ensures kept { IsLog self.new }
     {
-        ballot_told(&value);
+        optional_value_told(&value);
         let signature = Items::from_vec(Vec::from_slice(alloc, signature)?);
         let plan = self.plan_with_status(alloc, log, &value)?;
         self.reserve(alloc, 1, 0)?;

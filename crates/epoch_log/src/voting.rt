@@ -16,8 +16,8 @@ use crate::signing::{leaf_for, sign};
 use crate::statements::changes_told;
 use ar_base::Items;
 use ar_cert::Change;
-use ar_council::{propose_statement, see_each, seen_text, value_told, vote_statement};
-use ar_statement::{Role, SeenText};
+use ar_council::{propose_statement, see_each, seen_text, vote_statement};
+use ar_statement::{Role, SeenText, value_told};
 use key_roll::{BookFault, RollDue};
 use std::alloc::{AllocError, Global};
 use vote_quorum::Value;
@@ -31,7 +31,8 @@ fn proposal_seen(
     changes: &[Change],
 ) -> Result<Vec<SeenText>, AllocError>
     ensures { IfOk result (λ list. list.items
-        ≡ seen_of (log_party proposer) (propose proposer epoch value.now.base value.now.root) ∷ flat_map endorsements_of changes.now) }
+        ≡ seen_of (log_party proposer) (propose proposer epoch value.now.base value.now.root)
+        ∷ flat_map endorsements_of changes.now) }
 {
     let proposal = propose_statement(proposer, epoch, value);
     let mut seen = Vec::new(alloc);
@@ -50,11 +51,16 @@ impl Parts {
         changes: Vec<Change>,
     ) -> Result<RollDue, BookFault>
         requires { IsLog self.old }
-        ensures answer { GivesOrWants book_fault.Memory (λ due. due) result (voted (state_in self.old) value) }
-        ensures ok { OnOk result (parts_of self.new ≡ moved (parts_of self.old) (after_vote (state_in self.old) proposer value changes.items)) }
+        ensures answer { GivesOrWants book_fault.Memory (λ due.
+            due) result (voted (state_in self.old) value) }
+        ensures ok { OnOk result
+            (parts_of self.new ≡ moved (parts_of self.old)
+            (after_vote (state_in self.old) proposer value changes.items)) }
         ensures err { OnErr result (parts_of self.new ≡ parts_of self.old) }
         ensures table { self.new.table ≡ self.old.table }
-        ensures leaf { OnOk result (HasRoom (state_in self.old).past.signed (own_vote_text (state_in self.old) value ∷ [])) }
+        ensures leaf { OnOk result
+            (HasRoom (state_in self.old).past.signed
+            (own_vote_text (state_in self.old) value ∷ [])) }
     {
         let epoch = self.epoch();
         let statement = vote_statement(self.number, epoch, &value);
@@ -83,8 +89,11 @@ impl Parts {
         requires kept { IsLog self.old }
         requires open { IsOpenTo (state_in self.old) value changes.items }
         requires proposal { IsProposed (state_in self.old) proposer changes.items }
-        ensures answer { GivesOrWants book_fault.Memory (λ due. due) result (voted (state_in self.old) value) }
-        ensures ok { OnOk result (parts_of self.new ≡ moved (parts_of self.old) (after_vote (state_in self.old) proposer value changes.items)) }
+        ensures answer { GivesOrWants book_fault.Memory (λ due.
+            due) result (voted (state_in self.old) value) }
+        ensures ok { OnOk result
+            (parts_of self.new ≡ moved (parts_of self.old)
+            (after_vote (state_in self.old) proposer value changes.items)) }
         ensures err { OnErr result (parts_of self.new ≡ parts_of self.old) }
         ensures kept { IsLog self.new }
     {

@@ -1,5 +1,5 @@
 ghost use Rattle.std.specs.Prelude.{◌≡◌, ◌≤◌, ◌++◌, ◌-◌, true, false, length, take, drop, min, IfOk, IfSome, IsTrue, OnOk, OnErr};
-ghost use Rattle.kept_disk.specs.Memory.{Leaves, LeftSince, synced};
+ghost use Rattle.kept_disk.specs.Memory.{MayLeave, LeftSince, synced};
 ghost use Rattle.kept_disk.specs.MemoryLaws.{counts-now, left-now, left-synced, only-now};
 ghost use Rattle.file_disk.specs.File.{FileState, IsJustOpened, after_fault, fuel_after};
 
@@ -31,7 +31,11 @@ impl Model for FileDisk {
 
     ghost Value = { FileState };
 
-    ghost view = { λ d. record { seen = d.mirror.seen; events = d.mirror.events; faults = d.faults } };
+    ghost view = { λ d. record {
+      seen = d.mirror.seen;
+      events = d.mirror.events;
+      faults = d.faults;
+    } };
 }
 
 impl FileDisk {
@@ -86,7 +90,7 @@ impl Disk for FileDisk {
 
     ghost held = { λ d. synced d.seen d.events };
 
-    ghost may_leave = { λ d. Leaves d.seen d.events };
+    ghost may_leave = { λ d. MayLeave d.seen d.events };
 
     ghost moment = { λ d. length d.events };
 

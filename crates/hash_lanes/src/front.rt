@@ -24,7 +24,8 @@ impl Model for Front {
 
     ghost view = { λ _. 0 };
 
-    ghost invariant = { λ front. front.is_known ≡ true → AreAfterFive (vectors_of front.after_five) front.words };
+    ghost invariant = { λ front. front.is_known ≡ true
+        → AreAfterFive (vectors_of front.after_five) front.words };
 }
 
 impl Front {

@@ -70,14 +70,16 @@ fn not(a: u32x4) -> u32x4
 
 #[inline(always)]
 pub(crate) fn ch(x: u32x4, y: u32x4, z: u32x4) -> u32x4
-    ensures { (i : ℕ) → i < 4 → slice_index result i ≡ ch (slice_index x i) (slice_index y i) (slice_index z i) }
+    ensures { (i : ℕ) → i < 4
+        → slice_index result i ≡ ch (slice_index x i) (slice_index y i) (slice_index z i) }
 {
     xor(and(x, y), and(not(x), z))
 }
 
 #[inline(always)]
 pub(crate) fn maj(x: u32x4, y: u32x4, z: u32x4) -> u32x4
-    ensures { (i : ℕ) → i < 4 → slice_index result i ≡ maj (slice_index x i) (slice_index y i) (slice_index z i) }
+    ensures { (i : ℕ) → i < 4
+        → slice_index result i ≡ maj (slice_index x i) (slice_index y i) (slice_index z i) }
 {
     xor(xor(and(x, y), and(x, z)), and(y, z))
 }
@@ -122,8 +124,10 @@ pub(crate) fn small_sigma1(x: u32x4) -> u32x4
 // The lanes of `a` where `moves` is not 0, and else those of `b`.
 #[inline(always)]
 pub(crate) fn choose(moves: u32x4, a: u32x4, b: u32x4) -> u32x4
-    ensures moved { (i : ℕ) → i < 4 → 0 < slice_index moves i → slice_index result i ≡ slice_index a i }
-    ensures left { (i : ℕ) → i < 4 → slice_index moves i ≡ 0 → slice_index result i ≡ slice_index b i }
+    ensures moved { (i : ℕ) → i < 4 → 0 < slice_index moves i
+        → slice_index result i ≡ slice_index a i }
+    ensures left { (i : ℕ) → i < 4 → slice_index moves i ≡ 0
+        → slice_index result i ≡ slice_index b i }
 {
     u32x4::splat(0).simd_lt(moves).select(a, b)
 }
@@ -131,8 +135,10 @@ pub(crate) fn choose(moves: u32x4, a: u32x4, b: u32x4) -> u32x4
 // 1 in the lanes that move, and 0 in the others.
 #[inline(always)]
 fn mask_of(moves: &[bool; 4]) -> u32x4
-    ensures moved { (i : ℕ) → i < 4 → slice_index_or moves.now i false ≡ true → 0 < slice_index result i }
-    ensures left { (i : ℕ) → i < 4 → slice_index_or moves.now i false ≡ false → slice_index result i ≡ 0 }
+    ensures moved { (i : ℕ) → i < 4 → slice_index_or moves.now i false ≡ true
+        → 0 < slice_index result i }
+    ensures left { (i : ℕ) → i < 4 → slice_index_or moves.now i false ≡ false
+        → slice_index result i ≡ 0 }
 {
     u32x4::from_array([
         u32::from(moves[0]),
@@ -145,8 +151,10 @@ fn mask_of(moves: &[bool; 4]) -> u32x4
 /// The words of `moved` in the lanes that move, and those of `stayed` in the others.
 #[inline(always)]
 pub(crate) fn chosen(moves: &[bool; 4], moved: &[u32x4; 8], stayed: &[u32x4; 8]) -> [u32x4; 8]
-    ensures moved { (i : ℕ) → i < 4 → slice_index_or moves.now i false ≡ true → lane_of result i ≡ lane_of moved.now i }
-    ensures left { (i : ℕ) → i < 4 → slice_index_or moves.now i false ≡ false → lane_of result i ≡ lane_of stayed.now i }
+    ensures moved { (i : ℕ) → i < 4 → slice_index_or moves.now i false ≡ true
+        → lane_of result i ≡ lane_of moved.now i }
+    ensures left { (i : ℕ) → i < 4 → slice_index_or moves.now i false ≡ false
+        → lane_of result i ≡ lane_of stayed.now i }
 {
     let mask = mask_of(moves);
     [

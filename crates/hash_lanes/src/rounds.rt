@@ -16,7 +16,8 @@ use std::simd::u32x4;
 // T1 of a round, which the first variable and the fifth are made with.
 #[inline(always)]
 fn mixed(v: [u32x4; 8], constant: u32, word: u32x4) -> u32x4
-    ensures { (i : ℕ) → i < 4 → slice_index result i ≡ temp1 (lane_of v i) constant (slice_index word i) }
+    ensures { (i : ℕ) → i < 4
+        → slice_index result i ≡ temp1 (lane_of v i) constant (slice_index word i) }
 {
     let variables = add(add(v[7], big_sigma1(v[4])), ch(v[4], v[5], v[6]));
     add(add(variables, u32x4::splat(constant)), word)
@@ -25,7 +26,8 @@ fn mixed(v: [u32x4; 8], constant: u32, word: u32x4) -> u32x4
 // The working variables after a round: two are new, and the others move on by one place.
 #[inline(always)]
 fn round(v: [u32x4; 8], constant: u32, word: u32x4) -> [u32x4; 8]
-    ensures { (i : ℕ) → i < 4 → lane_of result i ≡ round (lane_of v i) constant (slice_index word i) }
+    ensures { (i : ℕ) → i < 4
+        → lane_of result i ≡ round (lane_of v i) constant (slice_index word i) }
 {
     let mix = mixed(v, constant, word);
     let top = add(big_sigma0(v[0]), maj(v[0], v[1], v[2]));
@@ -58,7 +60,8 @@ pub(crate) fn five_rounds<const FROM: usize>(words: &[u32x4; 5], v: [u32x4; 8]) 
 pub(crate) fn eleven_rounds<const FROM: usize>(words: &[u32x4; 16], v: [u32x4; 8]) -> [u32x4; 8]
     requires { FROM + 16 ≤ 64 }
     ensures { (start all : List ℕ) (i : ℕ) → i < 4 → AreFrom (lane_of words.now i) all FROM 16
-        → lane_of v i ≡ rounds start all (FROM + 5) → lane_of result i ≡ rounds start all (FROM + 16) }
+        → lane_of v i ≡ rounds start all (FROM + 5)
+        → lane_of result i ≡ rounds start all (FROM + 16) }
 {
     let v6 = round(v, ROUND_CONSTANTS[FROM + 5], words[5]);
     let v7 = round(v6, ROUND_CONSTANTS[FROM + 6], words[6]);

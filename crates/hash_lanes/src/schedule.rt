@@ -12,7 +12,8 @@ use std::simd::u32x4;
 #[inline(always)]
 fn following(two: u32x4, seven: u32x4, fifteen: u32x4, sixteen: u32x4) -> u32x4
     ensures { (i : ℕ) → i < 4 → slice_index result i
-        ≡ add32 (add32 (add32 (small_sigma1 (slice_index two i)) (slice_index seven i)) (small_sigma0 (slice_index fifteen i)))
+        ≡ add32 (add32 (add32 (small_sigma1 (slice_index two i)) (slice_index seven i))
+        (small_sigma0 (slice_index fifteen i)))
         (slice_index sixteen i) }
 {
     let near = add(small_sigma1(two), seven);
@@ -23,7 +24,8 @@ fn following(two: u32x4, seven: u32x4, fifteen: u32x4, sixteen: u32x4) -> u32x4
 /// The next sixteen words of the schedule, from the sixteen before them, of which word `FROM` is the first.
 pub(crate) fn next_sixteen<const FROM: usize>(words: &[u32x4; 16]) -> [u32x4; 16]
     requires { FROM + 32 ≤ 64 }
-    ensures { (block : List ℕ) (i : ℕ) → i < 4 → AreFrom (lane_of words.now i) (schedule block 48) FROM 16
+    ensures { (block : List ℕ) (i : ℕ) → i < 4
+        → AreFrom (lane_of words.now i) (schedule block 48) FROM 16
         → AreFrom (lane_of result i) (schedule block 48) (FROM + 16) 16 }
 {
     let w16 = following(words[14], words[9], words[1], words[0]);

@@ -47,7 +47,8 @@ pub(crate) fn bytes_of(words: &[u32; 8]) -> [u8; 32]
 #[inline(always)]
 fn behind_one_byte(first: u32x4, next: u32x4) -> u32x4
     ensures { (i : ℕ) → i < 4 → slice_index result i
-        ≡ word_at (to_be_bytes w32 (slice_index first i) ++ to_be_bytes w32 (slice_index next i)) 1 }
+        ≡ word_at (to_be_bytes w32 (slice_index first i)
+        ++ to_be_bytes w32 (slice_index next i)) 1 }
 {
     or(shift_left(first, 8), shift_right(next, 24))
 }
@@ -55,7 +56,8 @@ fn behind_one_byte(first: u32x4, next: u32x4) -> u32x4
 // The number of the chain, that of the step, and the first byte of the value.
 #[inline(always)]
 fn numbers(chains: &[u16; 4], steps: &[u8; 4], value: u32x4) -> u32x4
-    ensures { (i : ℕ) → i < 4 → slice_index result i ≡ word_at (to_be_bytes w16 (slice_index chains.now i)
+    ensures { (i : ℕ) → i < 4
+        → slice_index result i ≡ word_at (to_be_bytes w16 (slice_index chains.now i)
         ++ slice_index steps.now i ∷ to_be_bytes w32 (slice_index value i)) 0 }
 {
     let numbers = u32x4::from_array([

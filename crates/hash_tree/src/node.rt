@@ -82,8 +82,11 @@ impl Node {
         depth: usize,
     ) -> Result<Bottom, AllocError>
         requires kept { IsKept depth self.now }
-        ensures bottom { IfOk result (λ bottom. bottom ≡ bottom_below (256 - depth) key.now (map_of self.now)) }
-        ensures steps { OnOk result (steps.new.items ≡ steps.old.items ++ steps_below (256 - depth) key.now (map_of self.now)) }
+        ensures bottom { IfOk result (λ bottom.
+            bottom ≡ bottom_below (256 - depth) key.now (map_of self.now)) }
+        ensures steps { OnOk result
+            (steps.new.items ≡ steps.old.items
+            ++ steps_below (256 - depth) key.now (map_of self.now)) }
     {
         match self {
             Node::Empty => Ok(Bottom::Empty),
@@ -102,7 +105,8 @@ impl Node {
 
     // The same tree in memory of its own.
     pub(crate) fn copy(&self, alloc: Global) -> Result<Node, AllocError>
-        ensures { IfOk result (λ node. (depth : ℕ) (m : Entries) → Keeps depth self.now m → Keeps depth node m) }
+        ensures { IfOk result (λ node.
+            (depth : ℕ) (m : Entries) → Keeps depth self.now m → Keeps depth node m) }
     {
         match self {
             Node::Empty => Ok(Node::Empty),
@@ -136,9 +140,13 @@ impl Node {
         requires agrees { AgreesWith depth entry.now.key (map_of self.old) }
         requires stored { IsStored entry.now }
         requires in_key { depth ≤ 256 }
-        ensures kept { OnOk result (Keeps depth self.new (insert (map_of self.old) entry.now.key entry.now.value)) }
+        ensures kept { OnOk result
+            (Keeps depth self.new (insert (map_of self.old) entry.now.key entry.now.value)) }
         ensures same { OnErr result (self.new ≡ self.old) }
-        ensures cost { OnOk result (steps.new ≡ steps.old + length (steps_below (256 - depth) entry.now.key (insert (map_of self.old) entry.now.key entry.now.value))) }
+        ensures cost { OnOk result
+            (steps.new ≡ steps.old
+            + length (steps_below (256 - depth) entry.now.key
+            (insert (map_of self.old) entry.now.key entry.now.value))) }
         ensures most { steps.new + depth ≤ steps.old + 256 }
     {
         match self {
@@ -165,7 +173,9 @@ impl Node {
         requires there { IsTrue (contains_key (map_of self.old) key.now) }
         requires in_key { depth ≤ 256 }
         ensures kept { Keeps depth self.new (remove (map_of self.old) key.now) }
-        ensures cost { steps.new ≡ steps.old + length (steps_below (256 - depth) key.now (remove (map_of self.old) key.now)) }
+        ensures cost { steps.new
+            ≡ steps.old + length
+            (steps_below (256 - depth) key.now (remove (map_of self.old) key.now)) }
     {
         match self {
             Node::Empty => unreachable!(),
@@ -183,8 +193,10 @@ impl Branch {
     // The trees of the halves: that with the key's bit at the depth, and the other.
     fn sides(&self, key: &[u8; 32], depth: usize) -> (&Node, &Node)
         requires { AreHalves depth self.now.left self.now.right }
-        ensures same { Keeps (depth + 1) result.0.now (half depth (bit key.now depth) (map_both self.now.left self.now.right)) }
-        ensures other { Keeps (depth + 1) result.1.now (half depth (1 - bit key.now depth) (map_both self.now.left self.now.right)) }
+        ensures same { Keeps (depth + 1) result.0.now
+            (half depth (bit key.now depth) (map_both self.now.left self.now.right)) }
+        ensures other { Keeps (depth + 1) result.1.now
+            (half depth (1 - bit key.now depth) (map_both self.now.left self.now.right)) }
     {
         if key_bit(key, depth) == 0 {
             (&self.left, &self.right)
@@ -205,10 +217,18 @@ impl Branch {
         requires kept { AreHalves depth self.old.left self.old.right }
         requires agrees { AgreesWith depth entry.now.key (map_both self.old.left self.old.right) }
         requires stored { IsStored entry.now }
-        ensures digest { OnOk result (self.new.digest ≡ digest_at depth (insert (map_both self.old.left self.old.right) entry.now.key entry.now.value)) }
-        ensures kept { OnOk result (HasHalves depth self.new.left self.new.right (insert (map_both self.old.left self.old.right) entry.now.key entry.now.value)) }
+        ensures digest { OnOk result
+            (self.new.digest ≡ digest_at depth
+            (insert (map_both self.old.left self.old.right) entry.now.key entry.now.value)) }
+        ensures kept { OnOk result
+            (HasHalves depth self.new.left self.new.right
+            (insert (map_both self.old.left self.old.right) entry.now.key entry.now.value)) }
         ensures same { OnErr result (self.new ≡ self.old) }
-        ensures cost { OnOk result (steps.new ≡ steps.old + length (steps_below (256 - depth) entry.now.key (insert (map_both self.old.left self.old.right) entry.now.key entry.now.value))) }
+        ensures cost { OnOk result
+            (steps.new ≡ steps.old
+            + length (steps_below (256 - depth) entry.now.key
+            (insert (map_both self.old.left self.old.right) entry.now.key
+            entry.now.value))) }
         ensures most { steps.new + depth ≤ steps.old + 256 }
     {
         self.put_below(alloc, entry, depth, steps)?;
@@ -228,9 +248,15 @@ impl Branch {
         requires kept { AreHalves depth self.old.left self.old.right }
         requires agrees { AgreesWith depth entry.now.key (map_both self.old.left self.old.right) }
         requires stored { IsStored entry.now }
-        ensures kept { OnOk result (HasHalves depth self.new.left self.new.right (insert (map_both self.old.left self.old.right) entry.now.key entry.now.value)) }
+        ensures kept { OnOk result
+            (HasHalves depth self.new.left self.new.right
+            (insert (map_both self.old.left self.old.right) entry.now.key entry.now.value)) }
         ensures same { OnErr result (self.new ≡ self.old) }
-        ensures cost { OnOk result (steps.new + 1 ≡ steps.old + length (steps_below (256 - depth) entry.now.key (insert (map_both self.old.left self.old.right) entry.now.key entry.now.value))) }
+        ensures cost { OnOk result
+            (steps.new + 1 ≡ steps.old
+            + length (steps_below (256 - depth) entry.now.key
+            (insert (map_both self.old.left self.old.right) entry.now.key
+            entry.now.value))) }
         ensures most { steps.new + (depth + 1) ≤ steps.old + 256 }
     {
         if key_bit(&entry.key, depth) == 0 {
@@ -252,8 +278,12 @@ impl Branch {
     ) -> Option<Stored>
         requires kept { AreHalves depth self.old.left self.old.right }
         requires there { IsTrue (contains_key (map_both self.old.left self.old.right) key.now) }
-        ensures kept { IsLeft depth result self.new (remove (map_both self.old.left self.old.right) key.now) }
-        ensures cost { steps.new ≡ steps.old + length (steps_below (256 - depth) key.now (remove (map_both self.old.left self.old.right) key.now)) }
+        ensures kept { IsLeft depth result self.new
+            (remove (map_both self.old.left self.old.right) key.now) }
+        ensures cost { steps.new
+            ≡ steps.old + length
+            (steps_below (256 - depth) key.now
+            (remove (map_both self.old.left self.old.right) key.now)) }
     {
         self.take_below(key, depth, steps);
         let lone = lone(&self.left, &self.right);
@@ -268,9 +298,15 @@ impl Branch {
     fn take_below<L: Ledger>(&mut self, key: &[u8; 32], depth: usize, steps: &mut Steps<L>)
         requires kept { AreHalves depth self.old.left self.old.right }
         requires there { IsTrue (contains_key (map_both self.old.left self.old.right) key.now) }
-        ensures left { Keeps (depth + 1) self.new.left (half depth 0 (remove (map_both self.old.left self.old.right) key.now)) }
-        ensures right { Keeps (depth + 1) self.new.right (half depth 1 (remove (map_both self.old.left self.old.right) key.now)) }
-        ensures cost { steps.new ≡ steps.old + length (steps_below (256 - (depth + 1)) key.now (half depth (bit key.now depth) (remove (map_both self.old.left self.old.right) key.now))) }
+        ensures left { Keeps (depth + 1) self.new.left
+            (half depth 0 (remove (map_both self.old.left self.old.right) key.now)) }
+        ensures right { Keeps (depth + 1) self.new.right
+            (half depth 1 (remove (map_both self.old.left self.old.right) key.now)) }
+        ensures cost { steps.new
+            ≡ steps.old + length
+            (steps_below (256 - (depth + 1)) key.now
+            (half depth (bit key.now depth)
+            (remove (map_both self.old.left self.old.right) key.now))) }
     {
         if key_bit(key, depth) == 0 {
             self.left.take(key, depth + 1, steps);
@@ -310,7 +346,9 @@ fn fork<L: Ledger>(
 ) -> Result<Node, AllocError>
     requires two { AreTwo depth one.now other.now }
     ensures kept { IfOk result (λ node. Keeps depth node (two_of one.now other.now)) }
-    ensures cost { OnOk result (steps.new ≡ steps.old + length (steps_below (256 - depth) one.now.key (two_of one.now other.now))) }
+    ensures cost { OnOk result
+        (steps.new ≡ steps.old
+        + length (steps_below (256 - depth) one.now.key (two_of one.now other.now))) }
     ensures most { steps.new + depth ≤ steps.old + 256 }
 {
     let (left, right) = parted(alloc, one, other, depth, steps)?;
@@ -336,9 +374,14 @@ fn parted<L: Ledger>(
 ) -> Result<(Node, Node), AllocError>
     requires two { AreTwo depth one.now other.now }
     requires below { depth < 256 }
-    ensures left { IfOk result (λ nodes. Keeps (depth + 1) nodes.0 (half depth 0 (two_of one.now other.now))) }
-    ensures right { IfOk result (λ nodes. Keeps (depth + 1) nodes.1 (half depth 1 (two_of one.now other.now))) }
-    ensures cost { OnOk result (steps.new ≡ steps.old + length (steps_below (256 - (depth + 1)) one.now.key (half depth (bit one.now.key depth) (two_of one.now other.now)))) }
+    ensures left { IfOk result (λ nodes.
+        Keeps (depth + 1) nodes.0 (half depth 0 (two_of one.now other.now))) }
+    ensures right { IfOk result (λ nodes.
+        Keeps (depth + 1) nodes.1 (half depth 1 (two_of one.now other.now))) }
+    ensures cost { OnOk result
+        (steps.new ≡ steps.old
+        + length (steps_below (256 - (depth + 1)) one.now.key
+        (half depth (bit one.now.key depth) (two_of one.now other.now)))) }
     ensures most { steps.new + (depth + 1) ≤ steps.old + 256 }
 {
     match (key_bit(&one.key, depth), key_bit(&other.key, depth)) {

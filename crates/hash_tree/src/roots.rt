@@ -96,7 +96,8 @@ fn first_one(entries: &[([u8; 32], [u8; 32])], depth: usize) -> usize
     requires { depth < 256 }
     ensures in_range { result ≤ length entries.now }
     ensures point { IsPartitionedBy (λ e. bit e.0 depth == 0) entries.now
-        → IsPartitionPoint (λ e. (bit e.0 depth == 0) ≡ true) (λ e. (bit e.0 depth == 0) ≡ false) entries.now result }
+        → IsPartitionPoint (λ e. (bit e.0 depth == 0) ≡ true) (λ e.
+        (bit e.0 depth == 0) ≡ false) entries.now result }
 {
     entries.partition_point(|(key, _)| key_bit(key, depth) == 0)
 }

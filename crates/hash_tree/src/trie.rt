@@ -99,7 +99,8 @@ impl Trie {
     /// where the key was not there. It takes no memory.
     pub fn remove<L: Ledger>(&mut self, key: &[u8; 32], steps: &mut Steps<L>)
         ensures entries { self.new ≡ remove self.old key.now }
-        ensures cost { steps.new ≡ steps.old + (if contains_key self.old key.now then length (steps_of key.now self.new) else 0) }
+        ensures cost { steps.new ≡ steps.old + (if contains_key self.old key.now
+            then length (steps_of key.now self.new) else 0) }
         ensures most { steps.new ≤ steps.old + 256 }
     {
         if self.get(key).is_some() {

@@ -12,7 +12,7 @@ use crate::table_strings::put_numbered;
 use crate::tree_strings::{put_string, put_text};
 use ar_base::Items;
 use ar_cert::CertView;
-use ar_message::ConfView;
+use ar_message::{BodyView, ConfView};
 use ar_names::name_digest;
 use hash_tree::{Bottom, empty_digest, entry_digest, key_bit, node_digest, value_digest};
 use std::alloc::{AllocError, Global};
@@ -26,7 +26,8 @@ fn put_above(
     steps: &[[u8; 32]],
 ) -> Result<(), AllocError>
     requires { length steps.now ≤ 256 }
-    ensures { OnOk result (strings.new.items ≡ strings.old.items ++ strings_above key.now digest steps.now) }
+    ensures { OnOk result
+        (strings.new.items ≡ strings.old.items ++ strings_above key.now digest steps.now) }
 {
     if let [step, above @ ..] = steps {
         if key_bit(key, above.len()) == 0 {
@@ -49,7 +50,9 @@ fn put_path(
     steps: &[u8],
 ) -> Result<(), AllocError>
     requires { length (digests_in steps.now) ≤ 256 }
-    ensures { OnOk result (strings.new.items ≡ strings.old.items ++ strings_above key.now digest (digests_in steps.now)) }
+    ensures { OnOk result
+        (strings.new.items ≡ strings.old.items
+        ++ strings_above key.now digest (digests_in steps.now)) }
 {
     let (digests, _) = steps.as_chunks::<32>();
     put_above(alloc, strings, key, digest, digests)
@@ -64,7 +67,9 @@ fn put_present(
     cert: &CertView,
 ) -> Result<(), AllocError>
     requires { length (digests_in steps.now) ≤ 256 }
-    ensures { OnOk result (strings.new.items ≡ strings.old.items ++ body_strings key.now steps.now (present cert.now)) }
+    ensures { OnOk result
+        (strings.new.items ≡ strings.old.items
+        ++ body_strings key.now steps.now (present cert.now)) }
 {
     let digest = cert.digest();
     let value = value_digest(cert.serial(), &digest);
@@ -83,7 +88,9 @@ fn put_absent(
     bottom: &Bottom,
 ) -> Result<(), AllocError>
     requires { length (digests_in steps.now) ≤ 256 }
-    ensures { OnOk result (strings.new.items ≡ strings.old.items ++ body_strings key.now steps.now (absent bottom.now)) }
+    ensures { OnOk result
+        (strings.new.items ≡ strings.old.items
+        ++ body_strings key.now steps.now (absent bottom.now)) }
 {
     match bottom {
         Bottom::Empty => {
@@ -108,10 +115,9 @@ fn put_confirmation(
     view.told();
     put_text(alloc, strings, 0x11, view.name())?;
     let key = name_digest(view.name());
-    match (view.cert(), view.bottom()) {
-        (Some(cert), _) => put_present(alloc, strings, &key, view.steps(), &cert),
-        (None, Some(bottom)) => put_absent(alloc, strings, &key, view.steps(), &bottom),
-        (None, None) => unreachable!(),
+    match view.body() {
+        BodyView::Present(cert) => put_present(alloc, strings, &key, view.steps(), &cert),
+        BodyView::Absent(bottom) => put_absent(alloc, strings, &key, view.steps(), &bottom),
     }
 }
 
@@ -131,7 +137,8 @@ impl Noted {
     /// want of memory.
     #[tactic(auto, using(crate::proofs::Index::front_steps))]
     pub fn note_confirmation(&mut self, alloc: Global, bytes: &[u8]) -> Result<(), AllocError>
-        ensures { OnOk result ((others : List (List ℕ)) → AreNoted self.old others → AreNoted self.new (strings_in bytes.now ++ others)) }
+        ensures { OnOk result ((others : List (List ℕ)) → AreNoted self.old others
+            → AreNoted self.new (strings_in bytes.now ++ others)) }
     {
         let mut strings = Vec::new(alloc);
         put_read(alloc, &mut strings, bytes)?;

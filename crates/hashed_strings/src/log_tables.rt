@@ -30,7 +30,8 @@ fn put_names(
     names: &mut Vec<Items<u8>>,
     changes: &[Change],
 ) -> Result<(), AllocError>
-    ensures names { OnOk result (names.new.items ≡ names.old.items ++ map (λ c. c.cert.name) changes.now) }
+    ensures names { OnOk result
+        (names.new.items ≡ names.old.items ++ map (λ c. c.cert.name) changes.now) }
 {
     if let [change, rest @ ..] = changes {
         let name = Vec::from_slice(alloc, change.cert.name.text())?;
@@ -42,7 +43,8 @@ fn put_names(
 
 /// Puts the names of what was voted for behind the others. The only error is want of memory.
 fn put_voted(alloc: Global, names: &mut Vec<Items<u8>>, voted: &[Voted]) -> Result<(), AllocError>
-    ensures { OnOk result (names.new.items ≡ names.old.items ++ flat_map (λ v. map (λ c. c.cert.name) v.changes) voted.now) }
+    ensures { OnOk result (names.new.items ≡ names.old.items ++ flat_map (λ v.
+        map (λ c. c.cert.name) v.changes) voted.now) }
 {
     if let [vote, rest @ ..] = voted {
         put_names(alloc, names, vote.changes.as_slice())?;
@@ -63,7 +65,8 @@ fn changes_of(how: &How) -> &[Change]
 
 /// Puts the names of what was decided behind the others. The only error is want of memory.
 fn put_ended(alloc: Global, names: &mut Vec<Items<u8>>, ended: &[Ended]) -> Result<(), AllocError>
-    ensures { OnOk result (names.new.items ≡ names.old.items ++ flat_map (λ x. map (λ c. c.cert.name) (changes_in x.how)) ended.now) }
+    ensures { OnOk result (names.new.items ≡ names.old.items ++ flat_map (λ x.
+        map (λ c. c.cert.name) (changes_in x.how)) ended.now) }
 {
     if let [epoch, rest @ ..] = ended {
         put_names(alloc, names, changes_of(&epoch.how))?;
@@ -110,7 +113,8 @@ fn apply_one(
     table: &mut Table,
     change: &Change,
 ) -> Result<bool, AllocError>
-    ensures { IfOk result (λ is_taken. (if is_taken then Some table.new else None) ≡ apply table.old epoch (change.now ∷ [])) }
+    ensures { IfOk result (λ is_taken.
+        (if is_taken then Some table.new else None) ≡ apply table.old epoch (change.now ∷ [])) }
 {
     match table.apply(alloc, epoch, change.copy(alloc)?) {
         Ok(()) => Ok(true),
@@ -231,7 +235,8 @@ fn note_table(
     table: &Table,
 ) -> Result<(), AllocError>
     requires { AreAll names.now table.now }
-    ensures { OnOk result ((others : List (List ℕ)) → AreNoted noted.old others → AreNoted noted.new (table_strings table.now ++ others)) }
+    ensures { OnOk result ((others : List (List ℕ)) → AreNoted noted.old others
+        → AreNoted noted.new (table_strings table.now ++ others)) }
 {
     let strings = strings_told(alloc, table, names)?;
     noted.note_all(alloc, &strings)?;
@@ -251,7 +256,8 @@ fn note_epoch(
     requires ended { EachTold names.now ended.now }
     requires changes { All (Tells names.now) changes.now }
     ensures { OnOk result ((others : List (List ℕ)) → AreNoted noted.old others
-        → AreNoted noted.new (strings_made (apply (base_of ended.now epoch) epoch changes.now) ++ others)) }
+        → AreNoted noted.new (strings_made (apply (base_of ended.now epoch) epoch changes.now)
+        ++ others)) }
 {
     let base = base_of(alloc, ended, names, epoch)?;
     match applied(alloc, epoch, &base, changes)? {
@@ -273,7 +279,8 @@ fn note_voted(
     requires ended { EachTold names.now ended.now }
     requires voted { All (λ v. All (Tells names.now) v.changes) voted.now }
     ensures { OnOk result ((others : List (List ℕ)) → AreNoted noted.old others
-        → AreNoted noted.new (flat_map table_strings (filter_map (voted_table ended.now) voted.now) ++ others)) }
+        → AreNoted noted.new (flat_map table_strings (filter_map (voted_table ended.now) voted.now)
+        ++ others)) }
 {
     let mut i = voted.len();
     while i > 0 {
@@ -303,7 +310,8 @@ fn note_ending(
     requires ended { EachTold names.now ended.now }
     requires changes { All (Tells names.now) (changes_in epoch.now.how) }
     ensures { OnOk result ((others : List (List ℕ)) → AreNoted noted.old others
-        → AreNoted noted.new (strings_made (ended_table ended.now epoch.now.epoch epoch.now.how) ++ others)) }
+        → AreNoted noted.new (strings_made (ended_table ended.now epoch.now.epoch epoch.now.how)
+        ++ others)) }
 {
     match decided(&epoch.how) {
         Some(changes) => note_epoch(alloc, noted, names, ended, epoch.epoch, changes)?,
@@ -322,7 +330,9 @@ fn note_ended(
 ) -> Result<(), AllocError>
     requires { EachTold names.now ended.now }
     ensures { OnOk result ((others : List (List ℕ)) → AreNoted noted.old others
-        → AreNoted noted.new (flat_map table_strings (filter_map (λ x. ended_table ended.now x.epoch x.how) ended.now) ++ others)) }
+        → AreNoted noted.new
+        (flat_map table_strings (filter_map (λ x.
+        ended_table ended.now x.epoch x.how) ended.now) ++ others)) }
 {
     let mut i = ended.len();
     while i > 0 {
@@ -338,7 +348,8 @@ impl Noted {
     #[tactic(auto, using(crate::proofs::Bases::table_steps, crate::proofs::Telling::tell_steps))]
     pub fn note_log(&mut self, alloc: Global, log: &Record) -> Result<(), AllocError>
         ensures { OnOk result ((others : List (List ℕ)) → AreNoted self.old others
-            → AreNoted self.new (flat_map table_strings (log_tables (record_of log.now)) ++ others)) }
+            → AreNoted self.new (flat_map table_strings (log_tables (record_of log.now))
+            ++ others)) }
     {
         voted_told(&log.voted);
         ended_told(&log.ended);

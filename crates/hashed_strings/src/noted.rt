@@ -45,7 +45,8 @@ impl Noted {
     fn keep(&mut self, alloc: Global, digest: [u8; 32], string: &[u8]) -> Result<(), AllocError>
         requires new { get key_cmp self.old.strings digest ≡ None }
         requires digest { digest ≡ sha256 string.now }
-        ensures { OnOk result ((strings : List (List ℕ)) → AreNoted self.old strings → AreNoted self.new (string.now ∷ strings)) }
+        ensures { OnOk result ((strings : List (List ℕ)) → AreNoted self.old strings
+            → AreNoted self.new (string.now ∷ strings)) }
     {
         let string = Items::from_vec(Vec::from_slice(alloc, string)?);
         self.strings.insert(digest, string)?;
@@ -54,7 +55,8 @@ impl Noted {
 
     /// Whether a string stands under a digest, and whether it is this one.
     fn found(&self, digest: &[u8; 32], string: &[u8]) -> Option<bool>
-        ensures { result ≡ option_map (λ other. bytes_eq other string.now) (get key_cmp self.now.strings digest.now) }
+        ensures { result ≡ option_map (λ other.
+            bytes_eq other string.now) (get key_cmp self.now.strings digest.now) }
     {
         match self.strings.get(digest) {
             Some(other) => Some(other.as_slice() == string),
@@ -64,7 +66,8 @@ impl Noted {
 
     /// Notes a string. The only error is want of memory.
     fn note(&mut self, alloc: Global, string: &[u8]) -> Result<(), AllocError>
-        ensures { OnOk result ((strings : List (List ℕ)) → AreNoted self.old strings → AreNoted self.new (string.now ∷ strings)) }
+        ensures { OnOk result ((strings : List (List ℕ)) → AreNoted self.old strings
+            → AreNoted self.new (string.now ∷ strings)) }
     {
         let digest = Sha256::digest(string);
         match self.found(&digest, string) {
@@ -83,7 +86,8 @@ impl Noted {
         alloc: Global,
         strings: &[Items<u8>],
     ) -> Result<(), AllocError>
-        ensures { OnOk result ((others : List (List ℕ)) → AreNoted self.old others → AreNoted self.new (strings.now ++ others)) }
+        ensures { OnOk result ((others : List (List ℕ)) → AreNoted self.old others
+            → AreNoted self.new (strings.now ++ others)) }
     {
         let mut i = strings.len();
         while i > 0 {
@@ -95,7 +99,8 @@ impl Noted {
 
     /// Whether no two of the strings that were noted collide.
     pub fn is_apart(&self) -> bool
-        ensures { (strings : List (List ℕ)) → AreNoted self.now strings → result ≡ none_collide strings }
+        ensures { (strings : List (List ℕ)) → AreNoted self.now strings
+            → result ≡ none_collide strings }
     {
         self.apart
     }

@@ -18,7 +18,8 @@ use std::alloc::{AllocError, Global};
 
 /// Puts the string of a certificate's digest behind the others. The only error is want of memory.
 fn put_cert(alloc: Global, strings: &mut Vec<Items<u8>>, cert: &Cert) -> Result<(), AllocError>
-    ensures { OnOk result (strings.new.items ≡ strings.old.items ++ certificate_string cert.now ∷ []) }
+    ensures { OnOk result (strings.new.items ≡ strings.old.items ++ certificate_string cert.now
+        ∷ []) }
 {
     let mut string = Vec::new(alloc);
     string.push(0x10)?;
@@ -33,7 +34,9 @@ fn put_certs(
     strings: &mut Vec<Items<u8>>,
     changes: &[Change],
 ) -> Result<(), AllocError>
-    ensures { OnOk result (strings.new.items ≡ strings.old.items ++ map certificate_string (certificates_of changes.now)) }
+    ensures { OnOk result
+        (strings.new.items ≡ strings.old.items
+        ++ map certificate_string (certificates_of changes.now)) }
 {
     if let [change, rest @ ..] = changes {
         put_cert(alloc, strings, &change.cert)?;
@@ -50,7 +53,9 @@ pub(crate) fn put_numbered(
     number: u64,
     digest: &[u8; 32],
 ) -> Result<(), AllocError>
-    ensures { OnOk result (strings.new.items ≡ strings.old.items ++ (kind ∷ to_be_bytes w64 number ++ digest.now) ∷ []) }
+    ensures { OnOk result
+        (strings.new.items ≡ strings.old.items ++ (kind ∷ to_be_bytes w64 number ++ digest.now)
+        ∷ []) }
 {
     put_string(alloc, strings, kind, &number.to_be_bytes(), digest)
 }
@@ -61,7 +66,9 @@ fn put_newest(
     strings: &mut Vec<Items<u8>>,
     last: Option<&Cert>,
 ) -> Result<(), AllocError>
-    ensures { OnOk result (strings.new.items ≡ strings.old.items ++ newest_strings (option_map (λ cert. cert.now) last.entry)) }
+    ensures { OnOk result
+        (strings.new.items ≡ strings.old.items
+        ++ newest_strings (option_map (λ cert. cert.now) last.entry)) }
 {
     match last {
         Some(cert) => put_numbered(alloc, strings, 0x03, cert.serial, &cert.digest()),
@@ -78,7 +85,8 @@ fn put_chain(
     chain: &[Change],
 ) -> Result<(), AllocError>
     requires { option_map (λ cert. cert.now) last ≡ newest chain.now }
-    ensures { OnOk result (strings.new.items ≡ strings.old.items ++ chain_strings name.now chain.now) }
+    ensures { OnOk result
+        (strings.new.items ≡ strings.old.items ++ chain_strings name.now chain.now) }
 {
     put_text(alloc, strings, 0x11, name)?;
     put_newest(alloc, strings, last)?;
@@ -94,7 +102,8 @@ fn put_pending(
     since: u64,
 ) -> Result<(), AllocError>
     ensures { OnOk result (strings.new.items ≡ strings.old.items
-        ++ pending_key_string name.now ∷ (pending_string since (digest_of cert.now) ∷ (certificate_string cert.now ∷ []))) }
+        ++ pending_key_string name.now
+        ∷ (pending_string since (digest_of cert.now) ∷ (certificate_string cert.now ∷ []))) }
 {
     put_text(alloc, strings, 0x12, name)?;
     put_numbered(alloc, strings, 0x04, since, &cert.digest())?;
@@ -110,7 +119,9 @@ fn put_chain_of(
     table: &Table,
     name: &[u8],
 ) -> Result<(), AllocError>
-    ensures { OnOk result (strings.new.items ≡ strings.old.items ++ strings_of_chain name.now (get table.now.chains name.now)) }
+    ensures { OnOk result
+        (strings.new.items ≡ strings.old.items
+        ++ strings_of_chain name.now (get table.now.chains name.now)) }
 {
     match table.get(name) {
         Some(chain) => put_chain(alloc, strings, name, table.newest(name), chain),
@@ -125,7 +136,9 @@ fn put_pending_of(
     table: &Table,
     name: &[u8],
 ) -> Result<(), AllocError>
-    ensures { OnOk result (strings.new.items ≡ strings.old.items ++ strings_of_pending name.now (get table.now.waiting name.now)) }
+    ensures { OnOk result
+        (strings.new.items ≡ strings.old.items
+        ++ strings_of_pending name.now (get table.now.waiting name.now)) }
 {
     match table.pending(name) {
         Some((change, since)) => put_pending(alloc, strings, name, &change.cert, since),
@@ -140,7 +153,8 @@ fn put_names(
     table: &Table,
     names: &[Items<u8>],
 ) -> Result<(), AllocError>
-    ensures { OnOk result (strings.new.items ≡ strings.old.items ++ flat_map (name_strings table.now) names.now) }
+    ensures { OnOk result
+        (strings.new.items ≡ strings.old.items ++ flat_map (name_strings table.now) names.now) }
 {
     if let [name, rest @ ..] = names {
         put_chain_of(alloc, strings, table, name.as_slice())?;

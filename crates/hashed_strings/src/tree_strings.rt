@@ -16,7 +16,8 @@ pub(crate) fn put_string(
     first: &[u8],
     second: &[u8],
 ) -> Result<(), AllocError>
-    ensures { OnOk result (strings.new.items ≡ strings.old.items ++ (kind ∷ first.now ++ second.now) ∷ []) }
+    ensures { OnOk result (strings.new.items ≡ strings.old.items ++ (kind ∷ first.now ++ second.now)
+        ∷ []) }
 {
     let mut string = Vec::new(alloc);
     string.push(kind)?;
@@ -49,7 +50,9 @@ pub(crate) fn put_tree(
     requires ascending { HasAscendingKeys entries.now }
     requires agreed { AgreeAmong depth (entries_of entries.now) }
     requires in_key { depth ≤ 256 }
-    ensures { OnOk result (strings.new.items ≡ strings.old.items ++ strings_below (256 - depth) (entries_of entries.now)) }
+    ensures { OnOk result
+        (strings.new.items ≡ strings.old.items
+        ++ strings_below (256 - depth) (entries_of entries.now)) }
 {
     match entries {
         [] => put_text(alloc, strings, 0x00, &[]),
@@ -70,7 +73,9 @@ fn put_node(
     requires agreed { AgreeAmong depth (entries_of entries.now) }
     requires several { 2 ≤ length entries.now }
     requires in_key { depth ≤ 256 }
-    ensures { OnOk result (strings.new.items ≡ strings.old.items ++ strings_below (256 - depth) (entries_of entries.now)) }
+    ensures { OnOk result
+        (strings.new.items ≡ strings.old.items
+        ++ strings_below (256 - depth) (entries_of entries.now)) }
 {
     let (left, right) = halves(entries, depth);
     let digests = (digest_at(left, depth + 1), digest_at(right, depth + 1));

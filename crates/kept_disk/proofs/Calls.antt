@@ -1,24 +1,24 @@
 -- What each call of a disk in memory owes to each disk.
 use Rattle.std.proofs.Common.{◌≡◌, ℕ, ◌≤◌, List, [], length, drop, Result, Ok, Err, refl, sym, ap, subst}
 use Rattle.kept_disk.specs.Disk.{Cut, Follows, Torn}
-use Rattle.kept_disk.specs.Memory.{Becomes, DiskState, LeftSince, Leaves, after_cut, after_look, after_sync, after_write, over_at, synced}
+use Rattle.kept_disk.specs.Memory.{Becomes, DiskState, LeftSince, MayLeave, after_cut, after_look, after_sync, after_write, over_at, synced}
 use Rattle.kept_disk.specs.MemoryLaws.{cut-none, left-now, torn-none}
 use Rattle.kept_disk.specs.Moments.{Elapses}
-use Rattle.kept_disk.specs.declared.past.Change.TheVariants as changes
+use Rattle.kept_disk.specs.declared.past.DiskChange.TheVariants as changes
 use Rattle.kept_disk.proofs.Changed.{cut-crash, cut-undone, write-crash, write-undone}
 use Rattle.kept_disk.proofs.Events.{elapses-event, elapses-look}
 
 -- time goes on from the one disk to the other
 abbrev Passes : DiskState → DiskState → Type 0
-Passes s new = Elapses (length s.events) (length new.events) (LeftSince s.seen s.events) (LeftSince new.seen new.events) (Leaves new.seen new.events)
+Passes s new = Elapses (length s.events) (length new.events) (LeftSince s.seen s.events) (LeftSince new.seen new.events) (MayLeave new.seen new.events)
 
 -- what a crash leaves now is what it left before, after this step
 abbrev Crashes : (List ℕ → List ℕ → Type 0) → DiskState → DiskState → Type 0
-Crashes step s new = Follows step (Leaves s.seen s.events) (Leaves new.seen new.events)
+Crashes step s new = Follows step (MayLeave s.seen s.events) (MayLeave new.seen new.events)
 
 -- what a crash leaves now it left before
 abbrev Shrinks : DiskState → DiskState → Type 0
-Shrinks s new = (c : List ℕ) → Leaves new.seen new.events c → Leaves s.seen s.events c
+Shrinks s new = (c : List ℕ) → MayLeave new.seen new.events c → MayLeave s.seen s.events c
 
 abbrev Holds : DiskState → List ℕ → Type 0
 Holds s file = synced s.seen s.events ≡ file
@@ -115,5 +115,5 @@ module _ {A E : Type 0} (result : Result A E) (s new : DiskState) where
   sync-shrinks became = by result became
     where
       by : (r : Result A E) → IsKept r → Shrinks s new
-      by (Ok _) b = subst (Shrinks s) (sym b.1) (λ c left. subst (Leaves s.seen s.events) (sym left) (left-now s.seen s.events))
+      by (Ok _) b = subst (Shrinks s) (sym b.1) (λ c left. subst (MayLeave s.seen s.events) (sym left) (left-now s.seen s.events))
       by (Err _) b = subst (Shrinks s) (sym b.1) (λ c left. left)

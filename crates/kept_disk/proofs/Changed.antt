@@ -2,9 +2,9 @@
 use Rattle.std.proofs.Common.{◌≡◌, ⊎_elim, ℕ, ◌+◌, ◌≤◌, List, ◌∷◌, ◌++◌, length, take, drop, sym, ◌∙◌, ap, subst, arith, append_assoc, length-append, length-drop, length-take, take-append-drop}
 use Rattle.std.proofs.lemmas.List.{drop-drop, drop_at, take-take, take_at}
 use Rattle.kept_disk.specs.Disk.{Cut, Follows, Torn}
-use Rattle.kept_disk.specs.Memory.{Event, Leaves, over_at, undone}
+use Rattle.kept_disk.specs.Memory.{Event, MayLeave, over_at, undone}
 use Rattle.kept_disk.specs.MemoryLaws.{left-now}
-use Rattle.kept_disk.specs.declared.past.Change.TheVariants as changes
+use Rattle.kept_disk.specs.declared.past.DiskChange.TheVariants as changes
 
 module _ (file : List ℕ) (at : ℕ) (bytes : List ℕ) (inside : at ≤ length file) where
   abbrev pub written : List ℕ
@@ -44,10 +44,10 @@ module _ (file : List ℕ) (at : ℕ) (bytes : List ℕ) (inside : at ≤ length
 
   -- a crash leaves what the write made of what a crash left before
   pub write-crash : (es : List Event) (over : ℕ)
-      → Follows (Torn at (length bytes)) (Leaves file es) (Leaves written ((changes.Wrote at (length bytes) over, over_at file at (length bytes)) ∷ es))
+      → Follows (Torn at (length bytes)) (MayLeave file es) (MayLeave written ((changes.Wrote at (length bytes) over, over_at file at (length bytes)) ∷ es))
   write-crash es over c left = ⊎_elim
       (λ now. (file, left-now file es, subst (λ (l : List ℕ). Torn at (length bytes) file l) (sym now) write-torn))
-      (λ before. (before.0, subst (λ (l : List ℕ). Leaves l es before.0) (write-undone over) before.1, before.2))
+      (λ before. (before.0, subst (λ (l : List ℕ). MayLeave l es before.0) (write-undone over) before.1, before.2))
       left
 
 module _ (file : List ℕ) (len : ℕ) (inside : len ≤ length file) where
@@ -61,12 +61,12 @@ module _ (file : List ℕ) (len : ℕ) (inside : len ≤ length file) where
     no_longer = omega (arith, length-take len file);
   }
 
-  pub cut-crash : (es : List Event) → Follows (Cut len) (Leaves file es) (Leaves (take len file) ((changes.Cut (length (drop len file)), drop len file) ∷ es))
+  pub cut-crash : (es : List Event) → Follows (Cut len) (MayLeave file es) (MayLeave (take len file) ((changes.Cut (length (drop len file)), drop len file) ∷ es))
   cut-crash es c left = ⊎_elim
       (λ now. (file, left-now file es, subst (λ (l : List ℕ). Cut len file l) (sym now) cut-whole))
       (λ before. (
         before.0,
-        subst (λ (l : List ℕ). Leaves l es before.0) cut-undone before.1,
+        subst (λ (l : List ℕ). MayLeave l es before.0) cut-undone before.1,
         subst (λ (n : ℕ). Cut n before.0 c) (omega (arith, length-take len file, inside)) before.2,
       ))
       left

@@ -4,26 +4,26 @@ use Rattle.std.specs.Prelude.{◌≡◌, ◌⊎◌, ℕ, ◌+◌, ◌≤◌, Lis
 use Rattle.ar_base.specs.Faults.{one_more}
 use Rattle.kept_disk.specs.Disk.{Cut, Torn}
 use Rattle.kept_disk.specs.Fuel.{Fuel, Lacks, Suffices, spent}
-use Rattle.kept_disk.specs.declared.past.Change.{Change}
-use Rattle.kept_disk.specs.declared.past.Change.TheVariants as changes
+use Rattle.kept_disk.specs.declared.past.DiskChange.{DiskChange}
+use Rattle.kept_disk.specs.declared.past.DiskChange.TheVariants as changes
 
 -- a call that changed the file, or synced it, and the bytes over which it wrote or that it took away
 abbrev pub Event : Type 0
-Event = Change × List ℕ
+Event = DiskChange × List ℕ
 
 -- how many bytes those are
-abbrev pub over_of : Change → ℕ
+abbrev pub over_of : DiskChange → ℕ
 over_of (changes.Wrote at count over) = over
 over_of (changes.Cut taken) = taken
 over_of changes.Synced = 0
 
 -- each of these changes with its bytes, which stand one behind the other
-abbrev pub with_bytes : List Change → List ℕ → List Event
+abbrev pub with_bytes : List DiskChange → List ℕ → List Event
 with_bytes [] bytes = []
 with_bytes (c ∷ cs) bytes = (c, take (over_of c) bytes) ∷ with_bytes cs (drop (over_of c) bytes)
 
 -- how many bytes these changes have together
-abbrev pub over_in : List Change → ℕ
+abbrev pub over_in : List DiskChange → ℕ
 over_in [] = 0
 over_in (c ∷ cs) = over_of c + over_in cs
 
@@ -41,18 +41,18 @@ synced file ((changes.Wrote at count over, bytes) ∷ es) = synced (undone file 
 synced file ((changes.Cut taken, bytes) ∷ es) = synced (undone file (changes.Cut taken, bytes)) es
 
 -- what a crash behind these events may leave of the file, the newest first
-abbrev pub Leaves : List ℕ → List Event → List ℕ → Type 0
-Leaves file [] c = c ≡ file
-Leaves file ((changes.Synced, bytes) ∷ es) c = c ≡ file
-Leaves file ((changes.Wrote at count over, bytes) ∷ es) c =
-    (c ≡ file) ⊎ ((d : List ℕ) × Leaves (undone file (changes.Wrote at count over, bytes)) es d × Torn at count d c)
-Leaves file ((changes.Cut taken, bytes) ∷ es) c =
-    (c ≡ file) ⊎ ((d : List ℕ) × Leaves (undone file (changes.Cut taken, bytes)) es d × Cut (length file) d c)
+abbrev pub MayLeave : List ℕ → List Event → List ℕ → Type 0
+MayLeave file [] c = c ≡ file
+MayLeave file ((changes.Synced, bytes) ∷ es) c = c ≡ file
+MayLeave file ((changes.Wrote at count over, bytes) ∷ es) c =
+    (c ≡ file) ⊎ ((d : List ℕ) × MayLeave (undone file (changes.Wrote at count over, bytes)) es d × Torn at count d c)
+MayLeave file ((changes.Cut taken, bytes) ∷ es) c =
+    (c ≡ file) ⊎ ((d : List ℕ) × MayLeave (undone file (changes.Cut taken, bytes)) es d × Cut (length file) d c)
 
 -- what a crash might have left behind some of these events, of which there were so many or more
 abbrev pub LeftSince : List ℕ → List Event → ℕ → List ℕ → Type 0
 LeftSince file [] t c = c ≡ file
-LeftSince file (e ∷ es) t c = Leaves file (e ∷ es) c ⊎ ((t ≤ length es) × LeftSince (undone file e) es t c)
+LeftSince file (e ∷ es) t c = MayLeave file (e ∷ es) c ⊎ ((t ≤ length es) × LeftSince (undone file e) es t c)
 
 -- What contracts see of a disk in memory: its bytes, its events, the newest first, what it still does, and its faults.
 pub record DiskState : Type 0 where

@@ -3,24 +3,24 @@ use Rattle.std.specs.Prelude.{ℕ, List, [], ◌∷◌, length}
 use mathlib.Core.Logic.{inl, inr}
 use Rattle.std.proofs.Common.{refl, arith}
 use Rattle.kept_disk.specs.Disk.{Torn, Cut}
-use Rattle.kept_disk.specs.Memory.{Event, Leaves, LeftSince, synced, undone}
-use Rattle.kept_disk.specs.declared.past.Change.TheVariants as changes
+use Rattle.kept_disk.specs.Memory.{Event, MayLeave, LeftSince, synced, undone}
+use Rattle.kept_disk.specs.declared.past.DiskChange.TheVariants as changes
 
 -- the file as it is may be left
-pub left-now : (file : List ℕ) (es : List Event) → Leaves file es file
+pub left-now : (file : List ℕ) (es : List Event) → MayLeave file es file
 left-now file [] = refl
 left-now file ((changes.Synced, bytes) ∷ es) = refl
 left-now file ((changes.Wrote at count over, bytes) ∷ es) = inl refl
 left-now file ((changes.Cut taken, bytes) ∷ es) = inl refl
 
 -- since a moment now or later there is only now
-pub only-now : (file : List ℕ) (es : List Event) (c : List ℕ) → LeftSince file es (length es) c → Leaves file es c
+pub only-now : (file : List ℕ) (es : List Event) (c : List ℕ) → LeftSince file es (length es) c → MayLeave file es c
 only-now file [] c left = left
 only-now file (e ∷ es) c (inl left) = left
 only-now file (e ∷ es) c (inr before) = absurd (omega (arith, before.0))
 
 -- now is one of the moments since an earlier one
-pub counts-now : (file : List ℕ) (es : List Event) (t : ℕ) (c : List ℕ) → Leaves file es c → LeftSince file es t c
+pub counts-now : (file : List ℕ) (es : List Event) (t : ℕ) (c : List ℕ) → MayLeave file es c → LeftSince file es t c
 counts-now file [] t c left = left
 counts-now file (e ∷ es) t c left = inl left
 
@@ -32,7 +32,7 @@ pub cut-none : (n : ℕ) (file : List ℕ) → Cut n file file
 cut-none n file = record { front = refl; no_shorter = omega arith; no_longer = omega arith }
 
 -- what the last sync kept may be left
-pub left-synced : (file : List ℕ) (es : List Event) → Leaves file es (synced file es)
+pub left-synced : (file : List ℕ) (es : List Event) → MayLeave file es (synced file es)
 left-synced file [] = refl
 left-synced file ((changes.Synced, bytes) ∷ es) = refl
 left-synced file ((changes.Wrote at count over, bytes) ∷ es) =

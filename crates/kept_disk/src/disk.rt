@@ -43,7 +43,8 @@ pub trait Disk {
         ensures seen { seen self.new ≡ seen self.old }
         ensures held { held self.new ≡ held self.old }
         ensures crash { (c : List ℕ) → may_leave self.new c → may_leave self.old c }
-        ensures time { Elapses (moment self.old) (moment self.new) (left_since self.old) (left_since self.new) (may_leave self.new) }
+        ensures time { Elapses (moment self.old) (moment self.new) (left_since self.old)
+            (left_since self.new) (may_leave self.new) }
         ensures spends { OnOk result (Spends (fuel self.old) (fuel self.new) 0 0) }
         ensures wants { OnErr result (Wants (fuel self.old) 0 0) }
         ensures failed { OnErr result (HasRisen (faults self.old) (faults self.new)) }
@@ -54,11 +55,13 @@ pub trait Disk {
     /// length of `out`. What stands behind them in `out` stays; of `out` after a read that failed nothing is said.
     fn read(&mut self, at: u64, out: &mut [u8]) -> Result<usize, Failed>
         ensures count { IfOk result (λ n. n ≡ min (length out.old) (length (seen self.old) - at)) }
-        ensures bytes { IfOk result (λ n. out.new ≡ take n (drop at (seen self.old)) ++ drop n out.old) }
+        ensures bytes { IfOk result (λ n.
+            out.new ≡ take n (drop at (seen self.old)) ++ drop n out.old) }
         ensures seen { seen self.new ≡ seen self.old }
         ensures held { held self.new ≡ held self.old }
         ensures crash { (c : List ℕ) → may_leave self.new c → may_leave self.old c }
-        ensures time { Elapses (moment self.old) (moment self.new) (left_since self.old) (left_since self.new) (may_leave self.new) }
+        ensures time { Elapses (moment self.old) (moment self.new) (left_since self.old)
+            (left_since self.new) (may_leave self.new) }
         ensures spends { OnOk result (Spends (fuel self.old) (fuel self.new) 0 0) }
         ensures wants { OnErr result (Wants (fuel self.old) 0 0) }
         ensures failed { OnErr result (HasRisen (faults self.old) (faults self.new)) }
@@ -72,8 +75,10 @@ pub trait Disk {
         ensures written { OnOk result (Holds (seen self.old) at bytes.now (seen self.new)) }
         ensures fits { OnOk result (at + length bytes.now < 2 ^ 64) }
         ensures held { held self.new ≡ held self.old }
-        ensures crash { Follows (Torn at (length bytes.now)) (may_leave self.old) (may_leave self.new) }
-        ensures time { Elapses (moment self.old) (moment self.new) (left_since self.old) (left_since self.new) (may_leave self.new) }
+        ensures crash { Follows (Torn at (length bytes.now)) (may_leave self.old)
+            (may_leave self.new) }
+        ensures time { Elapses (moment self.old) (moment self.new) (left_since self.old)
+            (left_since self.new) (may_leave self.new) }
         ensures spends { OnOk result (Spends (fuel self.old) (fuel self.new) (length bytes.now) 1) }
         ensures wants { OnErr result (Wants (fuel self.old) (length bytes.now) 1) }
         ensures failed { OnErr result (HasRisen (faults self.old) (faults self.new)) }
@@ -86,8 +91,10 @@ pub trait Disk {
         ensures cut { OnOk result (seen self.new ≡ take len (seen self.old)) }
         ensures held { held self.new ≡ held self.old }
         ensures crash { Follows (Cut len) (may_leave self.old) (may_leave self.new) }
-        ensures time { Elapses (moment self.old) (moment self.new) (left_since self.old) (left_since self.new) (may_leave self.new) }
-        ensures spends { OnOk result (Spends (fuel self.old) (fuel self.new) (length (seen self.old) - len) 1) }
+        ensures time { Elapses (moment self.old) (moment self.new) (left_since self.old)
+            (left_since self.new) (may_leave self.new) }
+        ensures spends { OnOk result
+            (Spends (fuel self.old) (fuel self.new) (length (seen self.old) - len) 1) }
         ensures wants { OnErr result (Wants (fuel self.old) (length (seen self.old) - len) 1) }
         ensures failed { OnErr result (HasRisen (faults self.old) (faults self.new)) }
         ensures uncounted { OnOk result (faults self.new ≡ faults self.old) }
@@ -100,7 +107,8 @@ pub trait Disk {
         ensures held { OnErr result (held self.new ≡ held self.old) }
         ensures seen { seen self.new ≡ seen self.old }
         ensures crash { (c : List ℕ) → may_leave self.new c → may_leave self.old c }
-        ensures time { Elapses (moment self.old) (moment self.new) (left_since self.old) (left_since self.new) (may_leave self.new) }
+        ensures time { Elapses (moment self.old) (moment self.new) (left_since self.old)
+            (left_since self.new) (may_leave self.new) }
         ensures spends { OnOk result (Spends (fuel self.old) (fuel self.new) 0 1) }
         ensures wants { OnErr result (Wants (fuel self.old) 0 1) }
         ensures failed { OnErr result (HasRisen (faults self.old) (faults self.new)) }
@@ -114,8 +122,10 @@ pub trait Disk {
     ghost held_now: { (disk : Self) → may_leave disk (held disk) };
 
     /// This moment is one of those since an earlier one.
-    ghost counts_now: { (disk : Self) (t : ℕ) (c : List ℕ) → t ≤ moment disk → may_leave disk c → left_since disk t c };
+    ghost counts_now: { (disk : Self) (t : ℕ) (c : List ℕ) → t ≤ moment disk → may_leave disk c
+        → left_since disk t c };
 
     /// Since this moment there is no other.
-    ghost only_now: { (disk : Self) (c : List ℕ) → left_since disk (moment disk) c → may_leave disk c };
+    ghost only_now: { (disk : Self) (c : List ℕ) → left_since disk (moment disk) c
+        → may_leave disk c };
 }

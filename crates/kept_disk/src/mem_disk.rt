@@ -1,11 +1,11 @@
 ghost use Rattle.std.specs.Prelude.{◌≡◌, ◌<◌, ◌≤◌, ◌^◌, ◌↔◌, ◌+◌, ◌-◌, ◌++◌, Some, None, length, take, drop, max, min, vec_len, vec_capacity, if◌then◌else◌, IfOk, IsTrue, OnOk, OnErr};
 ghost use Rattle.ar_base.specs.Faults.{one_more};
 ghost use Rattle.kept_disk.specs.Fuel.{Suffices, spent};
-ghost use Rattle.kept_disk.specs.Memory.{Becomes, DiskState, Leaves, LeftSince, after_cut, after_failure, after_look, after_sync, after_write, fresh, synced};
+ghost use Rattle.kept_disk.specs.Memory.{Becomes, DiskState, MayLeave, LeftSince, after_cut, after_failure, after_look, after_sync, after_write, fresh, synced};
 ghost use Rattle.kept_disk.specs.MemoryLaws.{counts-now, left-now, left-synced, only-now};
 
 use crate::disk::Disk;
-use crate::past::{Change, Past};
+use crate::past::{DiskChange, Past};
 use ar_io::Failed;
 use std::alloc::{AllocError, Global};
 use std::marker::Model;
@@ -57,7 +57,10 @@ impl MemDisk {
     /// memory, and then the disk is as it was.
     pub fn reserve(&mut self, n: usize, calls: usize) -> Result<(), AllocError>
         ensures ok { OnOk result (self.new ≡ record self.old {
-          fuel = record self.old.fuel { room = max self.old.fuel.room n; changes = max self.old.fuel.changes calls };
+          fuel = record self.old.fuel {
+            room = max self.old.fuel.room n;
+            changes = max self.old.fuel.changes calls;
+          };
         }) }
         ensures err { OnErr result (self.new ≡ self.old) }
     {
@@ -112,7 +115,8 @@ impl MemDisk {
     /// Does a call pass that takes room for so many bytes and changes? Of the fuse, one that passes takes one call.
     fn begin(&mut self, bytes: usize, changes: usize) -> bool
         ensures passes { IsTrue result ↔ Suffices self.old.fuel bytes changes }
-        ensures burns { self.new ≡ (if result then record self.old { fuel = spent self.old.fuel 0 0 } else self.old) }
+        ensures burns { self.new
+            ≡ (if result then record self.old { fuel = spent self.old.fuel 0 0 } else self.old) }
     {
         if self.past.room() < bytes || self.past.free_changes() < changes {
             return false;
@@ -142,7 +146,8 @@ impl MemDisk {
     /// Writes these bytes at this place.
     fn put(&mut self, at: usize, bytes: &[u8]) -> Result<(), Failed>
         requires { at ≤ length self.old.seen }
-        ensures became { Becomes result self.old (after_write self.old at bytes.now) self.new (length bytes.now) 1 }
+        ensures became { Becomes result self.old (after_write self.old at bytes.now) self.new
+            (length bytes.now) 1 }
         ensures fits { OnOk result (at + length bytes.now < 2 ^ 64) }
         ensures never_falls { self.old.faults ≤ self.new.faults }
     {
@@ -150,7 +155,7 @@ impl MemDisk {
             return Err(self.fail());
         }
         let over = bytes.len().min(self.bytes.len() - at);
-        let change = Change::Wrote {
+        let change = DiskChange::Wrote {
             at,
             count: bytes.len(),
             over,
@@ -164,14 +169,16 @@ impl MemDisk {
     /// Cuts the file to this length.
     fn shorten(&mut self, len: usize) -> Result<(), Failed>
         requires { len ≤ length self.old.seen }
-        ensures became { Becomes result self.old (after_cut self.old len) self.new (length self.old.seen - len) 1 }
+        ensures became { Becomes result self.old (after_cut self.old len) self.new
+            (length self.old.seen - len) 1 }
         ensures never_falls { self.old.faults ≤ self.new.faults }
     {
         let taken = self.bytes.len() - len;
         if !self.begin(taken, 1) {
             return Err(self.fail());
         }
-        self.past.push(Change::Cut { taken }, &self.bytes[len..]);
+        self.past
+            .push(DiskChange::Cut { taken }, &self.bytes[len..]);
         self.bytes.truncate(len);
         Ok(())
     }
@@ -184,7 +191,7 @@ impl MemDisk {
         if !self.begin(0, 1) {
             return Err(self.fail());
         }
-        self.past.push(Change::Synced, &[]);
+        self.past.push(DiskChange::Synced, &[]);
         Ok(())
     }
 }
@@ -194,7 +201,7 @@ impl Disk for MemDisk {
 
     ghost held = { λ d. synced d.seen d.events };
 
-    ghost may_leave = { λ d. Leaves d.seen d.events };
+    ghost may_leave = { λ d. MayLeave d.seen d.events };
 
     ghost moment = { λ d. length d.events };
 
@@ -252,8 +259,10 @@ fn copy_from(file: &[u8], at: u64, out: &mut [u8]) -> usize
 /// Writes these bytes from this place on, over what stands there and past the end. There is room for them.
 fn write_over(file: &mut Vec<u8>, at: usize, bytes: &[u8])
     requires inside { at ≤ length file.old.items }
-    requires room { vec_len file.old + (length bytes.now - (vec_len file.old - at)) ≤ vec_capacity file.old }
-    ensures written { file.new.items ≡ take at file.old.items ++ (bytes.now ++ drop (at + length bytes.now) file.old.items) }
+    requires room { vec_len file.old + (length bytes.now - (vec_len file.old - at))
+        ≤ vec_capacity file.old }
+    ensures written { file.new.items
+        ≡ take at file.old.items ++ (bytes.now ++ drop (at + length bytes.now) file.old.items) }
     ensures room { vec_capacity file.old ≤ vec_capacity file.new }
 {
     let over = bytes.len().min(file.len() - at);

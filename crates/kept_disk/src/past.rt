@@ -1,13 +1,13 @@
 ghost use Rattle.std.specs.Prelude.{◌≡◌, ◌≤◌, ◌<◌, ◌+◌, ◌-◌, ◌↔◌, ◌++◌, [], ◌∷◌, length, max, vec_len, vec_capacity, IfOk, IsTrue, OnOk, OnErr};
 ghost use Rattle.kept_disk.specs.Memory.{over_of, synced, undone};
-ghost use Rattle.kept_disk.specs.declared.past.Change.TheVariants.{Synced};
+ghost use Rattle.kept_disk.specs.declared.past.DiskChange.TheVariants.{Synced};
 
 use std::alloc::{AllocError, Global};
 use std::marker::Model;
 
 /// A call that changed a file in memory, or synced it.
 #[derive(Clone, Copy, Debug)]
-pub enum Change {
+pub enum DiskChange {
     /// So many bytes were written from byte `at` on, over so many that stood there.
     Wrote {
         at: usize,
@@ -25,7 +25,7 @@ pub enum Change {
 /// The calls that changed a file in memory, each with the bytes that undo it, with room that is reserved beforehand.
 #[derive(Debug, Drop)]
 pub struct Past {
-    changes: Vec<Change>,
+    changes: Vec<DiskChange>,
     over: Vec<u8>,
     free_changes: usize,
     room: usize,
@@ -66,7 +66,10 @@ impl Past {
     /// Makes room for so many bytes and changes more, where there is less. The only error is want of memory, and then all is as
     /// it was.
     pub fn reserve(&mut self, bytes: usize, changes: usize) -> Result<(), AllocError>
-        ensures ok { OnOk result (self.new ≡ record self.old { room = max self.old.room bytes; changes = max self.old.changes changes }) }
+        ensures ok { OnOk result (self.new ≡ record self.old {
+          room = max self.old.room bytes;
+          changes = max self.old.changes changes;
+        }) }
         ensures err { OnErr result (self.new ≡ self.old) }
     {
         self.over.reserve(bytes)?;
@@ -99,7 +102,7 @@ impl Past {
     }
 
     /// One event more, with the bytes that undo it. It takes room for them.
-    pub fn push(&mut self, change: Change, bytes: &[u8])
+    pub fn push(&mut self, change: DiskChange, bytes: &[u8])
         requires free { 0 < self.old.changes }
         requires room { length bytes.now ≤ self.old.room }
         requires over { over_of change ≡ length bytes.now }
@@ -136,7 +139,7 @@ impl Past {
 }
 
 /// One change more, and its bytes behind those of the others. There is room for both.
-fn append_both(changes: &mut Vec<Change>, over: &mut Vec<u8>, change: Change, bytes: &[u8])
+fn append_both(changes: &mut Vec<DiskChange>, over: &mut Vec<u8>, change: DiskChange, bytes: &[u8])
     requires free { vec_len changes.old < vec_capacity changes.old }
     requires room { vec_len over.old + length bytes.now ≤ vec_capacity over.old }
     ensures changes { changes.new.items ≡ changes.old.items ++ change ∷ [] }
@@ -155,38 +158,43 @@ fn append_both(changes: &mut Vec<Change>, over: &mut Vec<u8>, change: Change, by
 }
 
 /// How many bytes stood where this change wrote, or were taken away by it.
-fn over_of(change: &Change) -> usize
+fn over_of(change: &DiskChange) -> usize
     ensures { result ≡ over_of change.now }
 {
     match change {
-        Change::Wrote { over, .. } => *over,
-        Change::Cut { taken } => *taken,
-        Change::Synced => 0,
+        DiskChange::Wrote { over, .. } => *over,
+        DiskChange::Cut { taken } => *taken,
+        DiskChange::Synced => 0,
     }
 }
 
 /// Is it a sync?
-fn is_sync(change: &Change) -> bool
+fn is_sync(change: &DiskChange) -> bool
     ensures { IsTrue result ↔ (change.now ≡ Synced) }
 {
     match change {
-        Change::Synced => true,
+        DiskChange::Synced => true,
         _ => false,
     }
 }
 
 /// The file before this change, which wrote over these bytes or took them away; `file` is the one behind it.
-fn before(alloc: Global, file: &[u8], change: &Change, bytes: &[u8]) -> Result<Vec<u8>, AllocError>
+fn before(
+    alloc: Global,
+    file: &[u8],
+    change: &DiskChange,
+    bytes: &[u8],
+) -> Result<Vec<u8>, AllocError>
     ensures { IfOk result (λ old. old.items ≡ undone file.now (change.now, bytes.now)) }
 {
     match change {
-        Change::Wrote { at, count, .. } => {
+        DiskChange::Wrote { at, count, .. } => {
             let start = file.len().min(*at);
             let end = file.len().min(at.saturating_add(*count));
             spliced(alloc, &file[..start], bytes, &file[end..])
         }
-        Change::Cut { .. } => spliced(alloc, file, bytes, &[]),
-        Change::Synced => file.to_vec(alloc),
+        DiskChange::Cut { .. } => spliced(alloc, file, bytes, &[]),
+        DiskChange::Synced => file.to_vec(alloc),
     }
 }
 

@@ -11,7 +11,7 @@ ghost use Rattle.kept_journal.specs.Replays.{IsBad, Replays};
 use crate::opening::prepare;
 use crate::standing::Standing;
 use crate::writing::put_behind;
-use crate::{OpenFault, Record, Replay};
+use crate::{KeptText, OpenFault, Replay};
 use kept_disk::{Disk, Failed, MemDisk};
 use std::alloc::Global;
 use std::marker::Model;
@@ -43,7 +43,9 @@ impl<K: Disk> Model for Journal<K> {
       stopped = j.stopped;
     } };
 
-    ghost invariant = { λ j. j.stopped ≡ false → IsSettled j.standing.mark j.standing.end j.standing.count (K.seen j.disk) (K.may_leave j.disk) };
+    ghost invariant = { λ j. j.stopped ≡ false
+        → IsSettled j.standing.mark j.standing.end j.standing.count (K.seen j.disk)
+        (K.may_leave j.disk) };
 }
 
 impl<K: Disk> Journal<K> {
@@ -62,26 +64,41 @@ impl<K: Disk> Journal<K> {
         // What the file was: neither of `not_journal` nor of `bad`.
         ensures stood { OnOk result (Stands mark.now (recovered (K.seen disk)) (K.seen disk)) }
         // What the party took.
-        ensures replays { OnOk result (Replays P.takes party.old (recovered (K.seen disk)) party.new) }
+        ensures replays { OnOk result
+            (Replays P.takes party.old (recovered (K.seen disk)) party.new) }
         // What the journal is.
-        ensures texts { IfOk result (λ journal. (journal.texts ≡ recovered (K.seen disk)) × (journal.count ≡ length (recovered (K.seen disk)))
+        ensures texts { IfOk result (λ journal.
+            (journal.texts ≡ recovered (K.seen disk))
+            × (journal.count ≡ length (recovered (K.seen disk)))
             × (journal.mark ≡ mark.now) × (journal.stopped ≡ false)) }
-        ensures durable { IfOk result (λ journal. Only (K.seen journal.disk) (K.may_leave journal.disk)
+        ensures durable { IfOk result (λ journal.
+            Only (K.seen journal.disk) (K.may_leave journal.disk)
             × Stands mark.now (recovered (K.seen disk)) (K.seen journal.disk)) }
         // A crash at any moment leaves what a crash before might have left, or, of a file that stood for its texts, the same texts.
-        ensures any_moment { IfOk result (λ journal. LeavesOnly K.moment K.left_since disk journal.disk (IsAsBefore (K.may_leave disk) mark.now (K.seen disk))) }
-        ensures any_moment_err { IfErr result (λ e. LeavesOnly K.moment K.left_since disk e.0 (IsAsBefore (K.may_leave disk) mark.now (K.seen disk))) }
+        ensures any_moment { IfOk result (λ journal.
+            LeavesOnly K.moment K.left_since disk journal.disk
+            (IsAsBefore (K.may_leave disk) mark.now (K.seen disk))) }
+        ensures any_moment_err { IfErr result (λ e.
+            LeavesOnly K.moment K.left_since disk e.0
+            (IsAsBefore (K.may_leave disk) mark.now (K.seen disk))) }
         // A file that is refused stays, as does the count of faults.
         ensures kept { IfErr result (λ e. e.1 ≢ OpenFault.DiskFault → K.seen e.0 ≡ K.seen disk) }
-        ensures uncounted_err { IfErr result (λ e. e.1 ≢ OpenFault.DiskFault → K.faults e.0 ≡ K.faults disk) }
+        ensures uncounted_err { IfErr result (λ e.
+            e.1 ≢ OpenFault.DiskFault → K.faults e.0 ≡ K.faults disk) }
         // What it takes of the disk.
-        ensures spends { IfOk result (λ journal. SpendsCost (K.fuel disk) (K.fuel journal.disk) (opening (K.seen disk))) }
+        ensures spends { IfOk result (λ journal.
+            SpendsCost (K.fuel disk) (K.fuel journal.disk) (opening (K.seen disk))) }
         ensures uncounted { IfOk result (λ journal. K.faults journal.disk ≡ K.faults disk) }
         // When each error comes.
-        ensures wants { IfErr result (λ e. e.1 ≡ OpenFault.DiskFault → WantsCost (K.fuel disk) (opening (K.seen disk))) }
-        ensures fault { IfErr result (λ e. e.1 ≡ OpenFault.DiskFault → HasRisen (K.faults disk) (K.faults e.0)) }
-        ensures not_journal { IfErr result (λ e. e.1 ≡ OpenFault.NotJournal → IsNoJournal mark.now (K.seen disk)) }
-        ensures bad { IfErr result (λ e. (place : ℕ) → e.1 ≡ OpenFault.BadRecord place → IsBad P.takes mark.now party.old (K.seen disk) place) }
+        ensures wants { IfErr result (λ e.
+            e.1 ≡ OpenFault.DiskFault → WantsCost (K.fuel disk) (opening (K.seen disk))) }
+        ensures fault { IfErr result (λ e.
+            e.1 ≡ OpenFault.DiskFault → HasRisen (K.faults disk) (K.faults e.0)) }
+        ensures not_journal { IfErr result (λ e.
+            e.1 ≡ OpenFault.NotJournal → IsNoJournal mark.now (K.seen disk)) }
+        ensures bad { IfErr result (λ e.
+            (place : ℕ) → e.1 ≡ OpenFault.BadRecord place
+            → IsBad P.takes mark.now party.old (K.seen disk) place) }
     {
         let mut disk = disk;
         match prepare(alloc, mark, &mut disk, party) {
@@ -94,26 +111,31 @@ impl<K: Disk> Journal<K> {
         }
     }
 
-    /// Puts a record behind the others: four calls of the disk. After an error the journal is stopped.
-    pub fn append(&mut self, record: &Record) -> Result<(), Failed>
+    /// Puts the record of a text behind the others: four calls of the disk. After an error the journal is stopped.
+    pub fn append(&mut self, text: &KeptText) -> Result<(), Failed>
         requires { self.old.stopped ≡ false }
         // A crash at any moment leaves the texts from before, with the new one or without.
-        ensures any_moment { LeavesOnly K.moment K.left_since self.old.disk self.new.disk (IsBeforeOrAfter self.old.mark self.old.texts record.now) }
+        ensures any_moment { LeavesOnly K.moment K.left_since self.old.disk self.new.disk
+            (IsBeforeOrAfter self.old.mark self.old.texts text.now) }
         // What it leaves.
         ensures mark { self.new.mark ≡ self.old.mark }
-        ensures ok { OnOk result ((self.new.texts ≡ self.old.texts ++ record.now ∷ []) × (self.new.count ≡ self.old.count + 1) × (self.new.stopped ≡ false)) }
+        ensures ok { OnOk result ((self.new.texts ≡ self.old.texts ++ text.now ∷ [])
+            × (self.new.count ≡ self.old.count + 1) × (self.new.stopped ≡ false)) }
         ensures err { OnErr result ((self.new.count ≡ self.old.count) × (self.new.stopped ≡ true)) }
         ensures held { OnErr result (Stands self.old.mark self.old.texts (K.held self.new.disk)) }
         // What it takes of the disk, and when it fails.
-        ensures spends { OnOk result (SpendsAll (K.fuel self.old.disk) (K.fuel self.new.disk) 4 (length (staged_text record.now) + 1) 4) }
-        ensures wants { OnErr result (WantsAll (K.fuel self.old.disk) 4 (length (staged_text record.now) + 1) 4) }
+        ensures spends { OnOk result
+            (SpendsAll (K.fuel self.old.disk) (K.fuel self.new.disk) 4
+            (length (staged_text text.now) + 1) 4) }
+        ensures wants { OnErr result
+            (WantsAll (K.fuel self.old.disk) 4 (length (staged_text text.now) + 1) 4) }
         ensures failed { OnErr result (HasRisen (K.faults self.old.disk) (K.faults self.new.disk)) }
         ensures uncounted { OnOk result (K.faults self.new.disk ≡ K.faults self.old.disk) }
         ensures never_falls { K.faults self.old.disk ≤ K.faults self.new.disk }
     {
         self.stopped = true;
-        put_behind(&mut self.disk, &self.standing, record)?;
-        self.standing.end += record.bytes().len() as u64;
+        put_behind(&mut self.disk, &self.standing, text)?;
+        self.standing.end += text.bytes().len() as u64;
         self.standing.count += 1;
         self.stopped = false;
         Ok(())
@@ -122,7 +144,8 @@ impl<K: Disk> Journal<K> {
     /// Tells a proof what a crash leaves of a journal that is not stopped. It does nothing.
     pub fn told(&self)
         requires { self.now.stopped ≡ false }
-        ensures crash { (c : List ℕ) → K.may_leave self.now.disk c → Stands self.now.mark self.now.texts c }
+        ensures crash { (c : List ℕ) → K.may_leave self.now.disk c
+            → Stands self.now.mark self.now.texts c }
         ensures counts { self.now.count ≡ length self.now.texts }
     {
         let _disk = &self.disk;

@@ -13,7 +13,7 @@
 
 pub use fault::{OpenFault, ReplayFault};
 pub use journal::Journal;
-pub use record::Record;
+pub use record::KeptText;
 pub use replay::Replay;
 
 mod fault;

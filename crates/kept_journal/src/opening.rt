@@ -26,13 +26,15 @@ fn read_whole<K: Disk>(alloc: Global, disk: &mut K) -> Result<Vec<u8>, OpenFault
     ensures seen { K.seen disk.new ≡ K.seen disk.old }
     ensures crash { (c : List ℕ) → K.may_leave disk.new c → K.may_leave disk.old c }
     ensures any_moment { LeavesOnly K.moment K.left_since disk.old disk.new (K.may_leave disk.old) }
-    ensures fault { IsErrOf result OpenFault.DiskFault → HasRisen (K.faults disk.old) (K.faults disk.new) }
+    ensures fault { IsErrOf result OpenFault.DiskFault
+        → HasRisen (K.faults disk.old) (K.faults disk.new) }
     ensures other { ¬ IsErrOf result OpenFault.NotJournal }
     ensures no_record { (place : ℕ) → ¬ IsErrOf result (OpenFault.BadRecord place) }
     ensures spends { OnOk result (SpendsAll (K.fuel disk.old) (K.fuel disk.new) 2 0 0) }
     ensures wants { IsErrOf result OpenFault.DiskFault → WantsAll (K.fuel disk.old) 2 0 0 }
     ensures uncounted { OnOk result (K.faults disk.new ≡ K.faults disk.old) }
-    ensures uncounted_err { IfErr result (λ e. e ≢ OpenFault.DiskFault → K.faults disk.new ≡ K.faults disk.old) }
+    ensures uncounted_err { IfErr result (λ e.
+        e ≢ OpenFault.DiskFault → K.faults disk.new ≡ K.faults disk.old) }
 {
     let len = disk.len()?;
     let mut bytes = vec![in alloc; 0u8; len as usize]?;
@@ -44,7 +46,8 @@ fn read_whole<K: Disk>(alloc: Global, disk: &mut K) -> Result<Vec<u8>, OpenFault
 fn write_fresh<K: Disk>(disk: &mut K, mark: &[u8; 8]) -> Result<(), Failed>
     requires short { length (K.seen disk.old) ≤ SHORT }
     requires only { Only (K.seen disk.old) (K.may_leave disk.old) }
-    ensures ok { OnOk result ((K.seen disk.new ≡ mark.now ++ 0 ∷ []) × Only (K.seen disk.new) (K.may_leave disk.new)) }
+    ensures ok { OnOk result ((K.seen disk.new ≡ mark.now ++ 0 ∷ [])
+        × Only (K.seen disk.new) (K.may_leave disk.new)) }
     ensures any_moment { LeavesOnly K.moment K.left_since disk.old disk.new (λ c. length c ≤ 9) }
     ensures spends { OnOk result (SpendsAll (K.fuel disk.old) (K.fuel disk.new) 2 9 2) }
     ensures wants { OnErr result (WantsAll (K.fuel disk.old) 2 9 2) }
@@ -65,10 +68,14 @@ fn trim<K: Disk>(disk: &mut K, standing: &Standing, len: usize) -> Result<(), Fa
     requires end { standing.now.end ≡ 8 + length (records (recovered (K.seen disk.old))) }
     requires len { len ≡ length (K.seen disk.old) }
     requires only { Only (K.seen disk.old) (K.may_leave disk.old) }
-    ensures ok { OnOk result ((K.seen disk.new ≡ take (standing.now.end + 1) (K.seen disk.old)) × Only (K.seen disk.new) (K.may_leave disk.new)) }
-    ensures any_moment { LeavesOnly K.moment K.left_since disk.old disk.new (IsJournal standing.now.mark (recovered (K.seen disk.old))) }
-    ensures spends { OnOk result (SpendsCost (K.fuel disk.old) (K.fuel disk.new) (cutting (len - (standing.now.end + 1)))) }
-    ensures wants { OnErr result (WantsCost (K.fuel disk.old) (cutting (len - (standing.now.end + 1)))) }
+    ensures ok { OnOk result ((K.seen disk.new ≡ take (standing.now.end + 1) (K.seen disk.old))
+        × Only (K.seen disk.new) (K.may_leave disk.new)) }
+    ensures any_moment { LeavesOnly K.moment K.left_since disk.old disk.new
+        (IsJournal standing.now.mark (recovered (K.seen disk.old))) }
+    ensures spends { OnOk result
+        (SpendsCost (K.fuel disk.old) (K.fuel disk.new) (cutting (len - (standing.now.end + 1)))) }
+    ensures wants { OnErr result
+        (WantsCost (K.fuel disk.old) (cutting (len - (standing.now.end + 1)))) }
     ensures failed { OnErr result (HasRisen (K.faults disk.old) (K.faults disk.new)) }
     ensures uncounted { OnOk result (K.faults disk.new ≡ K.faults disk.old) }
 {
@@ -95,19 +102,28 @@ fn resume<K: Disk, P: Replay>(
     requires only { Only (K.seen disk.old) (K.may_leave disk.old) }
     requires within { length file.now < 2 ^ 64 }
     ensures replays { OnOk result (Replays P.takes party.old (recovered file.now) party.new) }
-    ensures ok { IfOk result (λ s. (s.mark ≡ mark.now) × IsSettled mark.now s.end s.count (K.seen disk.new) (K.may_leave disk.new)) }
+    ensures ok { IfOk result (λ s.
+        (s.mark ≡ mark.now) × IsSettled mark.now s.end s.count (K.seen disk.new)
+        (K.may_leave disk.new)) }
     ensures texts { OnOk result (recovered (K.seen disk.new) ≡ recovered file.now) }
     ensures stood { OnOk result (Stands mark.now (recovered file.now) file.now) }
     ensures any_moment { LeavesOnly K.moment K.left_since disk.old disk.new
-        (λ c. (c ≡ file.now) ⊎ (Stands mark.now (recovered file.now) file.now × Stands mark.now (recovered file.now) c)) }
+        (λ c. (c ≡ file.now)
+        ⊎ (Stands mark.now (recovered file.now) file.now
+        × Stands mark.now (recovered file.now) c)) }
     ensures kept { IfErr result (λ e. e ≢ OpenFault.DiskFault → K.seen disk.new ≡ K.seen disk.old) }
-    ensures spends { OnOk result (SpendsCost (K.fuel disk.old) (K.fuel disk.new) (cutting (behind_gate file.now))) }
-    ensures wants { IsErrOf result OpenFault.DiskFault → WantsCost (K.fuel disk.old) (cutting (behind_gate file.now)) }
+    ensures spends { OnOk result
+        (SpendsCost (K.fuel disk.old) (K.fuel disk.new) (cutting (behind_gate file.now))) }
+    ensures wants { IsErrOf result OpenFault.DiskFault
+        → WantsCost (K.fuel disk.old) (cutting (behind_gate file.now)) }
     ensures uncounted { OnOk result (K.faults disk.new ≡ K.faults disk.old) }
-    ensures uncounted_err { IfErr result (λ e. e ≢ OpenFault.DiskFault → K.faults disk.new ≡ K.faults disk.old) }
-    ensures fault { IsErrOf result OpenFault.DiskFault → HasRisen (K.faults disk.old) (K.faults disk.new) }
+    ensures uncounted_err { IfErr result (λ e.
+        e ≢ OpenFault.DiskFault → K.faults disk.new ≡ K.faults disk.old) }
+    ensures fault { IsErrOf result OpenFault.DiskFault
+        → HasRisen (K.faults disk.old) (K.faults disk.new) }
     ensures not_journal { IsErrOf result OpenFault.NotJournal → IsNoJournal mark.now file.now }
-    ensures bad { (place : ℕ) → IsErrOf result (OpenFault.BadRecord place) → IsBad P.takes mark.now party.old file.now place }
+    ensures bad { (place : ℕ) → IsErrOf result (OpenFault.BadRecord place)
+        → IsBad P.takes mark.now party.old file.now place }
 {
     if !begins(file, mark) {
         return Err(OpenFault::NotJournal);
@@ -124,19 +140,29 @@ pub(crate) fn prepare<K: Disk, P: Replay>(
     disk: &mut K,
     party: &mut P,
 ) -> Result<Standing, OpenFault>
-    ensures replays { OnOk result (Replays P.takes party.old (recovered (K.seen disk.old)) party.new) }
-    ensures ok { IfOk result (λ s. (s.mark ≡ mark.now) × IsSettled mark.now s.end s.count (K.seen disk.new) (K.may_leave disk.new)) }
+    ensures replays { OnOk result
+        (Replays P.takes party.old (recovered (K.seen disk.old)) party.new) }
+    ensures ok { IfOk result (λ s.
+        (s.mark ≡ mark.now) × IsSettled mark.now s.end s.count (K.seen disk.new)
+        (K.may_leave disk.new)) }
     ensures texts { OnOk result (recovered (K.seen disk.new) ≡ recovered (K.seen disk.old)) }
     ensures stood { OnOk result (Stands mark.now (recovered (K.seen disk.old)) (K.seen disk.old)) }
-    ensures any_moment { LeavesOnly K.moment K.left_since disk.old disk.new (IsAsBefore (K.may_leave disk.old) mark.now (K.seen disk.old)) }
+    ensures any_moment { LeavesOnly K.moment K.left_since disk.old disk.new
+        (IsAsBefore (K.may_leave disk.old) mark.now (K.seen disk.old)) }
     ensures kept { IfErr result (λ e. e ≢ OpenFault.DiskFault → K.seen disk.new ≡ K.seen disk.old) }
-    ensures spends { OnOk result (SpendsCost (K.fuel disk.old) (K.fuel disk.new) (opening (K.seen disk.old))) }
-    ensures wants { IsErrOf result OpenFault.DiskFault → WantsCost (K.fuel disk.old) (opening (K.seen disk.old)) }
+    ensures spends { OnOk result
+        (SpendsCost (K.fuel disk.old) (K.fuel disk.new) (opening (K.seen disk.old))) }
+    ensures wants { IsErrOf result OpenFault.DiskFault
+        → WantsCost (K.fuel disk.old) (opening (K.seen disk.old)) }
     ensures uncounted { OnOk result (K.faults disk.new ≡ K.faults disk.old) }
-    ensures uncounted_err { IfErr result (λ e. e ≢ OpenFault.DiskFault → K.faults disk.new ≡ K.faults disk.old) }
-    ensures fault { IsErrOf result OpenFault.DiskFault → HasRisen (K.faults disk.old) (K.faults disk.new) }
-    ensures not_journal { IsErrOf result OpenFault.NotJournal → IsNoJournal mark.now (K.seen disk.old) }
-    ensures bad { (place : ℕ) → IsErrOf result (OpenFault.BadRecord place) → IsBad P.takes mark.now party.old (K.seen disk.old) place }
+    ensures uncounted_err { IfErr result (λ e.
+        e ≢ OpenFault.DiskFault → K.faults disk.new ≡ K.faults disk.old) }
+    ensures fault { IsErrOf result OpenFault.DiskFault
+        → HasRisen (K.faults disk.old) (K.faults disk.new) }
+    ensures not_journal { IsErrOf result OpenFault.NotJournal
+        → IsNoJournal mark.now (K.seen disk.old) }
+    ensures bad { (place : ℕ) → IsErrOf result (OpenFault.BadRecord place)
+        → IsBad P.takes mark.now party.old (K.seen disk.old) place }
 {
     disk.sync()?;
     let file = read_whole(alloc, disk)?;

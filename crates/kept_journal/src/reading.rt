@@ -22,7 +22,9 @@ const RECORD_HEAD: usize = 5;
 /// The record that stands at the front of these bytes, where it is whole: its text, and what stands behind it.
 #[tactic(auto, unfolding(crate::specs::Journal::record_at))]
 fn record_in<'a>(bytes: &'a [u8]) -> Option<(&'a [u8], &'a [u8])>
-    ensures whole { IfSome result (λ r. (bytes.now ≡ record_text r.0.now ++ r.1.now) × (0 < length r.1.now) × (length r.0.now < 2 ^ 32)) }
+    ensures whole { IfSome result (λ r.
+        (bytes.now ≡ record_text r.0.now ++ r.1.now) × (0 < length r.1.now)
+        × (length r.0.now < 2 ^ 32)) }
     ensures none { IsNone result → record_in bytes.now ≡ None }
 {
     are_bytes(bytes);
@@ -63,7 +65,8 @@ fn replay_at<P: Replay>(
     party: &mut P,
 ) -> Result<(), OpenFault>
     ensures taken { OnOk result (P.takes party.old text.now party.new) }
-    ensures bad { (at : ℕ) → IsErrOf result (OpenFault.BadRecord at) → (at ≡ place) × ((later : P) → ¬ P.takes party.old text.now later) }
+    ensures bad { (at : ℕ) → IsErrOf result (OpenFault.BadRecord at)
+        → (at ≡ place) × ((later : P) → ¬ P.takes party.old text.now later) }
     ensures other { ¬ IsErrOf result OpenFault.NotJournal × ¬ IsErrOf result OpenFault.DiskFault }
 {
     match party.replay(alloc, text) {
@@ -82,8 +85,10 @@ pub(crate) fn load<P: Replay>(
 ) -> Result<Standing, OpenFault>
     requires mark { file.now ≡ mark.now ++ drop 8 file.now }
     requires long { 9 < length file.now }
-    ensures ok { IfOk result (λ standing. IsLoaded P.takes party.old party.new mark.now file.now standing) }
-    ensures bad { (place : ℕ) → IsErrOf result (OpenFault.BadRecord place) → IsBad P.takes mark.now party.old file.now place }
+    ensures ok { IfOk result (λ standing.
+        IsLoaded P.takes party.old party.new mark.now file.now standing) }
+    ensures bad { (place : ℕ) → IsErrOf result (OpenFault.BadRecord place)
+        → IsBad P.takes mark.now party.old file.now place }
     ensures other { ¬ IsErrOf result OpenFault.NotJournal × ¬ IsErrOf result OpenFault.DiskFault }
 {
     let mut rest = &file[MARK_LEN..];

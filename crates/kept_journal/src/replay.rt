@@ -11,8 +11,10 @@ pub trait Replay {
     /// Takes a text again. After an error nothing is said of the party.
     fn replay(&mut self, alloc: Global, text: &[u8]) -> Result<(), ReplayFault>
         ensures taken { OnOk result (takes self.old text.now self.new) }
-        ensures stuck { IsErrOf result ReplayFault.Stuck → (later : Self) → ¬ takes self.old text.now later };
+        ensures stuck { IsErrOf result ReplayFault.Stuck → (later : Self)
+            → ¬ takes self.old text.now later };
 
     /// There is one thing that it becomes.
-    ghost determined: { (party one other : Self) (text : List ℕ) → takes party text one → takes party text other → one ≡ other };
+    ghost determined: { (party one other : Self) (text : List ℕ) → takes party text one
+        → takes party text other → one ≡ other };
 }

@@ -18,7 +18,7 @@ use Rattle.ar_base.proofs.Lists.{get-more}
 use Rattle.ar_bytes.specs.RoundTrip.{number_text}
 use Rattle.ar_statement.specs.declared.party.Party.{Party}
 use Rattle.ar_statement.specs.Claims.{Claim, endorse, handover, propose, vote, confirm, confirm_absent, answer, status, roll, object, kind_of, text_of}
-use Rattle.key_roll.specs.declared.signed.Signed.{Signed}
+use Rattle.key_roll.specs.declared.signed.SignedText.{SignedText}
 use Rattle.ar_statement.specs.declared.fault.BookFault.TheVariants.{Spent}
 use Rattle.key_roll.specs.Book.{RollBook, IsRollBook, texts_of}
 use Rattle.key_roll.specs.Due.{DueParts}
@@ -26,64 +26,64 @@ use Rattle.key_roll.specs.Entry.{Serves, after_entry, due_at, due_of, entered, e
 use Rattle.key_roll.specs.Rolls.{is_roll, is_plain_of, is_roll_of, named_generation, plain_count, roll_count}
 
 -- an entry
-abbrev pub entry : ℕ → List ℕ → Signed
+abbrev pub entry : ℕ → List ℕ → SignedText
 entry g text = record { generation = g; text = text }
 
-abbrev nobody : Signed
+abbrev nobody : SignedText
 nobody = entry 0 []
 
 -- ---- counts
 
-count-push : (p : Signed → Bool) (list : List Signed) (s : Signed) → count_by p (list ++ s ∷ []) ≡ count_by p list + cond (p s) 1 0
+count-push : (p : SignedText → Bool) (list : List SignedText) (s : SignedText) → count_by p (list ++ s ∷ []) ≡ count_by p list + cond (p s) 1 0
 count-push p list s =
-    let sum = sum_by-append (λ (x : Signed). cond (p x) 1 0) list (s ∷ []) in
+    let sum = sum_by-append (λ (x : SignedText). cond (p x) 1 0) list (s ∷ []) in
     omega (arith, sum)
 
-count-yes : (p : Signed → Bool) (list : List Signed) (s : Signed) → p s ≡ true → count_by p (list ++ s ∷ []) ≡ count_by p list + 1
+count-yes : (p : SignedText → Bool) (list : List SignedText) (s : SignedText) → p s ≡ true → count_by p (list ++ s ∷ []) ≡ count_by p list + 1
 count-yes p list s holds = count-push p list s ∙ ap (λ b. count_by p list + cond b 1 0) holds
 
-count-no : (p : Signed → Bool) (list : List Signed) (s : Signed) → p s ≡ false → count_by p (list ++ s ∷ []) ≡ count_by p list
+count-no : (p : SignedText → Bool) (list : List SignedText) (s : SignedText) → p s ≡ false → count_by p (list ++ s ∷ []) ≡ count_by p list
 count-no p list s fails =
     let same = count-push p list s ∙ ap (λ b. count_by p list + cond b 1 0) fails in omega (arith, same)
 
 -- an entry that counts is counted behind its place
-counted : (p : Signed → Bool) (list : List Signed) (k m : ℕ) (s : Signed) → slice_get list k ≡ Some s → p s ≡ true → k < m
+counted : (p : SignedText → Bool) (list : List SignedText) (k m : ℕ) (s : SignedText) → slice_get list k ≡ Some s → p s ≡ true → k < m
     → count_by p (take k list) + 1 ≤ count_by p (take m list)
 counted p list k m s at holds before =
     let within = slice_get_within list k s at in
     let is = get_or_from_slice_get list k s s at in
     let more = count_by_more_yes p list k s within (ap p is ∙ holds) in
-    let less = sum_by-take-le (λ (x : Signed). cond (p x) 1 0) (take m list) (k + 1) in
+    let less = sum_by-take-le (λ (x : SignedText). cond (p x) 1 0) (take m list) (k + 1) in
     let same = ap (count_by p) (take-take (k + 1) m list (omega arith)) in
     omega (arith, more, less, same)
 
 -- an entry that counts is counted behind its place
-pub counted-whole : (p : Signed → Bool) (list : List Signed) (k : ℕ) (s : Signed) → slice_get list k ≡ Some s → p s ≡ true
+pub counted-whole : (p : SignedText → Bool) (list : List SignedText) (k : ℕ) (s : SignedText) → slice_get list k ≡ Some s → p s ≡ true
     → count_by p (take k list) + 1 ≤ count_by p list
 counted-whole p list k s at holds =
     let within = slice_get_within list k s at in
     let is = get_or_from_slice_get list k s s at in
     let more = count_by_more_yes p list k s within (ap p is ∙ holds) in
-    omega (arith, more, sum_by-take-le (λ (x : Signed). cond (p x) 1 0) list (k + 1))
+    omega (arith, more, sum_by-take-le (λ (x : SignedText). cond (p x) 1 0) list (k + 1))
 
 -- ---- which entries count
 
-plain-yes : (g : ℕ) (s : Signed) → s.generation ≡ g → is_roll s.text ≡ false → is_plain_of g s ≡ true
+plain-yes : (g : ℕ) (s : SignedText) → s.generation ≡ g → is_roll s.text ≡ false → is_plain_of g s ≡ true
 plain-yes g s same fails = let e : eqb s.generation g ≡ true = eq-eqb _ _ same in rw (e, fails) refl
 
-plain-no : (g : ℕ) (s : Signed) → is_roll s.text ≡ true → is_plain_of g s ≡ false
+plain-no : (g : ℕ) (s : SignedText) → is_roll s.text ≡ true → is_plain_of g s ≡ false
 plain-no g s holds = rw holds (and-false (eqb s.generation g))
 
-plain-other : (g : ℕ) (s : Signed) → s.generation ≢ g → is_plain_of g s ≡ false
+plain-other : (g : ℕ) (s : SignedText) → s.generation ≢ g → is_plain_of g s ≡ false
 plain-other g s other = let e : eqb s.generation g ≡ false = ne_eqb _ _ other in rw e refl
 
-roll-yes : (g : ℕ) (s : Signed) → s.generation ≡ g → is_roll s.text ≡ true → is_roll_of g s ≡ true
+roll-yes : (g : ℕ) (s : SignedText) → s.generation ≡ g → is_roll s.text ≡ true → is_roll_of g s ≡ true
 roll-yes g s same holds = let e : eqb s.generation g ≡ true = eq-eqb _ _ same in rw (e, holds) refl
 
-roll-no : (g : ℕ) (s : Signed) → is_roll s.text ≡ false → is_roll_of g s ≡ false
+roll-no : (g : ℕ) (s : SignedText) → is_roll s.text ≡ false → is_roll_of g s ≡ false
 roll-no g s fails = rw fails (and-false (eqb s.generation g))
 
-roll-other : (g : ℕ) (s : Signed) → s.generation ≢ g → is_roll_of g s ≡ false
+roll-other : (g : ℕ) (s : SignedText) → s.generation ≢ g → is_roll_of g s ≡ false
 roll-other g s other = let e : eqb s.generation g ≡ false = ne_eqb _ _ other in rw e refl
 
 -- ---- places
@@ -93,8 +93,8 @@ pub entry-at : (book : RollBook) (text : List ℕ) (k : ℕ) → place_of (texts
     → (slice_get book.list k ≡ Some (get_or book.list k nobody)) × ((get_or book.list k nobody).text ≡ text)
 entry-at book text k at =
     let there = stands (texts_of book) text k [] at in
-    let within : k < length book.list = omega (arith, there.0, length-map book.list (λ (s : Signed). s.text)) in
-    (slice_get-get_or book.list k nobody within, sym (get_or-map (λ (x : Signed). x.text) book.list k nobody [] within) ∙ there.1)
+    let within : k < length book.list = omega (arith, there.0, length-map book.list (λ (s : SignedText). s.text)) in
+    (slice_get-get_or book.list k nobody within, sym (get_or-map (λ (x : SignedText). x.text) book.list k nobody [] within) ∙ there.1)
 
 -- a Roll that names the newest generation is new
 pub roll_is_new : (book : RollBook) (text : List ℕ) → IsRollBook book → is_roll text ≡ true → named_generation text ≡ book.newest
@@ -108,7 +108,7 @@ roll_is_new book text sound holds names = by (place_of (texts_of book) text) ref
         let s = get_or book.list k nobody in
         let within = slice_get_within book.list k s e.0 in
         let named : is_roll s.text ≡ true → named_generation s.text ≡ s.generation =
-        All-get_or (λ (s : Signed). is_roll s.text ≡ true → named_generation s.text ≡ s.generation) book.list k nobody within sound.named in
+        All-get_or (λ (s : SignedText). is_roll s.text ≡ true → named_generation s.text ≡ s.generation) book.list k nobody within sound.named in
         let roll : is_roll s.text ≡ true = ap is_roll e.1 ∙ holds in
         let newest : s.generation ≡ book.newest = sym (named roll) ∙ ap named_generation e.1 ∙ names in
         let one = counted-whole (is_roll_of book.newest) book.list k s e.0 (roll-yes book.newest s newest roll) in
@@ -116,8 +116,8 @@ roll_is_new book text sound holds names = by (place_of (texts_of book) text) ref
 
 -- ---- what stays true
 
-texts-push : (book : RollBook) (s : Signed) → map (λ (x : Signed). x.text) (book.list ++ s ∷ []) ≡ texts_of book ++ s.text ∷ []
-texts-push book s = map-append (λ (x : Signed). x.text) book.list (s ∷ [])
+texts-push : (book : RollBook) (s : SignedText) → map (λ (x : SignedText). x.text) (book.list ++ s ∷ []) ≡ texts_of book ++ s.text ∷ []
+texts-push book s = map-append (λ (x : SignedText). x.text) book.list (s ∷ [])
 
 pub entry_keeps : (book : RollBook) (text : List ℕ) → IsRollBook book → place_of (texts_of book) text ≡ None → is_roll text ≡ false
     → plain_count book.newest book.list + 1 < book.leaves → IsRollBook (with_text book text)
@@ -125,7 +125,7 @@ entry_keeps book text sound none plain room =
     let s = entry book.newest text in
     record {
       once = subst HasNoneTwice (sym (texts-push book s)) (once-push (texts_of book) text sound.once none);
-      upto = All-push (λ (x : Signed). x.generation ≤ book.newest) book.list s sound.upto (omega arith);
+      upto = All-push (λ (x : SignedText). x.generation ≤ book.newest) book.list s sound.upto (omega arith);
       within = λ g. elim (cases_lt g book.newest) [
         | inl less ↦ omega (arith, count-no (is_plain_of g) book.list s (plain-other g s (λ e. omega (arith, e, less))), sound.within g)
         | inr more ↦ elim (cases_lt book.newest g) [
@@ -138,7 +138,7 @@ entry_keeps book text sound none plain room =
       ];
       rolled = λ g less. count-no (is_roll_of g) book.list s (roll-no g s plain) ∙ sound.rolled g less;
       unrolled = λ g more. count-no (is_roll_of g) book.list s (roll-no g s plain) ∙ sound.unrolled g more;
-      named = All-push (λ (x : Signed). is_roll x.text ≡ true → named_generation x.text ≡ x.generation) book.list s sound.named (λ holds. absurd cc);
+      named = All-push (λ (x : SignedText). is_roll x.text ≡ true → named_generation x.text ≡ x.generation) book.list s sound.named (λ holds. absurd cc);
       last = sound.last;
     }
 
@@ -149,8 +149,8 @@ roll_keeps book text sound holds names before =
     let none = roll_is_new book text sound holds names in
     record {
       once = subst HasNoneTwice (sym (texts-push book s)) (once-push (texts_of book) text sound.once none);
-      upto = All-push (λ (x : Signed). x.generation ≤ book.newest + 1) book.list s
-          (All-weaker (λ (x : Signed). x.generation ≤ book.newest) (λ (x : Signed). x.generation ≤ book.newest + 1) (λ x le. omega (arith, le)) book.list sound.upto)
+      upto = All-push (λ (x : SignedText). x.generation ≤ book.newest + 1) book.list s
+          (All-weaker (λ (x : SignedText). x.generation ≤ book.newest) (λ (x : SignedText). x.generation ≤ book.newest + 1) (λ x le. omega (arith, le)) book.list sound.upto)
           (omega arith);
       within = λ g. omega (arith, count-no (is_plain_of g) book.list s (plain-no g s holds), sound.within g);
       rolled = λ g less. elim (cases_lt g book.newest) [
@@ -161,20 +161,20 @@ roll_keeps book text sound holds names before =
       ];
       unrolled = λ g more.
           count-no (is_roll_of g) book.list s (roll-other g s (λ e. omega (arith, e, more))) ∙ sound.unrolled g (omega (arith, more));
-      named = All-push (λ (x : Signed). is_roll x.text ≡ true → named_generation x.text ≡ x.generation) book.list s sound.named (λ _. names);
+      named = All-push (λ (x : SignedText). is_roll x.text ≡ true → named_generation x.text ≡ x.generation) book.list s sound.named (λ _. names);
       last = omega (arith, before);
     }
 
 -- ---- leaves
 
-pub leaf-roll : (book : RollBook) (k : ℕ) (s : Signed) → is_roll s.text ≡ true → leaf_of book k s ≡ book.leaves - 1
+pub leaf-roll : (book : RollBook) (k : ℕ) (s : SignedText) → is_roll s.text ≡ true → leaf_of book k s ≡ book.leaves - 1
 leaf-roll book k s holds = rw holds refl
 
-pub leaf-plain : (book : RollBook) (k : ℕ) (s : Signed) → is_roll s.text ≡ false → leaf_of book k s ≡ plain_count s.generation (take k book.list)
+pub leaf-plain : (book : RollBook) (k : ℕ) (s : SignedText) → is_roll s.text ≡ false → leaf_of book k s ≡ plain_count s.generation (take k book.list)
 leaf-plain book k s fails = rw fails refl
 
 -- a leaf of an entry is one of the keys'
-pub leaf-within : (book : RollBook) (k : ℕ) (s : Signed) → IsRollBook book → slice_get book.list k ≡ Some s → leaf_of book k s < book.leaves
+pub leaf-within : (book : RollBook) (k : ℕ) (s : SignedText) → IsRollBook book → slice_get book.list k ≡ Some s → leaf_of book k s < book.leaves
 leaf-within book k s sound at = by (is_roll s.text) refl
   where
     by : (b : Bool) → is_roll s.text ≡ b → leaf_of book k s < book.leaves
@@ -192,7 +192,7 @@ roll-most book g sound =
     ]
 
 -- two entries of one generation have different leaves
-apart : (book : RollBook) (j k : ℕ) (s t : Signed) → IsRollBook book → j < k → slice_get book.list j ≡ Some s → slice_get book.list k ≡ Some t
+apart : (book : RollBook) (j k : ℕ) (s t : SignedText) → IsRollBook book → j < k → slice_get book.list j ≡ Some s → slice_get book.list k ≡ Some t
     → s.generation ≡ t.generation → leaf_of book j s ≡ leaf_of book k t → ⊥
 apart book j k s t sound before at_j at_k same leaf = by (is_roll s.text) (is_roll t.text) refl refl
   where
@@ -229,14 +229,14 @@ one_text book g leaf first second sound a b =
             let place : a.0 ≡ b.0 = omega (arith, behind, here) in
             let one : Some s ≡ Some t = sym at_j ∙ ap (slice_get book.list) place ∙ at_k in
             let is : s ≡ t = cc in
-            sym a.2.2 ∙ ap (λ (x : Signed). x.text) is ∙ b.2.2
+            sym a.2.2 ∙ ap (λ (x : SignedText). x.text) is ∙ b.2.2
       ]
     ]
 
 -- ---- later books
 
 -- what a leaf serves it serves in each later book
-pub serves_later : (book later : RollBook) (more : List Signed) (g leaf : ℕ) (text : List ℕ) → later.leaves ≡ book.leaves → later.list ≡ book.list ++ more
+pub serves_later : (book later : RollBook) (more : List SignedText) (g leaf : ℕ) (text : List ℕ) → later.leaves ≡ book.leaves → later.list ≡ book.list ++ more
     → Serves book g leaf text → Serves later g leaf text
 serves_later book later more g leaf text leaves grown a =
     let s = a.1 in
@@ -249,7 +249,7 @@ serves_later book later more g leaf text leaves grown a =
 
 -- ---- what is due
 
-abbrev pub due_for : RollBook → ℕ → Signed → DueParts
+abbrev pub due_for : RollBook → ℕ → SignedText → DueParts
 due_for book k s = record { generation = s.generation; leaf = leaf_of book k s; text = s.text; leaves = book.leaves }
 
 -- its parts
@@ -257,11 +257,11 @@ abbrev pub due : ℕ → ℕ → List ℕ → ℕ → DueParts
 due generation leaf text leaves = record { generation = generation; leaf = leaf; text = text; leaves = leaves }
 
 -- what is due for an entry
-pub due-roll : (book : RollBook) (k : ℕ) (s : Signed) → slice_get book.list k ≡ Some s → is_roll s.text ≡ true
+pub due-roll : (book : RollBook) (k : ℕ) (s : SignedText) → slice_get book.list k ≡ Some s → is_roll s.text ≡ true
     → due_at book k ≡ Some (record { generation = s.generation; leaf = book.leaves - 1; text = s.text; leaves = book.leaves })
 due-roll book k s at holds = rw (at, holds) refl
 
-pub due-plain : (book : RollBook) (k : ℕ) (s : Signed) → slice_get book.list k ≡ Some s → is_roll s.text ≡ false
+pub due-plain : (book : RollBook) (k : ℕ) (s : SignedText) → slice_get book.list k ≡ Some s → is_roll s.text ≡ false
     → due_at book k ≡ Some (record { generation = s.generation; leaf = plain_count s.generation (take k book.list); text = s.text; leaves = book.leaves })
 due-plain book k s at fails = rw (at, fails) refl
 
@@ -273,7 +273,7 @@ due_new book text sound none plain =
     let n = length book.list in
     let place : place_of (texts_of (with_text book text)) text ≡ Some n =
     ap (λ l. place_of l text) (texts-push book s) ∙ last-place (texts_of book) text sound.once none
-    ∙ ap (λ (k : ℕ). Some k) (length-map book.list (λ (x : Signed). x.text)) in
+    ∙ ap (λ (k : ℕ). Some k) (length-map book.list (λ (x : SignedText). x.text)) in
     let at : slice_get (book.list ++ s ∷ []) n ≡ Some s = slice_get-end book.list s in
     let front : take n (book.list ++ s ∷ []) ≡ book.list = take-append_seam book.list (s ∷ []) in
     rw (place, at, plain, front) refl

@@ -15,7 +15,7 @@ use Rattle.key_roll.specs.Later.{IsLaterBook, IsServed}
 use Rattle.key_roll.specs.Rolls.{is_roll}
 use Rattle.key_roll.specs.declared.fault.RollFault.{RollFault}
 use Rattle.key_roll.specs.declared.fault.RollFault.TheVariants.{Last}
-use Rattle.key_roll.specs.declared.signed.Signed.{Signed}
+use Rattle.key_roll.specs.declared.signed.SignedText.{SignedText}
 use Rattle.key_roll.proofs.Books.{due_for, entry, entry-at, leaf-roll, serves_later}
 
 -- ---- books that grow
@@ -59,7 +59,7 @@ served_on book later due is served = record {
 -- ---- what is due
 
 -- what is due at a place is served there
-at_is_served : (book : RollBook) (place : ℕ) (o : Option Signed) (due : DueParts) → slice_get book.list place ≡ o
+at_is_served : (book : RollBook) (place : ℕ) (o : Option SignedText) (due : DueParts) → slice_get book.list place ≡ o
     → option_map (due_for book place) o ≡ Some due → IsServed book due
 at_is_served book place None due at e = absurd cc
 at_is_served book place (Some s) due at e =
@@ -74,14 +74,14 @@ due_is_served book text due e = by (place_of (texts_of book) text) e
     by (Some place) e = at_is_served book place (slice_get book.list place) due refl e
 
 -- and is for the text that was asked for
-at_is_for : (book : RollBook) (place : ℕ) (o : Option Signed) (due : DueParts) (text : List ℕ) → slice_get book.list place ≡ o
+at_is_for : (book : RollBook) (place : ℕ) (o : Option SignedText) (due : DueParts) (text : List ℕ) → slice_get book.list place ≡ o
     → slice_get book.list place ≡ Some (get_or book.list place (entry 0 [])) → (get_or book.list place (entry 0 [])).text ≡ text
     → option_map (due_for book place) o ≡ Some due → due.text ≡ text
 at_is_for book place None due text at there is e = absurd cc
 at_is_for book place (Some s) due text at there is e =
     let same : s ≡ get_or book.list place (entry 0 []) = cc in
     let made : due_for book place s ≡ due = cc in
-    sym (ap (λ (d : DueParts). d.text) made) ∙ ap (λ (x : Signed). x.text) same ∙ is
+    sym (ap (λ (d : DueParts). d.text) made) ∙ ap (λ (x : SignedText). x.text) same ∙ is
 
 pub due_is_for : (book : RollBook) (text : List ℕ) (due : DueParts) → due_of book text ≡ Some due → due.text ≡ text
 due_is_for book text due e = by (place_of (texts_of book) text) refl e
@@ -101,7 +101,7 @@ entered_is_served book text due e = by (due_of (after_entry book text) text) ref
         let same : d ≡ due = cc in
         due_is_served (after_entry book text) text due (at ∙ ap (λ (x : DueParts). Some x) same)
 
-last_entry : (list : List Signed) (s : Signed) → slice_get (list ++ s ∷ []) (length list) ≡ Some s
+last_entry : (list : List SignedText) (s : SignedText) → slice_get (list ++ s ∷ []) (length list) ≡ Some s
 last_entry [] s = refl
 last_entry (x ∷ list) s = last_entry list s
 
@@ -124,15 +124,15 @@ rolled_is_served book text due is-roll e = by (book.newest == last_generation) e
 pub served_is_due : (book : RollBook) (due : DueParts) → IsRollBook book → IsServed book due → due_of book due.text ≡ Some due
 served_is_due book due sound served =
     let k : ℕ = served.serves.0 in
-    let s : Signed = served.serves.1 in
+    let s : SignedText = served.serves.1 in
     let at : slice_get book.list k ≡ Some s = served.serves.2.0 in
     let within = slice_get_within book.list k s at in
-    let inside : k < length (texts_of book) = omega (arith, within, length-map book.list (λ (x : Signed). x.text)) in
+    let inside : k < length (texts_of book) = omega (arith, within, length-map book.list (λ (x : SignedText). x.text)) in
     let text : get_or (texts_of book) k [] ≡ due.text =
-    get_or-map (λ (x : Signed). x.text) book.list k (entry 0 []) [] within
-    ∙ ap (λ (x : Signed). x.text) (get_or_from_slice_get book.list k s (entry 0 []) at) ∙ served.serves.2.2 in
+    get_or-map (λ (x : SignedText). x.text) book.list k (entry 0 []) [] within
+    ∙ ap (λ (x : SignedText). x.text) (get_or_from_slice_get book.list k s (entry 0 []) at) ∙ served.serves.2.2 in
     let place : place_of (texts_of book) due.text ≡ Some k = one-place (texts_of book) due.text k [] sound.once inside text in
-    ap (λ (o : Option ℕ). option_and_then (due_at book) o) place ∙ ap (λ (o : Option Signed). option_map (due_for book k) o) at
+    ap (λ (o : Option ℕ). option_and_then (due_at book) o) place ∙ ap (λ (o : Option SignedText). option_map (due_for book k) o) at
     ∙ made s served.serves.2.1 served.serves.2.2 served.serves.2.3
   where
     k : ℕ
@@ -141,7 +141,7 @@ served_is_due book due sound served =
     parts : ℕ → ℕ → List ℕ → ℕ → Option DueParts
     parts generation leaf text leaves = Some (record { generation = generation; leaf = leaf; text = text; leaves = leaves })
 
-    made : (s : Signed) → s.generation ≡ due.generation → s.text ≡ due.text → leaf_of book k s ≡ due.leaf → Some (due_for book k s) ≡ Some due
+    made : (s : SignedText) → s.generation ≡ due.generation → s.text ≡ due.text → leaf_of book k s ≡ due.leaf → Some (due_for book k s) ≡ Some due
     made s generation text leaf =
         ap (λ (g : ℕ). parts g (leaf_of book k s) s.text book.leaves) generation
         ∙ ap (λ (l : ℕ). parts due.generation l s.text book.leaves) leaf

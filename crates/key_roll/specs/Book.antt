@@ -1,7 +1,7 @@
 -- The book of a party's keys: the statements that the leaves of each generation serve.
 use Rattle.std.specs.Prelude.{◌≡◌, ◌+◌, ◌<◌, ◌≤◌, ℕ, true, List, [], map, All}
 use Rattle.ar_base.specs.Places.{HasNoneTwice}
-use Rattle.key_roll.specs.declared.signed.Signed.{Signed}
+use Rattle.key_roll.specs.declared.signed.SignedText.{SignedText}
 use Rattle.key_roll.specs.Rolls.{is_roll, named_generation, plain_count, roll_count}
 
 -- How many leaves each key has, the newest generation, and the generation and text of each statement in
@@ -9,7 +9,7 @@ use Rattle.key_roll.specs.Rolls.{is_roll, named_generation, plain_count, roll_co
 pub record RollBook : Type 0 where
   pub leaves : ℕ
   pub newest : ℕ
-  pub list : List Signed
+  pub list : List SignedText
 
 -- the book of keys with so many leaves each, before the first statement
 abbrev pub empty_book : ℕ → RollBook

@@ -7,7 +7,7 @@ use Rattle.ar_statement.specs.Claims.{roll, text_of}
 use Rattle.ar_statement.specs.Ranges.{IsKeyText, is_readable}
 use Rattle.lms_tree.specs.PublicKey.{key_text}
 use Rattle.lms_tree.specs.declared.public_key.LmsPublic.{LmsPublic}
-use Rattle.key_roll.specs.declared.signed.Signed.{Signed}
+use Rattle.key_roll.specs.declared.signed.SignedText.{SignedText}
 use Rattle.ar_statement.specs.declared.fault.BookFault.{BookFault}
 use Rattle.ar_statement.specs.declared.fault.BookFault.TheVariants.{Spent}
 use Rattle.key_roll.specs.declared.fault.RollFault.{RollFault}
@@ -20,13 +20,13 @@ use Rattle.key_roll.specs.Rolls.{is_roll, plain_count}
 
 -- the leaf of the entry at a place: the last for a Roll, and else its place, from 0, among the entries of
 -- its generation that are no Rolls
-abbrev pub leaf_of : RollBook → ℕ → Signed → ℕ
+abbrev pub leaf_of : RollBook → ℕ → SignedText → ℕ
 leaf_of book place s = if is_roll s.text then book.leaves - 1 else plain_count s.generation (take place book.list)
 
 -- the leaf of a generation serves a text
 abbrev pub Serves : RollBook → ℕ → ℕ → List ℕ → Type 0
 Serves book generation leaf text =
-    (place : ℕ) × (s : Signed) × ((slice_get book.list place ≡ Some s) × (s.generation ≡ generation) × (s.text ≡ text) × (leaf_of book place s ≡ leaf))
+    (place : ℕ) × (s : SignedText) × ((slice_get book.list place ≡ Some s) × (s.generation ≡ generation) × (s.text ≡ text) × (leaf_of book place s ≡ leaf))
 
 -- what is due for the entry at a place
 abbrev pub due_at : RollBook → ℕ → Option DueParts

@@ -9,7 +9,7 @@ ghost use Rattle.ar_statement.specs.declared.fault.BookFault.TheVariants as book
 ghost use Rattle.key_roll.specs.declared.fault.RollFault.TheVariants as roll_fault;
 
 use crate::entries::{is_roll, leaf_number, place_of, plain_count};
-use crate::{BookFault, RollDue, RollFault, Signed, forgo};
+use crate::{BookFault, RollDue, RollFault, SignedText, forgo};
 use ar_statement::{Party, Statement, Text};
 use lms_tree::LmsPublic;
 use std::alloc::{AllocError, Global};
@@ -26,7 +26,7 @@ pub const LAST_GENERATION: u32 = 999;
 /// statement compares its text with those of the book in order.
 #[derive(Debug, Drop)]
 pub struct RollBook {
-    list: Vec<Signed>,
+    list: Vec<SignedText>,
     leaves: u32,
     newest: u32,
     // For how many more statements memory was taken.
@@ -40,9 +40,17 @@ impl Model for RollBook {
 
     ghost Value = { Kept };
 
-    ghost view = { λ b. record { book = record { leaves = b.leaves; newest = b.newest; list = b.list.items }; room = b.room } };
+    ghost view = { λ b. record {
+      book = record {
+        leaves = b.leaves;
+        newest = b.newest;
+        list = b.list.items;
+      };
+      room = b.room;
+    } };
 
-    ghost invariant = { λ b. IsRollBook (record { leaves = b.leaves; newest = b.newest; list = b.list.items })
+    ghost invariant = { λ b. IsRollBook
+        (record { leaves = b.leaves; newest = b.newest; list = b.list.items })
         × (vec_len b.list + b.room ≤ vec_capacity b.list) };
 }
 
@@ -85,8 +93,10 @@ impl RollBook {
             ⊎ Contains (texts_of self.old.book) (text_of (claim_of statement.now)) }
 
         // The generation and the leaf, and when none is left.
-        ensures answer { GivesOrWants book_fault.Memory (λ due. due) result (entered self.old.book (text_of (claim_of statement.now))) }
-        ensures spent { result ≡ Err book_fault.Spent ↔ ((plain_count self.old.book.newest self.old.book.list + 1 ≡ self.old.book.leaves)
+        ensures answer { GivesOrWants book_fault.Memory (λ due.
+            due) result (entered self.old.book (text_of (claim_of statement.now))) }
+        ensures spent { result ≡ Err book_fault.Spent
+            ↔ ((plain_count self.old.book.newest self.old.book.list + 1 ≡ self.old.book.leaves)
             × ¬ Contains (texts_of self.old.book) (text_of (claim_of statement.now))) }
 
         // When memory may be wanting.
@@ -94,7 +104,8 @@ impl RollBook {
             × ¬ Contains (texts_of self.old.book) (text_of (claim_of statement.now)) }
 
         // What it leaves.
-        ensures ok { OnOk result (self.new.book ≡ after_entry self.old.book (text_of (claim_of statement.now))) }
+        ensures ok { OnOk result
+            (self.new.book ≡ after_entry self.old.book (text_of (claim_of statement.now))) }
         ensures room { self.old.room ≤ self.new.room + 1 }
         ensures err { OnErr result (self.new ≡ self.old) }
     {
@@ -118,11 +129,14 @@ impl RollBook {
         next: &LmsPublic,
     ) -> Result<RollDue, RollFault>
         // The generation and the leaf, and when there is no next.
-        ensures answer { GivesOrWants roll_fault.Memory (λ due. due) result (announced self.old.book party next.now) }
+        ensures answer { GivesOrWants roll_fault.Memory (λ due.
+            due) result (announced self.old.book party next.now) }
         // When memory may be wanting.
         ensures memory { result ≡ Err roll_fault.Memory → self.old.room ≡ 0 }
         // What it leaves.
-        ensures ok { OnOk result (self.new.book ≡ with_roll self.old.book (roll_text party self.old.book.newest next.now)) }
+        ensures ok { OnOk result
+            (self.new.book ≡ with_roll self.old.book
+            (roll_text party self.old.book.newest next.now)) }
         ensures room { self.old.room ≤ self.new.room + 1 }
         ensures err { OnErr result (self.new ≡ self.old) }
     {
@@ -138,8 +152,10 @@ impl RollBook {
     fn append(&mut self, text: Text) -> Result<RollDue, BookFault>
         requires new { place_of (texts_of self.old.book) text ≡ None }
         requires plain { is_roll text ≡ false }
-        ensures answer { GivesOrWants book_fault.Memory (λ due. due) result (entered_new self.old.book text) }
-        ensures spent { result ≡ Err book_fault.Spent ↔ (plain_count self.old.book.newest self.old.book.list + 1 ≡ self.old.book.leaves) }
+        ensures answer { GivesOrWants book_fault.Memory (λ due.
+            due) result (entered_new self.old.book text) }
+        ensures spent { result ≡ Err book_fault.Spent
+            ↔ (plain_count self.old.book.newest self.old.book.list + 1 ≡ self.old.book.leaves) }
         ensures memory { result ≡ Err book_fault.Memory → self.old.room ≡ 0 }
         ensures ok { OnOk result (self.new.book ≡ with_text self.old.book text) }
         ensures room { self.old.room ≤ self.new.room + 1 }
@@ -150,7 +166,7 @@ impl RollBook {
             return Err(BookFault::Spent);
         }
         self.list.reserve(1)?;
-        let entry = Signed {
+        let entry = SignedText {
             generation: self.newest,
             text,
         };
@@ -163,7 +179,8 @@ impl RollBook {
     fn announce(&mut self, text: Text) -> Result<RollDue, RollFault>
         requires roll { is_roll text ≡ true }
         requires named { named_generation text ≡ self.old.book.newest }
-        ensures answer { GivesOrWants roll_fault.Memory (λ due. due) result (rolled self.old.book text) }
+        ensures answer { GivesOrWants roll_fault.Memory (λ due. due) result
+            (rolled self.old.book text) }
         ensures memory { result ≡ Err roll_fault.Memory → self.old.room ≡ 0 }
         ensures ok { OnOk result (self.new.book ≡ with_roll self.old.book text) }
         ensures room { self.old.room ≤ self.new.room + 1 }
@@ -174,7 +191,7 @@ impl RollBook {
         }
         self.list.reserve(1)?;
         let generation = self.newest;
-        self.list.push_reserved(Signed { generation, text });
+        self.list.push_reserved(SignedText { generation, text });
         self.room = self.room.saturating_sub(1);
         self.newest += 1;
         Ok(RollDue::new(generation, self.leaves - 1, text, self.leaves))
@@ -197,7 +214,8 @@ impl RollBook {
     /// The leaf of the statement at this place of the list, from 0.
     pub fn leaf_at(&self, place: usize) -> u32
         requires { place < length self.now.book.list }
-        ensures { IfSome (slice_get self.now.book.list place) (λ s. result ≡ leaf_of self.now.book place s) }
+        ensures { IfSome (slice_get self.now.book.list place)
+            (λ s. result ≡ leaf_of self.now.book place s) }
     {
         let due = self.due(place);
         let leaf = due.leaf;
@@ -207,7 +225,8 @@ impl RollBook {
 
     /// Whether the book holds the statement, at whatever generation.
     pub fn holds(&self, statement: &Statement) -> bool
-        ensures { result ≡ is_some (place_of (texts_of self.now.book) (text_of (claim_of statement.now))) }
+        ensures { result ≡ is_some
+            (place_of (texts_of self.now.book) (text_of (claim_of statement.now))) }
     {
         place_of(&self.list, &Text::of(statement)).is_some()
     }
@@ -232,14 +251,15 @@ impl RollBook {
 
     /// How many statements more the newest generation has a leaf for, beside its last, which is kept for its Roll.
     pub fn free(&self) -> u32
-        ensures { plain_count self.now.book.newest self.now.book.list + result + 1 ≡ self.now.book.leaves }
+        ensures { plain_count self.now.book.newest self.now.book.list + result + 1
+            ≡ self.now.book.leaves }
     {
         let count = plain_count(&self.list, self.newest);
         self.leaves - leaf_number(count, self.leaves) - 1
     }
 
     /// The statements that have a leaf, in the order of entry.
-    pub fn list(&self) -> &[Signed]
+    pub fn list(&self) -> &[SignedText]
         ensures list { result.now ≡ self.now.book.list }
         ensures sound { IsRollBook self.now.book }
     {

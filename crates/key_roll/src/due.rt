@@ -21,7 +21,12 @@ impl Model for RollDue {
 
     ghost Value = { DueParts };
 
-    ghost view = { λ due. record { generation = due.generation; leaf = due.leaf; text = due.text; leaves = due.leaves } };
+    ghost view = { λ due. record {
+      generation = due.generation;
+      leaf = due.leaf;
+      text = due.text;
+      leaves = due.leaves;
+    } };
 
     ghost invariant = { λ due. due.leaf < due.leaves };
 }
@@ -30,7 +35,12 @@ impl RollDue {
     /// The signature that a book owes to a statement at a leaf of a generation.
     pub(crate) fn new(generation: u32, leaf: u32, text: Text, leaves: u32) -> RollDue
         requires { leaf < leaves }
-        ensures { result ≡ record { generation = generation; leaf = leaf; text = text; leaves = leaves } }
+        ensures { result ≡ record {
+          generation = generation;
+          leaf = leaf;
+          text = text;
+          leaves = leaves;
+        } }
     {
         RollDue {
             generation,

@@ -2,7 +2,7 @@ ghost use Rattle.std.specs.Prelude.{◌≡◌, ◌<◌, bytes_eq, map, position}
 ghost use Rattle.ar_base.specs.Places.{place_of};
 ghost use Rattle.key_roll.specs.Rolls.{is_roll, plain_count};
 
-use crate::Signed;
+use crate::SignedText;
 use ar_statement::Text;
 
 // The kind of a Roll.
@@ -19,7 +19,7 @@ pub(crate) fn is_roll(text: &Text) -> bool
 }
 
 /// How many entries of a generation are no Rolls.
-pub(crate) fn plain_count(list: &[Signed], generation: u32) -> usize
+pub(crate) fn plain_count(list: &[SignedText], generation: u32) -> usize
     ensures { result ≡ plain_count generation list.now }
 {
     list.iter()
@@ -36,14 +36,14 @@ pub(crate) fn leaf_number(count: usize, leaves: u32) -> u32
 }
 
 /// The place of a text in a list, from 0. It looks at the texts in order.
-pub(crate) fn place_of(list: &[Signed], text: &Text) -> Option<usize>
+pub(crate) fn place_of(list: &[SignedText], text: &Text) -> Option<usize>
     ensures { result ≡ place_of (map (λ s. s.text) list.now) text.now }
 {
     first_with(list, text)
 }
 
 // The first entry with a text.
-fn first_with(list: &[Signed], text: &Text) -> Option<usize>
+fn first_with(list: &[SignedText], text: &Text) -> Option<usize>
     ensures { result ≡ position (λ s. bytes_eq text.now s.text) list.now }
 {
     list.iter()

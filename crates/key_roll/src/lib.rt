@@ -13,7 +13,7 @@ pub use book::{LAST_GENERATION, RollBook};
 pub use due::{RollDue, forgo};
 pub use fault::RollFault;
 pub use ring::{KeyRing, ring_signature_len};
-pub use signed::Signed;
+pub use signed::SignedText;
 
 mod book;
 mod due;

@@ -29,13 +29,15 @@ impl Model for KeyRing {
 
     ghost view = { λ r. record { keys = r.keys.items; room = r.room } };
 
-    ghost invariant = { λ r. IsRing r.keys.items × (vec_len r.keys + r.room ≤ vec_capacity r.keys) };
+    ghost invariant = { λ r. IsRing r.keys.items
+        × (vec_len r.keys + r.room ≤ vec_capacity r.keys) };
 }
 
 impl KeyRing {
     /// The ring with one key, that of generation 0. Where memory is wanting the key comes back.
     pub fn new(alloc: Global, key: LmsKey) -> Result<KeyRing, (LmsKey, AllocError)>
-        ensures { MatchResult result (λ ring. ring ≡ record { keys = key ∷ []; room = 0 }) (λ e. e.0 ≡ key) }
+        ensures { MatchResult result (λ ring.
+            ring ≡ record { keys = key ∷ []; room = 0 }) (λ e. e.0 ≡ key) }
     {
         let mut keys = Vec::new(alloc);
         match keys.push(key) {
@@ -123,7 +125,8 @@ impl KeyRing {
     /// How many bytes a signature by one of the ring's keys has, with u32 generation in front. All keys have
     /// the same types, so it is the same for each.
     pub fn signature_len(&self) -> usize
-        ensures { (g : ℕ) (key : KeyParts) → slice_get self.now.keys g ≡ Some key → result ≡ ring_signature_len key }
+        ensures { (g : ℕ) (key : KeyParts) → slice_get self.now.keys g ≡ Some key
+            → result ≡ ring_signature_len key }
     {
         4 + self.keys[0].signature_len()
     }
@@ -134,7 +137,8 @@ impl KeyRing {
     /// The ring's keys are the book's own.
     pub fn sign(&self, due: RollDue, out: &mut [u8])
         requires { Owes self.now.keys due (length out.old) }
-        ensures { (key : KeyParts) → slice_get self.now.keys due.generation ≡ Some key → out.new ≡ signature_by key due }
+        ensures { (key : KeyParts) → slice_get self.now.keys due.generation ≡ Some key
+            → out.new ≡ signature_by key due }
     {
         let RollDue {
             generation,

@@ -87,12 +87,14 @@ impl<P: Keyless> Keyed<P> {
     pub fn roll(&mut self, alloc: Global) -> Result<Sent, P::Refusal>
         // The answer, signed, with the one key that is the next of the ring, and where the party stands then.
         ensures row { (next : KeyParts) → IsNext self.old.ring.keys next
-            → P.goes_on (self.old.ring.keys ++ next ∷ []) result self.old.core self.new.core (public_of next) }
+            → P.goes_on (self.old.ring.keys ++ next ∷ []) result self.old.core self.new.core
+            (public_of next) }
         ensures keeps { P.keeps self.old.core self.new.core }
         // How many messages it sends at most.
         ensures few { IfOk result (λ sent. length sent.messages ≤ P.most_sent) }
         // Which keys it has.
-        ensures ok { OnOk result ((next : KeyParts) → IsNext self.old.ring.keys next → self.new.ring.keys ≡ self.old.ring.keys ++ next ∷ []) }
+        ensures ok { OnOk result ((next : KeyParts) → IsNext self.old.ring.keys next
+            → self.new.ring.keys ≡ self.old.ring.keys ++ next ∷ []) }
         ensures err { OnErr result (self.new.ring.keys ≡ self.old.ring.keys) }
     {
         let Ok(key) = make_next(&mut self.ring, alloc) else {

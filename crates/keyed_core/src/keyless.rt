@@ -33,16 +33,21 @@ pub trait Keyless: Drop {
 
     /// The refusal for want of memory. It does nothing.
     fn no_memory(&self) -> Self::Refusal
-        ensures row { (keys : List KeyParts) (key : LmsPublic) → goes_on keys (Err result) self.now self.now key }
+        ensures row { (keys : List KeyParts) (key : LmsPublic)
+            → goes_on keys (Err result) self.now self.now key }
         ensures keeps { keeps self.now self.now };
 
     /// Enters the Roll of this key, with zero bytes where its signature is due. After a refusal the party is as it was.
     fn enter_roll(&mut self, alloc: Global, next: &LmsPublic) -> Result<Unsigned, Self::Refusal>
-        ensures row { (keys : List KeyParts) → goes_on keys (signed keys result) self.old self.new next.now }
+        ensures row { (keys : List KeyParts)
+            → goes_on keys (signed keys result) self.old self.new next.now }
         ensures keeps { keeps self.old self.new }
         ensures few { IfOk result (λ unsigned. length unsigned.sent.messages ≤ most_sent) }
         // The keys of the book, with the next one behind them, sign it, where this is that key, and are those of the book then.
-        ensures signs { (keys : List KeyParts) (key : KeyParts) → AreKeysOf (book self.old) (signature_len self.old) keys → IsNext keys key
-            → next.now ≡ public_of key → IfOk result (λ unsigned. IsSignedBy (keys ++ key ∷ []) (book self.new) (signature_len self.new) unsigned) }
+        ensures signs { (keys : List KeyParts) (key : KeyParts)
+            → AreKeysOf (book self.old) (signature_len self.old) keys → IsNext keys key
+            → next.now ≡ public_of key
+            → IfOk result (λ unsigned.
+            IsSignedBy (keys ++ key ∷ []) (book self.new) (signature_len self.new) unsigned) }
         ensures err { OnErr result (self.new ≡ self.old) };
 }

@@ -35,7 +35,8 @@ pub fn a_leaf_that_is_drawn_is_below_the_word()
 pub fn each_leaf_below_the_word_is_drawn()
     ensures { (leaves word : ℕ) (seats : List Held) (leaf : ℕ)
         → Keeps leaves word seats → leaf < leaves → leaf < word
-        → (place : ℕ) × (seat : Held) × (get_elem? seats place ≡ some seat) × Contains seat.drawn leaf }
+        → (place : ℕ) × (seat : Held) × (get_elem? seats place ≡ some seat)
+        × Contains seat.drawn leaf }
 {}
 
 /// The word stays far from its end, so that an addition never wraps.

@@ -46,9 +46,11 @@ impl Four {
     /// Gives each lane whose chain is at its end the next chain of the queue, as long as there is one.
     /// Those from `waiting` on wait; it returns from where on they do then.
     pub(crate) fn refill(&mut self, chains: &mut Chains, waiting: usize, queue: &Queue) -> usize
-        ensures four { (id : List ℕ) (leaf : ℕ) (end : ℕ → List ℕ) → AllLeadTo id leaf chains.old end
+        ensures four { (id : List ℕ) (leaf : ℕ) (end : ℕ → List ℕ)
+            → AllLeadTo id leaf chains.old end
             → FourLeadTo id leaf self.old end → FourLeadTo id leaf self.new end }
-        ensures others { (id : List ℕ) (leaf : ℕ) (end : ℕ → List ℕ) → AllLeadTo id leaf chains.old end
+        ensures others { (id : List ℕ) (leaf : ℕ) (end : ℕ → List ℕ)
+            → AllLeadTo id leaf chains.old end
             → FourLeadTo id leaf self.old end → AllLeadTo id leaf chains.new end }
     {
         let mut waiting = waiting;
@@ -112,7 +114,8 @@ impl Four {
     /// A step of each chain that is not at its end.
     #[inline(always)]
     pub(crate) fn step(&mut self, id: &[u8; 16], leaf: u32)
-        ensures { (end : ℕ → List ℕ) → FourLeadTo id.now leaf self.old end → FourLeadTo id.now leaf self.new end }
+        ensures { (end : ℕ → List ℕ) → FourLeadTo id.now leaf self.old end
+            → FourLeadTo id.now leaf self.new end }
     {
         let moves = [
             self.next[0] < self.ends[0],

@@ -55,7 +55,8 @@ pub fn ots_sign_into(secret: &OtsSecret, message: &[u8], out: &mut [u8])
 fn put_elements(secret: &OtsSecret, hash: &[u8; 32], out: &mut [u8])
     requires { length out.old ≡ signature_len_of secret.now.kind }
     ensures { out.new ≡ take 36 out.old
-        ++ flat_map (signed_element secret.now hash.now) (range_with_len 0 (count_of secret.now.kind)) }
+        ++ flat_map (signed_element secret.now hash.now)
+        (range_with_len 0 (count_of secret.now.kind)) }
 {
     let mut chains = Chains {
         values: [[0; 32]; ROOM],

@@ -15,7 +15,8 @@ const SECRET_STEP: u8 = 0xff;
 
 /// Puts the beginnings of the chains of a private key, as the seed gives them (RFC 8554, appendix A).
 pub(crate) fn put_beginnings(secret: &OtsSecret, values: &mut [[u8; 32]; ROOM])
-    ensures { (i : ℕ) → i < count_of secret.now.kind → slice_index_or values.new i [] ≡ secret_element secret.now i }
+    ensures { (i : ℕ) → i < count_of secret.now.kind
+        → slice_index_or values.new i [] ≡ secret_element secret.now i }
 {
     let groups = secret.kind.p().div_ceil(4);
     for group in 0..groups {
@@ -26,7 +27,8 @@ pub(crate) fn put_beginnings(secret: &OtsSecret, values: &mut [[u8; 32]; ROOM])
 // The beginnings of the chains from `4 * group` on.
 fn four_beginnings(secret: &OtsSecret, group: usize) -> FourValues
     requires { group < 67 }
-    ensures { (k : ℕ) → k < 4 → slice_index_or result k [] ≡ secret_element secret.now (4 * group + k) }
+    ensures { (k : ℕ) → k < 4
+        → slice_index_or result k [] ≡ secret_element secret.now (4 * group + k) }
 {
     let first = (4 * group) as u16;
     let mut four = FourValues::new(&[secret.seed; 4]);
@@ -42,8 +44,10 @@ fn four_beginnings(secret: &OtsSecret, group: usize) -> FourValues
 // Puts four values at the places from `4 * group` on.
 fn put_four(values: &mut [[u8; 32]; ROOM], group: usize, four: &FourValues)
     requires { group < 67 }
-    ensures front { (i : ℕ) → i < 4 * group → slice_index_or values.new i [] ≡ slice_index_or values.old i [] }
-    ensures four { (k : ℕ) → k < 4 → slice_index_or values.new (4 * group + k) [] ≡ slice_index_or four.now k [] }
+    ensures front { (i : ℕ) → i < 4 * group
+        → slice_index_or values.new i [] ≡ slice_index_or values.old i [] }
+    ensures four { (k : ℕ) → k < 4
+        → slice_index_or values.new (4 * group + k) [] ≡ slice_index_or four.now k [] }
 {
     values[4 * group] = four.value(0);
     values[4 * group + 1] = four.value(1);
@@ -54,7 +58,8 @@ fn put_four(values: &mut [[u8; 32]; ROOM], group: usize, four: &FourValues)
 /// Puts the elements of a signature.
 pub(crate) fn put_elements(kind: OtsType, signature: &[u8], values: &mut [[u8; 32]; ROOM])
     requires { length signature.now ≡ signature_len_of kind }
-    ensures { (i : ℕ) → i < count_of kind → slice_index_or values.new i [] ≡ element signature.now i }
+    ensures { (i : ℕ) → i < count_of kind
+        → slice_index_or values.new i [] ≡ element signature.now i }
 {
     for i in 0..kind.p() {
         values[i] = element(signature, i);

@@ -14,7 +14,8 @@ const MOST_STEPS: usize = 256 * ROOM;
 /// is a matter of speed alone: what is left then, which is nothing, is taken to its end by itself.
 pub(crate) fn walk(id: &[u8; 16], leaf: u32, count: usize, chains: &mut Chains)
     requires { count ≤ 268 }
-    ensures { (i : ℕ) → i < count → slice_index_or chains.new.values i [] ≡ end_of id.now leaf chains.old i }
+    ensures { (i : ℕ) → i < count
+        → slice_index_or chains.new.values i [] ≡ end_of id.now leaf chains.old i }
 {
     let queue = longest_first(count, chains);
     let mut four = Four::first(chains);
@@ -26,9 +27,11 @@ pub(crate) fn walk(id: &[u8; 16], leaf: u32, count: usize, chains: &mut Chains)
 
 // Lets the chains that wait take the lanes of those that are at their end, until all are.
 fn take_turns(id: &[u8; 16], leaf: u32, queue: &Queue, chains: &mut Chains, four: &mut Four)
-    ensures others { (end : ℕ → List ℕ) → AllLeadTo id.now leaf chains.old end → FourLeadTo id.now leaf four.old end
+    ensures others { (end : ℕ → List ℕ) → AllLeadTo id.now leaf chains.old end
+        → FourLeadTo id.now leaf four.old end
         → AllLeadTo id.now leaf chains.new end }
-    ensures four { (end : ℕ → List ℕ) → AllLeadTo id.now leaf chains.old end → FourLeadTo id.now leaf four.old end
+    ensures four { (end : ℕ → List ℕ) → AllLeadTo id.now leaf chains.old end
+        → FourLeadTo id.now leaf four.old end
         → FourLeadTo id.now leaf four.new end }
 {
     let mut waiting = 4;
@@ -44,7 +47,8 @@ fn take_turns(id: &[u8; 16], leaf: u32, queue: &Queue, chains: &mut Chains, four
 
 // So many steps of the four chains, each up to its end.
 fn advance(id: &[u8; 16], leaf: u32, steps: u8, four: &mut Four)
-    ensures { (end : ℕ → List ℕ) → FourLeadTo id.now leaf four.old end → FourLeadTo id.now leaf four.new end }
+    ensures { (end : ℕ → List ℕ) → FourLeadTo id.now leaf four.old end
+        → FourLeadTo id.now leaf four.new end }
 {
     for _step in 0..steps {
         four.step(id, leaf);
@@ -54,7 +58,8 @@ fn advance(id: &[u8; 16], leaf: u32, steps: u8, four: &mut Four)
 // Takes each of the first `count` chains that is not at its end there.
 fn finish(id: &[u8; 16], leaf: u32, count: usize, chains: &mut Chains)
     requires { count ≤ 268 }
-    ensures { (i : ℕ) → i < count → slice_index_or chains.new.values i [] ≡ end_of id.now leaf chains.old i }
+    ensures { (i : ℕ) → i < count
+        → slice_index_or chains.new.values i [] ≡ end_of id.now leaf chains.old i }
 {
     for i in 0..count {
         chains.values[i] = end(id, leaf, i, chains);

@@ -62,7 +62,8 @@ impl Model for LmsKey {
 
     ghost invariant = { λ key. (length key.nodes.items ≡ 2 * leaves_of key.parts.lms)
         × HoldsFrom key.parts 1 key.nodes.items
-        × (made key.parts.seed (lms_kind.number_of key.parts.lms) (ots_kind.number_of key.parts.ots) ≡ Ok key.parts) };
+        × (made key.parts.seed (lms_kind.number_of key.parts.lms) (ots_kind.number_of key.parts.ots)
+        ≡ Ok key.parts) };
 }
 
 impl LmsKey {
@@ -96,7 +97,8 @@ impl LmsKey {
     /// The seed that the key was made from: with its types it makes the key again.
     pub fn seed(&self) -> &[u8; 32]
         ensures seed { result.now ≡ self.now.seed }
-        ensures again { made self.now.seed (lms_kind.number_of self.now.lms) (ots_kind.number_of self.now.ots) ≡ Ok self.now }
+        ensures again { made self.now.seed (lms_kind.number_of self.now.lms)
+            (ots_kind.number_of self.now.ots) ≡ Ok self.now }
     {
         self.parts.seed()
     }

@@ -14,7 +14,8 @@ ghost use Rattle.lms_tree.specs.declared.validity.Verdict.TheVariants.{Invalid, 
 /// The text of a key is read as that key, and a key that was read spells the text.
 pub fn a_key_is_read_from_its_text_alone()
     ensures again { (key : LmsPublic) → HasWidths key → key_of_text (key_text key) ≡ Some key }
-    ensures spelled { (bytes : List ℕ) (key : LmsPublic) → AreBytes bytes → key_of_text bytes ≡ Some key
+    ensures spelled { (bytes : List ℕ) (key : LmsPublic) → AreBytes bytes
+        → key_of_text bytes ≡ Some key
         → (key_text key ≡ bytes) × HasWidths key }
 {}
 
@@ -39,7 +40,8 @@ pub fn a_signature_has_parts_exactly_with_its_length()
     ensures again { (key : LmsPublic) (parts : SignatureParts) → FitsTypes key.lms key.ots parts
         → parts_of key (signature_text parts) ≡ Some parts }
     ensures length { (key : LmsPublic) (signature : List ℕ)
-        → HasLength key signature ↔ ((parts : SignatureParts) × (parts_of key signature ≡ Some parts)) }
+        → HasLength key signature
+        ↔ ((parts : SignatureParts) × (parts_of key signature ≡ Some parts)) }
 {}
 
 /// A signature is valid exactly where all five conditions hold, and `Invalid(k)` exactly where condition

@@ -28,7 +28,8 @@ impl<'a> Signature<'a> {
     /// The parts of a signature of these types, or `None` exactly where it has not their length.
     #[tactic(auto, unfolding(crate::specs::Signature::signature_at, ar_bytes::specs::Reading::whole))]
     pub(crate) fn read(lms: LmsType, ots: OtsType, bytes: &'a [u8]) -> Option<Signature<'a>>
-        ensures parts { option_map borrowed result ≡ result_ok (whole (signature_at lms ots) bytes.now) }
+        ensures parts { option_map borrowed result
+            ≡ result_ok (whole (signature_at lms ots) bytes.now) }
         ensures len { IfSome result (λ parts. length parts.one_time.now ≡ signature_len_of ots) }
     {
         let mut fields = Fields::new(bytes);

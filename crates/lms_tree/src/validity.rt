@@ -38,7 +38,8 @@ pub fn valid(key: &LmsPublic, message: &[u8], signature: &[u8]) -> Verdict
 // The verdict on the parts of a signature that has the length of the key's types.
 fn judge(key: &LmsPublic, message: &[u8], parts: &Signature) -> Verdict
     requires { length parts.now.one_time.now ≡ signature_len_of key.now.ots }
-    ensures { result ≡ verdict (first_failing (conditions_on key.now message.now (Some (borrowed parts.now)))) }
+    ensures { result ≡ verdict
+        (first_failing (conditions_on key.now message.now (Some (borrowed parts.now)))) }
 {
     if type_number(parts.one_time) != key.ots.number() {
         return Verdict::Invalid(2);

@@ -2,7 +2,6 @@
 use Rattle.std.proofs.Common.{◌≡◌, ◌⊎◌, ℕ, ◌+◌, List, [], ◌∷◌, refl, sym, ◌∙◌, subst, Bool, true, false, cond, Option, Some, None, inl, inr, ⊎_elim}
 use Rattle.std.specs.Prelude.{Contains, Ok, Err, Result, flat_map, map}
 use Rattle.std.specs.List.{AllByRecursion}
-use Rattle.std.specs.Option.{option_map}
 use Rattle.std.proofs.lemmas.List.Elements.{All-contains, All-from_recursion}
 use Rattle.key_roll.specs.Book.{RollBook, texts_of}
 use Rattle.key_roll.specs.Entry.{after_entry}
@@ -21,7 +20,7 @@ use Rattle.ar_council.proofs.Books.{entry-has, second-room}
 use Rattle.ar_council.proofs.Seeing.{seen-exactly}
 use Rattle.ar_council.specs.Room.{HasRoom, has_leaves, new_count}
 use Rattle.ar_council.specs.Seen.{seen_after}
-use Rattle.ar_council.specs.Values.{status_claim, value_of_roots, vote_claim}
+use Rattle.ar_council.specs.Values.{status_claim, vote_claim}
 use Rattle.ar_message.specs.Messages.{message_in}
 use Rattle.ar_message.specs.declared.lists.LogStatus.{LogStatus}
 use Rattle.ar_message.specs.declared.lists.Vote.{Vote}
@@ -29,7 +28,7 @@ use Rattle.ar_message.specs.declared.message.Message.{Message}
 use Rattle.ar_message.specs.declared.message.Message.TheVariants as messages
 use Rattle.ar_statement.specs.declared.party.Party.{Party}
 use Rattle.ar_statement.specs.declared.text.SeenText.{SeenText}
-use Rattle.ar_statement.specs.Claims.{authority_party, endorse, log_party, propose, text_of}
+use Rattle.ar_statement.specs.Claims.{authority_party, endorse, log_party, propose, text_of, value_with}
 use Rattle.party_keys.specs.Directory.{Directory}
 use Rattle.party_keys.specs.Learning.{Announced, learned, roll_claim}
 use Rattle.party_keys.specs.Seen.{seen_of}
@@ -47,7 +46,7 @@ use Rattle.epoch_log.specs.declared.entries.Newest.{Newest}
 use Rattle.epoch_log.specs.declared.entries.Voted.{Voted}
 use Rattle.log_core.specs.Balloted.{ballot_checks, ballot_reply, ballot_row}
 use Rattle.log_core.specs.Claimed.{IsOwnSigned, SeesClaims, claims_of}
-use Rattle.log_core.specs.Confirming.{Asked, confirm_checks, confirm_reply, confirm_row}
+use Rattle.log_core.specs.Confirming.{ConfirmQuestion, confirm_checks, confirm_reply, confirm_row}
 use Rattle.log_core.specs.Decided.{Decision, decision_checks, decision_reply, decision_row, decision_signers, plain_votes}
 use Rattle.log_core.specs.Learning.{is_learned, roll_note_checks, roll_note_reply, roll_note_row}
 use Rattle.log_core.specs.Passing.{passing_checks, passing_reply, passing_row}
@@ -63,7 +62,7 @@ use Rattle.log_core.proofs.KeptCore.{closed-same}
 use Rattle.log_core.proofs.Passed.{passed}
 use Rattle.log_sending.specs.Checks.{leaves_left}
 use Rattle.log_sending.specs.Queued.{is_queued}
-use Rattle.ar_claims.specs.Lists.{endorsements_in, statuses_in, votes_in}
+use Rattle.ar_claims.specs.Lists.{endorsements_in, claimed_statuses, claimed_votes}
 use Rattle.log_sending.specs.Signers.{of_signers, signers}
 use Rattle.log_sending.specs.declared.refusal.LogRefusal.TheVariants as refusals
 use Rattle.log_sending.proofs.Checked.{holds, same-epoch}
@@ -117,16 +116,16 @@ changes-new keys me signed claims (change ∷ changes) all =
     (changes-new keys me signed claims changes parts.1)
 
 votes-new : (keys : Directory) (me : ℕ) (signed : RollBook) (claims : List Claimed) (epoch : ℕ) (value : Value) (votes : List Vote)
-    → AllByRecursion (IsIn keys claims) (votes_in epoch value votes) → AllByRecursion (New keys me signed claims) (votes_seen epoch value (plain_votes votes))
+    → AllByRecursion (IsIn keys claims) (claimed_votes epoch value votes) → AllByRecursion (New keys me signed claims) (votes_seen epoch value (plain_votes votes))
 votes-new keys me signed claims epoch value [] all = tt
 votes-new keys me signed claims epoch value (v ∷ votes) all =
     (one-new keys me signed claims (signed_by (log_party v.log) (vote_claim v.log epoch value) v.signature) all.0, votes-new keys me signed claims epoch value votes all.1)
 
 statuses-new : (keys : Directory) (me : ℕ) (signed : RollBook) (claims : List Claimed) (epoch : ℕ) (statuses : List LogStatus)
-    → AllByRecursion (IsIn keys claims) (statuses_in epoch statuses) → AllByRecursion (New keys me signed claims) (statuses_seen epoch (signed_statuses statuses))
+    → AllByRecursion (IsIn keys claims) (claimed_statuses epoch statuses) → AllByRecursion (New keys me signed claims) (statuses_seen epoch (signed_statuses statuses))
 statuses-new keys me signed claims epoch [] all = tt
 statuses-new keys me signed claims epoch (x ∷ statuses) all =
-    (one-new keys me signed claims (signed_by (log_party x.log) (status_claim x.log epoch (option_map value_of_roots x.value)) x.signature) all.0, statuses-new keys me signed claims epoch statuses all.1)
+    (one-new keys me signed claims (signed_by (log_party x.log) (status_claim x.log epoch x.value) x.signature) all.0, statuses-new keys me signed claims epoch statuses all.1)
 
 -- ---- each row
 
@@ -223,8 +222,8 @@ decision-sees s d reply answer = subst (Sees s claims) h.1 (by (may_end s.log.pa
     h : AllByRecursion (λ c. c ≡ Ok tt) (decision_checks s d) × (decision_reply s d ≡ reply)
     h = passed (decision_checks s d) (decision_reply s d) reply answer
 
-    valid : AllByRecursion (IsIn s.keys claims) (votes_in d.epoch d.value d.votes) × AllByRecursion (IsIn s.keys claims) (flat_map endorsements_in d.changes)
-    valid = of-both-lists (IsIn s.keys claims) (votes_in d.epoch d.value d.votes) (flat_map endorsements_in d.changes) (each-valid s.keys claims h.0.0)
+    valid : AllByRecursion (IsIn s.keys claims) (claimed_votes d.epoch d.value d.votes) × AllByRecursion (IsIn s.keys claims) (flat_map endorsements_in d.changes)
+    valid = of-both-lists (IsIn s.keys claims) (claimed_votes d.epoch d.value d.votes) (flat_map endorsements_in d.changes) (each-valid s.keys claims h.0.0)
 
     signed : RollBook
     signed = s.log.past.signed
@@ -248,12 +247,12 @@ decision-sees s d reply answer = subst (Sees s claims) h.1 (by (may_end s.log.pa
     by true = all
     by false = all
 
-skip-sees : (s : CoreState) (epoch : ℕ) (statuses : List LogStatus) (reply : Reply) → skip_row s epoch statuses ≡ Ok reply → Sees s (statuses_in epoch statuses) reply
+skip-sees : (s : CoreState) (epoch : ℕ) (statuses : List LogStatus) (reply : Reply) → skip_row s epoch statuses ≡ Ok reply → Sees s (claimed_statuses epoch statuses) reply
 unfolding skip_row
 skip-sees s epoch statuses reply answer = subst (Sees s claims) h.1 (by (may_end s.log.past))
   where
     claims : List Claimed
-    claims = statuses_in epoch statuses
+    claims = claimed_statuses epoch statuses
 
     h : AllByRecursion (λ c. c ≡ Ok tt) (skip_checks s epoch statuses) × (skip_reply s statuses ≡ reply)
     h = passed (skip_checks s epoch statuses) (skip_reply s statuses) reply answer
@@ -276,7 +275,7 @@ skip-sees s epoch statuses reply answer = subst (Sees s claims) h.1 (by (may_end
     by true = all
     by false = all
 
-confirm-sees : (s : CoreState) (asked : Asked) (reply : Reply) → confirm_row s asked ≡ Ok reply → Sees s [] reply
+confirm-sees : (s : CoreState) (asked : ConfirmQuestion) (reply : Reply) → confirm_row s asked ≡ Ok reply → Sees s [] reply
 unfolding confirm_row
 confirm-sees s asked reply answer =
     let h = passed (confirm_checks s asked) (confirm_reply s s.log.newest asked) reply answer in subst (Sees s []) h.1 (by s.log.newest)
@@ -362,11 +361,11 @@ message-sees s (messages.EndorseAsk owner cert) reply answer = absurd cc
 message-sees s (messages.Endorsed owner authority certificate signature) reply answer = absurd cc
 message-sees s (messages.Submit change) reply answer = submit-sees s change reply answer
 message-sees s (messages.Propose log epoch base root changes signature) reply answer =
-    proposed-sees s (record { log = log; epoch = epoch; value = value_of_roots (base, root); changes = changes; signature = signature }) reply answer
-message-sees s (messages.Ballot log epoch base root signature) reply answer = ballot-sees s log epoch (value_of_roots (base, root)) signature reply answer
-message-sees s (messages.StatusNote log epoch value signature) reply answer = status-sees s log epoch (option_map value_of_roots value) signature reply answer
+    proposed-sees s (record { log = log; epoch = epoch; value = value_with base root; changes = changes; signature = signature }) reply answer
+message-sees s (messages.Ballot log epoch base root signature) reply answer = ballot-sees s log epoch (value_with base root) signature reply answer
+message-sees s (messages.StatusNote log epoch value signature) reply answer = status-sees s log epoch value signature reply answer
 message-sees s (messages.Decision epoch base root changes votes) reply answer =
-    decision-sees s (record { epoch = epoch; value = value_of_roots (base, root); changes = changes; votes = votes }) reply answer
+    decision-sees s (record { epoch = epoch; value = value_with base root; changes = changes; votes = votes }) reply answer
 message-sees s (messages.SkipNote epoch statuses) reply answer = skip-sees s epoch statuses reply answer
 message-sees s (messages.ConfirmAsk client name first second) reply answer =
     confirm-sees s (record { client = client; name = name; first = first; second = second }) reply answer

@@ -22,7 +22,7 @@ use Rattle.log_sending.specs.Closings.{closing_drafts, ended_by, queue_after}
 use Rattle.log_core.specs.Replies.{closing_reply, core_after}
 use Rattle.log_core.specs.Kept.{IsKeptCore}
 use Rattle.log_core.specs.Passing.{passing_checks, passing_judged, passing_reply, passing_row, status_drafts}
-use Rattle.log_sending.specs.Sending.{Composed, Draft, none_composed, sealed, unsigned_of, with_drafts}
+use Rattle.log_sending.specs.Sending.{Composed, DraftMessage, none_composed, sealed, unsigned_of, with_drafts}
 use Rattle.party_keys.specs.Signers.{signed_by}
 use Rattle.log_core.specs.State.{CoreState, Reply}
 use Rattle.log_core.specs.Stated.{status_checks, status_judged, status_reply, status_row}
@@ -42,14 +42,14 @@ row-refused check s reply refusal (inl wants) = (refl, inl wants)
 row-refused check s reply refusal (inr is) = (refl, inr (ap (λ c. result_and c (Ok reply)) is))
 
 -- what is composed before a step and sealed behind it, with what is left of the queue, is the reply of its row
-pub close-step : (s : CoreState) (check : Check) (drafts : List Draft) (x : LogState × Closing) (ready : Composed) (unsigned : Unsigned) (log : LogParts)
+pub close-step : (s : CoreState) (check : Check) (drafts : List DraftMessage) (x : LogState × Closing) (ready : Composed) (unsigned : Unsigned) (log : LogParts)
     (queue : List Change) (closing : Closing) (epoch : ℕ)
     → check ≡ Ok tt → ready ≡ with_drafts none_composed (drafts ++ closing_drafts x.1 s.signature_len s.log x.0) → closing ≡ x.1
     → log ≡ record { state = x.0; keys = s.keys } → epoch ≡ epoch_of s.log → queue ≡ queue_after closing log.state s.queue
     → unsigned ≡ sealed log.state.past.signed ready (ended_by closing epoch log.state.newest)
     → result_and check (Ok (closing_reply s s.log drafts x)) ≡ made unsigned (core-of s log queue)
 close-step s check drafts x ready unsigned log queue closing epoch holds readied closes logs epochs queues sends =
-    let all : List Draft = drafts ++ closing_drafts x.1 s.signature_len s.log x.0 in
+    let all : List DraftMessage = drafts ++ closing_drafts x.1 s.signature_len s.log x.0 in
     let ended : Option (ℕ × Option (List ℕ)) = ended_by x.1 (epoch_of s.log) x.0.newest in
     let left : List Change = queue_after x.1 x.0 s.queue in
     let sent : unsigned ≡ unsigned_of x.0.past.signed all ended =

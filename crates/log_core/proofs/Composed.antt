@@ -2,7 +2,6 @@
 use Rattle.std.proofs.Common.{◌≡◌, ℕ, ◌+◌, List, [], ◌∷◌, ◌++◌, refl, subst, Bool, true, false, cond, Option, Some, None}
 use Rattle.std.specs.Prelude.{Ok}
 use Rattle.std.specs.List.{AllByRecursion}
-use Rattle.std.specs.Option.{option_map}
 use Rattle.ar_cert.specs.Changes.{Change}
 use Rattle.ar_message.specs.declared.address.Address.TheVariants.{Logs, One}
 use Rattle.ar_message.specs.declared.lists.LogStatus.{LogStatus}
@@ -10,7 +9,6 @@ use Rattle.ar_statement.specs.Claims.{log_party, text_of}
 use Rattle.key_roll.specs.Entry.{roll_text}
 use Rattle.party_keys.specs.Learning.{Announced}
 use Rattle.vote_quorum.specs.declared.value.Value.{Value}
-use Rattle.ar_council.specs.Values.{roots_of}
 use Rattle.epoch_log.specs.Calls.{after_ballot, after_confirm, after_propose, after_state, after_status_seen, after_vote, is_turn, own_status_text, own_value, own_vote_text, propose_claim}
 use Rattle.epoch_log.specs.Ending.{own_vote}
 use Rattle.epoch_log.specs.State.{LogState, epoch_of, newest_value}
@@ -23,7 +21,7 @@ use Rattle.log_core.specs.Balloted.{ballot_checks, ballot_reply, ballot_row}
 use Rattle.log_sending.specs.Blanks.{IsDraft}
 use Rattle.log_sending.specs.Closings.{changes_of_vote, closing_drafts, decision_drafts, ended_by}
 use Rattle.log_core.specs.Replies.{closing_reply, open_reply}
-use Rattle.log_core.specs.Confirming.{Asked, confirm_checks, confirm_reply, confirm_row, confirmed_draft}
+use Rattle.log_core.specs.Confirming.{ConfirmQuestion, confirm_checks, confirm_reply, confirm_row, confirmed_draft}
 use Rattle.log_core.specs.Decided.{Decision, decision_checks, decision_reply, decision_row}
 use Rattle.log_core.specs.Learning.{roll_note_checks, roll_note_reply, roll_note_row}
 use Rattle.log_core.specs.Passing.{passing_checks, passing_reply, passing_row, status_draft, status_drafts}
@@ -31,7 +29,7 @@ use Rattle.log_core.specs.Proposed.{Proposal, ballot_draft, proposed_checks, pro
 use Rattle.log_core.specs.Proposing.{proposal, proposal_draft, proposed_value, proposing_checks, proposing_reply, proposing_row}
 use Rattle.log_core.specs.Rolling.{roll_draft, rolling_checks, rolling_reply, rolling_row}
 use Rattle.log_core.specs.Row.{row}
-use Rattle.log_sending.specs.Sending.{Draft}
+use Rattle.log_sending.specs.Sending.{DraftMessage}
 use Rattle.log_core.specs.Skipped.{skip_checks, skip_reply, skip_row}
 use Rattle.log_core.specs.State.{CoreState, Input, Reply}
 use Rattle.log_core.specs.Stated.{status_checks, status_reply, status_row}
@@ -59,7 +57,7 @@ closing-are closings.Open len before after = tt
 closing-are closings.Decided len before after = newest-are len before after after.newest
 closing-are (closings.Skipped statuses) len before after = (skip-is_draft len (own_status_text before) (epoch_of before) statuses, tt)
 
-closing-composed : (s : CoreState) (before : LogState) (drafts : List Draft) (x : LogState × Closing) → AllByRecursion (IsDraft s.signature_len) drafts
+closing-composed : (s : CoreState) (before : LogState) (drafts : List DraftMessage) (x : LogState × Closing) → AllByRecursion (IsDraft s.signature_len) drafts
     → Composed (closing_reply s before drafts x)
 closing-composed s before drafts x each = record {
   drafts = drafts ++ closing_drafts x.1 s.signature_len before x.0;
@@ -68,7 +66,7 @@ closing-composed s before drafts x each = record {
   each = both-lists (IsDraft s.signature_len) drafts (closing_drafts x.1 s.signature_len before x.0) each (closing-are x.1 s.signature_len before x.0);
 }
 
-open-composed : (s : CoreState) (after : LogState) (draft : Draft) → IsDraft s.signature_len draft → Composed (open_reply s after (draft ∷ []))
+open-composed : (s : CoreState) (after : LogState) (draft : DraftMessage) → IsDraft s.signature_len draft → Composed (open_reply s after (draft ∷ []))
 open-composed s after draft is = record { drafts = draft ∷ []; ended = None; is = refl; each = (is, tt) }
 
 -- ---- each row
@@ -91,7 +89,7 @@ passing-composed s reply answer =
     by : (b : Bool) → AllByRecursion (IsDraft s.signature_len) (cond b [] (status_draft s ∷ []))
     by true = tt
     by false = (
-      status-is_draft (One (log_party (turn_of s.log.council (epoch_of s.log + 1)))) s.log.me (epoch_of s.log) (option_map roots_of (own_value s.log))
+      status-is_draft (One (log_party (turn_of s.log.council (epoch_of s.log + 1)))) s.log.me (epoch_of s.log) (own_value s.log)
           s.signature_len (own_status_text s.log),
       tt,
     )
@@ -146,7 +144,7 @@ skip-composed s epoch statuses reply answer =
     let h = passed (skip_checks s epoch statuses) (skip_reply s statuses) reply answer in
     subst Composed h.1 (record { drafts = []; ended = (skip_reply s statuses).unsigned.sent.ended; is = refl; each = tt })
 
-confirm-composed : (s : CoreState) (asked : Asked) (reply : Reply) → confirm_row s asked ≡ Ok reply → Composed reply
+confirm-composed : (s : CoreState) (asked : ConfirmQuestion) (reply : Reply) → confirm_row s asked ≡ Ok reply → Composed reply
 unfolding confirm_row
 confirm-composed s asked reply answer =
     let h = passed (confirm_checks s asked) (confirm_reply s s.log.newest asked) reply answer in

@@ -23,12 +23,12 @@ use Rattle.ar_council.specs.Room.{has_leaves}
 use Rattle.log_sending.specs.Checks.{Check, book_refusal, has_decision, leaves_left}
 use Rattle.log_core.specs.Steps.{IsStep, given}
 use Rattle.log_core.specs.Replies.{open_reply}
-use Rattle.log_core.specs.Confirming.{Asked, confirm_reply, confirm_row, confirmation_by, confirmation_prepared, confirmed_draft, leaf_to_confirm}
+use Rattle.log_core.specs.Confirming.{ConfirmQuestion, confirm_reply, confirm_row, confirmation_by, confirmation_prepared, confirmed_draft, leaf_to_confirm}
 use Rattle.log_core.specs.Kept.{IsKeptCore}
 use Rattle.log_sending.specs.Sendable.{AreVoices}
 use Rattle.log_sending.specs.Sending.{Composed, none_composed, sealed, sent_votes, with_draft}
 use Rattle.log_sending.specs.Signers.{known}
-use Rattle.log_core.specs.State.{Answer, CoreState, Reply}
+use Rattle.log_core.specs.State.{LogAnswer, CoreState, Reply}
 use Rattle.log_sending.specs.declared.refusal.LogRefusal.{LogRefusal}
 use Rattle.log_sending.specs.declared.refusal.LogRefusal.TheVariants as refusals
 use Rattle.log_core.proofs.KeptEndings.{kept-confirm}
@@ -46,7 +46,7 @@ its-votes s w kept is =
     votes-sent s.signature_len w.votes kept.len (subst (λ (o : Option Newest). IfSome o (λ d. AreVoices d.votes)) is kept.sendable.newest)
 
 -- the authorities are known
-abbrev knows : CoreState → Asked → Check
+abbrev knows : CoreState → ConfirmQuestion → Check
 knows s asked = known s.keys (authority_party asked.first ∷ authority_party asked.second ∷ [])
 
 prepared-by : (one other : Check) (value composed : Composed) → given (one ∷ other ∷ []) value ≡ Ok composed → (one ≡ Ok tt) × (other ≡ Ok tt) × (value ≡ composed)
@@ -54,7 +54,7 @@ prepared-by (Ok u) (Ok v) value composed is = (refl, refl, (given-holds (Ok tt) 
 prepared-by (Ok u) (Err refusal) value composed is = absurd cc
 prepared-by (Err refusal) other value composed is = absurd cc
 
-prepared-holds : (s : CoreState) (asked : Asked) (composed : Composed) → confirmation_prepared s asked ≡ Ok composed
+prepared-holds : (s : CoreState) (asked : ConfirmQuestion) (composed : Composed) → confirmation_prepared s asked ≡ Ok composed
     → (knows s asked ≡ Ok tt) × (has_decision s.log s.log.newest ≡ Ok tt) × (confirmation_by s s.log.newest asked ≡ composed)
 unfolding confirmation_prepared
 prepared-holds s asked composed is =
@@ -65,16 +65,16 @@ decided-by s None is = absurd cc
 decided-by s (Some w) is = (w, refl)
 
 -- the decision by which the log confirms
-pub its-decision : (s : CoreState) (asked : Asked) (composed : Composed) → confirmation_prepared s asked ≡ Ok composed → (w : Newest) × (s.log.newest ≡ Some w)
+pub its-decision : (s : CoreState) (asked : ConfirmQuestion) (composed : Composed) → confirmation_prepared s asked ≡ Ok composed → (w : Newest) × (s.log.newest ≡ Some w)
 its-decision s asked composed is = decided-by s s.log.newest (prepared-holds s asked composed is).1
 
 some-is : (newest : Option Newest) (w : Newest) → newest ≡ Some w → IsSome newest
 some-is newest w is = subst IsSome (sym is) refl
 
-pub has-newest : (s : CoreState) (asked : Asked) (composed : Composed) → confirmation_prepared s asked ≡ Ok composed → IsSome s.log.newest
+pub has-newest : (s : CoreState) (asked : ConfirmQuestion) (composed : Composed) → confirmation_prepared s asked ≡ Ok composed → IsSome s.log.newest
 has-newest s asked composed is = let d = its-decision s asked composed is in some-is s.log.newest d.0 d.1
 
-abbrev answer-of : Result Composed LogRefusal → Reply → Answer
+abbrev answer-of : Result Composed LogRefusal → Reply → LogAnswer
 answer-of (Ok composed) reply = Ok reply
 answer-of (Err refusal) reply = Err refusal
 
@@ -84,7 +84,7 @@ refused-by (Ok u) (Ok v) leaf value reply refusal is = absurd cc
 refused-by (Ok u) (Err other) leaf value reply refusal is = ap (λ (r : Result Composed LogRefusal). answer-of r reply) is
 refused-by (Err one) other leaf value reply refusal is = ap (λ (r : Result Composed LogRefusal). answer-of r reply) is
 
-pub confirm-refused : (s : CoreState) (asked : Asked) (refusal : LogRefusal) → (refusal ≡ refusals.Memory) ⊎ (confirmation_prepared s asked ≡ Err refusal)
+pub confirm-refused : (s : CoreState) (asked : ConfirmQuestion) (refusal : LogRefusal) → (refusal ≡ refusals.Memory) ⊎ (confirmation_prepared s asked ≡ Err refusal)
     → IsStep (Err refusal) s s (confirm_row s asked)
 unfolding confirmation_prepared confirm_row
 confirm-refused s asked refusal (inl wants) = (refl, inl wants)
@@ -134,7 +134,7 @@ none-left s w name kept is = by (has_leaves book (text ∷ [])) refl
 
 -- ---- the step
 
-row-is : (s : CoreState) (asked : Asked) (w : Newest) → knows s asked ≡ Ok tt → s.log.newest ≡ Some w
+row-is : (s : CoreState) (asked : ConfirmQuestion) (w : Newest) → knows s asked ≡ Ok tt → s.log.newest ≡ Some w
     → confirm_row s asked ≡ given (leaves_left s.log.past.signed (confirmation_text s.log w asked.name ∷ []) ∷ [])
     (open_reply s (after_confirm s.log w asked.name) (confirmed_draft s w asked ∷ []))
 unfolding confirm_row
@@ -146,14 +146,14 @@ row-is s asked w known-all decided =
 abbrev log-confirmed : CoreState → Newest → List ℕ → LogParts
 log-confirmed s w name = moved (log-in s) (after_confirm s.log w name)
 
-row-made : (s : CoreState) (asked : Asked) (composed : Composed) (w : Newest) (due : DueParts) → IsKeptCore s → confirmation_prepared s asked ≡ Ok composed
+row-made : (s : CoreState) (asked : ConfirmQuestion) (composed : Composed) (w : Newest) (due : DueParts) → IsKeptCore s → confirmation_prepared s asked ≡ Ok composed
     → s.log.newest ≡ Some w → confirmed s.log w asked.name ≡ Ok due
     → confirm_row s asked ≡ Ok (open_reply s (after_confirm s.log w asked.name) (confirmed_draft s w asked ∷ []))
 row-made s asked composed w due kept prepared decided due-is =
     row-is s asked w (prepared-holds s asked composed prepared).0 decided
     ∙ ap (λ (c : Check). given (c ∷ []) (open_reply s (after_confirm s.log w asked.name) (confirmed_draft s w asked ∷ []))) (leaf-there s w asked.name due kept due-is)
 
-made-by : (s : CoreState) (asked : Asked) (composed : Composed) (w : Newest) (due : DueParts) (new : LogParts) (unsigned : Unsigned) → IsKeptCore s
+made-by : (s : CoreState) (asked : ConfirmQuestion) (composed : Composed) (w : Newest) (due : DueParts) (new : LogParts) (unsigned : Unsigned) → IsKeptCore s
     → confirmation_prepared s asked ≡ Ok composed → s.log.newest ≡ Some w → confirmed s.log w asked.name ≡ Ok due → new ≡ log-confirmed s w asked.name
     → unsigned ≡ sealed new.state.past.signed composed None → confirm_row s asked ≡ Ok (record { unsigned = unsigned; after = core-with s new })
 made-by s asked composed w due new unsigned kept prepared decided due-is news sends =
@@ -174,7 +174,7 @@ made-by s asked composed w due new unsigned kept prepared decided due-is news se
         sends ∙ ap (λ (n : LogParts). sealed n.state.past.signed composed None) news
         ∙ ap (λ (c : Composed). sealed book c None) (sym what) ∙ sealed-drafts book (confirmed_draft s w asked ∷ []) None
 
-pub confirm-made : (s : CoreState) (asked : Asked) (composed : Composed) (due : DueParts) (new : LogParts) (unsigned : Unsigned) → IsKeptCore s
+pub confirm-made : (s : CoreState) (asked : ConfirmQuestion) (composed : Composed) (due : DueParts) (new : LogParts) (unsigned : Unsigned) → IsKeptCore s
     → confirmation_prepared s asked ≡ Ok composed → IfSome s.log.newest (λ w. confirmed s.log w asked.name ≡ Ok due)
     → IfSome s.log.newest (λ w. new ≡ log-confirmed s w asked.name) → unsigned ≡ sealed new.state.past.signed composed None
     → confirm_row s asked ≡ Ok (record { unsigned = unsigned; after = core-with s new })
@@ -187,7 +187,7 @@ confirm-made s asked composed due new unsigned kept prepared gives news sends =
 abbrev WasNotSigned : BookFault → Result DueParts BookFault → Type 0
 WasNotSigned fault answer = ((fault ≡ book_fault.Memory) × IsOk answer) ⊎ (answer ≡ Err fault)
 
-spent-row : (s : CoreState) (asked : Asked) (composed : Composed) (w : Newest) (fault : BookFault) → IsKeptCore s → confirmation_prepared s asked ≡ Ok composed
+spent-row : (s : CoreState) (asked : ConfirmQuestion) (composed : Composed) (w : Newest) (fault : BookFault) → IsKeptCore s → confirmation_prepared s asked ≡ Ok composed
     → s.log.newest ≡ Some w → WasNotSigned fault (confirmed s.log w asked.name) → (book_refusal fault ≡ refusals.Memory) ⊎ (confirm_row s asked ≡ Err (book_refusal fault))
 spent-row s asked composed w fault kept prepared decided (inl wants) = inl (ap book_refusal wants.0)
 spent-row s asked composed w book_fault.Memory kept prepared decided (inr is) = inl refl
@@ -195,7 +195,7 @@ spent-row s asked composed w book_fault.Spent kept prepared decided (inr is) =
     inr (row-is s asked w (prepared-holds s asked composed prepared).0 decided
     ∙ ap (λ (c : Check). given (c ∷ []) (open_reply s (after_confirm s.log w asked.name) (confirmed_draft s w asked ∷ []))) (none-left s w asked.name kept is))
 
-pub confirm-spent : (s : CoreState) (asked : Asked) (composed : Composed) (fault : BookFault) (new : LogParts) → IsKeptCore s → confirmation_prepared s asked ≡ Ok composed
+pub confirm-spent : (s : CoreState) (asked : ConfirmQuestion) (composed : Composed) (fault : BookFault) (new : LogParts) → IsKeptCore s → confirmation_prepared s asked ≡ Ok composed
     → IfSome s.log.newest (λ w. WasNotSigned fault (confirmed s.log w asked.name)) → new ≡ log-in s
     → IsStep (Err (book_refusal fault)) s (core-with s new) (confirm_row s asked)
 confirm-spent s asked composed fault new kept prepared gives err =
@@ -205,7 +205,7 @@ confirm-spent s asked composed fault new kept prepared gives err =
     )
 
 -- what is kept behind the step
-pub confirm-keeps : (s : CoreState) (asked : Asked) (composed : Composed) (r : Result DueParts BookFault) (new : LogParts) → IsKeptCore s → IsName asked.name
+pub confirm-keeps : (s : CoreState) (asked : ConfirmQuestion) (composed : Composed) (r : Result DueParts BookFault) (new : LogParts) → IsKeptCore s → IsName asked.name
     → confirmation_prepared s asked ≡ Ok composed → IfSome s.log.newest (λ w. GivesOrWants book_fault.Memory (λ (due : DueParts). due) r (confirmed s.log w asked.name))
     → OnOk r (IfSome s.log.newest (λ w. new ≡ log-confirmed s w asked.name)) → OnErr r (new ≡ log-in s) → IsKeptCore (core-with s new)
 confirm-keeps s asked composed (Ok due) new kept named prepared gives ok err =

@@ -14,7 +14,7 @@ use Rattle.ar_message.specs.Filling.{zeros}
 use Rattle.epoch_log.specs.Calls.{confirmation_text}
 use Rattle.epoch_log.specs.declared.entries.Newest.{Newest}
 use Rattle.log_sending.specs.Blanks.{IsDraft, StandsAt}
-use Rattle.log_core.specs.Confirming.{Asked, confirmed_draft, confirming_of, newest_vote_text}
+use Rattle.log_core.specs.Confirming.{ConfirmQuestion, confirmed_draft, confirming_of, newest_vote_text}
 use Rattle.log_sending.specs.Sending.{own_votes, place_for, sent_votes}
 use Rattle.log_core.specs.State.{CoreState}
 use Rattle.log_sending.proofs.Blanks.{EndsIn, ends-behind, ends-itself, stands-end}
@@ -68,7 +68,7 @@ signature-end part =
     (subst (EndsIn tail) (sym (signed-is part))
     (ends-behind (number_text w16 part.log) tail _ (ends-behind (number_text w16 (length part.signature)) tail tail (ends-itself tail))))))
 
-pub confirmed-is_draft : (s : CoreState) (w : Newest) (asked : Asked) → IsDraft s.signature_len (confirmed_draft s w asked)
+pub confirmed-is_draft : (s : CoreState) (w : Newest) (asked : ConfirmQuestion) → IsDraft s.signature_len (confirmed_draft s w asked)
 confirmed-is_draft s w asked =
     let part : Confirming = confirming_of s w asked in
     let len : ℕ = s.signature_len in
@@ -84,7 +84,7 @@ confirmed-is_draft s w asked =
     (stands-end len 4 (authorities part) whole (signature-end part) (four part), tt)
 
 -- the votes, and what stands behind them, are within the message
-pub confirmed_within : (s : CoreState) (w : Newest) (asked : Asked)
+pub confirmed_within : (s : CoreState) (w : Newest) (asked : ConfirmQuestion)
     → length (flat_map vote_text (sent_votes s.signature_len w.votes)) + (s.signature_len + 8) ≤ length (message_text (LogConfirmed (confirming_of s w asked)))
 confirmed_within s w asked =
     let part : Confirming = confirming_of s w asked in

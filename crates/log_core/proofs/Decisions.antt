@@ -3,7 +3,7 @@ use Rattle.std.proofs.Common.{◌≡◌, ℕ, Bool, true, false, cond, List, ref
 use Rattle.std.specs.Result.{result_and}
 use Rattle.std.specs.Prelude.{All, Ok, Err, is_some}
 use Rattle.ar_cert.specs.Changes.{Change, IsChange}
-use Rattle.ar_council.specs.Values.{IsValue}
+use Rattle.ar_statement.specs.Ranges.{IsValue}
 use Rattle.ar_message.specs.Lists.{AreVotes}
 use Rattle.ar_message.specs.declared.unsigned.Unsigned.{Unsigned}
 use Rattle.ar_message.specs.Filling.{only_ended}
@@ -18,7 +18,7 @@ use Rattle.ar_base.specs.FirstFailing.{first_error}
 use Rattle.log_sending.specs.Closings.{still_wanted}
 use Rattle.log_core.specs.Decided.{Decision, decision_checks, decision_reply, decision_row, decision_state, plain_votes}
 use Rattle.log_core.specs.Kept.{IsKeptCore}
-use Rattle.log_core.specs.State.{Answer, CoreState}
+use Rattle.log_core.specs.State.{LogAnswer, CoreState}
 use Rattle.log_sending.specs.declared.refusal.LogRefusal.{LogRefusal}
 use Rattle.log_sending.specs.declared.refusal.LogRefusal.TheVariants as refusals
 use Rattle.ar_base.proofs.Failing.{all-good}
@@ -94,5 +94,5 @@ pub decision-ends : (s : CoreState) (d : Decision) (new : LogParts) (queue : Lis
     → decision_row s d ≡ Ok (record { unsigned = unsigned; after = core-of s new queue })
 decision-ends s d new queue unsigned is news queues sends =
     decision-made s d is
-    ∙ sym (ap (λ (u : Unsigned). let a : Answer = Ok (record { unsigned = u; after = core-of s new queue }) in a) sends
-    ∙ ap (λ (c : CoreState). let a : Answer = Ok (record { unsigned = (decision_reply s d).unsigned; after = c }) in a) (core-is s d new queue news queues))
+    ∙ sym (ap (λ (u : Unsigned). let a : LogAnswer = Ok (record { unsigned = u; after = core-of s new queue }) in a) sends
+    ∙ ap (λ (c : CoreState). let a : LogAnswer = Ok (record { unsigned = (decision_reply s d).unsigned; after = c }) in a) (core-is s d new queue news queues))

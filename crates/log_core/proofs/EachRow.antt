@@ -1,8 +1,7 @@
 -- What the reply of each row has, the reply to each input has.
 use Rattle.std.specs.Prelude.{◌≡◌, ℕ, List, Option, Ok, Err, Result}
-use Rattle.std.specs.Option.{option_map}
 use Rattle.ar_cert.specs.Changes.{Change}
-use Rattle.ar_council.specs.Values.{value_of_roots}
+use Rattle.ar_statement.specs.Claims.{value_with}
 use Rattle.ar_message.specs.Messages.{message_in}
 use Rattle.ar_message.specs.declared.lists.LogStatus.{LogStatus}
 use Rattle.ar_message.specs.declared.message.Message.{Message}
@@ -11,7 +10,7 @@ use Rattle.lms_tree.specs.declared.public_key.LmsPublic.{LmsPublic}
 use Rattle.party_keys.specs.Learning.{Announced}
 use Rattle.vote_quorum.specs.declared.value.Value.{Value}
 use Rattle.log_core.specs.Balloted.{ballot_row}
-use Rattle.log_core.specs.Confirming.{Asked, confirm_row}
+use Rattle.log_core.specs.Confirming.{ConfirmQuestion, confirm_row}
 use Rattle.log_core.specs.Decided.{Decision, decision_row}
 use Rattle.log_core.specs.Keyed.{IsPlain}
 use Rattle.log_core.specs.Learning.{roll_note_row}
@@ -21,12 +20,12 @@ use Rattle.log_core.specs.Proposing.{proposing_row}
 use Rattle.log_core.specs.Rolling.{rolling_row}
 use Rattle.log_core.specs.Row.{message_row, read_row, row}
 use Rattle.log_core.specs.Skipped.{skip_row}
-use Rattle.log_core.specs.State.{Answer, CoreState, Input, Reply, passes, proposes, rolls, takes}
+use Rattle.log_core.specs.State.{LogAnswer, CoreState, Input, Reply, passes, proposes, rolls, takes}
 use Rattle.log_core.specs.Stated.{status_row}
 use Rattle.log_core.specs.Submit.{submit_row}
 
 -- a row's reply, where it does not refuse, has this property
-abbrev pub RepliesWith : (Reply → Type 0) → Answer → Type 0
+abbrev pub RepliesWith : (Reply → Type 0) → LogAnswer → Type 0
 RepliesWith P answer = (reply : Reply) → answer ≡ Ok reply → P reply
 
 -- so has the reply of each row but that of a Roll
@@ -37,7 +36,7 @@ pub record EachReplies (P : Reply → Type 0) (s : CoreState) : Type 0 where
   pub status : (log epoch : ℕ) (value : Option Value) (signature : List ℕ) → RepliesWith P (status_row s log epoch value signature)
   pub decision : (d : Decision) → RepliesWith P (decision_row s d)
   pub skip : (epoch : ℕ) (statuses : List LogStatus) → RepliesWith P (skip_row s epoch statuses)
-  pub confirm : (asked : Asked) → RepliesWith P (confirm_row s asked)
+  pub confirm : (asked : ConfirmQuestion) → RepliesWith P (confirm_row s asked)
   pub roll_note : (a : Announced) → RepliesWith P (roll_note_row s a)
   pub proposing : RepliesWith P (proposing_row s)
   pub passing : RepliesWith P (passing_row s)
@@ -47,12 +46,12 @@ message-gives P s each (messages.EndorseAsk owner cert) reply answer = absurd cc
 message-gives P s each (messages.Endorsed owner authority certificate signature) reply answer = absurd cc
 message-gives P s each (messages.Submit change) reply answer = each.submit change reply answer
 message-gives P s each (messages.Propose log epoch base root changes signature) reply answer =
-    each.proposed (record { log = log; epoch = epoch; value = value_of_roots (base, root); changes = changes; signature = signature }) reply answer
-message-gives P s each (messages.Ballot log epoch base root signature) reply answer = each.ballot log epoch (value_of_roots (base, root)) signature reply answer
+    each.proposed (record { log = log; epoch = epoch; value = value_with base root; changes = changes; signature = signature }) reply answer
+message-gives P s each (messages.Ballot log epoch base root signature) reply answer = each.ballot log epoch (value_with base root) signature reply answer
 message-gives P s each (messages.StatusNote log epoch value signature) reply answer =
-    each.status log epoch (option_map value_of_roots value) signature reply answer
+    each.status log epoch value signature reply answer
 message-gives P s each (messages.Decision epoch base root changes votes) reply answer =
-    each.decision (record { epoch = epoch; value = value_of_roots (base, root); changes = changes; votes = votes }) reply answer
+    each.decision (record { epoch = epoch; value = value_with base root; changes = changes; votes = votes }) reply answer
 message-gives P s each (messages.SkipNote epoch statuses) reply answer = each.skip epoch statuses reply answer
 message-gives P s each (messages.ConfirmAsk client name first second) reply answer =
     each.confirm (record { client = client; name = name; first = first; second = second }) reply answer

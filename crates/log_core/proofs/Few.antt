@@ -17,7 +17,7 @@ use Rattle.log_sending.specs.Checks.{Check}
 use Rattle.log_core.specs.Steps.{given}
 use Rattle.log_sending.specs.Closings.{closing_drafts, decision_drafts}
 use Rattle.log_core.specs.Replies.{closing_reply}
-use Rattle.log_core.specs.Confirming.{Asked, confirm_checks, confirm_reply, confirm_row}
+use Rattle.log_core.specs.Confirming.{ConfirmQuestion, confirm_checks, confirm_reply, confirm_row}
 use Rattle.log_core.specs.Decided.{Decision, decision_checks, decision_reply, decision_row}
 use Rattle.log_core.specs.Learning.{roll_note_checks, roll_note_reply, roll_note_row}
 use Rattle.log_core.specs.Passing.{passing_checks, passing_reply, passing_row, status_draft, status_drafts}
@@ -25,9 +25,9 @@ use Rattle.log_core.specs.Proposed.{Proposal, proposed_checks, proposed_reply, p
 use Rattle.log_core.specs.Proposing.{proposal, proposal_draft, proposed_value, proposing_checks, proposing_reply, proposing_row}
 use Rattle.log_core.specs.Rolling.{rolling_checks, rolling_reply, rolling_row}
 use Rattle.log_core.specs.Row.{row}
-use Rattle.log_sending.specs.Sending.{Draft, letter_of}
+use Rattle.log_sending.specs.Sending.{DraftMessage, letter_of}
 use Rattle.log_core.specs.Skipped.{skip_checks, skip_reply, skip_row}
-use Rattle.log_core.specs.State.{Answer, CoreState, Input, Reply, most_sent}
+use Rattle.log_core.specs.State.{LogAnswer, CoreState, Input, Reply, most_sent}
 use Rattle.log_core.specs.Stated.{status_checks, status_reply, status_row}
 use Rattle.log_core.specs.Submit.{submit_checks, submit_reply, submit_row}
 use Rattle.log_core.proofs.EachRow.{row-gives}
@@ -38,7 +38,7 @@ abbrev IsFew : Reply → Type 0
 IsFew reply = length reply.unsigned.sent.messages ≤ most_sent
 
 -- so does a row, where it answers
-abbrev SendsFew : Answer → Type 0
+abbrev SendsFew : LogAnswer → Type 0
 SendsFew answer = (reply : Reply) → answer ≡ Ok reply → IsFew reply
 
 -- ---- the closing rule
@@ -52,9 +52,9 @@ closing-one closings.Open len before after = omega arith
 closing-one closings.Decided len before after = newest-one len before after after.newest
 closing-one (closings.Skipped statuses) len before after = omega arith
 
-closing-few : (s : CoreState) (before : LogState) (drafts : List Draft) (x : LogState × Closing) → length drafts ≤ 1 → IsFew (closing_reply s before drafts x)
+closing-few : (s : CoreState) (before : LogState) (drafts : List DraftMessage) (x : LogState × Closing) → length drafts ≤ 1 → IsFew (closing_reply s before drafts x)
 closing-few s before drafts x one =
-    let more : List Draft = closing_drafts x.1 s.signature_len before x.0 in
+    let more : List DraftMessage = closing_drafts x.1 s.signature_len before x.0 in
     let all : length (map letter_of (drafts ++ more)) ≡ length (drafts ++ more) = length-map (drafts ++ more) letter_of in
     let both : length (drafts ++ more) ≡ length drafts + length more = length-append drafts more in
     let other : length more ≤ 1 = closing-one x.1 s.signature_len before x.0 in
@@ -113,7 +113,7 @@ skip-few : (s : CoreState) (epoch : ℕ) (statuses : List LogStatus) → SendsFe
 unfolding skip_row
 skip-few s epoch statuses = given-few (skip_checks s epoch statuses) (skip_reply s statuses) (omega arith)
 
-confirm-few : (s : CoreState) (asked : Asked) → SendsFew (confirm_row s asked)
+confirm-few : (s : CoreState) (asked : ConfirmQuestion) → SendsFew (confirm_row s asked)
 unfolding confirm_row
 confirm-few s asked = given-few (confirm_checks s asked) (confirm_reply s s.log.newest asked) (by s.log.newest)
   where

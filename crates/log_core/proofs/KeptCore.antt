@@ -22,7 +22,7 @@ use Rattle.epoch_log.specs.declared.entries.Closing.TheVariants as closings
 use Rattle.epoch_log.specs.declared.entries.Voted.{Voted}
 use Rattle.log_core.specs.Replies.{closing_reply, core_after, open_reply}
 use Rattle.log_sending.specs.Closings.{queue_after, still_wanted}
-use Rattle.log_sending.specs.Sending.{Draft}
+use Rattle.log_sending.specs.Sending.{DraftMessage}
 use Rattle.log_core.specs.Kept.{IsKeptCore, WasQueued}
 use Rattle.log_sending.specs.Sendable.{CanBeSent}
 use Rattle.log_core.specs.State.{CoreState}
@@ -105,12 +105,12 @@ core-kept s after queue kept log can same endorsed queued few = record {
 }
 
 -- a step that goes on in the epoch
-pub open-kept : (s : CoreState) (after : LogState) (drafts : List Draft) → IsKeptCore s → IsKept after → CanBeSent after → after.council ≡ s.log.council
+pub open-kept : (s : CoreState) (after : LogState) (drafts : List DraftMessage) → IsKeptCore s → IsKept after → CanBeSent after → after.council ≡ s.log.council
     → Within s.log.past.seen after.past.seen → IsKeptCore (open_reply s after drafts).after
 open-kept s after drafts kept log can same within = core-kept s after s.queue kept log can same (saw-more s.log.past.seen after.past.seen within s.queue kept.endorsed) kept.queued kept.few
 
 -- a step that ends with the closing rule
-pub closing-kept : (s : CoreState) (before : LogState) (drafts : List Draft) (x : LogState × Closing) → IsKeptCore s → IsKept x.0 → CanBeSent x.0 → x.0.council ≡ s.log.council
+pub closing-kept : (s : CoreState) (before : LogState) (drafts : List DraftMessage) (x : LogState × Closing) → IsKeptCore s → IsKept x.0 → CanBeSent x.0 → x.0.council ≡ s.log.council
     → Within s.log.past.seen x.0.past.seen → IsKeptCore (closing_reply s before drafts x).after
 closing-kept s before drafts x kept log can same within =
     core-kept s x.0 (queue_after x.1 x.0 s.queue) kept log can same
@@ -119,7 +119,7 @@ closing-kept s before drafts x kept log can same within =
     (omega (arith, queue-few x.1 x.0 s.queue, kept.few))
 
 -- the same, where what the log did was counted before the rule
-pub closed-kept : (s : CoreState) (before : LogState) (drafts : List Draft) (counted : LogState) → IsKeptCore s → IsKept (closed counted).0 → CanBeSent counted → counted.council ≡ s.log.council
+pub closed-kept : (s : CoreState) (before : LogState) (drafts : List DraftMessage) (counted : LogState) → IsKeptCore s → IsKept (closed counted).0 → CanBeSent counted → counted.council ≡ s.log.council
     → Within s.log.past.seen counted.past.seen → IsKeptCore (closing_reply s before drafts (closed counted)).after
 closed-kept s before drafts counted kept log can same within =
     let rule = closed-same counted in

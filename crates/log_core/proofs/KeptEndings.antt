@@ -2,7 +2,6 @@
 use Rattle.std.proofs.Common.{◌≡◌, ℕ, ◌+◌, ◌<◌, ◌≤◌, List, [], ◌∷◌, length, refl, sym, ap, ◌∙◌, subst, arith, Bool, true, false, cond, Option, Some, None}
 use Rattle.std.specs.Prelude.{All, Ok, Err, Result, IfSome, IsTrue, flat_map, map, slice_get}
 use Rattle.std.specs.List.{AllByRecursion}
-use Rattle.std.specs.Option.{option_map}
 use Rattle.std.specs.List.Sorted.{IsStrictlyIncreasing}
 use Rattle.std.proofs.lemmas.List.{length-map}
 use Rattle.std.proofs.lemmas.List.Elements.{All-from_recursion, All-weaker}
@@ -23,8 +22,8 @@ use Rattle.ar_message.specs.declared.lists.LogStatus.{LogStatus}
 use Rattle.ar_message.specs.declared.lists.Vote.{Vote}
 use Rattle.ar_statement.specs.declared.party.Party.{Party}
 use Rattle.ar_statement.specs.declared.text.SeenText.{SeenText}
-use Rattle.ar_statement.specs.Claims.{log_party}
-use Rattle.ar_statement.specs.Ranges.{AreRoots, IsKeyText, is_readable}
+use Rattle.ar_statement.specs.Claims.{log_party, value_with}
+use Rattle.ar_statement.specs.Ranges.{IsKeyText, IsValue, is_readable}
 use Rattle.lms_tree.specs.PublicKey.{key_text}
 use Rattle.lms_tree.specs.declared.public_key.LmsPublic.{LmsPublic}
 use Rattle.party_keys.specs.Directory.{Directory, keys_of}
@@ -47,7 +46,6 @@ use Rattle.ar_council.proofs.Seeing.{seen-keeps}
 use Rattle.ar_council.specs.Council.{IsMember, council_of}
 use Rattle.ar_council.specs.Seen.{seen_after}
 use Rattle.party_keys.specs.Seen.{seen_of}
-use Rattle.ar_council.specs.Values.{IsValue, value_of_roots}
 use Rattle.epoch_log.proofs.Acting.{kept-confirming, kept-rolling}
 use Rattle.epoch_log.proofs.Called.{kept-decide, kept-learn, kept-skip}
 use Rattle.epoch_log.proofs.Read.{table-skipped}
@@ -57,12 +55,12 @@ use Rattle.epoch_log.specs.Right.{IsRightDecision, SawEndorsements}
 use Rattle.epoch_log.specs.State.{IsKept, IsNewest, IsNewestDecision, LogState, epoch_of, reports_of, table_of}
 use Rattle.epoch_log.specs.declared.entries.Newest.{Newest}
 use Rattle.log_sending.specs.Closings.{still_wanted}
-use Rattle.log_core.specs.Confirming.{Asked, confirm_checks, confirm_reply, confirm_row, confirmed_draft, leaf_to_confirm}
+use Rattle.log_core.specs.Confirming.{ConfirmQuestion, confirm_checks, confirm_reply, confirm_row, confirmed_draft, leaf_to_confirm}
 use Rattle.log_core.specs.Decided.{Decision, decision_checks, decision_reply, decision_row, decision_signers, decision_state, plain_votes}
 use Rattle.log_core.specs.Learning.{is_learned, roll_note_checks, roll_note_reply, roll_note_row}
 use Rattle.log_core.specs.Row.{IsInput, message_row, read_row, row}
 use Rattle.log_core.specs.Rolling.{rolling_checks, rolling_reply, rolling_row}
-use Rattle.ar_claims.specs.Lists.{endorsements_in, votes_in}
+use Rattle.ar_claims.specs.Lists.{endorsements_in, claimed_votes}
 use Rattle.log_core.specs.Skipped.{signed_statuses, skip_checks, skip_reply, skip_row}
 use Rattle.log_core.specs.Kept.{IsKeptCore, WasQueued}
 use Rattle.log_core.specs.State.{CoreState, Input, Reply, passes, proposes, rolls, takes}
@@ -150,8 +148,8 @@ decision-may s d kept digests are votes hold = record {
   are_digests = digests;
 }
   where
-    knows : AllByRecursion (λ x. is_known s.keys x.party ≡ true) (votes_in d.epoch d.value d.votes) × AllByRecursion (λ x. is_known s.keys x.party ≡ true) (flat_map endorsements_in d.changes)
-    knows = of-both-lists (λ (x : Claimed). is_known s.keys x.party ≡ true) (votes_in d.epoch d.value d.votes) (flat_map endorsements_in d.changes)
+    knows : AllByRecursion (λ x. is_known s.keys x.party ≡ true) (claimed_votes d.epoch d.value d.votes) × AllByRecursion (λ x. is_known s.keys x.party ≡ true) (flat_map endorsements_in d.changes)
+    knows = of-both-lists (λ (x : Claimed). is_known s.keys x.party ≡ true) (claimed_votes d.epoch d.value d.votes) (flat_map endorsements_in d.changes)
         (each-known s.keys (decision_signers d) hold.0)
 
     below : AllByRecursion (λ (v : Vote). v.log < length s.keys.logs) d.votes
@@ -193,13 +191,9 @@ kept-decision s d reply kept digests are votes answer = subst KeepsReply h.1 her
 
 -- ---- SkipNote
 
-value-digests : (value : Option (List ℕ × List ℕ)) → IfSome value AreRoots → IfSome (option_map value_of_roots value) IsValue
-value-digests None are = tt
-value-digests (Some roots) are = record { base = are.0; root = are.1 }
-
 stated-values : (statuses : List LogStatus) → AllByRecursion IsStatus statuses → AllByRecursion (λ (x : Status). IfSome x.1 IsValue) (reports_of (signed_statuses statuses))
 stated-values [] all = tt
-stated-values (x ∷ statuses) all = (value-digests x.value all.0.1, stated-values statuses all.1)
+stated-values (x ∷ statuses) all = (all.0.1, stated-values statuses all.1)
 
 pub kept-skip_row : (s : CoreState) (epoch : ℕ) (statuses : List LogStatus) (reply : Reply) → IsKeptCore s → lists.AreStatuses statuses
     → skip_row s epoch statuses ≡ Ok reply → IsKeptCore reply.after
@@ -252,7 +246,7 @@ decided-root s w kept is =
     let right : IsRightDecision s.council s.past.seen s.past.ended w.epoch last.changes w.root = kept.honest.decides_rightly w.epoch last.changes w.root last.decided in
     subst IsDigest right.leads.reaches.is_root (root-digest right.leads.reaches.table)
 
-confirm-by : (s : CoreState) (asked : Asked) (w : Option Newest) → s.log.newest ≡ w → IsKeptCore s → IsName asked.name → leaf_to_confirm s w asked.name ≡ Ok tt
+confirm-by : (s : CoreState) (asked : ConfirmQuestion) (w : Option Newest) → s.log.newest ≡ w → IsKeptCore s → IsName asked.name → leaf_to_confirm s w asked.name ≡ Ok tt
     → IsKeptCore (confirm_reply s w asked).after
 confirm-by s asked None is kept named leaf = kept
 confirm-by s asked (Some w) is kept named leaf =
@@ -262,7 +256,7 @@ confirm-by s asked (Some w) is kept named leaf =
     (room s.log.past.signed (confirmation_text s.log w asked.name ∷ []) leaf))
     (confirm-can s.log w asked.name kept.sendable) refl (λ x there. there)
 
-pub kept-confirm : (s : CoreState) (asked : Asked) (reply : Reply) → IsKeptCore s → IsName asked.name → confirm_row s asked ≡ Ok reply → IsKeptCore reply.after
+pub kept-confirm : (s : CoreState) (asked : ConfirmQuestion) (reply : Reply) → IsKeptCore s → IsName asked.name → confirm_row s asked ≡ Ok reply → IsKeptCore reply.after
 unfolding confirm_row
 kept-confirm s asked reply kept named answer =
     let h = passed (confirm_checks s asked) (confirm_reply s s.log.newest asked) reply answer in
@@ -334,15 +328,15 @@ kept-message s (messages.EndorseAsk owner cert) reply kept is answer = absurd cc
 kept-message s (messages.Endorsed owner authority certificate signature) reply kept is answer = absurd cc
 kept-message s (messages.Submit change) reply kept is answer = kept-submit s change reply kept is answer
 kept-message s (messages.Propose log epoch base root changes signature) reply kept is answer =
-    kept-proposed s (record { log = log; epoch = epoch; value = value_of_roots (base, root); changes = changes; signature = signature }) reply kept
-    (record { base = is.1.1.0.0; root = is.1.1.0.1 }) is.1.1.1.0 answer
+    kept-proposed s (record { log = log; epoch = epoch; value = value_with base root; changes = changes; signature = signature }) reply kept
+    is.1.1.0 is.1.1.1.0 answer
 kept-message s (messages.Ballot log epoch base root signature) reply kept is answer =
-    kept-ballot_row s log epoch (value_of_roots (base, root)) signature reply kept is.1.1.1 answer
+    kept-ballot_row s log epoch (value_with base root) signature reply kept is.1.1.1 answer
 kept-message s (messages.StatusNote log epoch value signature) reply kept is answer =
-    kept-status_row s log epoch (option_map value_of_roots value) signature reply kept (value-digests value is.1.1.0) is.1.1.1 answer
+    kept-status_row s log epoch value signature reply kept is.1.1.0 is.1.1.1 answer
 kept-message s (messages.Decision epoch base root changes votes) reply kept is answer =
-    kept-decision s (record { epoch = epoch; value = value_of_roots (base, root); changes = changes; votes = votes }) reply kept
-    (record { base = is.1.0.0; root = is.1.0.1 }) (All-from_recursion IsChange changes is.1.1.0.1) is.1.1.1 answer
+    kept-decision s (record { epoch = epoch; value = value_with base root; changes = changes; votes = votes }) reply kept
+    is.1.0 (All-from_recursion IsChange changes is.1.1.0.1) is.1.1.1 answer
 kept-message s (messages.SkipNote epoch statuses) reply kept is answer = kept-skip_row s epoch statuses reply kept is.1 answer
 kept-message s (messages.ConfirmAsk client name first second) reply kept is answer =
     kept-confirm s (record { client = client; name = name; first = first; second = second }) reply kept is.1.0 answer

@@ -22,7 +22,8 @@ use Rattle.ar_council.proofs.Seeing.{seen-has, seen-keeps}
 use Rattle.ar_council.specs.Council.{Council, council_of}
 use Rattle.ar_council.specs.Seen.{seen_after}
 use Rattle.party_keys.specs.Seen.{seen_of}
-use Rattle.ar_council.specs.Values.{IsValue, status_claim, vote_claim}
+use Rattle.ar_council.specs.Values.{status_claim, vote_claim}
+use Rattle.ar_statement.specs.Ranges.{IsValue}
 use Rattle.epoch_log.proofs.Called.{kept-ballot, kept-endorsed, kept-propose, kept-state, kept-status, kept-vote}
 use Rattle.epoch_log.specs.Calls.{AreEndorsers, IsProposed, IsTurn, MayVote, after_endorsed, after_state, after_status_seen, after_vote, casting, counting_own, counting_status, counting_vote, endorsements_of, is_turn, own_status_text, own_value, own_vote_text, proposal_of, proposal_texts, proposing, seeing, stating, vote_of}
 use Rattle.epoch_log.specs.Right.{SawEndorsements}
@@ -40,7 +41,7 @@ use Rattle.log_core.specs.Kept.{IsKeptCore, WasQueued}
 use Rattle.log_core.specs.State.{CoreState, Reply}
 use Rattle.log_sending.specs.Queued.{is_queued}
 use Rattle.log_core.specs.Submit.{queueing, submit_checks, submit_reply, submit_row}
-use Rattle.log_sending.specs.Walk.{most_bytes, most_changes}
+use Rattle.log_sending.specs.Walk.{most_change_bytes, most_changes}
 use Rattle.log_sending.proofs.Checked.{a-place, its-base, its-turn, none-stated, none-voted, room}
 use Rattle.log_core.proofs.Passed.{passed}
 use Rattle.log_sending.proofs.Judged.{applied}
@@ -172,7 +173,7 @@ kept-proposing s reply kept answer =
     table = table_of s.log
 
     walked : (after : Table) × (apply table (epoch_of s.log) changes ≡ Some after)
-    walked = walk-applies s.queue (epoch_of s.log) most_changes most_bytes (ripen table (epoch_of s.log))
+    walked = walk-applies s.queue (epoch_of s.log) most_changes most_change_bytes (ripen table (epoch_of s.log))
 
     mine : s.log.me ≡ turn_of s.log.council (epoch_of s.log)
     mine = its-turn s.log.council (epoch_of s.log) s.log.me h.0.0
@@ -182,14 +183,14 @@ kept-proposing s reply kept answer =
 
     saw : All (SawEndorsements s.log.past.seen) changes
     saw = All-from_recursion (SawEndorsements s.log.past.seen) changes
-        (walk-all (SawEndorsements s.log.past.seen) s.queue (epoch_of s.log) most_changes most_bytes (ripen table (epoch_of s.log))
+        (walk-all (SawEndorsements s.log.past.seen) s.queue (epoch_of s.log) most_changes most_change_bytes (ripen table (epoch_of s.log))
         (recursion_from_All (SawEndorsements s.log.past.seen) s.queue kept.endorsed))
 
     changes-queued : All IsChange s.queue
     changes-queued = All-weaker (WasQueued s.keys) IsChange (λ (change : Change) was. was.is_change) s.queue kept.queued
 
     each : AllByRecursion IsChange changes
-    each = walk-all IsChange s.queue (epoch_of s.log) most_changes most_bytes (ripen table (epoch_of s.log)) (recursion_from_All IsChange s.queue changes-queued)
+    each = walk-all IsChange s.queue (epoch_of s.log) most_changes most_change_bytes (ripen table (epoch_of s.log)) (recursion_from_All IsChange s.queue changes-queued)
 
     are : All IsChange changes
     are = All-from_recursion IsChange changes each

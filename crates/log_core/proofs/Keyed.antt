@@ -29,7 +29,7 @@ use Rattle.epoch_log.specs.declared.entries.Voted.{Voted}
 use Rattle.ar_statement.specs.Claims.{log_party, text_of}
 use Rattle.ar_statement.specs.Ranges.{IsKeyText}
 use Rattle.log_core.specs.Balloted.{ballot_checks, ballot_reply, ballot_row}
-use Rattle.log_core.specs.Confirming.{Asked, confirm_checks, confirm_reply, confirm_row}
+use Rattle.log_core.specs.Confirming.{ConfirmQuestion, confirm_checks, confirm_reply, confirm_row}
 use Rattle.log_core.specs.Decided.{Decision, decision_checks, decision_reply, decision_row, plain_votes}
 use Rattle.keyed_core.specs.Signing.{IsSignedBy, signed}
 use Rattle.keyed_core.proofs.Signed.{signed-sends}
@@ -43,7 +43,7 @@ use Rattle.log_core.specs.Proposing.{proposal, proposed_value, proposing_checks,
 use Rattle.log_core.specs.Rolling.{rolling_checks, rolling_reply, rolling_row}
 use Rattle.log_core.specs.Row.{IsInput, row}
 use Rattle.log_core.specs.Skipped.{signed_statuses, skip_checks, skip_reply, skip_row}
-use Rattle.log_core.specs.State.{Answer, CoreState, Input, Reply, most_sent, rolls}
+use Rattle.log_core.specs.State.{LogAnswer, CoreState, Input, Reply, most_sent, rolls}
 use Rattle.log_core.specs.Steps.{IsStep}
 use Rattle.log_core.specs.Stated.{status_checks, status_reply, status_row}
 use Rattle.log_sending.specs.Queued.{is_queued}
@@ -188,7 +188,7 @@ skip-same s epoch statuses reply answer =
     by true = itself s.log.past.signed
     by false = itself s.log.past.signed
 
-confirm-same : (s : CoreState) (asked : Asked) (reply : Reply) → confirm_row s asked ≡ Ok reply → Same s reply
+confirm-same : (s : CoreState) (asked : ConfirmQuestion) (reply : Reply) → confirm_row s asked ≡ Ok reply → Same s reply
 unfolding confirm_row
 confirm-same s asked reply answer =
     let h = passed (confirm_checks s asked) (confirm_reply s s.log.newest asked) reply answer in
@@ -286,11 +286,6 @@ pub roll-few : (result : Result Unsigned LogRefusal) (s later : CoreState) (key 
 roll-few (Ok unsigned) s later key step = rolling-few s key (reply-of unsigned later) step
 roll-few (Err refusal) s later key step = tt
 
--- the queue is as it was
-pub roll-keeps : (result : Result Unsigned LogRefusal) (s later : CoreState) (key : LmsPublic) → IsStep result s later (rolling_row s key) → later.queue ≡ s.queue
-roll-keeps (Ok unsigned) s later key step = ap (λ (r : Reply). r.after.queue) (sym (rolled-is s key (reply-of unsigned later) step))
-roll-keeps (Err refusal) s later key step = ap (λ (c : CoreState). c.queue) step.0
-
 -- the order to roll as an input: the key is that of the next one
 pub rolls-sends : (keys later : List KeyParts) (input : Input) (key : LmsPublic) (old new : CoreState) (result : Result Sent LogRefusal) → input ≡ rolls key → IsOwn keys input
     → ((next : KeyParts) → IsNext keys next → SendsBy (keys ++ next ∷ []) result old new (rolling_row old (public_of next)))
@@ -300,7 +295,7 @@ rolls-sends keys later input key old new result is own sends later-is =
     let of-key : SendsBy (keys ++ of-next.next ∷ []) result old new (rolling_row old key) =
     subst (λ (k : LmsPublic). SendsBy (keys ++ of-next.next ∷ []) result old new (rolling_row old k)) (sym of-next.is) (sends of-next.next of-next.is_next) in
     let of-input : SendsBy (keys ++ of-next.next ∷ []) result old new (row old input) =
-    subst (λ (a : Answer). SendsBy (keys ++ of-next.next ∷ []) result old new a) (sym (ap (row old) is ∙ rolls-row old key)) of-key in
+    subst (λ (a : LogAnswer). SendsBy (keys ++ of-next.next ∷ []) result old new a) (sym (ap (row old) is ∙ rolls-row old key)) of-key in
     by result of-next of-input later-is
   where
     by : (r : Result Sent LogRefusal) (o : IsOfNext keys key) → SendsBy (keys ++ o.next ∷ []) r old new (row old input)

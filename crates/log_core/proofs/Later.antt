@@ -16,7 +16,7 @@ use Rattle.epoch_log.specs.Later.{LogGrows}
 use Rattle.epoch_log.specs.declared.entries.Newest.{Newest}
 use Rattle.epoch_log.proofs.Later.{ballot_adds, change_adds, confirm_adds, decision_adds, learn_adds, proposal_adds, roll_adds, same_record, skip_adds, state_adds, status_adds, vote_adds}
 use Rattle.log_core.specs.Balloted.{ballot_checks, ballot_reply, ballot_row}
-use Rattle.log_core.specs.Confirming.{Asked, confirm_checks, confirm_reply, confirm_row}
+use Rattle.log_core.specs.Confirming.{ConfirmQuestion, confirm_checks, confirm_reply, confirm_row}
 use Rattle.log_core.specs.Decided.{Decision, decision_checks, decision_reply, decision_row, plain_votes}
 use Rattle.log_core.specs.Learning.{roll_note_checks, roll_note_reply, roll_note_row}
 use Rattle.log_core.specs.Passing.{passing_checks, passing_reply, passing_row}
@@ -82,7 +82,7 @@ unfolding skip_row
 skip-adds s epoch statuses reply answer =
     subst (Adds s) (passed (skip_checks s epoch statuses) (skip_reply s statuses) reply answer).1 (skip_adds s.log (signed_statuses statuses))
 
-confirm-adds : (s : CoreState) (asked : Asked) (reply : Reply) → confirm_row s asked ≡ Ok reply → Adds s reply
+confirm-adds : (s : CoreState) (asked : ConfirmQuestion) (reply : Reply) → confirm_row s asked ≡ Ok reply → Adds s reply
 unfolding confirm_row
 confirm-adds s asked reply answer = subst (Adds s) (passed (confirm_checks s asked) (confirm_reply s s.log.newest asked) reply answer).1 (by s.log.newest)
   where

@@ -7,11 +7,11 @@ use Rattle.std.proofs.lemmas.List.Elements.{recursion_from_All}
 use Rattle.log_sending.specs.Checks.{Check}
 use Rattle.ar_base.specs.FirstFailing.{first_error}
 use Rattle.log_core.specs.Steps.{given}
-use Rattle.log_core.specs.State.{Answer, Reply}
+use Rattle.log_core.specs.State.{LogAnswer, Reply}
 use Rattle.log_sending.specs.declared.refusal.LogRefusal.{LogRefusal}
 use Rattle.ar_base.proofs.Failing.{all-good, error-behind, none-bad}
 
-abbrev reply-in : Answer → Reply → Reply
+abbrev reply-in : LogAnswer → Reply → Reply
 reply-in (Ok reply) other = reply
 reply-in (Err refusal) other = other
 

@@ -29,9 +29,9 @@ use Rattle.log_core.specs.Replies.{closing_reply}
 use Rattle.log_core.specs.Kept.{IsKeptCore, WasQueued}
 use Rattle.log_core.specs.Proposing.{proposal, proposal_draft, proposed_value, proposing_checks, proposing_judged, proposing_reply, proposing_row, turn_checks, turn_judged}
 use Rattle.log_sending.specs.Sendable.{CanBeTold}
-use Rattle.log_sending.specs.Sending.{Composed, Draft, none_composed, sealed, with_draft, with_drafts}
+use Rattle.log_sending.specs.Sending.{Composed, DraftMessage, none_composed, sealed, with_draft, with_drafts}
 use Rattle.log_core.specs.State.{CoreState, Reply}
-use Rattle.log_sending.specs.Walk.{most_bytes, most_changes}
+use Rattle.log_sending.specs.Walk.{most_change_bytes, most_changes}
 use Rattle.log_sending.specs.declared.refusal.LogRefusal.{LogRefusal}
 use Rattle.log_sending.specs.declared.refusal.LogRefusal.TheVariants as refusals
 use Rattle.log_sending.proofs.Checked.{its-turn, none-stated, none-voted}
@@ -111,7 +111,7 @@ pub record MayPropose (s : CoreState) (value : Value) (changes : List Change) : 
   pub are : AreChanges changes
 
 all-walked : (P : Change → Type 0) (s : CoreState) → All P s.queue → AllByRecursion P (proposal s)
-all-walked P s all = walk-all P s.queue (epoch_of s.log) most_changes most_bytes (ripen (table_of s.log) (epoch_of s.log)) (recursion_from_All P s.queue all)
+all-walked P s all = walk-all P s.queue (epoch_of s.log) most_changes most_change_bytes (ripen (table_of s.log) (epoch_of s.log)) (recursion_from_All P s.queue all)
 
 may-walked : (s : CoreState) → IsKeptCore s → first_error (proposing_checks s) ≡ Ok tt → MayPropose s (proposed_value s) (proposal s)
 may-walked s kept is =
@@ -193,7 +193,7 @@ propose-keeps s value changes ready unsigned parts queue due closing epoch kept 
 -- ---- what is composed
 
 -- the proposal is composed first, and then what tells how the epoch ends
-pub ready-composed : (r : Result Composed AllocError) (first second third : Composed) (draft : Draft) (drafts : List Draft) → IfOk r (λ ready. ready ≡ third)
+pub ready-composed : (r : Result Composed AllocError) (first second third : Composed) (draft : DraftMessage) (drafts : List DraftMessage) → IfOk r (λ ready. ready ≡ third)
     → third ≡ with_drafts second drafts → second ≡ with_draft first draft → first ≡ none_composed → IfOk r (λ ready. ready ≡ with_drafts none_composed (draft ∷ drafts))
 ready-composed (Err error) first second third draft drafts is more one none = tt
 ready-composed (Ok ready) first second third draft drafts is more one none =

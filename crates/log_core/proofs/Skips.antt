@@ -22,7 +22,7 @@ use Rattle.log_core.specs.Steps.{IsStep, ended_epoch}
 use Rattle.log_core.specs.Kept.{IsKeptCore}
 use Rattle.log_sending.specs.Reported.{most_reported}
 use Rattle.log_core.specs.Skipped.{signed_statuses, skip_checks, skip_judged, skip_reply, skip_row}
-use Rattle.log_core.specs.State.{Answer, CoreState, Reply}
+use Rattle.log_core.specs.State.{LogAnswer, CoreState, Reply}
 use Rattle.log_sending.specs.declared.refusal.LogRefusal.{LogRefusal}
 use Rattle.log_sending.specs.declared.refusal.LogRefusal.TheVariants as refusals
 use Rattle.log_sending.proofs.Checked.{none-wins}
@@ -80,7 +80,7 @@ skip-made : (s : CoreState) (epoch : ℕ) (statuses : List LogStatus) → skip_j
 unfolding skip_judged skip_row
 skip-made s epoch statuses is = ap (λ c. result_and c (Ok (skip_reply s statuses))) is
 
-abbrev refusal-of : Check → Reply → Answer
+abbrev refusal-of : Check → Reply → LogAnswer
 refusal-of (Ok u) reply = Ok reply
 refusal-of (Err refusal) reply = Err refusal
 

@@ -21,7 +21,7 @@ use Rattle.ar_statement.specs.Claims.{log_party}
 use Rattle.log_core.specs.Balloted.{ballot_checks, ballot_reply, ballot_row}
 use Rattle.log_sending.specs.Checks.{Check}
 use Rattle.log_core.specs.Steps.{given}
-use Rattle.log_core.specs.Confirming.{Asked, confirm_checks, confirm_reply, confirm_row}
+use Rattle.log_core.specs.Confirming.{ConfirmQuestion, confirm_checks, confirm_reply, confirm_row}
 use Rattle.log_core.specs.Decided.{Decision, decision_checks, decision_reply, decision_row, plain_votes}
 use Rattle.log_core.specs.Learning.{roll_note_checks, roll_note_reply, roll_note_row}
 use Rattle.log_core.specs.Passing.{passing_checks, passing_reply, passing_row}
@@ -30,7 +30,7 @@ use Rattle.log_core.specs.Proposing.{proposal, proposed_value, proposing_checks,
 use Rattle.log_core.specs.Rolling.{rolling_checks, rolling_reply, rolling_row}
 use Rattle.log_core.specs.Row.{row}
 use Rattle.log_core.specs.Skipped.{signed_statuses, skip_checks, skip_reply, skip_row}
-use Rattle.log_core.specs.State.{Answer, CoreState, Input, Reply}
+use Rattle.log_core.specs.State.{LogAnswer, CoreState, Input, Reply}
 use Rattle.log_core.specs.Stated.{status_checks, status_reply, status_row}
 use Rattle.log_sending.specs.Queued.{is_queued}
 use Rattle.log_core.specs.Submit.{queueing, submit_checks, submit_reply, submit_row}
@@ -46,7 +46,7 @@ abbrev Stays : CoreState → Reply → Type 0
 Stays s reply = IsSame s.log reply.after.log
 
 -- so does a row, where it answers
-abbrev StaysBy : CoreState → Answer → Type 0
+abbrev StaysBy : CoreState → LogAnswer → Type 0
 StaysBy s answer = (reply : Reply) → answer ≡ Ok reply → Stays s reply
 
 -- ---- the closing rule
@@ -150,7 +150,7 @@ skip-stays s epoch statuses = given-stays s (skip_checks s epoch statuses) (skip
     by true = (refl, refl)
     by false = (refl, refl)
 
-confirm-stays : (s : CoreState) (asked : Asked) → StaysBy s (confirm_row s asked)
+confirm-stays : (s : CoreState) (asked : ConfirmQuestion) → StaysBy s (confirm_row s asked)
 unfolding confirm_row
 confirm-stays s asked = given-stays s (confirm_checks s asked) (confirm_reply s s.log.newest asked) (by s.log.newest)
   where

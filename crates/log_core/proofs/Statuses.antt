@@ -10,7 +10,7 @@ use Rattle.ar_message.specs.declared.lists.LogStatus.{LogStatus}
 use Rattle.party_keys.specs.Directory.{Directory}
 use Rattle.vote_quorum.specs.Statuses.{AreStatuses, Status, logs_of}
 use Rattle.epoch_log.specs.State.{reports_of}
-use Rattle.ar_claims.specs.Lists.{statuses_in}
+use Rattle.ar_claims.specs.Lists.{claimed_statuses}
 use Rattle.log_sending.specs.Signers.{signers}
 use Rattle.log_core.specs.Skipped.{signed_statuses}
 use Rattle.log_sending.proofs.Ascending.{rises}
@@ -25,16 +25,16 @@ same-logs : (statuses : List LogStatus) → logs_of (reports_of (signed_statuses
 same-logs [] = refl
 same-logs (x ∷ statuses) = ap (λ l. x.log ∷ l) (same-logs statuses)
 
-pub are-statuses : (keys : Directory) (epoch : ℕ) (statuses : List LogStatus) → lists.AreStatuses statuses → signers keys (statuses_in epoch statuses) ≡ Ok tt
+pub are-statuses : (keys : Directory) (epoch : ℕ) (statuses : List LogStatus) → lists.AreStatuses statuses → signers keys (claimed_statuses epoch statuses) ≡ Ok tt
     → AreStatuses (length keys.logs) (reports_of (signed_statuses statuses))
 are-statuses keys epoch statuses are holds = record {
   ascending = subst IsStrictlyIncreasing (sym (same-logs statuses)) (rises (λ (x : LogStatus). x.log) IsStatus 0 statuses are.1);
   below = All-from_recursion (λ log. log < length keys.logs) (logs_of (reports_of (signed_statuses statuses)))
-      (below-each (length keys.logs) statuses (staters keys epoch statuses (each-known keys (statuses_in epoch statuses) holds)));
+      (below-each (length keys.logs) statuses (staters keys epoch statuses (each-known keys (claimed_statuses epoch statuses) holds)));
 }
 
 -- the same of lists that are theirs
 pub are-plain : (keys : Directory) (epoch : ℕ) (statuses list : List LogStatus) (plain : List Status) → lists.AreStatuses statuses → list ≡ statuses
-    → signers keys (statuses_in epoch list) ≡ Ok tt → plain ≡ reports_of (signed_statuses list) → AreStatuses (length keys.logs) plain
+    → signers keys (claimed_statuses epoch list) ≡ Ok tt → plain ≡ reports_of (signed_statuses list) → AreStatuses (length keys.logs) plain
 are-plain keys epoch statuses list plain are same holds is =
     subst (AreStatuses (length keys.logs)) (sym is) (are-statuses keys epoch list (subst lists.AreStatuses (sym same) are) holds)

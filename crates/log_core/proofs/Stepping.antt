@@ -28,7 +28,7 @@ use Rattle.log_core.specs.Rolling.{roll_draft, rolling_reply, rolling_row}
 use Rattle.log_sending.specs.Sending.{none_composed, sealed, with_draft}
 use Rattle.log_core.specs.Kept.{IsKeptCore}
 use Rattle.log_core.specs.Learning.{is_learned, roll_note_reply, roll_note_row}
-use Rattle.log_core.specs.State.{Answer, CoreState}
+use Rattle.log_core.specs.State.{LogAnswer, CoreState}
 use Rattle.log_sending.specs.declared.refusal.LogRefusal.{LogRefusal}
 use Rattle.log_sending.specs.declared.refusal.LogRefusal.TheVariants as refusals
 use Rattle.log_core.proofs.KeptEndings.{kept-roll_note, kept-rolling_row}
@@ -60,7 +60,7 @@ core-with s log = record { log = log.state; keys = log.keys; queue = s.queue; si
 abbrev pub log-in : CoreState → LogParts
 log-in s = record { state = s.log; keys = s.keys }
 
-abbrev quiet : CoreState → Answer
+abbrev quiet : CoreState → LogAnswer
 quiet s = Ok (record { unsigned = nothing; after = s })
 
 pub note-keeps : (s : CoreState) (a : Announced) (r : Result Learned LearnFault) (new : LogParts) → IsKeptCore s

@@ -12,7 +12,7 @@ use Rattle.ar_base.specs.FirstFailing.{first_error}
 use Rattle.log_core.specs.Steps.{IsStep}
 use Rattle.log_core.specs.Kept.{IsKeptCore}
 use Rattle.ar_claims.specs.Lists.{endorsements_in}
-use Rattle.log_core.specs.State.{Answer, CoreState, Reply}
+use Rattle.log_core.specs.State.{LogAnswer, CoreState, Reply}
 use Rattle.log_sending.specs.Queued.{is_queued}
 use Rattle.log_core.specs.Submit.{queueing, submit_checks, submit_judged, submit_reply, submit_row}
 use Rattle.log_sending.specs.declared.refusal.LogRefusal.{LogRefusal}
@@ -41,7 +41,7 @@ judged-row s change queued is =
     let h = judged-holds s change queued is in
     ap (λ c. result_and c (Ok (submit_reply s change))) h.0 ∙ ap (λ b. Ok (record { unsigned = nothing; after = cond b s (queueing s change) })) h.1
 
-abbrev refusal-in : {A : Type 0} → Result A LogRefusal → Reply → Answer
+abbrev refusal-in : {A : Type 0} → Result A LogRefusal → Reply → LogAnswer
 refusal-in (Ok a) reply = Ok reply
 refusal-in (Err refusal) reply = Err refusal
 

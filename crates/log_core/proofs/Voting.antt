@@ -4,7 +4,7 @@ use Rattle.std.specs.Result.{result_and}
 use Rattle.std.specs.Prelude.{All, IsOk, Result, Ok, Err, OnOk, OnErr}
 use Rattle.std.specs.List.{AllByRecursion}
 use Rattle.ar_cert.specs.Changes.{IsChange}
-use Rattle.ar_council.specs.Values.{IsValue}
+use Rattle.ar_statement.specs.Ranges.{IsValue}
 use Rattle.ar_message.specs.Lists.{AreChanges}
 use Rattle.ar_message.specs.declared.address.Address.TheVariants.{One}
 use Rattle.ar_message.specs.declared.message.Message.TheVariants.{Ballot}

@@ -11,7 +11,7 @@ use Rattle.log_core.specs.Steps.{given}
 use Rattle.log_core.specs.Replies.{closing_reply}
 use Rattle.log_sending.specs.Signers.{signers}
 use Rattle.party_keys.specs.Signers.{signed_by}
-use Rattle.log_core.specs.State.{Answer, CoreState, Reply}
+use Rattle.log_core.specs.State.{LogAnswer, CoreState, Reply}
 
 -- the log has signed; it is of this log's epoch, which is its turn
 abbrev pub ballot_checks : CoreState → ℕ → ℕ → Value → List ℕ → List Check
@@ -25,7 +25,7 @@ ballot_checks s log epoch value signature =
 abbrev pub ballot_reply : CoreState → ℕ → Value → List ℕ → Reply
 ballot_reply s log value signature = closing_reply s s.log [] (after_ballot s.log log value signature)
 
-unfoldable pub ballot_row : CoreState → ℕ → ℕ → Value → List ℕ → Answer
+unfoldable pub ballot_row : CoreState → ℕ → ℕ → Value → List ℕ → LogAnswer
 ballot_row s log epoch value signature = given (ballot_checks s log epoch value signature) (ballot_reply s log value signature)
 
 -- the refusal of a ballot, if there is one

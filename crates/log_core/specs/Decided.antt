@@ -13,9 +13,9 @@ use Rattle.log_core.specs.Steps.{ended_epoch, given}
 use Rattle.log_core.specs.Replies.{core_after}
 use Rattle.log_sending.specs.Closings.{still_wanted}
 use Rattle.log_sending.specs.Sending.{unsigned_of}
-use Rattle.ar_claims.specs.Lists.{endorsements_in, votes_in}
+use Rattle.ar_claims.specs.Lists.{endorsements_in, claimed_votes}
 use Rattle.log_sending.specs.Signers.{signers}
-use Rattle.log_core.specs.State.{Answer, CoreState, Reply}
+use Rattle.log_core.specs.State.{LogAnswer, CoreState, Reply}
 
 -- a decision of an epoch
 pub record Decision : Type 0 where
@@ -26,7 +26,7 @@ pub record Decision : Type 0 where
 
 -- the votes, and the endorsers of each change in order
 abbrev pub decision_signers : Decision → List Claimed
-decision_signers d = votes_in d.epoch d.value d.votes ++ flat_map endorsements_in d.changes
+decision_signers d = claimed_votes d.epoch d.value d.votes ++ flat_map endorsements_in d.changes
 
 -- The signers; it is of the log's epoch, the changes lead to the value, and the votes are a quorum.
 abbrev pub decision_checks : CoreState → Decision → List Check
@@ -50,5 +50,5 @@ decision_reply s d = record {
   after = core_after s (decision_state s d) (if may_end s.log.past then still_wanted (decision_state s d) s.queue else s.queue);
 }
 
-unfoldable pub decision_row : CoreState → Decision → Answer
+unfoldable pub decision_row : CoreState → Decision → LogAnswer
 decision_row s d = given (decision_checks s d) (decision_reply s d)

@@ -6,7 +6,7 @@ use Rattle.key_roll.specs.Ring.{AreKeysOf, IsNext}
 use Rattle.keyed_core.specs.Signing as signing
 use Rattle.lms_tree.specs.KeyParts.{KeyParts}
 use Rattle.lms_tree.specs.declared.public_key.LmsPublic.{LmsPublic}
-use Rattle.log_core.specs.State.{Answer, CoreState, Input, Reply, passes, proposes, rolls, takes}
+use Rattle.log_core.specs.State.{LogAnswer, CoreState, Input, Reply, passes, proposes, rolls, takes}
 use Rattle.log_sending.specs.declared.refusal.LogRefusal.{LogRefusal}
 use Rattle.log_sending.specs.declared.refusal.LogRefusal.TheVariants.{Memory}
 
@@ -48,10 +48,10 @@ abbrev pub parts_of : Reply → CoreState × Unsigned
 parts_of reply = (reply.after, reply.unsigned)
 
 -- the answer with the log's signatures in what it sends
-abbrev pub signed_answer : List KeyParts → Answer → Result (CoreState × Sent) LogRefusal
+abbrev pub signed_answer : List KeyParts → LogAnswer → Result (CoreState × Sent) LogRefusal
 signed_answer keys answer = signing.signed_answer parts_of keys answer
 
 -- A call answered as the row does, signed with these keys, and the log stands where the row says; or it refused so, or wanted
 -- memory, and the log stands as before.
-abbrev pub SendsBy : List KeyParts → Result Sent LogRefusal → CoreState → CoreState → Answer → Type 0
+abbrev pub SendsBy : List KeyParts → Result Sent LogRefusal → CoreState → CoreState → LogAnswer → Type 0
 SendsBy keys result old new answer = signing.SendsBy Memory parts_of keys result old new answer

@@ -9,7 +9,7 @@ use Rattle.party_keys.specs.declared.learning.Learned.{Learned}
 use Rattle.epoch_log.specs.Calls.{after_learn}
 use Rattle.log_sending.specs.Checks.{Check}
 use Rattle.log_core.specs.Steps.{given, learn_refusal}
-use Rattle.log_core.specs.State.{Answer, CoreState, Reply}
+use Rattle.log_core.specs.State.{LogAnswer, CoreState, Reply}
 
 -- the signer has signed, and no other key is known as its next
 abbrev pub is_learned : Result Learned LearnFault → Party → ℕ → Check
@@ -25,5 +25,5 @@ roll_note_reply s a = record {
   after = record { log = after_learn s.log a; keys = after_learning s.keys a; queue = s.queue; signature_len = s.signature_len };
 }
 
-unfoldable pub roll_note_row : CoreState → Announced → Answer
+unfoldable pub roll_note_row : CoreState → Announced → LogAnswer
 roll_note_row s a = given (roll_note_checks s a) (roll_note_reply s a)

@@ -13,10 +13,10 @@ use Rattle.log_sending.specs.Checks.{Check, leaves_left, in_epoch, in_turn, not_
 use Rattle.log_sending.specs.Leading.{leading_checks}
 use Rattle.log_core.specs.Steps.{given}
 use Rattle.log_core.specs.Replies.{open_reply}
-use Rattle.log_sending.specs.Sending.{Composed, Draft, draft_with, none_composed, with_draft}
+use Rattle.log_sending.specs.Sending.{Composed, DraftMessage, draft_with, none_composed, with_draft}
 use Rattle.ar_claims.specs.Lists.{endorsements_in}
 use Rattle.log_sending.specs.Signers.{signers}
-use Rattle.log_core.specs.State.{Answer, CoreState, Reply}
+use Rattle.log_core.specs.State.{LogAnswer, CoreState, Reply}
 use Rattle.log_sending.specs.declared.refusal.LogRefusal.{LogRefusal}
 
 -- a proposal of a log in an epoch
@@ -47,7 +47,7 @@ proposed_checks s p =
     ∷ voting_checks s.log p.value p.changes
 
 -- the ballot goes to the log whose turn it is
-abbrev pub ballot_draft : CoreState → Value → Draft
+abbrev pub ballot_draft : CoreState → Value → DraftMessage
 ballot_draft s value =
     draft_with (One (log_party (turn_of s.log.council (epoch_of s.log))))
     (Ballot s.log.me (epoch_of s.log) value.base value.root (zeros s.signature_len)) s.signature_len 0 (own_vote_text s.log value)
@@ -56,7 +56,7 @@ ballot_draft s value =
 abbrev pub proposed_reply : CoreState → Proposal → Reply
 proposed_reply s p = open_reply s (after_vote s.log p.log p.value p.changes) (ballot_draft s p.value ∷ [])
 
-unfoldable pub proposed_row : CoreState → Proposal → Answer
+unfoldable pub proposed_row : CoreState → Proposal → LogAnswer
 proposed_row s p = given (proposed_checks s p) (proposed_reply s p)
 
 -- what a step is to send, where no check refuses

@@ -14,14 +14,14 @@ use Rattle.log_sending.specs.Checks.{Check, in_turn, leaves_left, not_stated, no
 use Rattle.ar_base.specs.FirstFailing.{first_error}
 use Rattle.log_core.specs.Steps.{given}
 use Rattle.log_core.specs.Replies.{closing_reply}
-use Rattle.log_sending.specs.Sending.{Draft, draft_with}
-use Rattle.log_core.specs.State.{Answer, CoreState, Reply}
-use Rattle.log_sending.specs.Walk.{most_bytes, most_changes, walk}
+use Rattle.log_sending.specs.Sending.{DraftMessage, draft_with}
+use Rattle.log_core.specs.State.{LogAnswer, CoreState, Reply}
+use Rattle.log_sending.specs.Walk.{most_change_bytes, most_changes, walk}
 use Rattle.log_sending.specs.declared.refusal.LogRefusal.{LogRefusal}
 
 -- the changes that the log proposes
 abbrev pub proposal : CoreState → List Change
-proposal s = walk (epoch_of s.log) (ripen (table_of s.log) (epoch_of s.log)) most_changes most_bytes s.queue
+proposal s = walk (epoch_of s.log) (ripen (table_of s.log) (epoch_of s.log)) most_changes most_change_bytes s.queue
 
 -- what it proposes to go to, from the root of its table as it is before it ripens: the root of the table behind the
 -- changes, which has ripened also where there is no change
@@ -40,7 +40,7 @@ abbrev pub proposing_checks : CoreState → List Check
 proposing_checks s = turn_checks s ++ leaves_left s.log.past.signed (proposal_texts s.log (proposed_value s)) ∷ []
 
 -- the proposal, which goes to all logs
-abbrev pub proposal_draft : CoreState → Value → List Change → Draft
+abbrev pub proposal_draft : CoreState → Value → List Change → DraftMessage
 proposal_draft s value changes =
     draft_with Logs (Propose s.log.me (epoch_of s.log) value.base value.root changes (zeros s.signature_len))
     s.signature_len 0 (text_of (propose_claim s.log value))
@@ -50,7 +50,7 @@ abbrev pub proposing_reply : CoreState → Reply
 proposing_reply s =
     closing_reply s s.log (proposal_draft s (proposed_value s) (proposal s) ∷ []) (after_propose s.log (proposed_value s) (proposal s))
 
-unfoldable pub proposing_row : CoreState → Answer
+unfoldable pub proposing_row : CoreState → LogAnswer
 proposing_row s = given (proposing_checks s) (proposing_reply s)
 
 -- whether it is the log's turn, as far as its vote and its status are known

@@ -11,15 +11,15 @@ use Rattle.ar_statement.specs.Claims.{log_party}
 use Rattle.epoch_log.specs.Calls.{after_roll}
 use Rattle.log_sending.specs.Checks.{Check, has_next}
 use Rattle.log_core.specs.Steps.{given}
-use Rattle.log_sending.specs.Sending.{Draft, draft_with, unsigned_of}
-use Rattle.log_core.specs.State.{Answer, CoreState, Reply}
+use Rattle.log_sending.specs.Sending.{DraftMessage, draft_with, unsigned_of}
+use Rattle.log_core.specs.State.{LogAnswer, CoreState, Reply}
 
 -- the newest generation is not the last
 abbrev pub rolling_checks : CoreState → List Check
 rolling_checks s = has_next s.log.past.signed ∷ []
 
 -- the note of the Roll, which goes to all logs
-abbrev pub roll_draft : CoreState → LmsPublic → Draft
+abbrev pub roll_draft : CoreState → LmsPublic → DraftMessage
 roll_draft s key =
     draft_with Logs (RollNote (log_party s.log.me) s.log.past.signed.newest key (zeros s.signature_len)) s.signature_len 0
     (roll_text (log_party s.log.me) s.log.past.signed.newest key)
@@ -36,5 +36,5 @@ rolling_reply s key = record {
   };
 }
 
-unfoldable pub rolling_row : CoreState → LmsPublic → Answer
+unfoldable pub rolling_row : CoreState → LmsPublic → LogAnswer
 rolling_row s key = given (rolling_checks s) (rolling_reply s key)

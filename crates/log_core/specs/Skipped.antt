@@ -8,9 +8,9 @@ use Rattle.ar_base.specs.FirstFailing.{first_error}
 use Rattle.log_core.specs.Steps.{ended_epoch, given}
 use Rattle.log_core.specs.Replies.{core_after}
 use Rattle.log_sending.specs.Sending.{unsigned_of}
-use Rattle.ar_claims.specs.Lists.{status_value, statuses_in}
+use Rattle.ar_claims.specs.Lists.{status_value, claimed_statuses}
 use Rattle.log_sending.specs.Signers.{signers}
-use Rattle.log_core.specs.State.{Answer, CoreState, Reply}
+use Rattle.log_core.specs.State.{LogAnswer, CoreState, Reply}
 
 -- the statuses of a message, as the log keeps them
 abbrev pub signed_statuses : List LogStatus → List SignedStatus
@@ -19,7 +19,7 @@ signed_statuses statuses = map (λ s. (s.log, status_value s, s.signature)) stat
 -- the statuses are signed; it is of the log's epoch; and by them no root can have a quorum
 abbrev pub skip_checks : CoreState → ℕ → List LogStatus → List Check
 skip_checks s epoch statuses =
-    signers s.keys (statuses_in epoch statuses)
+    signers s.keys (claimed_statuses epoch statuses)
     ∷ in_epoch s.log epoch
     ∷ none_can_win s.log.council (reports_of (signed_statuses statuses))
     ∷ []
@@ -31,7 +31,7 @@ skip_reply s statuses = record {
   after = core_after s (after_skip s.log (signed_statuses statuses)) s.queue;
 }
 
-unfoldable pub skip_row : CoreState → ℕ → List LogStatus → Answer
+unfoldable pub skip_row : CoreState → ℕ → List LogStatus → LogAnswer
 skip_row s epoch statuses = given (skip_checks s epoch statuses) (skip_reply s statuses)
 
 -- what the checks of the row say together

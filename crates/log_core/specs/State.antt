@@ -32,8 +32,8 @@ pub record Reply : Type 0 where
   pub after : CoreState
 
 -- the answer of a row: a refusal, which leaves the log as it is, or what the step makes
-abbrev pub Answer : Type 0
-Answer = Result Reply LogRefusal
+abbrev pub LogAnswer : Type 0
+LogAnswer = Result Reply LogRefusal
 
 -- the most messages that a step sends: a proposal, and the decision where the log's own vote is a quorum
 abbrev pub most_sent : ℕ

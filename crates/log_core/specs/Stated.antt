@@ -11,7 +11,7 @@ use Rattle.log_core.specs.Steps.{given}
 use Rattle.log_core.specs.Replies.{closing_reply}
 use Rattle.log_sending.specs.Signers.{signers}
 use Rattle.party_keys.specs.Signers.{signed_by}
-use Rattle.log_core.specs.State.{Answer, CoreState, Reply}
+use Rattle.log_core.specs.State.{LogAnswer, CoreState, Reply}
 
 -- the log has signed; it is of this log's epoch, behind which is its turn
 abbrev pub status_checks : CoreState → ℕ → ℕ → Option Value → List ℕ → List Check
@@ -25,7 +25,7 @@ status_checks s log epoch value signature =
 abbrev pub status_reply : CoreState → ℕ → Option Value → List ℕ → Reply
 status_reply s log value signature = closing_reply s s.log [] (after_status_seen s.log log value (Some signature))
 
-unfoldable pub status_row : CoreState → ℕ → ℕ → Option Value → List ℕ → Answer
+unfoldable pub status_row : CoreState → ℕ → ℕ → Option Value → List ℕ → LogAnswer
 status_row s log epoch value signature = given (status_checks s log epoch value signature) (status_reply s log value signature)
 
 -- the refusal of a status, if there is one

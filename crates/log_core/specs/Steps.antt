@@ -14,7 +14,7 @@ use Rattle.epoch_log.specs.Ending.{may_end}
 use Rattle.epoch_log.specs.State.{LogState, epoch_of}
 use Rattle.log_sending.specs.Checks.{Check}
 use Rattle.ar_base.specs.FirstFailing.{first_error}
-use Rattle.log_core.specs.State.{Answer, CoreState}
+use Rattle.log_core.specs.State.{LogAnswer, CoreState}
 use Rattle.log_sending.specs.declared.refusal.LogRefusal.{LogRefusal}
 use Rattle.log_sending.specs.declared.refusal.LogRefusal.TheVariants as refusals
 
@@ -24,7 +24,7 @@ given checks value = result_and (first_error checks) (Ok value)
 
 -- The row answers with what is sent and with the log as it is behind the step. After an error the log is as it was, and it
 -- is the row's refusal, or want of memory.
-abbrev pub IsStep : Result Unsigned LogRefusal → CoreState → CoreState → Answer → Type 0
+abbrev pub IsStep : Result Unsigned LogRefusal → CoreState → CoreState → LogAnswer → Type 0
 IsStep = StepsUnless refusals.Memory (λ after unsigned. record { unsigned = unsigned; after = after })
 
 -- the epoch that ends, with the root with which it is decided, if it is, unless it is the last that a statement can name

@@ -10,7 +10,7 @@ use Rattle.log_sending.specs.Checks.{Check, has_place}
 use Rattle.log_core.specs.Steps.{given}
 use Rattle.ar_claims.specs.Lists.{endorsements_in}
 use Rattle.log_sending.specs.Signers.{signers}
-use Rattle.log_core.specs.State.{Answer, CoreState, Reply}
+use Rattle.log_core.specs.State.{LogAnswer, CoreState, Reply}
 use Rattle.log_sending.specs.Queued.{is_queued}
 use Rattle.log_core.specs.Replies.{core_after}
 use Rattle.log_sending.specs.declared.refusal.LogRefusal.{LogRefusal}
@@ -36,7 +36,7 @@ queueing s change = core_after s (after_endorsed s.log change) (s.queue ++ chang
 abbrev pub submit_reply : CoreState → Change → Reply
 submit_reply s change = record { unsigned = nothing; after = if is_queued s.queue change then s else queueing s change }
 
-unfoldable pub submit_row : CoreState → Change → Answer
+unfoldable pub submit_row : CoreState → Change → LogAnswer
 submit_row s change = given (submit_checks s change) (submit_reply s change)
 
 -- what a step is to do, where no check refuses: whether an equal change is queued, so that nothing is to be done

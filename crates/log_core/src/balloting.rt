@@ -15,7 +15,7 @@ use crate::log_core::LogCore;
 use crate::verifying::has_signed;
 use ar_council::vote_statement;
 use ar_message::{Signature, Unsigned};
-use log_sending::{Drafts, Ready, add_closing, close, in_epoch, in_turn};
+use log_sending::{DraftMessages, Ready, add_closing, close, in_epoch, in_turn};
 use std::alloc::{AllocError, Global};
 use vote_quorum::Value;
 
@@ -30,7 +30,8 @@ impl LogCore {
         value: &Value,
         signature: &[u8],
     ) -> Result<(), LogRefusal>
-        ensures { GivesUnless refusals.Memory (λ u. u) result (ballot_judged self.now log epoch value.now signature.now) }
+        ensures { GivesUnless refusals.Memory (λ u.
+            u) result (ballot_judged self.now log epoch value.now signature.now) }
     {
         let statement = vote_statement(log, epoch, value);
         has_signed(alloc, self.log.directory(), &statement, signature)?;
@@ -49,10 +50,13 @@ impl LogCore {
     ) -> Result<Ready<'static>, AllocError>
         requires log { log < self.now.log.council.logs }
         requires signature { IsSignature signature.now }
-        ensures { IfOk result (λ ready. ready ≡ with_drafts none_composed (closing_drafts (after_ballot self.now.log log value.now signature.now).1
-            self.now.signature_len self.now.log (after_ballot self.now.log log value.now signature.now).0)) }
+        ensures { IfOk result (λ ready.
+            ready ≡ with_drafts none_composed
+            (closing_drafts (after_ballot self.now.log log value.now signature.now).1
+            self.now.signature_len self.now.log
+            (after_ballot self.now.log log value.now signature.now).0)) }
     {
-        let mut drafts: Drafts<'static> = Drafts::new(alloc);
+        let mut drafts: DraftMessages<'static> = DraftMessages::new(alloc);
         let foreseen = self.log.foresee_ballot(alloc, log, value, signature)?;
         add_closing(alloc, &self.log, self.signature_len, foreseen, &mut drafts)?;
         drafts.ready(alloc)
@@ -67,7 +71,8 @@ impl LogCore {
         value: Value,
         signature: &Signature,
     ) -> Result<Unsigned, LogRefusal>
-        ensures { IsStep result self.old self.new (ballot_row self.old log epoch value signature.now) }
+        ensures { IsStep result self.old self.new
+            (ballot_row self.old log epoch value signature.now) }
     {
         let signature = signature.as_slice();
         match self.judge_ballot(alloc, log, epoch, &value, signature) {

@@ -20,13 +20,15 @@ use ar_names::Name;
 use ar_statement::{Role, Statement};
 use epoch_log::{EpochLog, Newest, confirm_statement, newest_digest};
 use key_roll::forgo;
-use log_sending::{Drafts, OwnPlace, Ready, body_of, book_refusal, known, own_votes, sent_votes};
+use log_sending::{
+    DraftMessages, OwnPlace, Ready, body_in, book_refusal, known, own_votes, sent_votes,
+};
 use std::alloc::{AllocError, Global};
 use std::marker::Model;
 
 /// What a client asks: to confirm a name, by two authorities of the client's choice.
 #[derive(Drop)]
-struct Asked<'a> {
+struct ConfirmQuestion<'a> {
     client: u16,
     name: &'a Name,
     first: u16,
@@ -34,18 +36,24 @@ struct Asked<'a> {
 }
 
 // Clauses see the name by its text.
-impl<'a> Model for Asked<'a> {
-    ghost use Rattle.log_core.specs.Confirming.{Asked};
+impl<'a> Model for ConfirmQuestion<'a> {
+    ghost use Rattle.log_core.specs.Confirming.{ConfirmQuestion};
 
-    ghost Value = { Asked };
+    ghost Value = { ConfirmQuestion };
 
-    ghost view = { λ a. record { client = a.client; name = a.name.now; first = a.first; second = a.second } };
+    ghost view = { λ a. record {
+      client = a.client;
+      name = a.name.now;
+      first = a.first;
+      second = a.second;
+    } };
 }
 
 /// The newest decision, where there is one.
 fn decision(log: &EpochLog) -> Result<&Newest, LogRefusal>
     ensures ok { IfOk result (λ w. log.now.state.newest ≡ Some w.now) }
-    ensures err { IfErr result (λ refusal. has_decision log.now.state log.now.state.newest ≡ Err refusal) }
+    ensures err { IfErr result (λ refusal.
+        has_decision log.now.state log.now.state.newest ≡ Err refusal) }
 {
     match log.newest() {
         Some(newest) => Ok(newest),
@@ -73,7 +81,7 @@ impl LogCore {
         &self,
         alloc: Global,
         newest: &Newest,
-        asked: &Asked,
+        asked: &ConfirmQuestion,
     ) -> Result<Confirming, AllocError>
         requires { AreVotes (sent_votes self.now.signature_len newest.now.votes) }
         ensures { IfOk result (λ part. part ≡ confirming_of self.now newest.now asked.now) }
@@ -81,7 +89,7 @@ impl LogCore {
         let name = asked.name.view().to_name(alloc)?;
         let signature = Signature::zeros(alloc, self.signature_len)?;
         let votes = sent_votes(alloc, self.signature_len, newest.votes.as_slice())?;
-        let body = body_of(alloc, self.log.table(), asked.name)?;
+        let body = body_in(alloc, self.log.table(), asked.name)?;
         Ok(Confirming {
             client: asked.client,
             epoch: newest.epoch,
@@ -102,10 +110,12 @@ impl LogCore {
         &self,
         alloc: Global,
         newest: &Newest,
-        asked: &Asked,
+        asked: &ConfirmQuestion,
     ) -> Result<Vec<u8>, AllocError>
         requires { AreVotes (sent_votes self.now.signature_len newest.now.votes) }
-        ensures { IfOk result (λ bytes. bytes.items ≡ message_text (LogConfirmed (confirming_of self.now newest.now asked.now))) }
+        ensures { IfOk result (λ bytes.
+            bytes.items ≡ message_text
+            (LogConfirmed (confirming_of self.now newest.now asked.now))) }
     {
         let part = self.confirming(alloc, newest, asked)?;
         Message::LogConfirmed { part }.text(alloc)
@@ -119,8 +129,10 @@ impl LogCore {
         name: &'a Name,
         len: usize,
     ) -> Result<Vec<OwnPlace<'a>>, AllocError>
-        requires { length (flat_map vote_text (sent_votes self.now.signature_len newest.now.votes)) + (self.now.signature_len + 8) ≤ len }
-        ensures { IfOk result (λ own. own.items ≡ confirmed_places self.now newest.now name.now len) }
+        requires { length (flat_map vote_text (sent_votes self.now.signature_len newest.now.votes))
+            + (self.now.signature_len + 8) ≤ len }
+        ensures { IfOk result (λ own.
+            own.items ≡ confirmed_places self.now newest.now name.now len) }
     {
         let value = newest.value();
         let mut own = own_votes(
@@ -145,14 +157,15 @@ impl LogCore {
         &self,
         alloc: Global,
         newest: &Newest,
-        asked: &Asked<'a>,
+        asked: &ConfirmQuestion<'a>,
     ) -> Result<Ready<'a>, AllocError>
         requires { AreVotes (sent_votes self.now.signature_len newest.now.votes) }
-        ensures { IfOk result (λ ready. ready ≡ with_draft none_composed (confirmed_draft self.now newest.now asked.now)) }
+        ensures { IfOk result (λ ready.
+            ready ≡ with_draft none_composed (confirmed_draft self.now newest.now asked.now)) }
     {
         let bytes = self.confirmed_bytes(alloc, newest, asked)?;
         let own = self.confirmed_places(alloc, newest, asked.name, bytes.len())?;
-        let mut drafts = Drafts::new(alloc);
+        let mut drafts = DraftMessages::new(alloc);
         let to = Address::One(Role::Authority.party(asked.first));
         drafts.add_written(to, bytes, own)?;
         drafts.ready(alloc)
@@ -163,9 +176,10 @@ impl LogCore {
     fn prepare_confirmation<'a>(
         &self,
         alloc: Global,
-        asked: &Asked<'a>,
+        asked: &ConfirmQuestion<'a>,
     ) -> Result<Ready<'a>, LogRefusal>
-        ensures { GivesUnless refusals.Memory (λ ready. ready) result (confirmation_prepared self.now asked.now) }
+        ensures { GivesUnless refusals.Memory (λ ready.
+            ready) result (confirmation_prepared self.now asked.now) }
     {
         let first = Role::Authority.party(asked.first);
         let second = Role::Authority.party(asked.second);
@@ -184,10 +198,16 @@ impl LogCore {
         first: u16,
         second: u16,
     ) -> Result<Unsigned, LogRefusal>
-        ensures { IsStep result self.old self.new (confirm_row self.old (record { client = client; name = name.now; first = first; second = second })) }
+        ensures { IsStep result self.old self.new
+            (confirm_row self.old (record {
+              client = client;
+              name = name.now;
+              first = first;
+              second = second;
+            })) }
     {
         let _text = name.text();
-        let asked = Asked {
+        let asked = ConfirmQuestion {
             client,
             name,
             first,

@@ -16,8 +16,8 @@ use crate::LogRefusal;
 use crate::log_core::{LogCore, ended_epoch};
 use ar_base::Items;
 use ar_cert::Change;
-use ar_council::value_told;
 use ar_message::{Unsigned, Vote};
+use ar_statement::value_told;
 use epoch_log::EpochLog;
 use log_sending::{Signers, enough, in_epoch, keep_wanted, leads};
 use std::alloc::{AllocError, Global};
@@ -36,7 +36,8 @@ fn plain_votes(alloc: Global, votes: Items<Vote>) -> Result<Vec<(u16, Vec<u8>)>,
 
 /// Keeps of the queue what is still wanted, where the epoch ended.
 fn keep_if(ended: bool, log: &EpochLog, queue: &mut Vec<Change>)
-    ensures { queue.new.items ≡ (if ended then still_wanted log.now.state queue.old.items else queue.old.items) }
+    ensures { queue.new.items ≡ (if ended then still_wanted log.now.state queue.old.items
+        else queue.old.items) }
 {
     if ended {
         keep_wanted(log.table(), log.epoch(), queue);
@@ -55,7 +56,13 @@ impl LogCore {
     ) -> Result<(), LogRefusal>
         requires { All IsChange changes.now }
         ensures { GivesUnless refusals.Memory (λ unit. unit) result
-            (signers self.now.keys (decision_signers (record { epoch = epoch; value = value.now; changes = changes.now; votes = votes.now }))) }
+            (signers self.now.keys
+            (decision_signers (record {
+              epoch = epoch;
+              value = value.now;
+              changes = changes.now;
+              votes = votes.now;
+            }))) }
     {
         let mut front = Signers::new(alloc);
         front.add_votes(epoch, value, votes)?;
@@ -73,7 +80,13 @@ impl LogCore {
     ) -> Result<(), LogRefusal>
         requires { All IsChange changes.now }
         ensures { GivesUnless refusals.Memory (λ unit. unit) result
-            (first_error (decision_checks self.now (record { epoch = epoch; value = value.now; changes = changes.now; votes = votes.now }))) }
+            (first_error (decision_checks self.now
+            (record {
+              epoch = epoch;
+              value = value.now;
+              changes = changes.now;
+              votes = votes.now;
+            }))) }
     {
         self.told();
         self.have_signed_decision(alloc, epoch, value, changes, votes)?;
@@ -95,7 +108,12 @@ impl LogCore {
         requires changes { AreChanges changes.items }
         requires votes { AreVotes votes }
         ensures { IsStep result self.old self.new
-            (decision_row self.old (record { epoch = epoch; value = value; changes = changes.items; votes = votes })) }
+            (decision_row self.old (record {
+              epoch = epoch;
+              value = value;
+              changes = changes.items;
+              votes = votes;
+            })) }
     {
         value_told(&value);
         match self.check_decision(alloc, epoch, &value, &changes, votes.as_slice()) {

@@ -35,15 +35,18 @@ ghost use Rattle.log_sending.specs.declared.refusal.LogRefusal.{LogRefusal};
 /// The first check of a row that refuses is its answer, whatever stands behind it; where none does, the answer is what the
 /// step makes.
 pub fn the_first_refusal_is_the_answer()
-    ensures refused { (holding behind : List Check) (refusal : LogRefusal) (reply : Reply) → All (λ c. c ≡ Ok tt) holding
+    ensures refused { (holding behind : List Check) (refusal : LogRefusal) (reply : Reply)
+        → All (λ c. c ≡ Ok tt) holding
         → given (holding ++ Err refusal ∷ behind) reply ≡ Err refusal }
-    ensures made { (checks : List Check) (reply : Reply) → All (λ c. c ≡ Ok tt) checks → given checks reply ≡ Ok reply }
+    ensures made { (checks : List Check) (reply : Reply) → All (λ c. c ≡ Ok tt) checks
+        → given checks reply ≡ Ok reply }
 {}
 
 /// What a log proposes are changes of its queue, in their order, that its table takes one behind the other, from its root
 /// to the one that is proposed; there are at most 64, whose texts have at most 4,000,000 bytes.
 pub fn a_proposal_is_of_the_queue()
-    ensures applies { (s : CoreState) → (after : Table) × (apply (table_of s.log) (epoch_of s.log) (proposal s) ≡ Some after)
+    ensures applies { (s : CoreState)
+        → (after : Table) × (apply (table_of s.log) (epoch_of s.log) (proposal s) ≡ Some after)
         × (root_of after ≡ (proposed_value s).root) }
     ensures base { (s : CoreState) → (proposed_value s).base ≡ root_of (table_of s.log) }
     ensures in_order { (s : CoreState) → StandIn (proposal s) s.queue }
@@ -53,14 +56,16 @@ pub fn a_proposal_is_of_the_queue()
 
 /// A skip that another log tells of leaves the table as it is, also what is ripe in it, and the queue.
 pub fn a_skip_leaves_table_and_queue()
-    ensures { (s : CoreState) (epoch : ℕ) (statuses : List LogStatus) (reply : Reply) → IsKeptCore s → skip_row s epoch statuses ≡ Ok reply
+    ensures { (s : CoreState) (epoch : ℕ) (statuses : List LogStatus) (reply : Reply) → IsKeptCore s
+        → skip_row s epoch statuses ≡ Ok reply
         → (table_of reply.after.log ≡ table_of s.log) × (reply.after.queue ≡ s.queue) }
 {}
 
 /// Whatever a log is asked, what is kept of it stays: its record is an honest log's, what it counts was seen, and the
 /// endorsements of each queued change were seen and are valid.
 pub fn each_row_keeps_a_log()
-    ensures { (s : CoreState) (input : Input) (reply : Reply) → IsKeptCore s → IsInput input → row s input ≡ Ok reply → IsKeptCore reply.after }
+    ensures { (s : CoreState) (input : Input) (reply : Reply) → IsKeptCore s → IsInput input
+        → row s input ≡ Ok reply → IsKeptCore reply.after }
 {}
 
 /// Whatever a log is asked, its record only grows: what it saw, signed, voted, stated, ended and confirmed
@@ -98,27 +103,35 @@ pub fn what_is_newly_seen_was_claimed()
 /// The endorsements of queued changes were verified when these were queued, and stay valid: a message's signers are accepted,
 /// or the same one is refused, where those of its queued changes are left out.
 pub fn queued_endorsements_need_no_second_look()
-    ensures { (s : CoreState) (front : List Claimed) (changes : List Change) → IsKeptCore s → All IsChange changes
+    ensures { (s : CoreState) (front : List Claimed) (changes : List Change) → IsKeptCore s
+        → All IsChange changes
         → signers s.keys (front ++ flat_map endorsements_in changes)
-        ≡ signers s.keys (front ++ flat_map endorsements_in (filter (λ change. not (is_queued s.queue change)) changes)) }
+        ≡ signers s.keys (front
+        ++ flat_map endorsements_in
+        (filter (λ change. not (is_queued s.queue change)) changes)) }
 {}
 
 /// Where a signature of the log's own is due a message has zero bytes, as many as the signature has.
 pub fn each_own_signature_is_zero_bytes()
     ensures { (s : CoreState) (input : Input) (reply : Reply) → row s input ≡ Ok reply
-        → All (IsZero reply.after.signature_len reply.unsigned.sent.messages) reply.unsigned.blanks }
+        → All (IsZero reply.after.signature_len reply.unsigned.sent.messages)
+        reply.unsigned.blanks }
 {}
 
 /// What a step leaves blank the log's keys can sign: those of each generation up to the newest of its book.
 pub fn each_step_can_be_signed()
-    ensures { (s : CoreState) (input : Input) (reply : Reply) (keys : List KeyParts) → IsKeptCore s → IsInput input → row s input ≡ Ok reply
-        → AreKeysOf reply.after.log.past.signed reply.after.signature_len keys → CanFill keys reply.unsigned }
+    ensures { (s : CoreState) (input : Input) (reply : Reply) (keys : List KeyParts) → IsKeptCore s
+        → IsInput input → row s input ≡ Ok reply
+        → AreKeysOf reply.after.log.past.signed reply.after.signature_len keys
+        → CanFill keys reply.unsigned }
 {}
 
 /// A step sends at most two messages.
 pub fn each_step_sends_few()
-    ensures step { (s : CoreState) (input : Input) (reply : Reply) → row s input ≡ Ok reply → length reply.unsigned.sent.messages ≤ most_sent }
-    ensures roll { (s : CoreState) (key : LmsPublic) (reply : Reply) → rolling_row s key ≡ Ok reply → length reply.unsigned.sent.messages ≤ most_sent }
+    ensures step { (s : CoreState) (input : Input) (reply : Reply) → row s input ≡ Ok reply
+        → length reply.unsigned.sent.messages ≤ most_sent }
+    ensures roll { (s : CoreState) (key : LmsPublic) (reply : Reply) → rolling_row s key ≡ Ok reply
+        → length reply.unsigned.sent.messages ≤ most_sent }
 {}
 
 /// Whatever a log is asked, it stays the log with its number, of the same council.
@@ -129,5 +142,6 @@ pub fn each_row_keeps_number_and_council()
 
 /// A log takes no message of more than 4,194,304 bytes.
 pub fn no_long_message_is_taken()
-    ensures { (s : CoreState) (bytes : List ℕ) (reply : Reply) → row s (takes bytes) ≡ Ok reply → length bytes ≤ longest }
+    ensures { (s : CoreState) (bytes : List ℕ) (reply : Reply) → row s (takes bytes) ≡ Ok reply
+        → length bytes ≤ longest }
 {}

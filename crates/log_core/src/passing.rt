@@ -10,12 +10,12 @@ ghost use Rattle.log_core.specs.Steps.{IsStep};
 
 use crate::LogRefusal;
 use crate::log_core::LogCore;
-use ar_council::{roots_of, status_statement};
+use ar_council::status_statement;
 use ar_message::{Address, Message, Signature, Unsigned};
 use ar_statement::{Role, Statement};
 use epoch_log::EpochLog;
 use key_roll::forgo;
-use log_sending::{Drafts, Ready, add_closing, close, leaf_left, not_stated, turn_of};
+use log_sending::{DraftMessages, Ready, add_closing, close, leaf_left, not_stated, turn_of};
 use std::alloc::{AllocError, Global};
 
 /// The log's own status.
@@ -36,7 +36,11 @@ impl LogCore {
     }
 
     /// The status, which goes to the log whose turn is the next epoch.
-    fn add_status(&self, alloc: Global, drafts: &mut Drafts<'static>) -> Result<(), AllocError>
+    fn add_status(
+        &self,
+        alloc: Global,
+        drafts: &mut DraftMessages<'static>,
+    ) -> Result<(), AllocError>
         ensures { OnOk result (drafts.new ≡ with_draft drafts.old (status_draft self.now)) }
     {
         self.log.told();
@@ -44,7 +48,7 @@ impl LogCore {
         let note = Message::StatusNote {
             log: self.log.number(),
             epoch: self.log.epoch(),
-            value: roots_of(&self.log.own_value()),
+            value: self.log.own_value(),
             signature: Signature::zeros(alloc, self.signature_len)?,
         };
         drafts.add(
@@ -61,7 +65,7 @@ impl LogCore {
     fn add_status_unless_counted(
         &self,
         alloc: Global,
-        drafts: &mut Drafts<'static>,
+        drafts: &mut DraftMessages<'static>,
     ) -> Result<(), AllocError>
         ensures { OnOk result (drafts.new ≡ with_drafts drafts.old (status_drafts self.now)) }
     {
@@ -74,9 +78,10 @@ impl LogCore {
     /// The status, and what tells how the epoch ends with it, where it does.
     fn passing_drafts(&self, alloc: Global) -> Result<Ready<'static>, AllocError>
         ensures { IfOk result (λ ready. ready ≡ with_drafts none_composed (status_drafts self.now
-            ++ closing_drafts (after_state self.now.log).1 self.now.signature_len self.now.log (after_state self.now.log).0)) }
+            ++ closing_drafts (after_state self.now.log).1 self.now.signature_len self.now.log
+            (after_state self.now.log).0)) }
     {
-        let mut drafts: Drafts<'static> = Drafts::new(alloc);
+        let mut drafts: DraftMessages<'static> = DraftMessages::new(alloc);
         self.add_status_unless_counted(alloc, &mut drafts)?;
         let foreseen = self.log.foresee_state(alloc)?;
         add_closing(alloc, &self.log, self.signature_len, foreseen, &mut drafts)?;

@@ -14,12 +14,12 @@ ghost use Rattle.log_sending.specs.declared.refusal.LogRefusal.TheVariants as re
 use crate::LogRefusal;
 use crate::log_core::LogCore;
 use ar_cert::Change;
-use ar_council::{propose_statement, value_told, vote_statement};
+use ar_council::{propose_statement, vote_statement};
 use ar_message::{Address, Message, Signature, Unsigned};
-use ar_statement::Role;
+use ar_statement::{Role, value_told};
 use key_roll::forgo;
 use log_sending::{
-    Drafts, Ready, Signers, book_refusal, in_epoch, in_turn, leads, leaf_left, not_stated,
+    DraftMessages, Ready, Signers, book_refusal, in_epoch, in_turn, leads, leaf_left, not_stated,
     not_voted, turn_of,
 };
 use std::alloc::{AllocError, Global};
@@ -38,7 +38,14 @@ impl LogCore {
     ) -> Result<(), LogRefusal>
         requires { All IsChange changes.now }
         ensures { GivesUnless refusals.Memory (λ unit. unit) result
-            (signers self.now.keys (proposal_signers (record { log = log; epoch = epoch; value = value.now; changes = changes.now; signature = signature.now }))) }
+            (signers self.now.keys
+            (proposal_signers (record {
+              log = log;
+              epoch = epoch;
+              value = value.now;
+              changes = changes.now;
+              signature = signature.now;
+            }))) }
     {
         let mut front = Signers::new(alloc);
         front.add(&propose_statement(log, epoch, value), signature)?;
@@ -48,7 +55,8 @@ impl LogCore {
     /// That the log has done nothing in the epoch, that it may vote for this value, and that it has a leaf for the vote.
     fn may_vote(&self, alloc: Global, value: &Value, changes: &[Change]) -> Result<(), LogRefusal>
         requires { All IsChange changes.now }
-        ensures { GivesUnless refusals.Memory (λ unit. unit) result (first_error (voting_checks self.now.log value.now changes.now)) }
+        ensures { GivesUnless refusals.Memory (λ unit.
+            unit) result (first_error (voting_checks self.now.log value.now changes.now)) }
     {
         not_voted(&self.log)?;
         not_stated(&self.log)?;
@@ -69,7 +77,14 @@ impl LogCore {
     ) -> Result<(), LogRefusal>
         requires { All IsChange changes.now }
         ensures { GivesUnless refusals.Memory (λ unit. unit) result
-            (first_error (proposed_checks self.now (record { log = log; epoch = epoch; value = value.now; changes = changes.now; signature = signature.now }))) }
+            (first_error (proposed_checks self.now
+            (record {
+              log = log;
+              epoch = epoch;
+              value = value.now;
+              changes = changes.now;
+              signature = signature.now;
+            }))) }
     {
         self.told();
         self.have_signed_proposal(alloc, log, epoch, value, changes, signature)?;
@@ -80,7 +95,8 @@ impl LogCore {
 
     /// The ballot, which goes to the log whose turn it is.
     fn ballot_ready(&self, alloc: Global, value: &Value) -> Result<Ready<'static>, AllocError>
-        ensures { IfOk result (λ ready. ready ≡ with_draft none_composed (ballot_draft self.now value.now)) }
+        ensures { IfOk result (λ ready.
+            ready ≡ with_draft none_composed (ballot_draft self.now value.now)) }
     {
         self.told();
         let epoch = self.log.epoch();
@@ -93,7 +109,7 @@ impl LogCore {
             root: value.root,
             signature: Signature::zeros(alloc, self.signature_len)?,
         };
-        let mut drafts = Drafts::new(alloc);
+        let mut drafts = DraftMessages::new(alloc);
         drafts.add(
             alloc,
             Address::One(Role::LogServer.party(turn)),
@@ -118,7 +134,13 @@ impl LogCore {
     ) -> Result<Ready<'static>, LogRefusal>
         requires { All IsChange changes.now }
         ensures { GivesUnless refusals.Memory (λ ready. ready) result
-            (proposed_judged self.now (record { log = log; epoch = epoch; value = value.now; changes = changes.now; signature = signature.now })) }
+            (proposed_judged self.now (record {
+              log = log;
+              epoch = epoch;
+              value = value.now;
+              changes = changes.now;
+              signature = signature.now;
+            })) }
     {
         self.check_proposal(alloc, log, epoch, value, changes, signature)?;
         Ok(self.ballot_ready(alloc, value)?)
@@ -136,7 +158,13 @@ impl LogCore {
     ) -> Result<Unsigned, LogRefusal>
         requires { AreChanges changes.items }
         ensures { IsStep result self.old self.new
-            (proposed_row self.old (record { log = log; epoch = epoch; value = value; changes = changes.items; signature = signature.now })) }
+            (proposed_row self.old (record {
+              log = log;
+              epoch = epoch;
+              value = value;
+              changes = changes.items;
+              signature = signature.now;
+            })) }
     {
         value_told(&value);
         let ready = match self.judge_proposal(alloc, log, epoch, &value, &changes, signature) {

@@ -23,7 +23,8 @@ use ar_message::{Address, Changes, Message, Signature, Unsigned};
 use domain_table::copy_changes;
 use key_roll::forgo;
 use log_sending::{
-    Drafts, Ready, Walked, add_closing, close, in_turn, leaves_left, not_stated, not_voted, walk,
+    DraftMessages, Ready, Walked, add_closing, close, in_turn, leaves_left, not_stated, not_voted,
+    walk,
 };
 use std::alloc::{AllocError, Global};
 use vote_quorum::Value;
@@ -39,7 +40,9 @@ fn proposal_message(
 ) -> Result<Message, AllocError>
     requires changes { AreChanges changes.now }
     requires len { signature_len < 2 ^ 16 }
-    ensures { IfOk result (λ message. message ≡ Propose log epoch value.now.base value.now.root changes.now (zeros signature_len)) }
+    ensures { IfOk result (λ message.
+        message ≡ Propose log epoch value.now.base value.now.root changes.now
+        (zeros signature_len)) }
 {
     let signature = Signature::zeros(alloc, signature_len)?;
     let changes = Changes {
@@ -58,7 +61,7 @@ fn proposal_message(
 /// Adds a log's proposal, which goes to all logs.
 fn add_proposal(
     alloc: Global,
-    drafts: &mut Drafts<'static>,
+    drafts: &mut DraftMessages<'static>,
     log: u16,
     epoch: u64,
     value: &Value,
@@ -67,7 +70,10 @@ fn add_proposal(
 ) -> Result<(), AllocError>
     requires changes { AreChanges changes.now }
     requires len { signature_len < 2 ^ 16 }
-    ensures { OnOk result (drafts.new ≡ with_draft drafts.old (draft_with Logs (Propose log epoch value.now.base value.now.root changes.now (zeros signature_len))
+    ensures { OnOk result
+        (drafts.new ≡ with_draft drafts.old
+        (draft_with Logs (Propose log epoch value.now.base value.now.root changes.now
+        (zeros signature_len))
         signature_len 0 (text_of (propose log epoch value.now.base value.now.root)))) }
 {
     let message = proposal_message(alloc, log, epoch, value, changes, signature_len)?;
@@ -98,7 +104,8 @@ impl LogCore {
 
     /// That there are leaves for a proposal and the own vote.
     fn judge_leaves(&self, value: &Value) -> Result<(), LogRefusal>
-        ensures { result ≡ leaves_left self.now.log.past.signed (proposal_texts self.now.log value.now) }
+        ensures { result ≡ leaves_left self.now.log.past.signed
+            (proposal_texts self.now.log value.now) }
     {
         let log = self.log.number();
         let epoch = self.log.epoch();
@@ -114,7 +121,8 @@ impl LogCore {
         requires turn { turn_judged self.now ≡ Ok tt }
         requires value { walked.value ≡ proposed_value self.now }
         requires changes { walked.changes.items ≡ proposal self.now }
-        ensures { GivesUnless refusals.Memory (λ w. (w.value, w.changes.items)) result (proposing_judged self.now) }
+        ensures { GivesUnless refusals.Memory (λ w.
+            (w.value, w.changes.items)) result (proposing_judged self.now) }
     {
         match self.judge_leaves(&walked.value) {
             Ok(()) => Ok(walked),
@@ -124,7 +132,8 @@ impl LogCore {
 
     /// The checks of the order to propose, in their order, and what the log proposes.
     fn judge_order(&self, alloc: Global) -> Result<Walked, LogRefusal>
-        ensures { GivesUnless refusals.Memory (λ w. (w.value, w.changes.items)) result (proposing_judged self.now) }
+        ensures { GivesUnless refusals.Memory (λ w.
+            (w.value, w.changes.items)) result (proposing_judged self.now) }
     {
         match self.judge_turn() {
             Ok(()) => {}
@@ -144,10 +153,13 @@ impl LogCore {
         changes: &[Change],
     ) -> Result<Ready<'static>, AllocError>
         requires { proposing_judged self.now ≡ Ok (value.now, changes.now) }
-        ensures { IfOk result (λ ready. ready ≡ with_drafts none_composed (proposal_draft self.now value.now changes.now
-            ∷ closing_drafts (after_propose self.now.log value.now changes.now).1 self.now.signature_len self.now.log (after_propose self.now.log value.now changes.now).0)) }
+        ensures { IfOk result (λ ready.
+            ready ≡ with_drafts none_composed (proposal_draft self.now value.now changes.now
+            ∷ closing_drafts (after_propose self.now.log value.now changes.now).1
+            self.now.signature_len self.now.log
+            (after_propose self.now.log value.now changes.now).0)) }
     {
-        let mut drafts: Drafts<'static> = Drafts::new(alloc);
+        let mut drafts: DraftMessages<'static> = DraftMessages::new(alloc);
         add_proposal(
             alloc,
             &mut drafts,
@@ -170,8 +182,11 @@ impl LogCore {
         ready: Ready<'static>,
     ) -> Result<Unsigned, LogRefusal>
         requires judged { proposing_judged self.old ≡ Ok (walked.value, walked.changes.items) }
-        requires ready { ready ≡ with_drafts none_composed (proposal_draft self.old walked.value walked.changes.items
-            ∷ closing_drafts (after_propose self.old.log walked.value walked.changes.items).1 self.old.signature_len self.old.log (after_propose self.old.log walked.value walked.changes.items).0) }
+        requires ready { ready ≡ with_drafts none_composed
+            (proposal_draft self.old walked.value walked.changes.items
+            ∷ closing_drafts (after_propose self.old.log walked.value walked.changes.items).1
+            self.old.signature_len self.old.log
+            (after_propose self.old.log walked.value walked.changes.items).0) }
         ensures { IsStep result self.old self.new (proposing_row self.old) }
     {
         let epoch = self.log.epoch();

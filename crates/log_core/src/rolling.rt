@@ -14,7 +14,7 @@ use ar_message::{Address, Message, Signature, Unsigned};
 use ar_statement::{Role, Statement};
 use key_roll::{RollFault, forgo};
 use lms_tree::LmsPublic;
-use log_sending::{Drafts, Ready};
+use log_sending::{DraftMessages, Ready};
 use std::alloc::{AllocError, Global};
 
 /// Why a log does not go on to a key, as a refusal.
@@ -38,7 +38,8 @@ pub(crate) fn next_told(key: &LmsPublic)
 impl LogCore {
     /// The note of a Roll to this key, which goes to all logs.
     fn roll_drafts(&self, alloc: Global, next: &LmsPublic) -> Result<Ready<'static>, AllocError>
-        ensures { IfOk result (λ ready. ready ≡ with_draft none_composed (roll_draft self.now next.now)) }
+        ensures { IfOk result (λ ready.
+            ready ≡ with_draft none_composed (roll_draft self.now next.now)) }
     {
         let party = Role::LogServer.party(self.log.number());
         let generation = self.log.record().signed.generation();
@@ -53,7 +54,7 @@ impl LogCore {
             key: *next,
             signature: Signature::zeros(alloc, self.signature_len)?,
         };
-        let mut drafts = Drafts::new(alloc);
+        let mut drafts = DraftMessages::new(alloc);
         drafts.add(
             alloc,
             Address::Logs,

@@ -6,7 +6,7 @@ ghost use Rattle.ar_council.specs.Council.{council_of};
 ghost use Rattle.epoch_log.specs.State.{reports_of};
 ghost use Rattle.epoch_log.specs.Telling as telling;
 ghost use Rattle.log_sending.specs.Checks.{none_can_win};
-ghost use Rattle.ar_claims.specs.Lists.{statuses_in};
+ghost use Rattle.ar_claims.specs.Lists.{claimed_statuses};
 ghost use Rattle.log_sending.specs.Signers.{signers};
 ghost use Rattle.log_core.specs.Skipped.{signed_statuses, skip_judged, skip_row};
 ghost use Rattle.log_core.specs.Steps.{IsStep};
@@ -16,7 +16,7 @@ ghost use Rattle.vote_quorum.specs.Statuses.{AreStatuses};
 use crate::LogRefusal;
 use crate::log_core::{LogCore, ended_epoch};
 use ar_message::{LogStatus, Statuses, Unsigned};
-use log_sending::{Signers, in_epoch, value_of_roots};
+use log_sending::{Signers, in_epoch};
 use party_keys::Directory;
 use std::alloc::{AllocError, Global};
 use vote_quorum::{Value, excluded};
@@ -28,7 +28,8 @@ fn check_statuses(
     epoch: u64,
     statuses: &[LogStatus],
 ) -> Result<(), LogRefusal>
-    ensures { GivesUnless refusals.Memory (λ u. u) result (signers directory.now (statuses_in epoch statuses.now)) }
+    ensures { GivesUnless refusals.Memory (λ u.
+        u) result (signers directory.now (claimed_statuses epoch statuses.now)) }
 {
     let mut signers = Signers::new(alloc);
     signers.add_statuses(epoch, statuses)?;
@@ -44,7 +45,7 @@ fn reports_of(
 {
     let mut list = Vec::new(alloc);
     for status in statuses {
-        list.push((status.log, value_of_roots(status.value)))?;
+        list.push((status.log, status.value))?;
     }
     Ok(list)
 }
@@ -59,7 +60,7 @@ fn signed_statuses(
     let mut list = Vec::new(alloc);
     for status in statuses {
         let signature = Vec::from_slice(alloc, status.signature.as_slice())?;
-        list.push((status.log, value_of_roots(status.value), signature))?;
+        list.push((status.log, status.value, signature))?;
     }
     Ok(list)
 }
@@ -79,7 +80,8 @@ impl LogCore {
     /// The checks of a SkipNote, in their order.
     #[tactic(auto, unfolding(crate::specs::Skipped::skip_judged))]
     fn judge_skip(&self, alloc: Global, epoch: u64, statuses: &Statuses) -> Result<(), LogRefusal>
-        ensures { GivesUnless refusals.Memory (λ u. u) result (skip_judged self.now epoch statuses.now) }
+        ensures { GivesUnless refusals.Memory (λ u.
+            u) result (skip_judged self.now epoch statuses.now) }
     {
         let directory = self.log.directory();
         let list = statuses.list.as_slice();

@@ -13,9 +13,10 @@ ghost use Rattle.log_sending.specs.declared.refusal.LogRefusal.TheVariants as re
 use crate::LogRefusal;
 use crate::log_core::LogCore;
 use crate::verifying::has_signed;
-use ar_council::{ballot_told, status_statement};
+use ar_council::status_statement;
 use ar_message::{Signature, Unsigned};
-use log_sending::{Drafts, Ready, add_closing, close, in_epoch, in_turn};
+use ar_statement::optional_value_told;
+use log_sending::{DraftMessages, Ready, add_closing, close, in_epoch, in_turn};
 use std::alloc::{AllocError, Global};
 use vote_quorum::Value;
 
@@ -30,7 +31,8 @@ impl LogCore {
         value: &Option<Value>,
         signature: &[u8],
     ) -> Result<(), LogRefusal>
-        ensures { GivesUnless refusals.Memory (λ u. u) result (status_judged self.now log epoch value.now signature.now) }
+        ensures { GivesUnless refusals.Memory (λ u.
+            u) result (status_judged self.now log epoch value.now signature.now) }
     {
         let statement = status_statement(log, epoch, value);
         has_signed(alloc, self.log.directory(), &statement, signature)?;
@@ -53,11 +55,15 @@ impl LogCore {
     ) -> Result<Ready<'static>, AllocError>
         requires log { log < self.now.log.council.logs }
         requires signature { IsSignature signature.now }
-        ensures { IfOk result (λ ready. ready ≡ with_drafts none_composed (closing_drafts (after_status_seen self.now.log log value.now (Some signature.now)).1
-            self.now.signature_len self.now.log (after_status_seen self.now.log log value.now (Some signature.now)).0)) }
+        ensures { IfOk result (λ ready.
+            ready ≡ with_drafts none_composed
+            (closing_drafts (after_status_seen self.now.log log value.now
+            (Some signature.now)).1
+            self.now.signature_len self.now.log
+            (after_status_seen self.now.log log value.now (Some signature.now)).0)) }
     {
-        ballot_told(value);
-        let mut drafts: Drafts<'static> = Drafts::new(alloc);
+        optional_value_told(value);
+        let mut drafts: DraftMessages<'static> = DraftMessages::new(alloc);
         let foreseen = self.log.foresee_status(alloc, log, value, signature)?;
         add_closing(alloc, &self.log, self.signature_len, foreseen, &mut drafts)?;
         drafts.ready(alloc)
@@ -72,9 +78,10 @@ impl LogCore {
         value: Option<Value>,
         signature: &Signature,
     ) -> Result<Unsigned, LogRefusal>
-        ensures { IsStep result self.old self.new (status_row self.old log epoch value signature.now) }
+        ensures { IsStep result self.old self.new
+            (status_row self.old log epoch value signature.now) }
     {
-        ballot_told(&value);
+        optional_value_told(&value);
         let signature = signature.as_slice();
         match self.judge_status(alloc, log, epoch, &value, signature) {
             Ok(()) => {}

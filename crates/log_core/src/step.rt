@@ -1,9 +1,10 @@
 //! A step of a log: what it is asked goes to its row.
 
-ghost use Rattle.ar_base.specs.Gives.{GivesUnless, with_error};
+ghost use Rattle.std.specs.Prelude.{◌≡◌, Err, IsOk};
+ghost use Rattle.ar_base.specs.Gives.{GivesOrWants, with_error};
 ghost use Rattle.ar_message.specs.Messages.{message_in};
 ghost use Rattle.log_core.specs.Inputs.{input_of};
-ghost use Rattle.log_core.specs.Row.{message_row, other_row, read_row, row};
+ghost use Rattle.log_core.specs.Row.{IsReadable, message_row, other_row, read_row, row};
 ghost use Rattle.log_core.specs.Steps.{IsStep};
 ghost use Rattle.log_sending.specs.declared.refusal.LogRefusal.TheVariants as refusals;
 
@@ -12,7 +13,6 @@ use crate::log_core::LogCore;
 use ar_base::Items;
 use ar_message::{Message, MessageFault, Unsigned};
 use lms_tree::LmsPublic;
-use log_sending::value_of_roots;
 use party_keys::Announced;
 use std::alloc::Global;
 use vote_quorum::Value;
@@ -30,9 +30,10 @@ pub enum LogInput<'a> {
     Roll(&'a LmsPublic),
 }
 
-/// The message with this text.
+/// The message with this text. No want of memory stands in the place of `Form`.
 fn read(alloc: Global, bytes: &[u8]) -> Result<Message, LogRefusal>
-    ensures { GivesUnless refusals.Memory (λ message. message) result (with_error refusals.Form (message_in bytes.now)) }
+    ensures { GivesOrWants refusals.Memory (λ message.
+        message) result (with_error refusals.Form (message_in bytes.now)) }
 {
     match Message::read(alloc, bytes) {
         Ok(message) => Ok(message),
@@ -121,14 +122,15 @@ impl LogCore {
                 epoch,
                 value,
                 signature,
-            } => self.status_note(alloc, log, epoch, value_of_roots(value), &signature),
+            } => self.status_note(alloc, log, epoch, value, &signature),
             message => self.take_other(alloc, message),
         }
     }
 
     /// The row of bytes.
     fn take(&mut self, alloc: Global, bytes: &[u8]) -> Result<Unsigned, LogRefusal>
-        ensures { IsStep result self.old self.new (read_row self.old (message_in bytes.now)) }
+        ensures row { IsStep result self.old self.new (read_row self.old (message_in bytes.now)) }
+        ensures memory { result ≡ Err refusals.Memory → IsOk (message_in bytes.now) }
     {
         match read(alloc, bytes) {
             Ok(message) => self.take_message(alloc, message),
@@ -138,11 +140,13 @@ impl LogCore {
 
     /// What the log sends for what it is asked, with zero bytes where a signature of its own is due, or why it refuses.
     ///
-    /// The answer is that of `specs/Row.antt`; `Memory` may stand in its place. All memory is taken before the first change,
-    /// and after a refusal the log is as it was.
+    /// The answer is that of `specs/Row.antt`; `Memory` may stand in its place, but not in that of `Form`. All memory is taken
+    /// before the first change, and after a refusal the log is as it was.
     #[tactic(auto, unfolding(crate::specs::Row::row))]
     pub fn step(&mut self, alloc: Global, input: &LogInput) -> Result<Unsigned, LogRefusal>
-        ensures { IsStep result self.old self.new (row self.old (input_of input.now)) }
+        ensures row { IsStep result self.old self.new (row self.old (input_of input.now)) }
+        // When memory may be wanting.
+        ensures memory { result ≡ Err refusals.Memory → IsReadable (input_of input.now) }
     {
         match input {
             LogInput::Take(bytes) => self.take(alloc, bytes),

@@ -27,7 +27,8 @@ fn check_endorsements(
     directory: &Directory,
     change: &Change,
 ) -> Result<(), LogRefusal>
-    ensures { GivesUnless refusals.Memory (λ u. u) result (signers directory.now (endorsements_in change.now)) }
+    ensures { GivesUnless refusals.Memory (λ u.
+        u) result (signers directory.now (endorsements_in change.now)) }
 {
     let mut signers = Signers::new(alloc);
     signers.add_endorsements(change)?;
@@ -59,7 +60,8 @@ impl LogCore {
     /// The checks of a Submit, in their order; and then whether an equal change is queued.
     #[tactic(auto, unfolding(crate::specs::Submit::submit_judged))]
     fn judge_submit(&self, alloc: Global, change: &Change) -> Result<bool, LogRefusal>
-        ensures { GivesUnless refusals.Memory (λ queued. queued) result (submit_judged self.now change.now) }
+        ensures { GivesUnless refusals.Memory (λ queued.
+            queued) result (submit_judged self.now change.now) }
     {
         check_endorsements(alloc, self.log.directory(), change)?;
         taken_alone(self.log.table().judge(self.log.epoch(), change))?;

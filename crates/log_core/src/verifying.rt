@@ -25,7 +25,9 @@ pub(crate) fn has_signed(
     signature: &[u8],
 ) -> Result<(), LogRefusal>
     ensures { GivesUnless refusals.Memory (λ unit. unit) result
-        (signers directory.now (signed_by (signer_of (claim_of statement.now)) (claim_of statement.now) signature.now ∷ [])) }
+        (signers directory.now
+        (signed_by (signer_of (claim_of statement.now)) (claim_of statement.now) signature.now
+        ∷ [])) }
 {
     let mut signers = Signers::new(alloc);
     signers.add(statement, signature)?;
@@ -42,7 +44,9 @@ impl LogCore {
         changes: &'a [Change],
     ) -> Result<(), LogRefusal>
         requires { All IsChange changes.now }
-        ensures { GivesUnless refusals.Memory (λ unit. unit) result (signers self.now.keys (front.entry ++ flat_map endorsements_in changes.now)) }
+        ensures { GivesUnless refusals.Memory (λ unit.
+            unit) result (signers self.now.keys
+            (front.entry ++ flat_map endorsements_in changes.now)) }
     {
         self.told();
         let mut all = front;

@@ -12,7 +12,7 @@ use Rattle.log_journal.specs.Steps.{standing_of}
 use Rattle.log_journal.specs.Steps as steps
 use Rattle.log_core.proofs.Short.{row-short}
 use Rattle.log_core.specs.Row.{row}
-use Rattle.log_core.specs.State.{Answer, CoreState, Input, Reply, passes, proposes, rolls, takes}
+use Rattle.log_core.specs.State.{LogAnswer, CoreState, Input, Reply, passes, proposes, rolls, takes}
 use Rattle.log_journal.specs.Inputs.{IsShortInput, IsWhole, input_text, mark}
 use Rattle.log_sending.specs.declared.refusal.LogRefusal.{LogRefusal}
 use Rattle.log_sending.specs.declared.refusal.LogRefusal.TheVariants.{Memory}
@@ -25,7 +25,7 @@ short_input s passes reply answer = tt
 short_input s (rolls key) reply answer = tt
 
 -- a refusal that is not want of memory is the row's
-pub of_row : (answer : Answer) (refusal : LogRefusal) → (refusal ≡ Memory) ⊎ (answer ≡ Err refusal) → refusal ≢ Memory → answer ≡ Err refusal
+pub of_row : (answer : LogAnswer) (refusal : LogRefusal) → (refusal ≡ Memory) ⊎ (answer ≡ Err refusal) → refusal ≢ Memory → answer ≡ Err refusal
 of_row answer refusal how other = ⊎_elim (λ memory. absurd (other memory)) (λ is. is) how
 
 -- an input that was answered is short enough for a record

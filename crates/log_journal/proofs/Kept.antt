@@ -15,16 +15,16 @@ use Rattle.kept_journal.specs.Journal.{recovered}
 use Rattle.kept_journal.specs.Replays.{Replays}
 use Rattle.log_core.proofs.Later.{IsServedIn, row-adds, row-served}
 use Rattle.log_core.specs.Row.{row}
-use Rattle.log_core.specs.State.{Answer, Input, Reply}
+use Rattle.log_core.specs.State.{LogAnswer, Input, Reply}
 use Rattle.log_journal.specs.Determined.{one_standing}
 use Rattle.log_journal.specs.Inputs.{IsWhole, input_text, mark}
-use Rattle.log_journal.specs.Lives.{Lead, Leaves, Life}
+use Rattle.log_journal.specs.Lives.{Lead, LeavesFile, Life}
 use Rattle.log_journal.specs.Steps.{LogStanding, Steps, takes}
 use Rattle.log_journal.proofs.Spelled.{says_it}
 
 -- ---- texts
 
-life-begins : (texts : List (List ℕ)) (life : Life) → Leaves texts life → BeginsWith (recovered life.left) (texts ++ life.answered)
+life-begins : (texts : List (List ℕ)) (life : Life) → LeavesFile texts life → BeginsWith (recovered life.left) (texts ++ life.answered)
 life-begins texts life leaves = ⊎_elim
     (λ stands. ([], stands_recovered mark life.left (texts ++ life.answered) refl stands ∙ sym (append-nil (texts ++ life.answered))))
     (λ more. (more.0 ∷ [], stands_recovered mark life.left ((texts ++ life.answered) ++ more.0 ∷ []) refl more.1))
@@ -104,5 +104,5 @@ signed_kept first before after last texts answered more input reply left lives f
           (subst (λ c. AllByRecursion (IsServedIn c.log.past.signed) reply.unsigned.blanks) (sym after_is) (row-served before.core input reply answer)),
     )
   where
-    cc-reply : (a b : Reply) → ◌≡◌ {A = Answer} (Ok a) (Ok b) → a ≡ b
+    cc-reply : (a b : Reply) → ◌≡◌ {A = LogAnswer} (Ok a) (Ok b) → a ≡ b
     cc-reply a b e = cc

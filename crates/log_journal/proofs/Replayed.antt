@@ -10,7 +10,7 @@ use Rattle.lms_tree.specs.declared.public_key.LmsPublic.{LmsPublic}
 use Rattle.log_core.specs.Keyed.{AreBehind, IsOwn, IsPlain, SendsBy, signed_answer}
 use Rattle.log_core.specs.Rolling.{rolling_row}
 use Rattle.log_core.specs.Row.{row}
-use Rattle.log_core.specs.State.{Answer, CoreState, Input, Reply, passes, proposes, rolls, takes}
+use Rattle.log_core.specs.State.{LogAnswer, CoreState, Input, Reply, passes, proposes, rolls, takes}
 use Rattle.log_journal.specs.Steps.{LogStanding, Steps}
 use Rattle.log_sending.specs.declared.refusal.LogRefusal.{LogRefusal}
 use Rattle.log_sending.specs.declared.refusal.LogRefusal.TheVariants.{Memory}
@@ -19,7 +19,7 @@ same-ok : (a b : CoreState × Sent) → ◌≡◌ {A = Result (CoreState × Sent
 same-ok a b e = cc
 
 -- an answer that was signed has a reply
-pub reply_of : (keys : List KeyParts) (answer : Answer) (new : CoreState) (sent : Sent) → signed_answer keys answer ≡ Ok (new, sent)
+pub reply_of : (keys : List KeyParts) (answer : LogAnswer) (new : CoreState) (sent : Sent) → signed_answer keys answer ≡ Ok (new, sent)
     → (reply : Reply) × (answer ≡ Ok reply) × (new ≡ reply.after)
 reply_of keys (Ok reply) new sent e =
     (reply, refl, sym (ap (λ (p : CoreState × Sent). p.0) (same-ok (reply.after, filled keys reply.unsigned) (new, sent) e)))
@@ -34,7 +34,7 @@ steps_of old new input sent own answer behind =
 
 -- a refusal of the row is no step
 pub no_step : (old : LogStanding) (input : Input) (refusal : LogRefusal) → row old.core input ≡ Err refusal → (later : LogStanding) → ¬ Steps old input later
-no_step old input refusal answer later step = let never : ◌≡◌ {A = Answer} (Ok step.reply) (Err refusal) = sym step.row_is ∙ answer in absurd cc
+no_step old input refusal answer later step = let never : ◌≡◌ {A = LogAnswer} (Ok step.reply) (Err refusal) = sym step.row_is ∙ answer in absurd cc
 
 pub plain_own : (keys : List KeyParts) (input : Input) → IsPlain input → IsOwn keys input
 plain_own keys (takes bytes) plain = tt

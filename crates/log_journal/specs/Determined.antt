@@ -2,7 +2,7 @@
 use Rattle.std.proofs.Common.{◌≡◌, List, sym, ◌∙◌, ap, subst, ℕ, Ok, Some}
 use Rattle.lms_tree.specs.KeyParts.{KeyParts}
 use Rattle.log_core.specs.Keyed.{AreBehind, IsOwn}
-use Rattle.log_core.specs.State.{Answer, CoreState, Input, Reply, passes, proposes, rolls, takes}
+use Rattle.log_core.specs.State.{LogAnswer, CoreState, Input, Reply, passes, proposes, rolls, takes}
 use Rattle.log_journal.specs.Steps.{LogStanding, Steps}
 use Rattle.log_journal.specs.Steps as steps
 
@@ -15,7 +15,7 @@ same-keys proposes keys one other own a b = a ∙ sym b
 same-keys passes keys one other own a b = a ∙ sym b
 same-keys (rolls key) keys one other own a b = a own.next own.is_next ∙ sym (b own.next own.is_next)
 
-same-reply : (a b : Reply) → ◌≡◌ {A = Answer} (Ok a) (Ok b) → a ≡ b
+same-reply : (a b : Reply) → ◌≡◌ {A = LogAnswer} (Ok a) (Ok b) → a ≡ b
 same-reply a b e = cc
 
 pub one_step : (party one other : LogStanding) (input : Input) → Steps party input one → Steps party input other → one ≡ other

@@ -10,11 +10,11 @@ pub record Life : Type 0 where
   pub left : List ℕ
 
 -- The file that a life leaves, which began with these texts, stands for them and what was answered, with at most one text more.
-abbrev pub Leaves : List (List ℕ) → Life → Type 0
-Leaves texts life = Stands mark (texts ++ life.answered) life.left
+abbrev pub LeavesFile : List (List ℕ) → Life → Type 0
+LeavesFile texts life = Stands mark (texts ++ life.answered) life.left
     ⊎ ((text : List ℕ) × Stands mark ((texts ++ life.answered) ++ text ∷ []) life.left)
 
 -- From a file with these texts these lives, one behind the other, lead to one with those: each opens what the one before left.
 abbrev pub Lead : List (List ℕ) → List Life → List (List ℕ) → Type 0
 Lead texts [] last = last ≡ texts
-Lead texts (life ∷ lives) last = Leaves texts life × Lead (recovered life.left) lives last
+Lead texts (life ∷ lives) last = LeavesFile texts life × Lead (recovered life.left) lives last

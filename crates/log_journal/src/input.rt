@@ -6,7 +6,7 @@ ghost use Rattle.log_journal.specs.Inputs.{IsShortInput, IsWhole, input_in, inpu
 ghost use Rattle.log_journal.specs.Said.{IsSaid};
 
 use ar_council::key_told;
-use kept_journal::Record;
+use kept_journal::KeptText;
 use lms_tree::LmsPublic;
 use log_core::LogInput;
 use std::alloc::{AllocError, Global};
@@ -15,14 +15,15 @@ use std::alloc::{AllocError, Global};
 const LONGEST: usize = 4_194_304;
 
 /// The record of an input; of a message that is too long for a log, that of its front.
-pub(crate) fn record_of_input(alloc: Global, input: &LogInput) -> Result<Record, AllocError>
-    ensures { IfOk result (λ made. IsShortInput (input_of input.now) → made ≡ input_text (input_of input.now)) }
+pub(crate) fn record_of_input(alloc: Global, input: &LogInput) -> Result<KeptText, AllocError>
+    ensures { IfOk result (λ made.
+        IsShortInput (input_of input.now) → made ≡ input_text (input_of input.now)) }
 {
     match input {
-        LogInput::Take(bytes) => Record::of(alloc, 1, &bytes[..bytes.len().min(LONGEST)]),
-        LogInput::Propose => Record::of(alloc, 2, &[]),
-        LogInput::Pass => Record::of(alloc, 3, &[]),
-        LogInput::Roll(key) => Record::of(alloc, 4, &key.bytes()),
+        LogInput::Take(bytes) => KeptText::of(alloc, 1, &bytes[..bytes.len().min(LONGEST)]),
+        LogInput::Propose => KeptText::of(alloc, 2, &[]),
+        LogInput::Pass => KeptText::of(alloc, 3, &[]),
+        LogInput::Roll(key) => KeptText::of(alloc, 4, &key.bytes()),
     }
 }
 

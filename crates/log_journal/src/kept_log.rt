@@ -33,7 +33,8 @@ use std::marker::Model;
 
 /// Why a log that is kept refuses, by the log's own refusal.
 fn kept_refusal(refusal: LogRefusal) -> KeptRefusal
-    ensures log { (same : LogRefusal) → result ≡ refusals.Log same → (same ≡ refusal) × (refusal ≢ LogRefusal.Memory) }
+    ensures log { (same : LogRefusal) → result ≡ refusals.Log same
+        → (same ≡ refusal) × (refusal ≢ LogRefusal.Memory) }
     ensures other { (result ≢ refusals.DiskFault) × (result ≢ refusals.Reopen) }
 {
     match refusal {
@@ -81,25 +82,39 @@ impl<K: Disk> KeptLog<K> {
         // What the file was: neither of `not_journal` nor of `bad`.
         ensures stood { OnOk result (Stands mark (recovered (K.seen disk)) (K.seen disk)) }
         // Which log it is.
-        ensures replays { IfOk result (λ kept. Replays takes (new_log number directory key) (recovered (K.seen disk)) (standing_of kept.log)) }
-        ensures texts { IfOk result (λ kept. (kept.journal.texts ≡ recovered (K.seen disk)) × (kept.journal.count ≡ length (recovered (K.seen disk)))
+        ensures replays { IfOk result (λ kept.
+            Replays takes (new_log number directory key) (recovered (K.seen disk))
+            (standing_of kept.log)) }
+        ensures texts { IfOk result (λ kept.
+            (kept.journal.texts ≡ recovered (K.seen disk))
+            × (kept.journal.count ≡ length (recovered (K.seen disk)))
             × (kept.journal.stopped ≡ false)) }
         // What its file is then.
-        ensures durable { IfOk result (λ kept. Only (K.seen kept.journal.disk) (K.may_leave kept.journal.disk)
+        ensures durable { IfOk result (λ kept.
+            Only (K.seen kept.journal.disk) (K.may_leave kept.journal.disk)
             × Stands mark (recovered (K.seen disk)) (K.seen kept.journal.disk)) }
         // A crash at any moment leaves what a crash before might have left, or, of a file that stood for its inputs, the same inputs.
-        ensures any_moment { IfOk result (λ kept. LeavesOnly K.moment K.left_since disk kept.journal.disk (IsAsBefore (K.may_leave disk) mark (K.seen disk))) }
-        ensures any_moment_err { IfErr result (λ e. LeavesOnly K.moment K.left_since disk e.0 (IsAsBefore (K.may_leave disk) mark (K.seen disk))) }
+        ensures any_moment { IfOk result (λ kept.
+            LeavesOnly K.moment K.left_since disk kept.journal.disk
+            (IsAsBefore (K.may_leave disk) mark (K.seen disk))) }
+        ensures any_moment_err { IfErr result (λ e.
+            LeavesOnly K.moment K.left_since disk e.0
+            (IsAsBefore (K.may_leave disk) mark (K.seen disk))) }
         // A file that is refused stays, as does the count of faults.
         ensures kept { IfErr result (λ e. e.1 ≢ OpenFault.DiskFault → K.seen e.0 ≡ K.seen disk) }
-        ensures uncounted_err { IfErr result (λ e. e.1 ≢ OpenFault.DiskFault → K.faults e.0 ≡ K.faults disk) }
+        ensures uncounted_err { IfErr result (λ e.
+            e.1 ≢ OpenFault.DiskFault → K.faults e.0 ≡ K.faults disk) }
         // What it takes of the disk.
-        ensures spends { IfOk result (λ kept. SpendsCost (K.fuel disk) (K.fuel kept.journal.disk) (opening (K.seen disk))) }
+        ensures spends { IfOk result (λ kept.
+            SpendsCost (K.fuel disk) (K.fuel kept.journal.disk) (opening (K.seen disk))) }
         ensures uncounted { IfOk result (λ kept. K.faults kept.journal.disk ≡ K.faults disk) }
         // When each error comes.
-        ensures wants { IfErr result (λ e. e.1 ≡ OpenFault.DiskFault → WantsCost (K.fuel disk) (opening (K.seen disk))) }
-        ensures fault { IfErr result (λ e. e.1 ≡ OpenFault.DiskFault → HasRisen (K.faults disk) (K.faults e.0)) }
-        ensures not_journal { IfErr result (λ e. e.1 ≡ OpenFault.NotJournal → IsNoJournal mark (K.seen disk)) }
+        ensures wants { IfErr result (λ e.
+            e.1 ≡ OpenFault.DiskFault → WantsCost (K.fuel disk) (opening (K.seen disk))) }
+        ensures fault { IfErr result (λ e.
+            e.1 ≡ OpenFault.DiskFault → HasRisen (K.faults disk) (K.faults e.0)) }
+        ensures not_journal { IfErr result (λ e.
+            e.1 ≡ OpenFault.NotJournal → IsNoJournal mark (K.seen disk)) }
         ensures bad { IfErr result (λ e. (place : ℕ) → e.1 ≡ OpenFault.BadRecord place
             → IsBad takes mark (new_log number directory key) (K.seen disk) place) }
     {
@@ -124,31 +139,51 @@ impl<K: Disk> KeptLog<K> {
     pub fn step(&mut self, alloc: Global, input: &LogInput) -> Result<Sent, KeptRefusal>
         requires { IsOwn self.old.log.ring.keys (input_of input.now) }
         // The answer, signed, and where the log stands then.
-        ensures answer { IfOk result (λ sent. signed_answer self.new.log.ring.keys (row self.old.log.core (input_of input.now)) ≡ Ok (self.new.log.core, sent)) }
-        ensures keys { OnOk result (AreBehind (input_of input.now) self.old.log.ring.keys self.new.log.ring.keys) }
-        ensures taken { OnOk result (takes (standing_of self.old.log) (input_text (input_of input.now)) (standing_of self.new.log)) }
+        ensures answer { IfOk result (λ sent.
+            signed_answer self.new.log.ring.keys (row self.old.log.core (input_of input.now))
+            ≡ Ok (self.new.log.core, sent)) }
+        ensures keys { OnOk result
+            (AreBehind (input_of input.now) self.old.log.ring.keys self.new.log.ring.keys) }
+        ensures taken { OnOk result
+            (takes (standing_of self.old.log) (input_text (input_of input.now))
+            (standing_of self.new.log)) }
         ensures few { IfOk result (λ sent. length sent.messages ≤ most_sent) }
         // What its file has then.
-        ensures texts { OnOk result ((self.new.journal.texts ≡ self.old.journal.texts ++ input_text (input_of input.now) ∷ [])
-            × (self.new.journal.count ≡ self.old.journal.count + 1) × (self.new.journal.stopped ≡ false)) }
+        ensures texts { OnOk result
+            ((self.new.journal.texts ≡ self.old.journal.texts ++ input_text (input_of input.now)
+            ∷ [])
+            × (self.new.journal.count ≡ self.old.journal.count + 1)
+            × (self.new.journal.stopped ≡ false)) }
         ensures durable { OnOk result ((c : List ℕ) → K.may_leave self.new.journal.disk c
             → Stands mark (self.old.journal.texts ++ input_text (input_of input.now) ∷ []) c) }
         // A crash at any moment leaves the inputs from before, with this one or without.
-        ensures any_moment { LeavesOnly K.moment K.left_since self.old.journal.disk self.new.journal.disk
-            (λ c. K.may_leave self.old.journal.disk c ⊎ IsBeforeOrAfter mark self.old.journal.texts (input_text (input_of input.now)) c) }
+        ensures any_moment { LeavesOnly K.moment K.left_since self.old.journal.disk
+            self.new.journal.disk
+            (λ c. K.may_leave self.old.journal.disk c
+            ⊎ IsBeforeOrAfter mark self.old.journal.texts (input_text (input_of input.now)) c) }
         // When each error comes, and what it leaves.
         ensures refused { (refusal : LogRefusal) → IsErrOf result (refusals.Log refusal)
-            → (row self.old.log.core (input_of input.now) ≡ Err refusal) × IsAsItWas self.old self.new }
+            → (row self.old.log.core (input_of input.now) ≡ Err refusal)
+            × IsAsItWas self.old self.new }
         ensures memory { IsErrOf result refusals.Memory → IsAsItWas self.old self.new }
         ensures reopen { IsErrOf result refusals.Reopen ↔ (self.old.journal.stopped ≡ true) }
         ensures reopened { IsErrOf result refusals.Reopen → IsAsItWas self.old self.new }
-        ensures fault { IsErrOf result refusals.DiskFault → (self.new.journal.stopped ≡ true) × HasRisen (K.faults self.old.journal.disk) (K.faults self.new.journal.disk)
-            × Stands mark self.old.journal.texts (K.held self.new.journal.disk) × (self.new.journal.count ≡ self.old.journal.count)
-            × takes (standing_of self.old.log) (input_text (input_of input.now)) (standing_of self.new.log) }
+        ensures fault { IsErrOf result refusals.DiskFault
+            → (self.new.journal.stopped ≡ true)
+            × HasRisen (K.faults self.old.journal.disk) (K.faults self.new.journal.disk)
+            × Stands mark self.old.journal.texts (K.held self.new.journal.disk)
+            × (self.new.journal.count ≡ self.old.journal.count)
+            × takes (standing_of self.old.log) (input_text (input_of input.now))
+            (standing_of self.new.log) }
         // What it takes of the disk.
-        ensures spends { OnOk result (SpendsAll (K.fuel self.old.journal.disk) (K.fuel self.new.journal.disk) 4 (length (staged_text (input_text (input_of input.now))) + 1) 4) }
-        ensures wants { IsErrOf result refusals.DiskFault → WantsAll (K.fuel self.old.journal.disk) 4 (length (staged_text (input_text (input_of input.now))) + 1) 4 }
-        ensures uncounted { OnOk result (K.faults self.new.journal.disk ≡ K.faults self.old.journal.disk) }
+        ensures spends { OnOk result
+            (SpendsAll (K.fuel self.old.journal.disk) (K.fuel self.new.journal.disk) 4
+            (length (staged_text (input_text (input_of input.now))) + 1) 4) }
+        ensures wants { IsErrOf result refusals.DiskFault
+            → WantsAll (K.fuel self.old.journal.disk) 4
+            (length (staged_text (input_text (input_of input.now))) + 1) 4 }
+        ensures uncounted { OnOk result (K.faults self.new.journal.disk
+            ≡ K.faults self.old.journal.disk) }
     {
         if self.journal.is_stopped() {
             return Err(KeptRefusal::Reopen);
@@ -178,7 +213,8 @@ impl<K: Disk> KeptLog<K> {
     /// What the log remembers, which is what an honest log does. After `DiskFault` it is the record with that input.
     pub fn record(&self) -> &Record
         ensures value { record_of result.now ≡ self.now.log.core.log.past }
-        ensures honest { HonestLog self.now.log.core.log.council self.now.log.core.log.me self.now.log.core.log.past }
+        ensures honest { HonestLog self.now.log.core.log.council self.now.log.core.log.me
+            self.now.log.core.log.past }
     {
         self.log.core.record()
     }
@@ -193,7 +229,8 @@ impl<K: Disk> KeptLog<K> {
     /// Tells a proof what a crash leaves of a log that is not to be opened again. It does nothing.
     pub fn told(&self)
         requires { self.now.journal.stopped ≡ false }
-        ensures crash { (c : List ℕ) → K.may_leave self.now.journal.disk c → Stands mark self.now.journal.texts c }
+        ensures crash { (c : List ℕ) → K.may_leave self.now.journal.disk c
+            → Stands mark self.now.journal.texts c }
         ensures counts { self.now.journal.count ≡ length self.now.journal.texts }
     {
         self.journal.told();

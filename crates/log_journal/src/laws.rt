@@ -20,8 +20,10 @@ pub fn a_text_says_its_input()
 /// A file that stands for inputs which a log can take again, one behind the other, is refused by neither its mark nor a record
 /// of it.
 pub fn a_file_that_can_be_replayed_is_not_refused()
-    ensures mark { (file : List ℕ) (texts : List (List ℕ)) → Stands mark texts file → ¬ IsNoJournal mark file }
-    ensures records { (file : List ℕ) (texts : List (List ℕ)) (first last : LogStanding) (place : ℕ) → Stands mark texts file
+    ensures mark { (file : List ℕ) (texts : List (List ℕ)) → Stands mark texts file
+        → ¬ IsNoJournal mark file }
+    ensures records { (file : List ℕ) (texts : List (List ℕ)) (first last : LogStanding) (place : ℕ)
+        → Stands mark texts file
         → Replays takes first texts last → ¬ IsBad takes mark first file place }
 {}
 
@@ -29,16 +31,21 @@ pub fn a_file_that_can_be_replayed_is_not_refused()
 /// begin with those from before and with what was answered.
 pub fn what_was_answered_is_kept()
     ensures { (texts answered last : List (List ℕ)) (left : List ℕ) (lives : List Life)
-        → Lead texts (record { answered = answered; left = left } ∷ lives) last → BeginsWith last (texts ++ answered) }
+        → Lead texts (record { answered = answered; left = left } ∷ lives) last
+        → BeginsWith last (texts ++ answered) }
 {}
 
 /// What a log signed it has signed in each later life of its file, whatever crashes and openings come between: the statement of
 /// each signature of its own that it sent stands in its book at the generation and leaf of that signature.
 pub fn what_was_signed_is_kept()
-    ensures { (first before after last : LogStanding) (texts answered more : List (List ℕ)) (input : Input) (reply : Reply)
+    ensures { (first before after last : LogStanding) (texts answered more : List (List ℕ))
+        (input : Input) (reply : Reply)
         (left : List ℕ) (lives : List Life) (final : List (List ℕ))
-        → Replays takes first (texts ++ answered) before → Steps before input after → row before.core input ≡ Ok reply → IsWhole input
-        → Lead texts (record { answered = answered ++ (input_text input ∷ more); left = left } ∷ lives) final
+        → Replays takes first (texts ++ answered) before → Steps before input after
+        → row before.core input ≡ Ok reply → IsWhole input
+        → Lead texts (record { answered = answered ++ (input_text input ∷ more); left = left }
+        ∷ lives) final
         → Replays takes first final last
-        → LogGrows after.core.log.past last.core.log.past × All (λ blank. IsServed last.core.log.past.signed blank.due) reply.unsigned.blanks }
+        → LogGrows after.core.log.past last.core.log.past × All (λ blank.
+        IsServed last.core.log.past.signed blank.due) reply.unsigned.blanks }
 {}

@@ -46,8 +46,10 @@ fn fault_of(refusal: LogRefusal) -> ReplayFault
 /// A log takes an input again that is no roll.
 fn take_again(alloc: Global, log: &mut Log, input: &LogInput) -> Result<(), ReplayFault>
     requires { IsPlain (input_of input.now) }
-    ensures taken { OnOk result (Steps (standing_of log.old) (input_of input.now) (standing_of log.new)) }
-    ensures stuck { IsErrOf result ReplayFault.Stuck → (later : LogStanding) → ¬ Steps (standing_of log.old) (input_of input.now) later }
+    ensures taken { OnOk result
+        (Steps (standing_of log.old) (input_of input.now) (standing_of log.new)) }
+    ensures stuck { IsErrOf result ReplayFault.Stuck → (later : LogStanding)
+        → ¬ Steps (standing_of log.old) (input_of input.now) later }
 {
     match answer(log, alloc, input) {
         Ok(_) => Ok(()),
@@ -72,8 +74,10 @@ fn newest_told(log: &Log)
 
 /// A log goes on to its next key again, which is to be this one.
 fn roll_again(alloc: Global, log: &mut Log, key: &LmsPublic) -> Result<(), ReplayFault>
-    ensures taken { OnOk result (Steps (standing_of log.old) (rolls key.now) (standing_of log.new)) }
-    ensures stuck { IsErrOf result ReplayFault.Stuck → (later : LogStanding) → ¬ Steps (standing_of log.old) (rolls key.now) later }
+    ensures taken { OnOk result
+        (Steps (standing_of log.old) (rolls key.now) (standing_of log.new)) }
+    ensures stuck { IsErrOf result ReplayFault.Stuck → (later : LogStanding)
+        → ¬ Steps (standing_of log.old) (rolls key.now) later }
 {
     newest_told(log);
     match log.roll(alloc) {

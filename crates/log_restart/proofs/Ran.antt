@@ -1,5 +1,5 @@
 -- What the two runs of a log that restarts leave.
-use Rattle.std.proofs.Common.{◌≡◌, inl, inr, ℕ, ◌+◌, ◌-◌, ◌*◌, ◌<◌, ◌≤◌, Bool, true, false, List, [], ◌++◌, length, take, drop, refl, sym, ◌∙◌, ap, subst, arith, length-drop, Option, None, Some}
+use Rattle.std.proofs.Common.{◌≡◌, ◌⊎◌, inl, inr, ℕ, ◌+◌, ◌-◌, ◌*◌, ◌<◌, ◌≤◌, Bool, true, false, List, [], ◌++◌, length, take, drop, refl, sym, ◌∙◌, ap, subst, arith, length-drop, Option, None, Some}
 use Rattle.std.specs.Prelude.{IfSome}
 use Rattle.std.specs.Option.{option_map}
 use Rattle.std.proofs.Math.Seq.{take-length}
@@ -19,7 +19,7 @@ use Rattle.log_journal.specs.Kept.{KeptParts}
 use Rattle.log_journal.specs.Steps.{LogStanding, standing_of, takes}
 use Rattle.log_core.specs.declared.step.LogInput.{LogInput}
 use Rattle.log_restart.specs.Inputs.{record_cost, records_cost, texts_of, total_len}
-use Rattle.log_restart.specs.Restarted.{IsOpened, RanFirst, recovered_of}
+use Rattle.log_restart.specs.Restarted.{IsOpened, RanFirst, StandsNext, recovered_of}
 use Rattle.log_restart.specs.Running.{FailedAt, TookAll}
 use Rattle.log_restart.proofs.Costs.{records_total}
 use Rattle.log_restart.proofs.Replaying.{front_replays, rest_replays}
@@ -62,7 +62,7 @@ too-few texts fuse old many has within (inr (inr few)) = absurd (omega (arith, f
 
 module _ (texts : List (List ℕ)) (old new : KeptParts DiskState) where
   -- without an end it does not fail
-  pub never_fails : HasRoom texts None old → FailedAt held fuel faults old new texts → ⊥
+  pub never_fails : HasRoom texts None old → FailedAt seen held fuel faults old new texts → ⊥
   never_fails has failed =
       let short = too-few texts None old failed.many has failed.some_left failed.wanting in
       let never : None ≡ Some short.0 = short.1 in absurd cc
@@ -82,6 +82,8 @@ module _ (texts : List (List ℕ)) (old new : KeptParts DiskState) where
         record {
           lost = subst (λ (ts : List (List ℕ)). Stands mark ts (held new.journal.disk))
               (all-texts texts ∙ sym (ap (λ (n : ℕ). take n texts) many ∙ take-length texts)) all.kept;
+          kept = inl (subst (λ (ts : List (List ℕ)). Stands mark ts (seen new.journal.disk))
+              (all-texts texts ∙ sym (ap (λ (n : ℕ). take n texts) many ∙ take-length texts)) all.whole);
           failed = (λ some. absurd (omega (arith, some, faultless)), λ few. absurd (omega (arith, few, passed)));
         }
 
@@ -89,7 +91,14 @@ module _ (texts : List (List ℕ)) (old new : KeptParts DiskState) where
     rose (inl more) = omega (arith, more)
     rose (inr most) = omega (arith, most)
 
-    ran-stopped : FailedAt held fuel faults old new texts → RanFirst texts calls new.journal.disk
+    given-next : (many : ℕ) → recovered_of (length texts) calls ≡ many → Stands mark (old.journal.texts ++ take many texts) (seen new.journal.disk)
+        ⊎ Stands mark (old.journal.texts ++ take (many + 1) texts) (seen new.journal.disk) → StandsNext (recovered_of (length texts) calls) texts (seen new.journal.disk)
+    given-next many is (inl stands) =
+        inl (subst (λ (ts : List (List ℕ)). Stands mark ts (seen new.journal.disk)) (all-texts (take many texts) ∙ sym (ap (λ (n : ℕ). take n texts) is)) stands)
+    given-next many is (inr stands) =
+        inr (subst (λ (ts : List (List ℕ)). Stands mark ts (seen new.journal.disk)) (all-texts (take (many + 1) texts) ∙ sym (ap (λ (n : ℕ). take (n + 1) texts) is)) stands)
+
+    ran-stopped : FailedAt seen held fuel faults old new texts → RanFirst texts calls new.journal.disk
     ran-stopped at =
         let passed : 4 * at.many ≤ calls = enough at.many at.spent.0 in
         let short = too-few texts (Some calls) old at.many has at.some_left at.wanting in
@@ -99,11 +108,12 @@ module _ (texts : List (List ℕ)) (old new : KeptParts DiskState) where
         record {
           lost = subst (λ (ts : List (List ℕ)). Stands mark ts (held new.journal.disk))
               (all-texts (take at.many texts) ∙ sym (ap (λ (n : ℕ). take n texts) many)) at.kept;
+          kept = given-next at.many many at.given;
           failed = (λ some. omega (arith, few, at.some_left), λ less. rose at.risen);
         }
 
     -- the first run
-    pub ran_first : (whole : Bool) → (whole ≡ true → TookAll seen held fuel faults old new texts) → (whole ≡ false → FailedAt held fuel faults old new texts)
+    pub ran_first : (whole : Bool) → (whole ≡ true → TookAll seen held fuel faults old new texts) → (whole ≡ false → FailedAt seen held fuel faults old new texts)
         → RanFirst texts calls new.journal.disk
     ran_first true all at = ran-whole (all refl)
     ran_first false all at = ran-stopped (at refl)

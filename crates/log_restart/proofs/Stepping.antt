@@ -1,11 +1,12 @@
 -- A log that is kept takes what it has to take, one thing behind the other, or its disk fails.
-use Rattle.std.proofs.Common.{◌≡◌, ℕ, ◌+◌, ◌*◌, false, List, [], ◌∷◌, ◌++◌, length, take, refl, sym, ◌∙◌, ap, subst, arith, append_assoc, append-nil, length-append, Option, Some, Err}
+use Rattle.std.proofs.Common.{◌≡◌, ◌≤◌, ◌⊎◌, inl, inr, ℕ, ◌+◌, ◌*◌, false, List, [], ◌∷◌, ◌++◌, length, take, refl, sym, ◌∙◌, ap, subst, arith, append_assoc, append-nil, length-append, Option, Some, Err}
 use Rattle.std.proofs.Math.Seq.{take-append-add, take-append_seam}
 use Rattle.std.proofs.lemmas.List.Sums.{sum_by-append}
 use Rattle.ar_base.specs.Faults.{HasRisen}
 use Rattle.kept_disk.specs.Fuel.{Fuel}
 use Rattle.kept_journal.specs.Appending.{SpendsAll, WantsAll, staged_text}
-use Rattle.kept_journal.specs.Journal.{Stands}
+use Rattle.kept_disk.specs.Moments.{LeavesOnly}
+use Rattle.kept_journal.specs.Journal.{IsBeforeOrAfter, Stands}
 use Rattle.kept_journal.specs.Replays.{Replays}
 use Rattle.kept_journal.proofs.Loading.{replays-push}
 use Rattle.kept_journal.proofs.Spending.{none_spent, then_spent, then_wants}
@@ -76,11 +77,30 @@ module _ {D : Type 0} (seen held : D → List ℕ) (may_leave : D → List ℕ �
     uncounted = uncounted;
   }
 
+  -- what may be left from before stands for the texts from before
+  before_or_after : (old new : KeptParts D) (text : List ℕ) → ((c : List ℕ) → may_leave old.journal.disk c → Stands mark old.journal.texts c)
+      → may_leave old.journal.disk (seen new.journal.disk) ⊎ IsBeforeOrAfter mark old.journal.texts text (seen new.journal.disk)
+      → IsBeforeOrAfter mark old.journal.texts text (seen new.journal.disk)
+  before_or_after old new text crash (inl left) = inl (crash (seen new.journal.disk) left)
+  before_or_after old new text crash (inr is) = is
+
+  -- what a read gives now is what a crash now may leave
+  pub given_now : (moment : D → ℕ) (left_since : D → ℕ → List ℕ → Type 0) (old new : KeptParts D) (text : List ℕ)
+      → ((c : List ℕ) → may_leave old.journal.disk c → Stands mark old.journal.texts c)
+      → LeavesOnly moment left_since old.journal.disk new.journal.disk (λ c. may_leave old.journal.disk c ⊎ IsBeforeOrAfter mark old.journal.texts text c)
+      → ((disk : D) (t : ℕ) (c : List ℕ) → t ≤ moment disk → may_leave disk c → left_since disk t c)
+      → may_leave new.journal.disk (seen new.journal.disk) → IsBeforeOrAfter mark old.journal.texts text (seen new.journal.disk)
+  given_now moment left_since old new text crash leaves counts now =
+      before_or_after old new text crash
+      (leaves.each (seen new.journal.disk) (counts new.journal.disk (moment old.journal.disk) (seen new.journal.disk) leaves.later now))
+
   pub fails_one : (old new : KeptParts D) (text : List ℕ) → Stands mark old.journal.texts (held new.journal.disk)
+      → IsBeforeOrAfter mark old.journal.texts text (seen new.journal.disk)
       → WantsAll (fuel old.journal.disk) 4 (length (staged_text text) + 1) 4 → HasRisen (faults old.journal.disk) (faults new.journal.disk)
-      → Fails held fuel faults old new text
-  fails_one old new text kept wanting risen = record {
+      → Fails seen held fuel faults old new text
+  fails_one old new text kept given wanting risen = record {
     kept = kept;
+    given = given;
     wanting = then_wants (fuel old.journal.disk) (fuel old.journal.disk) 0 0 0 4 (length (staged_text text) + 1) 4 4 (record_cost text) 4
         (none_spent (fuel old.journal.disk)) wanting (omega arith) (omega (arith, staged_cost text)) (omega arith);
     risen = risen;
@@ -115,8 +135,19 @@ module _ {D : Type 0} (seen held : D → List ℕ) (may_leave : D → List ℕ �
         kept = subst (λ (ts : List (List ℕ)). Stands mark ts (held new.journal.disk)) went.stand (crash (held new.journal.disk) kept);
       }
 
+  -- what a file stands for behind the first texts of all
+  given_at : (old mid new : KeptParts D) (front all : List (List ℕ)) (text : List ℕ) → take (length front) all ≡ front → take (length front + 1) all ≡ front ++ text ∷ []
+      → mid.journal.texts ≡ old.journal.texts ++ front → IsBeforeOrAfter mark mid.journal.texts text (seen new.journal.disk)
+      → Stands mark (old.journal.texts ++ take (length front) all) (seen new.journal.disk)
+      ⊎ Stands mark (old.journal.texts ++ take (length front + 1) all) (seen new.journal.disk)
+  given_at old mid new front all text taken more stand (inl is) =
+      inl (subst (λ (ts : List (List ℕ)). Stands mark ts (seen new.journal.disk)) (stand ∙ ap (λ (ts : List (List ℕ)). old.journal.texts ++ ts) (sym taken)) is)
+  given_at old mid new front all text taken more stand (inr is) =
+      inr (subst (λ (ts : List (List ℕ)). Stands mark ts (seen new.journal.disk))
+      (ap (λ (ts : List (List ℕ)). ts ++ text ∷ []) stand ∙ append_assoc old.journal.texts front (text ∷ []) ∙ ap (λ (ts : List (List ℕ)). old.journal.texts ++ ts) (sym more)) is)
+
   pub failed_at : (old mid new : KeptParts D) (front back all : List (List ℕ)) (text : List ℕ) → all ≡ front ++ text ∷ back → Took fuel faults old mid front
-      → Fails held fuel faults mid new text → FailedAt held fuel faults old new all
+      → Fails seen held fuel faults mid new text → FailedAt seen held fuel faults old new all
   failed_at old mid new front back all text is took fails =
       let taken : take (length front) all ≡ front = ap (λ (ts : List (List ℕ)). take (length front) ts) is ∙ take-append_seam front (text ∷ back) in
       let more : take (length front + 1) all ≡ front ++ text ∷ [] =
@@ -126,6 +157,7 @@ module _ {D : Type 0} (seen held : D → List ℕ) (may_leave : D → List ℕ �
         some_left = omega (arith, ap length is, length-append front (text ∷ back));
         kept = subst (λ (ts : List (List ℕ)). Stands mark ts (held new.journal.disk))
             (took.stand ∙ ap (λ (ts : List (List ℕ)). old.journal.texts ++ ts) (sym taken)) fails.kept;
+        given = given_at old mid new front all text taken more took.stand fails.given;
         left = fuel mid.journal.disk;
         spent = subst (λ (ts : List (List ℕ)). SpendsAll (fuel old.journal.disk) (fuel mid.journal.disk) (4 * length front) (records_cost ts) (4 * length front))
             (sym taken) took.spent;

@@ -54,7 +54,7 @@ module _ (disk : DiskState) (empty : disk ≡ fresh []) (new : LogStanding) wher
         }
 
     pub runs_first : (later : KeptParts DiskState) (whole : Bool) → (whole ≡ true → TookAll seen held fuel faults old later texts)
-        → (whole ≡ false → FailedAt held fuel faults old later texts) → RanFirst texts calls later.journal.disk
+        → (whole ≡ false → FailedAt seen held fuel faults old later texts) → RanFirst texts calls later.journal.disk
     runs_first later whole all at =
         ran_first texts old later calls fused-room
         (ap (λ (j : JournalParts DiskState). j.texts) journal ∙ is.stand ∙ ap (λ (d : DiskState). recovered d.seen) empty)
@@ -103,10 +103,10 @@ module _ (inputs : List LogInput) (many : ℕ) (lost : DiskState) (image : List 
     pub rest_room : HasRoom (texts_of (drop many inputs)) None kept
     rest_room = has_room (texts_of (drop many inputs)) total (length inputs) new (recovered lost.seen) lost kept is small-left few-left
 
-    -- the texts in its file, in the end
-    pub all_stand : (after : DiskState) → Stands mark (kept.journal.texts ++ texts_of (drop many inputs)) after.seen → Stands mark (texts_of inputs) after.seen
-    all_stand after stands_then =
-        subst (λ (ts : List (List ℕ)). Stands mark ts after.seen)
+    -- the texts for which its file stands, in the end
+    pub all_stand : (file : List ℕ) → Stands mark (kept.journal.texts ++ texts_of (drop many inputs)) file → Stands mark (texts_of inputs) file
+    all_stand file stands_then =
+        subst (λ (ts : List (List ℕ)). Stands mark ts file)
         (ap (λ (ts : List (List ℕ)). ts ++ texts_of (drop many inputs)) (is.stand ∙ lost_is (texts_of inputs) many lost.seen within-texts here-stands)
         ∙ ap (λ (ts : List (List ℕ)). take many (texts_of inputs) ++ ts) rest-texts
         ∙ take-append-drop many (texts_of inputs))

@@ -30,7 +30,8 @@ fn put_entry(
 fn put_at(alloc: Global, out: &mut Vec<u8>, book: &RollBook, place: usize) -> Result<(), AllocError>
     requires within { place < length book.now.book.list }
     requires before { out.old.items ≡ entries_from book.now.book 0 (take place book.now.book.list) }
-    ensures { OnOk result (out.new.items ≡ entries_from book.now.book 0 (take (place + 1) book.now.book.list)) }
+    ensures { OnOk result
+        (out.new.items ≡ entries_from book.now.book 0 (take (place + 1) book.now.book.list)) }
 {
     let entry = book.list()[place];
     let leaf = book.leaf_at(place);

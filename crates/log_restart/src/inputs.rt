@@ -10,7 +10,8 @@ pub const MOST_INPUT_BYTES: usize = 268_435_456;
 
 /// How many bytes the text of an input has, as a journal has it; none where that is more than there may be of all.
 fn text_len(input: &LogInput) -> Option<usize>
-    ensures some { IfSome result (λ len. (len ≡ length (text_of input.now)) × (len ≤ most_input_bytes)) }
+    ensures some { IfSome result (λ len.
+        (len ≡ length (text_of input.now)) × (len ≤ most_input_bytes)) }
     ensures none { IsNone result → most_input_bytes < length (text_of input.now) }
 {
     match input {
@@ -27,7 +28,8 @@ fn text_len(input: &LogInput) -> Option<usize>
 
 /// How many bytes the texts of inputs have together, as a journal has them; none where they are more than there may be.
 pub fn total_len(inputs: &[LogInput]) -> Option<usize>
-    ensures some { IfSome result (λ total. (total ≡ total_len (texts_of inputs.now)) × (total ≤ most_input_bytes)) }
+    ensures some { IfSome result (λ total.
+        (total ≡ total_len (texts_of inputs.now)) × (total ≤ most_input_bytes)) }
     ensures none { IsNone result → most_input_bytes < total_len (texts_of inputs.now) }
 {
     let mut total = 0;

@@ -66,9 +66,11 @@ pub(crate) fn open_with_room(
     changes: usize,
 ) -> Result<KeptLog<MemDisk>, AllocError>
     requires stands { Stands mark (recovered disk.seen) disk.seen }
-    requires replays { (last : LogStanding) × Replays takes (new_log_of number beginning) (recovered disk.seen) last }
+    requires replays { (last : LogStanding)
+        × Replays takes (new_log_of number beginning) (recovered disk.seen) last }
     requires unlimited { disk.fuel.fuse ≡ None }
-    ensures { IfOk result (λ kept. IsOpened (new_log_of number beginning) (recovered disk.seen) bytes changes disk kept) }
+    ensures { IfOk result (λ kept.
+        IsOpened (new_log_of number beginning) (recovered disk.seen) bytes changes disk kept) }
 {
     let mut disk = disk;
     make_room(&mut disk, bytes, changes)?;

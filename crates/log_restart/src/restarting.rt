@@ -41,9 +41,12 @@ fn open_for(
     requires few { inputs ≤ total }
     requires small { total ≤ most_input_bytes }
     requires stands { Stands mark (recovered disk.seen) disk.seen }
-    requires replays { (last : LogStanding) × Replays takes (new_log_of number beginning) (recovered disk.seen) last }
+    requires replays { (last : LogStanding)
+        × Replays takes (new_log_of number beginning) (recovered disk.seen) last }
     requires unlimited { disk.fuel.fuse ≡ None }
-    ensures { IfOk result (λ kept. IsOpened (new_log_of number beginning) (recovered disk.seen) (total + 6 * inputs) (4 * inputs) disk kept) }
+    ensures { IfOk result (λ kept.
+        IsOpened (new_log_of number beginning) (recovered disk.seen) (total + 6 * inputs)
+        (4 * inputs) disk kept) }
 {
     let bytes = total + RECORD_BYTES * inputs;
     open_with_room(alloc, number, beginning, disk, bytes, RECORD_CALLS * inputs)
@@ -63,7 +66,8 @@ fn run_first(
     requires empty { disk ≡ fresh [] }
     requires total { total ≡ total_len (texts_of inputs.now) }
     requires small { total ≤ most_input_bytes }
-    requires replays { (last : LogStanding) × Replays takes (new_log_of number beginning) (texts_of inputs.now) last }
+    requires replays { (last : LogStanding)
+        × Replays takes (new_log_of number beginning) (texts_of inputs.now) last }
     ensures { IfOk result (λ before. RanFirst (texts_of inputs.now) calls before) }
 {
     let mut kept = open_for(alloc, number, beginning, disk, inputs.len(), total)?;
@@ -82,12 +86,22 @@ fn ask_rest(
 ) -> Result<(), AllocError>
     requires within { from ≤ length inputs.now }
     requires going { kept.old.journal.stopped ≡ false }
-    requires replays { (last : LogStanding) × Replays takes (standing_of kept.old.log) (texts_of (drop from inputs.now)) last }
+    requires replays { (last : LogStanding)
+        × Replays takes (standing_of kept.old.log) (texts_of (drop from inputs.now)) last }
     requires unlimited { kept.old.journal.disk.fuel.fuse ≡ None }
-    requires room { records_cost (texts_of (drop from inputs.now)) ≤ kept.old.journal.disk.fuel.room }
-    requires changes { 4 * length (texts_of (drop from inputs.now)) ≤ kept.old.journal.disk.fuel.changes }
-    ensures became { OnOk result (Replays takes (standing_of kept.old.log) (texts_of (drop from inputs.now)) (standing_of kept.new.log)) }
-    ensures stands { OnOk result (Stands mark (kept.old.journal.texts ++ texts_of (drop from inputs.now)) kept.new.journal.disk.seen) }
+    requires room { records_cost (texts_of (drop from inputs.now))
+        ≤ kept.old.journal.disk.fuel.room }
+    requires changes { 4 * length (texts_of (drop from inputs.now))
+        ≤ kept.old.journal.disk.fuel.changes }
+    ensures became { OnOk result
+        (Replays takes (standing_of kept.old.log) (texts_of (drop from inputs.now))
+        (standing_of kept.new.log)) }
+    ensures stands { OnOk result
+        (Stands mark (kept.old.journal.texts
+        ++ texts_of (drop from inputs.now)) kept.new.journal.disk.seen) }
+    ensures lasts { OnOk result
+        (Stands mark (kept.old.journal.texts ++ texts_of (drop from inputs.now))
+        (synced kept.new.journal.disk.seen kept.new.journal.disk.events)) }
 {
     if !ask_all(alloc, kept, &inputs[from..])? {
         unreachable!()
@@ -97,14 +111,14 @@ fn ask_rest(
 
 /// What is told of a log with this record in the end, of which so many of so many inputs were recovered. The only error is want
 /// of memory.
-fn tell(alloc: Global, record: &Record, recovered: u64, inputs: usize) -> Result<Told, AllocError>
-    ensures { IfOk result (λ told. told ≡ told_of recovered inputs (record_of record.now).signed) }
+fn tell(alloc: Global, past: &Record, recovered: u64, inputs: usize) -> Result<Told, AllocError>
+    ensures { IfOk result (λ told. told ≡ told_of recovered inputs (record_of past.now).signed) }
 {
     Ok(Told {
         recovered,
         inputs: inputs as u64,
-        signed: record.signed.list().len() as u64,
-        digest: book_digest(alloc, &record.signed)?,
+        signed: past.signed.list().len() as u64,
+        digest: book_digest(alloc, &past.signed)?,
     })
 }
 
@@ -120,12 +134,15 @@ fn run_again(
 ) -> Result<(Told, MemDisk), AllocError>
     requires total { total ≡ total_len (texts_of inputs.now) }
     requires small { total ≤ most_input_bytes }
-    requires replays { (last : LogStanding) × Replays takes (new_log_of number beginning) (texts_of inputs.now) last }
-    requires lost { (many : ℕ) × (many ≤ length inputs.now) × Stands mark (take many (texts_of inputs.now)) (synced before.now.seen before.now.events) }
+    requires replays { (last : LogStanding)
+        × Replays takes (new_log_of number beginning) (texts_of inputs.now) last }
+    requires lost { (many : ℕ) × (many ≤ length inputs.now)
+        × Stands mark (take many (texts_of inputs.now)) (synced before.now.seen before.now.events) }
     ensures { (many : ℕ) (last : LogStanding) → many ≤ length inputs.now
         → Stands mark (take many (texts_of inputs.now)) (synced before.now.seen before.now.events)
         → Replays takes (new_log_of number beginning) (texts_of inputs.now) last
-        → IfOk result (λ ended. RanAgain (texts_of inputs.now) many last.core.log.past.signed ended.0 ended.1) }
+        → IfOk result (λ ended.
+        RanAgain (texts_of inputs.now) many last.core.log.past.signed ended.0 ended.1) }
 {
     let lost = before.lost(alloc)?;
     let mut kept = open_for(alloc, number, beginning, lost, inputs.len(), total)?;
@@ -154,13 +171,19 @@ pub fn restart(
     requires empty { (disks.old.before ≡ fresh []) × (disks.old.after ≡ fresh []) }
     requires same { (again.directory ≡ first.directory) × (again.key ≡ first.key) }
     requires small { total_len (texts_of inputs.now) ≤ most_input_bytes }
-    requires replays { (last : LogStanding) × Replays takes (new_log_of number first) (texts_of inputs.now) last }
+    requires replays { (last : LogStanding)
+        × Replays takes (new_log_of number first) (texts_of inputs.now) last }
     // What is told of the log that the inputs make of the new one.
-    ensures told { (last : LogStanding) → Replays takes (new_log_of number first) (texts_of inputs.now) last
-        → IfOk result (λ told. told ≡ told_of (recovered_of (length inputs.now) calls) (length inputs.now) last.core.log.past.signed) }
+    ensures told { (last : LogStanding)
+        → Replays takes (new_log_of number first) (texts_of inputs.now) last
+        → IfOk result (λ told.
+        told ≡ told_of (recovered_of (length inputs.now) calls)
+        (length inputs.now) last.core.log.past.signed) }
     // What the disks hold.
-    ensures disks { OnOk result (AreRestarted (texts_of inputs.now) calls disks.new.before disks.new.after) }
-    ensures memory { OnErr result ((disks.new.before ≡ disks.old.before) × (disks.new.after ≡ disks.old.after)) }
+    ensures disks { OnOk result
+        (AreRestarted (texts_of inputs.now) calls disks.new.before disks.new.after) }
+    ensures memory { OnErr result ((disks.new.before ≡ disks.old.before)
+        × (disks.new.after ≡ disks.old.after)) }
 {
     let Some(total) = total_len(inputs) else {
         unreachable!()

@@ -29,10 +29,14 @@ fn stopped_by(refusal: KeptRefusal) -> Result<bool, AllocError>
 /// Asks a log once more. It answers whether the log took it, or the disk failed; the only error is want of memory.
 fn ask<K: Disk>(alloc: Global, kept: &mut KeptLog<K>, input: &LogInput) -> Result<bool, AllocError>
     requires going { kept.old.journal.stopped ≡ false }
-    requires takes { (later : LogStanding) × takes (standing_of kept.old.log) (text_of input.now) later }
-    ensures took { result ≡ Ok true → Took K.fuel K.faults kept.old kept.new (text_of input.now ∷ []) }
-    ensures failed { result ≡ Ok false → Fails K.held K.fuel K.faults kept.old kept.new (text_of input.now) }
+    requires takes { (later : LogStanding)
+        × takes (standing_of kept.old.log) (text_of input.now) later }
+    ensures took { result ≡ Ok true
+        → Took K.fuel K.faults kept.old kept.new (text_of input.now ∷ []) }
+    ensures failed { result ≡ Ok false
+        → Fails K.seen K.held K.fuel K.faults kept.old kept.new (text_of input.now) }
 {
+    kept.told();
     input_told(input);
     match kept.step(alloc, input) {
         Ok(_sent) => Ok(true),
@@ -48,9 +52,12 @@ pub(crate) fn ask_all<K: Disk>(
     inputs: &[LogInput],
 ) -> Result<bool, AllocError>
     requires going { kept.old.journal.stopped ≡ false }
-    requires replays { (last : LogStanding) × Replays takes (standing_of kept.old.log) (texts_of inputs.now) last }
-    ensures took { result ≡ Ok true → TookAll K.seen K.held K.fuel K.faults kept.old kept.new (texts_of inputs.now) }
-    ensures failed { result ≡ Ok false → FailedAt K.held K.fuel K.faults kept.old kept.new (texts_of inputs.now) }
+    requires replays { (last : LogStanding)
+        × Replays takes (standing_of kept.old.log) (texts_of inputs.now) last }
+    ensures took { result ≡ Ok true
+        → TookAll K.seen K.held K.fuel K.faults kept.old kept.new (texts_of inputs.now) }
+    ensures failed { result ≡ Ok false
+        → FailedAt K.seen K.held K.fuel K.faults kept.old kept.new (texts_of inputs.now) }
 {
     for input in inputs {
         if !ask(alloc, kept, input)? {

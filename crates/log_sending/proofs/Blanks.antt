@@ -15,14 +15,14 @@ use Rattle.key_roll.specs.Due.{DueParts}
 use Rattle.key_roll.specs.Entry.{due_at, due_of, leaf_of}
 use Rattle.key_roll.specs.Ring.{AreKeysOf, Owes}
 use Rattle.key_roll.proofs.Rings.{at-place, owed_by}
-use Rattle.key_roll.specs.declared.signed.Signed.{Signed}
+use Rattle.key_roll.specs.declared.signed.SignedText.{SignedText}
 use Rattle.ar_message.specs.Filling.{CanFill, IsBlank, lengths, zeros}
 use Rattle.ar_message.specs.Messages.{message_text}
 use Rattle.ar_message.specs.Sending.{Letter}
 use Rattle.ar_message.specs.declared.unsigned.Blank.{Blank}
 use Rattle.ar_message.specs.declared.unsigned.Unsigned.{Unsigned}
 use Rattle.log_sending.specs.Blanks.{IsDraft, IsZero, StandsAt}
-use Rattle.log_sending.specs.Sending.{Draft, Place, blanks_by, blanks_from, if_own, letter_of, own_places, place_for, unsigned_of}
+use Rattle.log_sending.specs.Sending.{DraftMessage, Place, blanks_by, blanks_from, if_own, letter_of, own_places, place_for, unsigned_of}
 
 -- ---- bytes at the end of others
 
@@ -91,7 +91,7 @@ at-seam {X} done x rest =
     let less : length done < length all = omega (arith, many) in
     slice_get_read all (length all) (length done) x refl less (sym (get_or-append_seam done x rest x))
 
-zero-places : (len : ℕ) (book : RollBook) (letters : List Letter) (number : ℕ) (draft : Draft) → slice_get letters number ≡ Some (letter_of draft)
+zero-places : (len : ℕ) (book : RollBook) (letters : List Letter) (number : ℕ) (draft : DraftMessage) → slice_get letters number ≡ Some (letter_of draft)
     → (own : List Place) → AllByRecursion (λ place. StandsAt (zeros len) place.at (message_text draft.message)) own
     → AllByRecursion (IsZero len letters) (flat_map (λ place. blanks_by (due_of book place.text) number place) own)
 zero-places len book letters number draft named [] stands = tt
@@ -103,7 +103,7 @@ zero-places len book letters number draft named (place ∷ own) stands =
     one None = tt
     one (Some due) = (record { letter = letter_of draft; named = named; zero_bytes = stands.0 }, tt)
 
-zero-blanks : (len : ℕ) (book : RollBook) (all done rest : List Draft) (number : ℕ) → all ≡ done ++ rest → length done ≡ number → AllByRecursion (IsDraft len) rest
+zero-blanks : (len : ℕ) (book : RollBook) (all done rest : List DraftMessage) (number : ℕ) → all ≡ done ++ rest → length done ≡ number → AllByRecursion (IsDraft len) rest
     → AllByRecursion (IsZero len (map letter_of all)) (blanks_from book number rest)
 zero-blanks len book all done [] number is many each = tt
 zero-blanks len book all done (draft ∷ rest) number is many each =
@@ -129,7 +129,7 @@ due-places book number (place ∷ own) =
     one None is = tt
     one (Some due) is = ((place.text, is), tt)
 
-due-blanks : (book : RollBook) (number : ℕ) (drafts : List Draft) → AllByRecursion (IsDueIn book) (blanks_from book number drafts)
+due-blanks : (book : RollBook) (number : ℕ) (drafts : List DraftMessage) → AllByRecursion (IsDueIn book) (blanks_from book number drafts)
 due-blanks book number [] = tt
 due-blanks book number (draft ∷ drafts) =
     both-lists (IsDueIn book) (flat_map (λ (p : Place). blanks_by (due_of book p.text) number p) draft.own) (blanks_from book (number + 1) drafts)
@@ -140,15 +140,15 @@ due-blanks book number (draft ∷ drafts) =
 due-is : (book : RollBook) (text : List ℕ) (due : DueParts) → IsRollBook book → due_of book text ≡ Some due → (due.generation ≤ book.newest) × (due.leaves ≡ book.leaves)
 due-is book text due sound is = by (place_of (texts_of book) text) is
   where
-    made : Signed → ℕ → DueParts
+    made : SignedText → ℕ → DueParts
     made s place = record { generation = s.generation; leaf = leaf_of book place s; text = s.text; leaves = book.leaves }
 
-    at : (place : ℕ) (s : Option Signed) → slice_get book.list place ≡ s → option_map (λ s. made s place) s ≡ Some due
+    at : (place : ℕ) (s : Option SignedText) → slice_get book.list place ≡ s → option_map (λ s. made s place) s ≡ Some due
         → (due.generation ≤ book.newest) × (due.leaves ≡ book.leaves)
     at place None was same = absurd cc
     at place (Some s) was same =
         let one : made s place ≡ due = ap (λ o. unwrap_or o due) same in
-        let upto : s.generation ≤ book.newest = at-place (λ (t : Signed). t.generation ≤ book.newest) book.list place s sound.upto was in
+        let upto : s.generation ≤ book.newest = at-place (λ (t : SignedText). t.generation ≤ book.newest) book.list place s sound.upto was in
         (subst (λ (d : DueParts). d.generation ≤ book.newest) one upto, ap (λ (d : DueParts). d.leaves) (sym one))
 
     by : (o : Option ℕ) → option_and_then (due_at book) o ≡ Some due → (due.generation ≤ book.newest) × (due.leaves ≡ book.leaves)
@@ -184,21 +184,21 @@ all-fit book len keys letters sound are (blank ∷ blanks) zero due =
 
 -- it is what drafts make, each with zero bytes at its places
 pub record IsComposed (book : RollBook) (len : ℕ) (unsigned : Unsigned) : Type 0 where
-  pub drafts : List Draft
+  pub drafts : List DraftMessage
   pub ended : Option (ℕ × Option (List ℕ))
   pub is : unsigned_of book drafts ended ≡ unsigned
   pub each : AllByRecursion (IsDraft len) drafts
 
 pub composed-zero : (book : RollBook) (len : ℕ) (unsigned : Unsigned) → IsComposed book len unsigned → All (IsZero len unsigned.sent.messages) unsigned.blanks
 composed-zero book len unsigned made =
-    let from : List Draft = made.drafts in
+    let from : List DraftMessage = made.drafts in
     subst (λ (u : Unsigned). All (IsZero len u.sent.messages) u.blanks) made.is
     (All-from_recursion (IsZero len (map letter_of from)) (blanks_from book 0 from) (zero-blanks len book from [] from 0 refl refl made.each))
 
 pub composed-fill : (book : RollBook) (len : ℕ) (keys : List KeyParts) (unsigned : Unsigned) → IsRollBook book → AreKeysOf book len keys → IsComposed book len unsigned
     → CanFill keys unsigned
 composed-fill book len keys unsigned sound are made =
-    let from : List Draft = made.drafts in
+    let from : List DraftMessage = made.drafts in
     subst (CanFill keys) made.is
     (All-from_recursion (IsBlank keys (lengths (map letter_of from))) (blanks_from book 0 from)
     (all-fit book len keys (map letter_of from) sound are (blanks_from book 0 from) (zero-blanks len book from [] from 0 refl refl made.each) (due-blanks book 0 from)))

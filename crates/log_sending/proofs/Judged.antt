@@ -10,7 +10,7 @@ use Rattle.domain_table.specs.Applying.{after_answer, apply, apply_each, judge_r
 use Rattle.domain_table.specs.Tables.{Table}
 use Rattle.domain_table.specs.Tree.{root_of}
 use Rattle.log_sending.specs.Checks.{all_taken, same_root}
-use Rattle.log_sending.specs.Judged.{Judged, behind_one, judged, judged_from}
+use Rattle.log_sending.specs.Judged.{TableJudgement, behind_one, judged, judged_from}
 use Rattle.log_sending.specs.declared.refusal.LogRefusal.TheVariants as refusals
 use Rattle.log_sending.proofs.Checked.{holds}
 
@@ -54,7 +54,7 @@ refused-later table epoch change changes manner place refusal is rest = (
   rest.4,
 )
 
-abbrev refused-in : Judged → ℕ × ChangeRefusal → ℕ × ChangeRefusal
+abbrev refused-in : TableJudgement → ℕ × ChangeRefusal → ℕ × ChangeRefusal
 refused-in (Ok table) other = other
 refused-in (Err refused) other = refused
 
@@ -92,7 +92,7 @@ pub applied : (table : Table) (epoch : ℕ) (changes : List Change) (to : List �
     → same_root (judged table epoch changes) to ≡ Ok tt → (after : Table) × ((apply table epoch changes ≡ Some after) × (root_of after ≡ to))
 applied table epoch changes to fine root = by (judged table epoch changes) refl fine root
   where
-    by : (j : Judged) → judged table epoch changes ≡ j → all_taken j ≡ Ok tt → same_root j to ≡ Ok tt
+    by : (j : TableJudgement) → judged table epoch changes ≡ j → all_taken j ≡ Ok tt → same_root j to ≡ Ok tt
         → (after : Table) × ((apply table epoch changes ≡ Some after) × (root_of after ≡ to))
     by (Ok after) was fine root = (
       after,

@@ -1,7 +1,6 @@
 -- How many bytes an entry of a list of votes or statuses has.
 use Rattle.std.proofs.Common.{◌≡◌, ℕ, ◌+◌, ◌-◌, ◌≤◌, List, [], ◌∷◌, ◌++◌, length, get_or, take, drop, append_assoc, Bool, true, false, Option, Some, None, sym, ap, ◌∙◌, arith}
 use Rattle.std.specs.Prelude.{unwrap_or}
-use Rattle.std.specs.Option.{option_map}
 use Rattle.std.specs.Int.{w16}
 use Rattle.std.proofs.Math.Seq.{take-length}
 use Rattle.std.proofs.lemmas.List.{length-append}
@@ -12,9 +11,9 @@ use Rattle.ar_bytes.proofs.Passing.{length-number_text}
 use Rattle.ar_message.specs.Lists.{status_text, vote_text}
 use Rattle.ar_message.specs.Filling.{zeros}
 use Rattle.ar_message.proofs.Written.{length-counted}
-use Rattle.ar_statement.specs.Claims.{roots_text}
+use Rattle.ar_statement.specs.Claims.{value_text}
 use Rattle.vote_quorum.specs.declared.value.Value.{Value}
-use Rattle.ar_council.specs.Values.{IsValue, roots_of}
+use Rattle.ar_statement.specs.Ranges.{IsValue}
 use Rattle.epoch_log.specs.State.{CountedStatus}
 use Rattle.log_sending.specs.Sending.{Place, if_own, own_places, place_for, sent_status, sent_vote}
 use Rattle.ar_cert.proofs.Lengths.{length-flag_text}
@@ -27,10 +26,10 @@ vote_len len v =
     omega (arith, both, log, length-counted signature)
 
 pub status_len : (len : ℕ) (s : CountedStatus) → length (status_text (sent_status len s))
-    ≡ 4 + length (optional_text roots_text (option_map roots_of s.1)) + length (unwrap_or s.2 (zeros len))
+    ≡ 4 + length (optional_text value_text s.1) + length (unwrap_or s.2 (zeros len))
 status_len len s =
     let signature : List ℕ = unwrap_or s.2 (zeros len) in
-    let ballot : List ℕ = optional_text roots_text (option_map roots_of s.1) in
+    let ballot : List ℕ = optional_text value_text s.1 in
     let all = length-append (number_text w16 s.0) (ballot ++ counted_text signature) in
     let rest = length-append ballot (counted_text signature) in
     let log = length-number_text w16 s.0 in
@@ -38,18 +37,18 @@ status_len len s =
 
 -- ---- the ballot of a status
 
-pub no_ballot-len : (value : Option Value) → value ≡ None → 1 ≡ length (optional_text roots_text (option_map roots_of value))
+pub no_ballot-len : (value : Option Value) → value ≡ None → 1 ≡ length (optional_text value_text value)
 unfolding optional_text
 no_ballot-len value is =
-    sym (ap (λ (o : Option Value). length (optional_text roots_text (option_map roots_of o))) is ∙ length-flag_text false)
+    sym (ap (λ (o : Option Value). length (optional_text value_text o)) is ∙ length-flag_text false)
 
-pub some_ballot-len : (value : Option Value) (v : Value) → value ≡ Some v → IsValue v → 65 ≡ length (optional_text roots_text (option_map roots_of value))
+pub some_ballot-len : (value : Option Value) (v : Value) → value ≡ Some v → IsValue v → 65 ≡ length (optional_text value_text value)
 unfolding optional_text
 some_ballot-len value v is digests =
     let all = length-append (flag_text true) (v.base ++ v.root) in
     let both = length-append v.base v.root in
-    let long : length (optional_text roots_text (Some (roots_of v))) ≡ 65 = omega (arith, all, both, length-flag_text true, digests.base.len, digests.root.len) in
-    sym (ap (λ (o : Option Value). length (optional_text roots_text (option_map roots_of o))) is ∙ long)
+    let long : length (optional_text value_text (Some v)) ≡ 65 = omega (arith, all, both, length-flag_text true, digests.base.len, digests.root.len) in
+    sym (ap (λ (o : Option Value). length (optional_text value_text o)) is ∙ long)
 
 -- ---- the places of a list, entry by entry
 

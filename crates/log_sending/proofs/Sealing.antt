@@ -12,7 +12,7 @@ use Rattle.ar_message.specs.declared.address.Address.{Address}
 use Rattle.ar_message.specs.declared.message.Message.{Message}
 use Rattle.ar_message.specs.declared.unsigned.Blank.{Blank}
 use Rattle.ar_message.specs.declared.unsigned.Unsigned.{Unsigned}
-use Rattle.log_sending.specs.Sending.{Composed, Draft, Place, blanks_by, blanks_from, blanks_in, letter_of, none_composed, sealed, unsigned_of, with_draft, with_drafts}
+use Rattle.log_sending.specs.Sending.{Composed, DraftMessage, Place, blanks_by, blanks_from, blanks_in, letter_of, none_composed, sealed, unsigned_of, with_draft, with_drafts}
 
 pub blanks_none : (book : RollBook) (place : ℕ × Place) (xs : List Blank) → due_of book place.1.text ≡ None → xs ≡ xs ++ blanks_in book (place ∷ [])
 unfolding blanks_in
@@ -70,11 +70,11 @@ unfolding blanks_in
 blanks-numbered book number [] = refl
 blanks-numbered book number (place ∷ own) = ap (λ l. blanks_by (due_of book place.text) number place ++ l) (blanks-numbered book number own)
 
-letters-drafts : (c : Composed) (drafts : List Draft) → (with_drafts c drafts).letters ≡ c.letters ++ map letter_of drafts
+letters-drafts : (c : Composed) (drafts : List DraftMessage) → (with_drafts c drafts).letters ≡ c.letters ++ map letter_of drafts
 letters-drafts c [] = sym (append-nil c.letters)
 letters-drafts c (draft ∷ drafts) = letters-drafts (with_draft c draft) drafts ∙ append_assoc c.letters (letter_of draft ∷ []) (map letter_of drafts)
 
-blanks-drafts : (book : RollBook) (c : Composed) (drafts : List Draft)
+blanks-drafts : (book : RollBook) (c : Composed) (drafts : List DraftMessage)
     → blanks_in book (with_drafts c drafts).places ≡ blanks_in book c.places ++ blanks_from book (length c.letters) drafts
 blanks-drafts book c [] = sym (append-nil (blanks_in book c.places))
 blanks-drafts book c (draft ∷ drafts) =
@@ -91,7 +91,7 @@ abbrev sent-with : Option (ℕ × Option (List ℕ)) → List Letter → List Bl
 sent-with ended letters blanks = record { sent = record { messages = letters; ended = ended }; blanks = blanks }
 
 -- what is composed of drafts is sealed as they are
-pub sealed-drafts : (book : RollBook) (drafts : List Draft) (ended : Option (ℕ × Option (List ℕ)))
+pub sealed-drafts : (book : RollBook) (drafts : List DraftMessage) (ended : Option (ℕ × Option (List ℕ)))
     → sealed book (with_drafts none_composed drafts) ended ≡ unsigned_of book drafts ended
 unfolding blanks_in
 sealed-drafts book drafts ended =
@@ -99,6 +99,6 @@ sealed-drafts book drafts ended =
     ∙ ap (λ (l : List Blank). sent-with ended (map letter_of drafts) l) (blanks-drafts book none_composed drafts)
 
 -- drafts behind others
-pub drafts-append : (c : Composed) (drafts more : List Draft) → with_drafts c (drafts ++ more) ≡ with_drafts (with_drafts c drafts) more
+pub drafts-append : (c : Composed) (drafts more : List DraftMessage) → with_drafts c (drafts ++ more) ≡ with_drafts (with_drafts c drafts) more
 drafts-append c [] more = refl
 drafts-append c (draft ∷ drafts) more = drafts-append (with_draft c draft) drafts more

@@ -13,14 +13,14 @@ use Rattle.ar_cert.specs.Changes.{Change, IsSignature}
 use Rattle.ar_message.specs.Lists.{AreChanges, AreStatuses, AreVotes, IsStatus, IsVote}
 use Rattle.ar_message.specs.Filling.{zeros}
 use Rattle.ar_statement.specs.declared.text.SeenText.{SeenText}
-use Rattle.ar_statement.specs.Ranges.{AreRoots}
+use Rattle.ar_statement.specs.Ranges.{IsValue}
 use Rattle.ar_statement.specs.Claims.{log_party}
 use Rattle.vote_quorum.specs.Ballots.{has_ballot, is_same}
 use Rattle.vote_quorum.specs.declared.value.Value.{Value}
 use Rattle.vote_quorum.proofs.Adding.{is_same-from, same_value}
 use Rattle.ar_council.proofs.Lists.{find-some}
 use Rattle.party_keys.specs.Seen.{seen_of}
-use Rattle.ar_council.specs.Values.{IsValue, roots_of, status_claim, vote_claim}
+use Rattle.ar_council.specs.Values.{status_claim, vote_claim}
 use Rattle.epoch_log.proofs.Acting.{own-value}
 use Rattle.epoch_log.specs.Calls.{SignedStatus, after_ballot, after_confirm, after_propose, after_roll, after_skip, after_state, after_status_seen, casting, counting_own, counting_status, counting_vote, is_turn, own_value, proposing, seeing, stating, statuses_seen, vote_of, with_status, with_vote}
 use Rattle.epoch_log.specs.Ending.{closed, closed_by, closed_by_statuses, decided, excludes_all, has_quorum, may_end, own_vote, skipped, votes_for}
@@ -167,15 +167,11 @@ votes-ascend len less least (v ∷ votes) asc = (asc.0, (asc.1.0, filled len v.1
 pub votes-sent : (len : ℕ) (votes : List (ℕ × Option (List ℕ))) → len < 2 ^ 16 → AreVoices votes → AreVotes (sent_votes len votes)
 votes-sent len votes less are = (omega (arith, length-map votes (sent_vote len), are.0), votes-ascend len less 0 votes are.1)
 
-roots-fit : (value : Option Value) → IfSome value IsValue → IfSome (option_map roots_of value) AreRoots
-roots-fit None is = tt
-roots-fit (Some value) is = (is.base, is.root)
-
 statuses-ascend : (len logs : ℕ) → len < 2 ^ 16 → logs ≤ 16 → (least : ℕ) (statuses : List CountedStatus) → AreReports logs least statuses
     → Ascend (λ s. s.log) IsStatus least (sent_statuses len statuses)
 statuses-ascend len logs less few least [] asc = tt
 statuses-ascend len logs less few least (s ∷ statuses) asc =
-    (asc.0, (omega (arith, asc.1.0, few), roots-fit s.1 asc.1.1, filled len s.2 less asc.1.2), statuses-ascend len logs less few (s.0 + 1) statuses asc.2)
+    (asc.0, (omega (arith, asc.1.0, few), asc.1.1, filled len s.2 less asc.1.2), statuses-ascend len logs less few (s.0 + 1) statuses asc.2)
 
 -- the statuses that skip an epoch are statuses of a message
 pub statuses-sent : (len logs : ℕ) (statuses : List CountedStatus) → len < 2 ^ 16 → logs ≤ 16 → AreReports logs 0 statuses → AreStatuses (sent_statuses len statuses)

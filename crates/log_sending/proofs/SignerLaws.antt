@@ -17,7 +17,7 @@ use Rattle.vote_quorum.specs.declared.value.Value.{Value}
 use Rattle.ar_council.proofs.Members.{member}
 use Rattle.ar_council.specs.Council.{council_of}
 use Rattle.epoch_log.specs.Calls.{AreEndorsers}
-use Rattle.ar_claims.specs.Lists.{endorsements_in, statuses_in, votes_in}
+use Rattle.ar_claims.specs.Lists.{endorsements_in, claimed_statuses, claimed_votes}
 use Rattle.log_sending.specs.Signers.{of_signers, signers}
 use Rattle.ar_base.proofs.Lists.{of-both-lists}
 use Rattle.ar_base.proofs.Giving.{no-error, order-first}
@@ -75,13 +75,13 @@ pub all-endorsers : (keys : Directory) (changes : List Change) → AllByRecursio
 all-endorsers keys changes all = All-from_recursion (AreEndorsers (council_of keys)) changes (each-endorsed keys changes all)
 
 -- who votes is a log of the council
-pub voters : (keys : Directory) (epoch : ℕ) (value : Value) (votes : List Vote) → AllByRecursion (λ s. is_known keys s.party ≡ true) (votes_in epoch value votes)
+pub voters : (keys : Directory) (epoch : ℕ) (value : Value) (votes : List Vote) → AllByRecursion (λ s. is_known keys s.party ≡ true) (claimed_votes epoch value votes)
     → AllByRecursion (λ (v : Vote). v.log < length keys.logs) votes
 voters keys epoch value [] all = tt
 voters keys epoch value (v ∷ votes) all = (a-log keys v.log all.0, voters keys epoch value votes all.1)
 
 -- who states something is a log of the council
-pub staters : (keys : Directory) (epoch : ℕ) (statuses : List LogStatus) → AllByRecursion (λ s. is_known keys s.party ≡ true) (statuses_in epoch statuses)
+pub staters : (keys : Directory) (epoch : ℕ) (statuses : List LogStatus) → AllByRecursion (λ s. is_known keys s.party ≡ true) (claimed_statuses epoch statuses)
     → AllByRecursion (λ (s : LogStatus). s.log < length keys.logs) statuses
 staters keys epoch [] all = tt
 staters keys epoch (s ∷ statuses) all = (a-log keys s.log all.0, staters keys epoch statuses all.1)

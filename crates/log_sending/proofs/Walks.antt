@@ -15,7 +15,7 @@ use Rattle.domain_table.specs.Tree.{root_of}
 use Rattle.domain_table.proofs.Judged.{judged}
 use Rattle.domain_table.proofs.Once.{one_by_one, ripen_none, ripened_once, still_none}
 use Rattle.epoch_log.proofs.Applying.{sound-applied}
-use Rattle.log_sending.specs.Walk.{IsStepOver, left_of, most_bytes, most_changes, taken_first, walk}
+use Rattle.log_sending.specs.Walk.{IsStepOver, left_of, most_change_bytes, most_changes, taken_first, walk}
 use Rattle.log_sending.specs.declared.walking.Walker.{Walker}
 
 -- ---- one step of the definition
@@ -170,10 +170,10 @@ over-rest w next last change queue step took leads =
     (took ∙ step.takes queue, sym (step.leads queue) ∙ leads ∙ ap (λ e. Some (ripen last.table e)) step.epoch)
 
 -- the whole walk, from a table on which nothing is taken yet
-pub walked : (w last : Walker) (queue : List Change) (after : Table) → w.taken.items ≡ [] → w.many ≡ most_changes → w.left ≡ most_bytes
+pub walked : (w last : Walker) (queue : List Change) (after : Table) → w.taken.items ≡ [] → w.many ≡ most_changes → w.left ≡ most_change_bytes
     → last.taken.items ≡ w.taken.items ++ left_of w queue → apply w.table w.epoch (left_of w queue) ≡ Some (ripen last.table w.epoch)
     → after ≡ ripen last.table w.epoch
-    → (last.taken.items ≡ walk w.epoch (ripen w.table w.epoch) most_changes most_bytes queue)
+    → (last.taken.items ≡ walk w.epoch (ripen w.table w.epoch) most_changes most_change_bytes queue)
     × (root_of after ≡ root_of (unwrap_or (apply w.table w.epoch last.taken.items) w.table))
 walked w last queue after none many left took leads behind =
     let mine : last.taken.items ≡ left_of w queue = took ∙ ap (λ l. l ++ left_of w queue) none in (

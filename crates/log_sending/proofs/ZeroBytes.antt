@@ -2,7 +2,6 @@
 use Rattle.std.proofs.Common.{◌≡◌, ℕ, ◌+◌, ◌-◌, ◌≤◌, List, [], ◌∷◌, ◌++◌, length, refl, sym, ap, ◌∙◌, subst, arith, true, Option, Some, None}
 use Rattle.std.specs.Prelude.{flat_map, is_none, unwrap_or}
 use Rattle.std.specs.List.{AllByRecursion}
-use Rattle.std.specs.Option.{option_map}
 use Rattle.std.specs.Int.{w8, w16, w32, w64}
 use Rattle.std.proofs.lemmas.List.{append-nil, length-append}
 use Rattle.ar_bytes.specs.Joined.{optional_text}
@@ -17,10 +16,10 @@ use Rattle.ar_message.specs.declared.message.Message.{Message}
 use Rattle.ar_message.specs.declared.message.Message.TheVariants.{Ballot, Decision, Propose, RollNote, SkipNote, StatusNote}
 use Rattle.ar_message.specs.Filling.{zeros}
 use Rattle.ar_statement.specs.declared.party.Party.{Party}
-use Rattle.ar_statement.specs.Claims.{party_text, roots_text}
+use Rattle.ar_statement.specs.Claims.{party_text, value_text, value_with}
 use Rattle.lms_tree.specs.PublicKey.{key_text}
 use Rattle.lms_tree.specs.declared.public_key.LmsPublic.{LmsPublic}
-use Rattle.ar_council.specs.Values.{roots_of}
+use Rattle.vote_quorum.specs.declared.value.Value.{Value}
 use Rattle.epoch_log.specs.State.{CountedStatus}
 use Rattle.epoch_log.specs.declared.entries.Newest.{Newest}
 use Rattle.log_sending.specs.Blanks.{IsDraft, StandsAt}
@@ -41,19 +40,19 @@ propose-ends : (log epoch : ℕ) (base root : List ℕ) (changes : List Change) 
 unfolding message_text fields_text
 propose-ends log epoch base root changes tail =
     ends-behind (number_text w8 4) tail _ (ends-behind (number_text w16 log) tail _ (ends-behind (number_text w64 epoch) tail _
-    (ends-behind (roots_text (base, root)) tail _ (ends-behind (changes_text changes) tail _ (counted-ends tail)))))
+    (ends-behind (value_text (value_with base root)) tail _ (ends-behind (changes_text changes) tail _ (counted-ends tail)))))
 
 ballot-ends : (log epoch : ℕ) (base root tail : List ℕ) → EndsIn tail (message_text (Ballot log epoch base root tail))
 unfolding message_text fields_text
 ballot-ends log epoch base root tail =
     ends-behind (number_text w8 5) tail _ (ends-behind (number_text w16 log) tail _ (ends-behind (number_text w64 epoch) tail _
-    (ends-behind (roots_text (base, root)) tail _ (counted-ends tail))))
+    (ends-behind (value_text (value_with base root)) tail _ (counted-ends tail))))
 
-status-ends : (log epoch : ℕ) (value : Option (List ℕ × List ℕ)) (tail : List ℕ) → EndsIn tail (message_text (StatusNote log epoch value tail))
+status-ends : (log epoch : ℕ) (value : Option Value) (tail : List ℕ) → EndsIn tail (message_text (StatusNote log epoch value tail))
 unfolding message_text fields_text
 status-ends log epoch value tail =
     ends-behind (number_text w8 6) tail _ (ends-behind (number_text w16 log) tail _ (ends-behind (number_text w64 epoch) tail _
-    (ends-behind (optional_text roots_text value) tail _ (counted-ends tail))))
+    (ends-behind (optional_text value_text value) tail _ (counted-ends tail))))
 
 roll-ends : (party : Party) (generation : ℕ) (key : LmsPublic) (tail : List ℕ) → EndsIn tail (message_text (RollNote party generation key tail))
 unfolding message_text fields_text
@@ -73,7 +72,7 @@ propose-draft to log epoch base root changes len text =
 pub ballot-is_draft : (to : Address) (log epoch : ℕ) (base root : List ℕ) (len : ℕ) (text : List ℕ) → IsDraft len (draft_with to (Ballot log epoch base root (zeros len)) len 0 text)
 ballot-is_draft to log epoch base root len text = ending-draft to (Ballot log epoch base root (zeros len)) len text (ballot-ends log epoch base root (zeros len))
 
-pub status-is_draft : (to : Address) (log epoch : ℕ) (value : Option (List ℕ × List ℕ)) (len : ℕ) (text : List ℕ) → IsDraft len (draft_with to (StatusNote log epoch value (zeros len)) len 0 text)
+pub status-is_draft : (to : Address) (log epoch : ℕ) (value : Option Value) (len : ℕ) (text : List ℕ) → IsDraft len (draft_with to (StatusNote log epoch value (zeros len)) len 0 text)
 status-is_draft to log epoch value len text = ending-draft to (StatusNote log epoch value (zeros len)) len text (status-ends log epoch value (zeros len))
 
 pub roll-is_draft : (to : Address) (party : Party) (generation : ℕ) (key : LmsPublic) (len : ℕ) (text : List ℕ) → IsDraft len (draft_with to (RollNote party generation key (zeros len)) len 0 text)
@@ -120,7 +119,7 @@ counted-status-ends len x own = by x.2 refl own
     by : (o : Option (List ℕ)) → x.2 ≡ o → is_none o ≡ true → EndsIn (zeros len) (status_text (sent_status len x))
     by None was none =
         subst (λ tail. EndsIn tail (status_text (sent_status len x))) (ap (λ (o : Option (List ℕ)). unwrap_or o (zeros len)) was)
-        (ends-behind (number_text w16 x.0) signature _ (ends-behind (optional_text roots_text (option_map roots_of x.1)) signature (counted_text signature) (counted-ends signature)))
+        (ends-behind (number_text w16 x.0) signature _ (ends-behind (optional_text value_text x.1) signature (counted_text signature) (counted-ends signature)))
     by (Some bytes) was none = absurd cc
 
 statuses-stand : (len : ℕ) (text whole : List ℕ) (statuses : List CountedStatus) → EndsIn (flat_map status_text (sent_statuses len statuses)) whole
@@ -138,7 +137,7 @@ decision-ends : (epoch : ℕ) (base root : List ℕ) (changes : List Change) (vo
 unfolding message_text fields_text
 decision-ends epoch base root changes votes =
     let tail : List ℕ = flat_map vote_text votes in
-    ends-behind (number_text w8 7) tail _ (ends-behind (number_text w64 epoch) tail _ (ends-behind (roots_text (base, root)) tail _
+    ends-behind (number_text w8 7) tail _ (ends-behind (number_text w64 epoch) tail _ (ends-behind (value_text (value_with base root)) tail _
     (ends-behind (changes_text changes) tail _ (ends-behind (number_text w8 (length votes)) tail tail (ends-itself tail)))))
 
 pub decision-is_draft : (len : ℕ) (text : List ℕ) (w : Newest) (changes : List Change) → IsDraft len (decision_draft len text w changes)

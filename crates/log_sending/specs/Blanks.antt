@@ -5,7 +5,7 @@ use Rattle.ar_message.specs.Messages.{message_text}
 use Rattle.ar_message.specs.Sending.{Letter}
 use Rattle.ar_message.specs.declared.unsigned.Blank.{Blank}
 use Rattle.ar_message.specs.Filling.{zeros}
-use Rattle.log_sending.specs.Sending.{Draft}
+use Rattle.log_sending.specs.Sending.{DraftMessage}
 
 -- these bytes stand at a place of others
 pub record StandsAt (part : List ℕ) (at : ℕ) (whole : List ℕ) : Type 0 where
@@ -15,7 +15,7 @@ pub record StandsAt (part : List ℕ) (at : ℕ) (whole : List ℕ) : Type 0 whe
   pub place : length front ≡ at
 
 -- so many zero bytes stand at each place of a draft
-abbrev pub IsDraft : ℕ → Draft → Type 0
+abbrev pub IsDraft : ℕ → DraftMessage → Type 0
 IsDraft len draft = AllByRecursion (λ place. StandsAt (zeros len) place.at (message_text draft.message)) draft.own
 
 -- a blank is one of these messages, and so many zero bytes stand there

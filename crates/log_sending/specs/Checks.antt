@@ -16,7 +16,7 @@ use Rattle.epoch_log.specs.Ending.{excludes_all, own_vote}
 use Rattle.epoch_log.specs.State.{LogState, epoch_of, table_of}
 use Rattle.epoch_log.specs.declared.entries.Newest.{Newest}
 use Rattle.epoch_log.specs.declared.entries.Voted.{Voted}
-use Rattle.log_sending.specs.Judged.{Judged, bad_change}
+use Rattle.log_sending.specs.Judged.{TableJudgement, bad_change}
 use Rattle.log_sending.specs.Reported.{most_reported}
 use Rattle.log_sending.specs.declared.refusal.LogRefusal.{LogRefusal}
 use Rattle.log_sending.specs.declared.refusal.LogRefusal.TheVariants as refusals
@@ -68,11 +68,11 @@ abbrev pub same_base : LogState → List ℕ → Check
 same_base s base = need (bytes_eq base (root_of (table_of s))) (refusals.WrongBase (root_of (table_of s)))
 
 -- no change is refused
-abbrev pub all_taken : Judged → Check
+abbrev pub all_taken : TableJudgement → Check
 all_taken = result_map_both (λ table. tt) bad_change
 
 -- the table after the changes has the root
-abbrev pub same_root : Judged → List ℕ → Check
+abbrev pub same_root : TableJudgement → List ℕ → Check
 same_root (Ok table) root = need (bytes_eq root (root_of table)) (refusals.WrongRoot (root_of table))
 same_root (Err _) root = Ok tt
 

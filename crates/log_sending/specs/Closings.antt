@@ -14,7 +14,7 @@ use Rattle.epoch_log.specs.declared.entries.Closing.{Closing}
 use Rattle.epoch_log.specs.declared.entries.Closing.TheVariants as closings
 use Rattle.epoch_log.specs.declared.entries.Newest.{Newest}
 use Rattle.epoch_log.specs.declared.entries.Voted.{Voted}
-use Rattle.log_sending.specs.Sending.{Draft, own_statuses, own_votes, sent_statuses, sent_votes}
+use Rattle.log_sending.specs.Sending.{DraftMessage, own_statuses, own_votes, sent_statuses, sent_votes}
 
 -- ---- the queue
 
@@ -49,7 +49,7 @@ abbrev pub decision_of : ℕ → Newest → List Change → Message
 decision_of len w changes = Decision w.epoch w.base w.root changes (sent_votes len w.votes)
 
 -- it goes to all logs; where the log's own ballot was counted at once, its signature is due
-abbrev pub decision_draft : ℕ → List ℕ → Newest → List Change → Draft
+abbrev pub decision_draft : ℕ → List ℕ → Newest → List Change → DraftMessage
 decision_draft len text w changes = record {
   to = Logs;
   message = decision_of len w changes;
@@ -61,7 +61,7 @@ abbrev pub skip_of : ℕ → ℕ → List CountedStatus → Message
 skip_of len epoch statuses = SkipNote epoch (sent_statuses len statuses)
 
 -- it goes to all logs; where the log's own status was counted at once, its signature is due
-abbrev pub skip_draft : ℕ → List ℕ → ℕ → List CountedStatus → Draft
+abbrev pub skip_draft : ℕ → List ℕ → ℕ → List CountedStatus → DraftMessage
 skip_draft len text epoch statuses = record {
   to = Logs;
   message = skip_of len epoch statuses;
@@ -69,13 +69,13 @@ skip_draft len text epoch statuses = record {
 }
 
 -- what tells of the newest decision, which has the changes that the log voted for
-abbrev pub decision_drafts : ℕ → LogState → LogState → Option Newest → List Draft
+abbrev pub decision_drafts : ℕ → LogState → LogState → Option Newest → List DraftMessage
 decision_drafts len before after None = []
 decision_drafts len before after (Some w) =
     decision_draft len (own_vote_text before (newest_value w)) w (changes_of_vote (own_vote after.past.voted w.epoch)) ∷ []
 
 -- what the closing rule sends, where it leaves the log like this behind the epoch in which it stood
-abbrev pub closing_drafts : Closing → ℕ → LogState → LogState → List Draft
+abbrev pub closing_drafts : Closing → ℕ → LogState → LogState → List DraftMessage
 closing_drafts closings.Open len before after = []
 closing_drafts closings.Decided len before after = decision_drafts len before after after.newest
 closing_drafts (closings.Skipped statuses) len before after = skip_draft len (own_status_text before) (epoch_of before) statuses ∷ []

@@ -11,7 +11,7 @@ use Rattle.domain_table.specs.declared.refusal.ChangeRefusal.{ChangeRefusal}
 use Rattle.vote_quorum.specs.declared.value.Value.{Value}
 use Rattle.epoch_log.specs.State.{LogState, epoch_of, table_of}
 use Rattle.log_sending.specs.Checks.{Check, all_taken, same_base, same_root}
-use Rattle.log_sending.specs.Judged.{Judged, bad_change, judged}
+use Rattle.log_sending.specs.Judged.{TableJudgement, bad_change, judged}
 use Rattle.log_sending.specs.declared.refusal.LogRefusal.{LogRefusal}
 use Rattle.log_sending.specs.declared.refusal.LogRefusal.TheVariants as refusals
 
@@ -20,11 +20,11 @@ abbrev pub table_behind : Result Manner ChangeRefusal → ℕ → Table → ℕ 
 table_behind answer index table epoch change = result_map_both (taken table epoch change) (refusals.BadChange index) answer
 
 -- the table behind changes that are judged so, or the refusal of the first that is refused
-abbrev pub table_in : Judged → Result Table LogRefusal
+abbrev pub table_in : TableJudgement → Result Table LogRefusal
 table_in = with_error bad_change
 
 -- the root of that table, or the same refusal
-abbrev pub root_in : Judged → Result (List ℕ) LogRefusal
+abbrev pub root_in : TableJudgement → Result (List ℕ) LogRefusal
 root_in = result_map_both root_of bad_change
 
 -- the value is for the log's base, the table accepts each change behind those before it, and they lead to the root

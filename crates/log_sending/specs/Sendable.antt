@@ -6,7 +6,7 @@ use Rattle.ar_bytes.specs.Ascending.{Ascend}
 use Rattle.ar_cert.specs.Changes.{IsSignature}
 use Rattle.ar_statement.specs.Claims.{most_parties}
 use Rattle.ar_message.specs.Lists.{AreChanges, AreStatuses, AreVotes}
-use Rattle.ar_council.specs.Values.{IsValue}
+use Rattle.ar_statement.specs.Ranges.{IsValue}
 use Rattle.epoch_log.specs.State.{CountedStatus, CountedVote, LogState}
 use Rattle.epoch_log.specs.declared.foreseeing.Foreseen.{Foreseen}
 use Rattle.epoch_log.specs.declared.foreseeing.Foreseen.TheVariants as foreseen

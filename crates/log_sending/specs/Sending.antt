@@ -14,9 +14,7 @@ use Rattle.ar_message.specs.declared.message.Message.{Message}
 use Rattle.ar_message.specs.declared.unsigned.Blank.{Blank}
 use Rattle.ar_message.specs.declared.unsigned.Unsigned.{Unsigned}
 use Rattle.ar_message.specs.Filling.{zeros}
-use Rattle.ar_council.specs.Values.{roots_of}
 use Rattle.epoch_log.specs.State.{CountedStatus}
-use Rattle.std.specs.Option.{option_map}
 
 -- ---- drafts
 
@@ -30,19 +28,19 @@ abbrev pub place_for : ℕ → List ℕ → Place
 place_for at text = record { at = at; text = text }
 
 -- to whom a message goes, what it says with zero bytes for the log's own signatures, and where these are due
-pub record Draft : Type 0 where
+pub record DraftMessage : Type 0 where
   pub to : Address
   pub message : Message
   pub own : List Place
 
 -- a message with one signature of the log's own, which has so many bytes and stands in front of so many
-abbrev pub draft_with : Address → Message → ℕ → ℕ → List ℕ → Draft
+abbrev pub draft_with : Address → Message → ℕ → ℕ → List ℕ → DraftMessage
 draft_with to message len behind text =
     record { to = to; message = message; own = place_for (length (message_text message) - (len + behind)) text ∷ [] }
 
 -- ---- what is sent
 
-abbrev pub letter_of : Draft → Letter
+abbrev pub letter_of : DraftMessage → Letter
 letter_of draft = record { to = draft.to; bytes = message_text draft.message }
 
 -- the blank of a place, by what is due for its text
@@ -51,13 +49,13 @@ blanks_by None number place = []
 blanks_by (Some due) number place = record { message = number; at = place.at; due = due } ∷ []
 
 -- the blanks of drafts, the first of which is the message with this number
-abbrev pub blanks_from : RollBook → ℕ → List Draft → List Blank
+abbrev pub blanks_from : RollBook → ℕ → List DraftMessage → List Blank
 blanks_from book number [] = []
 blanks_from book number (draft ∷ drafts) =
     flat_map (λ place. blanks_by (due_of book place.text) number place) draft.own ++ blanks_from book (number + 1) drafts
 
 -- these drafts, with the leaves that the book has for their signatures, and the epoch that ended
-abbrev pub unsigned_of : RollBook → List Draft → Option (ℕ × Option (List ℕ)) → Unsigned
+abbrev pub unsigned_of : RollBook → List DraftMessage → Option (ℕ × Option (List ℕ)) → Unsigned
 unsigned_of book drafts ended = record { sent = record { messages = map letter_of drafts; ended = ended }; blanks = blanks_from book 0 drafts }
 
 -- ---- while it is composed
@@ -72,14 +70,14 @@ abbrev pub none_composed : Composed
 none_composed = record { letters = []; places = [] }
 
 -- one more draft
-abbrev pub with_draft : Composed → Draft → Composed
+abbrev pub with_draft : Composed → DraftMessage → Composed
 with_draft c draft = record {
   letters = c.letters ++ letter_of draft ∷ [];
   places = c.places ++ map (λ place. (length c.letters, place)) draft.own;
 }
 
 -- more drafts, one behind the other
-abbrev pub with_drafts : Composed → List Draft → Composed
+abbrev pub with_drafts : Composed → List DraftMessage → Composed
 with_drafts c drafts = fold with_draft c drafts
 
 -- the blanks of places, with the leaves that the book has for them
@@ -101,7 +99,7 @@ sent_votes len votes = map (sent_vote len) votes
 
 -- a status as it is sent
 abbrev pub sent_status : ℕ → CountedStatus → LogStatus
-sent_status len s = record { log = s.0; value = option_map roots_of s.1; signature = unwrap_or s.2 (zeros len) }
+sent_status len s = record { log = s.0; value = s.1; signature = unwrap_or s.2 (zeros len) }
 
 abbrev pub sent_statuses : ℕ → List CountedStatus → List LogStatus
 sent_statuses len statuses = map (sent_status len) statuses

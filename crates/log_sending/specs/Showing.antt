@@ -25,6 +25,6 @@ body_by (Some certificate) at_key steps = Present certificate (concat steps)
 body_by None at_key steps = absence at_key steps
 
 -- what a table has for a name, with its path
-abbrev pub body_of : Table → List ℕ → Body
-body_of table name =
+abbrev pub body_in : Table → List ℕ → Body
+body_in table name =
     body_by (newest (chain_of table name)) (found_of (name_digest_of name) (tree_entries table)) (steps_of (name_digest_of name) (tree_entries table))

@@ -15,8 +15,8 @@ use Rattle.log_sending.specs.declared.walking.Walker.{Walker}
 abbrev pub most_changes : ℕ
 most_changes = 64
 
-abbrev pub most_bytes : ℕ
-most_bytes = 4000000
+abbrev pub most_change_bytes : ℕ
+most_change_bytes = 4000000
 
 -- The changes that are taken of a queue, by how its first is judged: one that is refused is passed over; one that is
 -- accepted is taken, and the walk goes on behind it, unless its text is longer than what is left, where the walk stops.
@@ -58,6 +58,6 @@ pub record IsStepOver (change : Change) (before after : Walker) : Type 0 where
 
 -- these changes are taken of a queue, and the value goes from the root of the table to that of the table behind them
 pub record IsWalked (epoch : ℕ) (table : Table) (queue : List Change) (w : Walked) : Type 0 where
-  pub changes : w.changes.items ≡ walk epoch (ripen table epoch) most_changes most_bytes queue
+  pub changes : w.changes.items ≡ walk epoch (ripen table epoch) most_changes most_change_bytes queue
   pub base : w.value.base ≡ root_of table
   pub root : w.value.root ≡ root_of (unwrap_or (apply table epoch w.changes.items) table)

@@ -114,7 +114,8 @@ pub fn leaf_left(book: &RollBook, statement: &Statement) -> Result<(), LogRefusa
 
 /// That the newest key has leaves for two statements, where they need them.
 pub fn leaves_left(book: &RollBook, first: &Statement, second: &Statement) -> Result<(), LogRefusal>
-    ensures { result ≡ leaves_left book.now.book (text_of (claim_of first.now) ∷ (text_of (claim_of second.now) ∷ [])) }
+    ensures { result ≡ leaves_left book.now.book
+        (text_of (claim_of first.now) ∷ (text_of (claim_of second.now) ∷ [])) }
 {
     if has_leaves(book, first, second) {
         Ok(())

@@ -18,7 +18,7 @@ ghost use Rattle.log_sending.specs.Sendable.{CanBeTold};
 ghost use Rattle.log_sending.specs.Sending.{sealed, sent_statuses, sent_votes, with_draft, with_drafts};
 
 use crate::own_places::{CountedStatus, own_statuses, own_votes, sent_statuses, sent_votes};
-use crate::sending::{Drafts, Ready};
+use crate::sending::{DraftMessages, Ready};
 use ar_base::Items;
 use ar_cert::Change;
 use ar_message::{Address, Changes, Message, Unsigned, Votes};
@@ -53,7 +53,8 @@ fn decision_bytes(
 ) -> Result<Vec<u8>, AllocError>
     requires changes { AreChanges changes }
     requires votes { AreVotes (sent_votes len newest.now.votes) }
-    ensures { IfOk result (λ bytes. bytes.items ≡ message_text (decision_of len newest.now changes)) }
+    ensures { IfOk result (λ bytes.
+        bytes.items ≡ message_text (decision_of len newest.now changes)) }
 {
     match sent_votes(alloc, len, newest.votes.as_slice()) {
         Ok(votes) => decision(changes, newest, votes).text(alloc),
@@ -68,11 +69,14 @@ fn add_decision(
     len: usize,
     changes: Items<Change>,
     newest: &Newest,
-    drafts: &mut Drafts<'static>,
+    drafts: &mut DraftMessages<'static>,
 ) -> Result<(), AllocError>
     requires changes { AreChanges changes }
     requires votes { AreVotes (sent_votes len newest.now.votes) }
-    ensures { OnOk result (drafts.new ≡ with_draft drafts.old (decision_draft len (own_vote_text log.now.state (newest_value newest.now)) newest.now changes)) }
+    ensures { OnOk result
+        (drafts.new ≡ with_draft drafts.old
+        (decision_draft len (own_vote_text log.now.state
+        (newest_value newest.now)) newest.now changes)) }
 {
     let bytes = decision_bytes(alloc, len, changes, newest)?;
     let value = newest.value();
@@ -110,10 +114,13 @@ fn add_skip(
     log: &EpochLog,
     len: usize,
     statuses: &[CountedStatus],
-    drafts: &mut Drafts<'static>,
+    drafts: &mut DraftMessages<'static>,
 ) -> Result<(), AllocError>
     requires { AreStatuses (sent_statuses len statuses.now) }
-    ensures { OnOk result (drafts.new ≡ with_draft drafts.old (skip_draft len (own_status_text log.now.state) (epoch_of log.now.state) statuses.now)) }
+    ensures { OnOk result
+        (drafts.new ≡ with_draft drafts.old
+        (skip_draft len (own_status_text log.now.state)
+        (epoch_of log.now.state) statuses.now)) }
 {
     let bytes = skip_bytes(alloc, len, log.epoch(), statuses)?;
     let own = own_statuses(
@@ -134,10 +141,12 @@ pub fn add_closing(
     log: &EpochLog,
     len: usize,
     foreseen: Foreseen,
-    drafts: &mut Drafts<'static>,
+    drafts: &mut DraftMessages<'static>,
 ) -> Result<(), AllocError>
     requires { CanBeTold len foreseen }
-    ensures { (step : LogState × Closing) → IsForeseen step foreseen → OnOk result (drafts.new ≡ with_drafts drafts.old (closing_drafts step.1 len log.now.state step.0)) }
+    ensures { (step : LogState × Closing) → IsForeseen step foreseen
+        → OnOk result (drafts.new
+        ≡ with_drafts drafts.old (closing_drafts step.1 len log.now.state step.0)) }
 {
     match foreseen {
         Foreseen::Open => Ok(()),
@@ -152,7 +161,8 @@ pub fn add_closing(
 
 /// Whether a change is taken, by how it is judged.
 fn is_taken(judged: Result<(), ChangeRefusal>) -> bool
-    ensures { (manner : Result Manner ChangeRefusal) → judged ≡ answer_of manner → result ≡ is_ok manner }
+    ensures { (manner : Result Manner ChangeRefusal) → judged ≡ answer_of manner
+        → result ≡ is_ok manner }
 {
     match judged {
         Ok(()) => true,
@@ -169,7 +179,8 @@ fn is_wanted(table: &Table, epoch: u64, change: &Change) -> bool
 
 /// Keeps of a queue what is accepted on the table of the epoch that begins, each change judged alone.
 pub fn keep_wanted(table: &Table, epoch: u64, queue: &mut Vec<Change>)
-    ensures { queue.new.items ≡ filter (λ change. is_ok (judge table.now epoch change)) queue.old.items }
+    ensures { queue.new.items ≡ filter (λ change.
+        is_ok (judge table.now epoch change)) queue.old.items }
 {
     queue.retain(|change| is_wanted(table, epoch, change));
 }
@@ -207,7 +218,8 @@ pub fn close(
     closing: Closing,
 ) -> Unsigned
     ensures queue { queue.new.items ≡ queue_after closing log.now.state queue.old.items }
-    ensures sent { result ≡ sealed log.now.state.past.signed ready.entry (ended_by closing epoch log.now.state.newest) }
+    ensures sent { result ≡ sealed log.now.state.past.signed ready.entry
+        (ended_by closing epoch log.now.state.newest) }
 {
     keep_queue(log, &closing, queue);
     ready.seal(log, ended(log, epoch, &closing))

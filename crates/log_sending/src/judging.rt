@@ -27,7 +27,8 @@ fn take_one(
     change: &Change,
 ) -> Result<(), LogRefusal>
     ensures { GivesUnless refusals.Memory (λ _. table.new) result
-        (table_behind (judge table.old epoch change.now) index (ripen table.old epoch) epoch change.now) }
+        (table_behind (judge table.old epoch change.now) index
+        (ripen table.old epoch) epoch change.now) }
 {
     match table.apply(alloc, epoch, change.copy(alloc)?) {
         Ok(()) => Ok(()),
@@ -68,7 +69,8 @@ fn root_behind(
 ) -> Result<[u8; 32], LogRefusal>
     requires sound { IsSound table.now }
     requires are { All IsChange changes.now }
-    ensures { GivesUnless refusals.Memory (λ root. root) result (root_in (judged table.now epoch changes.now)) }
+    ensures { GivesUnless refusals.Memory (λ root.
+        root) result (root_in (judged table.now epoch changes.now)) }
 {
     let mut after = table.copy(alloc)?;
     take_each(alloc, epoch, &mut after, 0, changes)?;
@@ -85,7 +87,8 @@ pub fn leads(
     changes: &[Change],
 ) -> Result<(), LogRefusal>
     requires { All IsChange changes.now }
-    ensures { GivesUnless refusals.Memory (λ unit. unit) result (first_error (leading_checks log.now.state value.now changes.now)) }
+    ensures { GivesUnless refusals.Memory (λ unit.
+        unit) result (first_error (leading_checks log.now.state value.now changes.now)) }
 {
     same_base(log, &value.base)?;
     log.told();

@@ -6,8 +6,8 @@
 //!   where it leads (`specs/Leading.antt`, `leads`), which root is reported most often (`specs/Reported.antt`), and whether a
 //!   change is queued (`specs/Queued.antt`, `is_queued`).
 //! - What is sent (`specs/Sending.antt`): messages with zero bytes where a signature of the log's own is due
-//!   (`specs/Blanks.antt`). `Drafts` composes them, `Ready` has taken all memory for them, and is sealed behind the step or
-//!   discarded. What a table has for a name (`specs/Showing.antt`, `body_of`).
+//!   (`specs/Blanks.antt`). `DraftMessages` composes them, `Ready` has taken all memory for them, and is sealed behind the step or
+//!   discarded. What a table has for a name (`specs/Showing.antt`, `body_in`).
 //! - What follows where an epoch ends (`specs/Closings.antt`): what tells of it (`add_closing`), which fits into messages
 //!   (`specs/Sendable.antt`), and what is kept of the queue (`close`).
 //! - The walk over the queue (`specs/Walk.antt`, `walk`): what a log proposes.
@@ -35,7 +35,7 @@ pub use judging::leads;
 pub use own_places::{KeptVote, own_votes, sent_votes};
 pub use queued::is_queued;
 pub use refusal::LogRefusal;
-pub use sending::{Drafts, OwnPlace, Ready};
-pub use showing::body_of;
-pub use signers::{Signers, known, value_of_roots};
+pub use sending::{DraftMessages, OwnPlace, Ready};
+pub use showing::body_in;
+pub use signers::{Signers, known};
 pub use walking::{Walked, walk};

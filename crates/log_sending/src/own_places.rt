@@ -4,20 +4,19 @@
 
 ghost use Rattle.std.specs.Prelude.{◌≡◌, ◌+◌, ◌≤◌, ◌<◌, ◌^◌, ◌++◌, is_none, length, unwrap_or, flat_map, IfOk, OnOk};
 ghost use Rattle.std.specs.List.{AllByRecursion};
-ghost use Rattle.std.specs.Option.{option_map};
 ghost use Rattle.ar_bytes.specs.Joined.{optional_text};
 ghost use Rattle.ar_cert.specs.Changes.{IsSignature};
-ghost use Rattle.ar_council.specs.Values.{roots_of, status_claim, vote_claim};
+ghost use Rattle.ar_council.specs.Values.{status_claim, vote_claim};
 ghost use Rattle.ar_message.specs.Lists.{AreStatuses, AreVotes, IsStatus, IsVote, status_text, vote_text};
 ghost use Rattle.ar_message.specs.Filling.{zeros};
-ghost use Rattle.ar_statement.specs.Claims.{claim_of, roots_text, text_of};
+ghost use Rattle.ar_statement.specs.Claims.{claim_of, value_text, text_of};
 ghost use Rattle.log_sending.specs.Sending.{if_own, own_places, own_statuses, own_votes, place_for, sent_status, sent_statuses, sent_vote, sent_votes};
 
 use crate::sending::OwnPlace;
 use ar_base::Items;
-use ar_council::{roots_of, status_statement, value_told, vote_statement};
+use ar_council::{status_statement, vote_statement};
 use ar_message::{LogStatus, Signature, Statuses, Vote, Votes};
-use ar_statement::Statement;
+use ar_statement::{Statement, value_told};
 use std::alloc::{AllocError, Global};
 use vote_quorum::Value;
 
@@ -73,7 +72,9 @@ fn add_own(
     at: usize,
     statement: Statement<'static>,
 ) -> Result<(), AllocError>
-    ensures { OnOk result (own.new.items ≡ own.old.items ++ if_own is_own (place_for at (text_of (claim_of statement.entry)))) }
+    ensures { OnOk result
+        (own.new.items ≡ own.old.items
+        ++ if_own is_own (place_for at (text_of (claim_of statement.entry)))) }
 {
     if is_own {
         own.push(OwnPlace { at, statement })?;
@@ -146,7 +147,9 @@ fn add_own_votes(
 ) -> Result<(), AllocError>
     requires { at + length (flat_map vote_text (sent_votes len votes.now)) < 2 ^ 64 }
     ensures { OnOk result (own.new.items ≡ own.old.items
-        ++ own_places (λ v. is_none v.1) (λ v. length (vote_text (sent_vote len v))) len (text_of (vote_claim log epoch value.now)) at votes.now) }
+        ++ own_places (λ v. is_none v.1) (λ v.
+        length (vote_text (sent_vote len v))) len
+        (text_of (vote_claim log epoch value.now)) at votes.now) }
 {
     if let [vote, rest @ ..] = votes {
         let end = at + vote_len(len, vote);
@@ -168,7 +171,8 @@ pub fn own_votes(
     votes: &[KeptVote],
 ) -> Result<Vec<OwnPlace<'static>>, AllocError>
     requires { length (flat_map vote_text (sent_votes len votes.now)) ≤ end }
-    ensures { IfOk result (λ own. own.items ≡ own_votes len (text_of (vote_claim log epoch value.now)) end votes.now) }
+    ensures { IfOk result (λ own.
+        own.items ≡ own_votes len (text_of (vote_claim log epoch value.now)) end votes.now) }
 {
     let mut own: Vec<OwnPlace<'static>> = Vec::new(alloc);
     let start = end - votes_len(len, votes);
@@ -192,7 +196,7 @@ fn add_statuses(
         let signature = sent_signature(alloc, len, &status.2)?;
         sent.push(LogStatus {
             log: status.0,
-            value: roots_of(&status.1),
+            value: status.1,
             signature,
         })?;
         add_statuses(alloc, len, rest, sent)?;
@@ -216,7 +220,7 @@ pub(crate) fn sent_statuses(
 
 /// How many bytes the ballot of a status has in a message: a flag, and for a ballot its base and root.
 fn ballot_len(value: &Option<Value>) -> usize
-    ensures { result ≡ length (optional_text roots_text (option_map roots_of value.now)) }
+    ensures { result ≡ length (optional_text value_text value.now) }
 {
     match value {
         Some(value) => {
@@ -259,7 +263,9 @@ fn add_own_statuses(
 ) -> Result<(), AllocError>
     requires { at + length (flat_map status_text (sent_statuses len statuses.now)) < 2 ^ 64 }
     ensures { OnOk result (own.new.items ≡ own.old.items
-        ++ own_places (λ s. is_none s.2) (λ s. length (status_text (sent_status len s))) len (text_of (status_claim log epoch value.now)) at statuses.now) }
+        ++ own_places (λ s. is_none s.2) (λ s.
+        length (status_text (sent_status len s))) len
+        (text_of (status_claim log epoch value.now)) at statuses.now) }
 {
     if let [status, rest @ ..] = statuses {
         let end = at + status_len(len, status);
@@ -281,7 +287,9 @@ pub(crate) fn own_statuses(
     statuses: &[CountedStatus],
 ) -> Result<Vec<OwnPlace<'static>>, AllocError>
     requires { length (flat_map status_text (sent_statuses len statuses.now)) ≤ end }
-    ensures { IfOk result (λ own. own.items ≡ own_statuses len (text_of (status_claim log epoch value.now)) end statuses.now) }
+    ensures { IfOk result (λ own.
+        own.items ≡ own_statuses len
+        (text_of (status_claim log epoch value.now)) end statuses.now) }
 {
     let mut own: Vec<OwnPlace<'static>> = Vec::new(alloc);
     let start = end - statuses_len(len, statuses);

@@ -10,7 +10,8 @@ use std::alloc::{AllocError, Global};
 
 /// Whether two changes, whose certificates have one name, have one text.
 fn has_text_of(alloc: Global, change: &Change, other: &Change) -> Result<bool, AllocError>
-    ensures { IfOk result (λ same. same ≡ bytes_eq (change_text other.now) (change_text change.now)) }
+    ensures { IfOk result (λ same.
+        same ≡ bytes_eq (change_text other.now) (change_text change.now)) }
 {
     let mut text = Vec::new(alloc);
     change.write(alloc, &mut text)?;
@@ -22,7 +23,8 @@ fn has_text_of(alloc: Global, change: &Change, other: &Change) -> Result<bool, A
 /// Whether two changes are equal. Texts are written only where their certificates have one name.
 #[tactic(auto, using(crate::proofs::TwoNames::other_name))]
 fn is_same(alloc: Global, change: &Change, other: &Change) -> Result<bool, AllocError>
-    ensures { IfOk result (λ same. same ≡ bytes_eq (change_text other.now) (change_text change.now)) }
+    ensures { IfOk result (λ same.
+        same ≡ bytes_eq (change_text other.now) (change_text change.now)) }
 {
     change.told();
     other.told();

@@ -68,13 +68,13 @@ impl<'a> Model for Numbered<'a> {
 
 /// The messages of a step, before it is made.
 #[derive(Drop)]
-pub struct Drafts<'a> {
+pub struct DraftMessages<'a> {
     messages: Vec<Outgoing>,
     places: Vec<Numbered<'a>>,
 }
 
 // Clauses see the letters, and the places where signatures are due.
-impl<'a> Model for Drafts<'a> {
+impl<'a> Model for DraftMessages<'a> {
     ghost use Rattle.log_sending.specs.Sending.{Composed};
 
     ghost Value = { Composed };
@@ -84,7 +84,7 @@ impl<'a> Model for Drafts<'a> {
 
 /// The messages of a step, for which all memory was taken. They are sent or discarded.
 pub struct Ready<'a> {
-    drafts: Drafts<'a>,
+    drafts: DraftMessages<'a>,
     // Room for a blank at each place.
     blanks: Vec<Blank>,
 }
@@ -98,15 +98,16 @@ impl<'a> Model for Ready<'a> {
 
     ghost view = { λ r. r.drafts };
 
-    ghost invariant = { λ r. (r.blanks.items ≡ []) × (length r.drafts.places ≤ vec_capacity r.blanks) };
+    ghost invariant = { λ r. (r.blanks.items ≡ [])
+        × (length r.drafts.places ≤ vec_capacity r.blanks) };
 }
 
-impl<'a> Drafts<'a> {
+impl<'a> DraftMessages<'a> {
     /// None yet.
-    pub fn new(alloc: Global) -> Drafts<'a>
+    pub fn new(alloc: Global) -> DraftMessages<'a>
         ensures { result ≡ none_composed }
     {
-        Drafts {
+        DraftMessages {
             messages: Vec::new(alloc),
             places: Vec::new(alloc),
         }
@@ -123,7 +124,10 @@ impl<'a> Drafts<'a> {
         statement: Statement<'a>,
     ) -> Result<(), AllocError>
         requires { signature_len + behind ≤ longest }
-        ensures { OnOk result (self.new ≡ with_draft self.old (draft_with to message.now signature_len behind (text_of (claim_of statement.entry)))) }
+        ensures { OnOk result
+            (self.new ≡ with_draft self.old
+            (draft_with to message.now signature_len behind
+            (text_of (claim_of statement.entry)))) }
     {
         let bytes = message.text(alloc)?;
         let at = bytes.len().saturating_sub(signature_len + behind);
@@ -138,7 +142,10 @@ impl<'a> Drafts<'a> {
         bytes: Vec<u8>,
         own: Vec<OwnPlace<'a>>,
     ) -> Result<(), AllocError>
-        ensures { (message : Message) → bytes.items ≡ message_text message → OnOk result (self.new ≡ with_draft self.old (record { to = to; message = message; own = own.entry.items })) }
+        ensures { (message : Message) → bytes.items ≡ message_text message
+            → OnOk result (self.new
+            ≡ with_draft self.old
+            (record { to = to; message = message; own = own.entry.items })) }
     {
         let message = self.messages.len();
         self.messages.push(Outgoing::new(to, bytes))?;
@@ -163,7 +170,8 @@ fn add_places<'a>(
     message: usize,
     own: Vec<OwnPlace<'a>>,
 ) -> Result<(), AllocError>
-    ensures { OnOk result (places.new.items ≡ places.old.items ++ map (λ place. (message, place)) own.entry.items) }
+    ensures { OnOk result
+        (places.new.items ≡ places.old.items ++ map (λ place. (message, place)) own.entry.items) }
 {
     for own in own {
         places.push(Numbered { message, own })?;
@@ -174,7 +182,8 @@ fn add_places<'a>(
 /// Adds the blanks of these places, by the leaves that the log has for their statements.
 fn add_blanks(log: &EpochLog, places: &[Numbered], blanks: &mut Vec<Blank>)
     requires { vec_len blanks.old + length places.now ≤ vec_capacity blanks.old }
-    ensures { blanks.new.items ≡ blanks.old.items ++ blanks_in log.now.state.past.signed places.now }
+    ensures { blanks.new.items
+        ≡ blanks.old.items ++ blanks_in log.now.state.past.signed places.now }
 {
     match places {
         [] => {}
@@ -189,7 +198,8 @@ fn add_blanks(log: &EpochLog, places: &[Numbered], blanks: &mut Vec<Blank>)
 #[tactic(auto, using(crate::proofs::Sealing::blanks_none))]
 fn add_blank(log: &EpochLog, place: &Numbered, blanks: &mut Vec<Blank>)
     requires { vec_len blanks.old + 1 ≤ vec_capacity blanks.old }
-    ensures added { blanks.new.items ≡ blanks.old.items ++ blanks_in log.now.state.past.signed (place.now ∷ []) }
+    ensures added { blanks.new.items
+        ≡ blanks.old.items ++ blanks_in log.now.state.past.signed (place.now ∷ []) }
     ensures len { vec_len blanks.new ≤ vec_len blanks.old + 1 }
     ensures capacity { vec_capacity blanks.old ≤ vec_capacity blanks.new }
 {
@@ -210,7 +220,7 @@ impl<'a> Ready<'a> {
         ensures { result ≡ sealed log.now.state.past.signed self.entry ended }
     {
         let Ready { drafts, mut blanks } = self;
-        let Drafts { messages, places } = drafts;
+        let DraftMessages { messages, places } = drafts;
         add_blanks(log, &places, &mut blanks);
         Unsigned {
             sent: Sent {

@@ -2,7 +2,7 @@
 
 ghost use Rattle.std.specs.Prelude.{◌≡◌, ◌≤◌, IfOk, length};
 ghost use Rattle.std.specs.Option.{option_map};
-ghost use Rattle.log_sending.specs.Showing.{absence, body_by, body_of};
+ghost use Rattle.log_sending.specs.Showing.{absence, body_by, body_in};
 
 use ar_cert::Cert;
 use ar_message::{Body, Steps};
@@ -38,7 +38,8 @@ fn body_by(
     path: &Path,
 ) -> Result<Body, AllocError>
     requires { length path.now.steps ≤ 256 }
-    ensures { IfOk result (λ body. body ≡ body_by (option_map (λ c. c.now) certificate.entry) at_key path.now.steps) }
+    ensures { IfOk result (λ body.
+        body ≡ body_by (option_map (λ c. c.now) certificate.entry) at_key path.now.steps) }
 {
     match certificate {
         Some(certificate) => Ok(Body::Present {
@@ -50,8 +51,8 @@ fn body_by(
 }
 
 /// What the table has for a name.
-pub fn body_of(alloc: Global, table: &Table, name: &Name) -> Result<Body, AllocError>
-    ensures { IfOk result (λ body. body ≡ body_of table.now name.now) }
+pub fn body_in(alloc: Global, table: &Table, name: &Name) -> Result<Body, AllocError>
+    ensures { IfOk result (λ body. body ≡ body_in table.now name.now) }
 {
     let (at_key, path) = path_of(alloc, table.trie(), &name.digest())?;
     let certificate = table.newest(name.text());

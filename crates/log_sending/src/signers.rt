@@ -1,10 +1,8 @@
 //! Whose signatures stand in a message, in the order in which they are verified.
 
 ghost use Rattle.std.specs.Prelude.{◌≡◌, ◌++◌, ◌∷◌, [], Err, map, flat_map, OnOk};
-ghost use Rattle.std.specs.Option.{option_map};
-ghost use Rattle.ar_council.specs.Values.{value_of_roots};
 ghost use Rattle.ar_statement.specs.Claims.{authority_party, claim_of, endorse, signer_of};
-ghost use Rattle.ar_claims.specs.Lists.{endorsements_in, statuses_in, votes_in};
+ghost use Rattle.ar_claims.specs.Lists.{endorsements_in, claimed_statuses, claimed_votes};
 ghost use Rattle.log_sending.specs.Signers.{known, of_signers, signers};
 ghost use Rattle.party_keys.specs.Signers.{signed_by};
 ghost use Rattle.log_sending.specs.Queued.{unqueued};
@@ -50,14 +48,6 @@ fn refusal(fault: SignerFault) -> LogRefusal
     }
 }
 
-/// What a log voted for, by the base and the root that stand in a message.
-pub fn value_of_roots(roots: Option<([u8; 32], [u8; 32])>) -> Option<Value>
-    ensures { result ≡ option_map value_of_roots roots }
-{
-    let (base, root) = roots?;
-    Some(Value { base, root })
-}
-
 /// Whether each of these parties is known; else the first that is not.
 pub fn known(directory: &Directory, parties: &[Party]) -> Result<(), LogRefusal>
     ensures { result ≡ known directory.now parties.now }
@@ -81,7 +71,10 @@ impl<'a> Signers<'a> {
 
     /// One more behind the others.
     pub fn add(&mut self, statement: &Statement, signature: &'a [u8]) -> Result<(), AllocError>
-        ensures { OnOk result (self.new ≡ self.old ++ signed_by (signer_of (claim_of statement.now)) (claim_of statement.now) signature.now ∷ []) }
+        ensures { OnOk result
+            (self.new ≡ self.old
+            ++ signed_by (signer_of (claim_of statement.now))
+            (claim_of statement.now) signature.now ∷ []) }
     {
         let party = statement.signer();
         self.parties.reserve(1)?;
@@ -115,7 +108,9 @@ impl<'a> Signers<'a> {
         certificate: [u8; 32],
         endorsements: &'a [Endorsement],
     ) -> Result<(), AllocError>
-        ensures { OnOk result (self.new ≡ self.old ++ map (λ e. signed_by (authority_party e.authority) (endorse e.authority certificate) e.signature) endorsements.now) }
+        ensures { OnOk result (self.new ≡ self.old ++ map (λ e.
+            signed_by (authority_party e.authority)
+            (endorse e.authority certificate) e.signature) endorsements.now) }
     {
         if let [endorsement, rest @ ..] = endorsements {
             let authority = endorsement.authority;
@@ -136,7 +131,7 @@ impl<'a> Signers<'a> {
         value: &Value,
         votes: &'a [Vote],
     ) -> Result<(), AllocError>
-        ensures { OnOk result (self.new ≡ self.old ++ votes_in epoch value.now votes.now) }
+        ensures { OnOk result (self.new ≡ self.old ++ claimed_votes epoch value.now votes.now) }
     {
         if let [vote, rest @ ..] = votes {
             let statement = vote_statement(vote.log, epoch, value);
@@ -153,7 +148,9 @@ impl<'a> Signers<'a> {
         queue: &[Change],
         change: &'a Change,
     ) -> Result<(), AllocError>
-        ensures { OnOk result (self.new ≡ self.old ++ flat_map endorsements_in (unqueued queue.now (change.now ∷ []))) }
+        ensures { OnOk result
+            (self.new ≡ self.old
+            ++ flat_map endorsements_in (unqueued queue.now (change.now ∷ []))) }
     {
         if is_queued(alloc, queue, change)? {
             return Ok(());
@@ -168,7 +165,8 @@ impl<'a> Signers<'a> {
         queue: &[Change],
         changes: &'a [Change],
     ) -> Result<(), AllocError>
-        ensures { OnOk result (self.new ≡ self.old ++ flat_map endorsements_in (unqueued queue.now changes.now)) }
+        ensures { OnOk result
+            (self.new ≡ self.old ++ flat_map endorsements_in (unqueued queue.now changes.now)) }
     {
         if let [change, rest @ ..] = changes {
             self.add_unqueued(alloc, queue, change)?;
@@ -179,10 +177,10 @@ impl<'a> Signers<'a> {
 
     /// The statuses of an epoch, in their order.
     pub fn add_statuses(&mut self, epoch: u64, statuses: &'a [LogStatus]) -> Result<(), AllocError>
-        ensures { OnOk result (self.new ≡ self.old ++ statuses_in epoch statuses.now) }
+        ensures { OnOk result (self.new ≡ self.old ++ claimed_statuses epoch statuses.now) }
     {
         if let [status, rest @ ..] = statuses {
-            let statement = status_statement(status.log, epoch, &value_of_roots(status.value));
+            let statement = status_statement(status.log, epoch, &status.value);
             self.add(&statement, status.signature.as_slice())?;
             self.add_statuses(epoch, rest)?;
         }

@@ -43,8 +43,10 @@ impl Walker {
         requires len { len ≤ self.old.left }
         ensures low { self.old.epoch < 2 ^ 64 }
         ensures epoch { OnOk result (self.new.epoch ≡ self.old.epoch) }
-        ensures table { OnOk result (Some self.new.table ≡ apply self.old.table self.old.epoch (change.now ∷ [])) }
-        ensures taken { OnOk result (self.new.taken.items ≡ self.old.taken.items ++ change.now ∷ []) }
+        ensures table { OnOk result
+            (Some self.new.table ≡ apply self.old.table self.old.epoch (change.now ∷ [])) }
+        ensures taken { OnOk result (self.new.taken.items ≡ self.old.taken.items ++ change.now
+            ∷ []) }
         ensures many { OnOk result (self.new.many + 1 ≡ self.old.many) }
         ensures left { OnOk result (self.new.left + len ≡ self.old.left) }
     {
@@ -89,8 +91,11 @@ impl Walker {
     /// Goes over the rest of the queue.
     fn over(&mut self, alloc: Global, queue: &[Change]) -> Result<(), AllocError>
         requires { IsSound self.old.table }
-        ensures taken { OnOk result (self.new.taken.items ≡ self.old.taken.items ++ left_of self.old queue.now) }
-        ensures table { OnOk result (apply self.old.table self.old.epoch (left_of self.old queue.now) ≡ Some (ripen self.new.table self.old.epoch)) }
+        ensures taken { OnOk result
+            (self.new.taken.items ≡ self.old.taken.items ++ left_of self.old queue.now) }
+        ensures table { OnOk result
+            (apply self.old.table self.old.epoch (left_of self.old queue.now)
+            ≡ Some (ripen self.new.table self.old.epoch)) }
     {
         match queue {
             [] => Ok(()),

@@ -1,16 +1,14 @@
 -- Two statements of an honest log contradict each other by none of the rules.
 use Rattle.std.proofs.Common.{◌≡◌, ℕ, ◌+◌, ◌==◌, List, refl, sym, ap, ◌∙◌, subst, Bool, true, false, not, ◌&&◌, ◌||◌, Option, Some, None}
-use Rattle.std.specs.Option.{option_map}
 use Rattle.std.specs.Str.{bytes_eq}
 use Rattle.std.proofs.lemmas.Bool.{and_parts, eqb-true}
 use Rattle.std.proofs.lemmas.List.Elements.{All-contains}
 use Rattle.std.proofs.lemmas.Option.{same_Some}
 use Rattle.std.proofs.lemmas.Slice.Eq.{bytes_eq-Decides}
 use Rattle.ar_statement.specs.declared.party.Party.{Party}
-use Rattle.ar_statement.specs.Claims.{Claim, Roots, confirmation_by, log_party, status, vote}
+use Rattle.ar_statement.specs.Claims.{Claim, confirmation_by, log_party, status, vote}
 use Rattle.vote_quorum.specs.declared.value.Value.{Value}
 use Rattle.ar_council.specs.Council.{Council}
-use Rattle.ar_council.specs.Values.{value_of_roots}
 use Rattle.epoch_log.specs.Honest.{HonestLog}
 use Rattle.epoch_log.specs.Record.{LogRecord, base_of, ending}
 use Rattle.epoch_log.specs.Right.{IsRightConfirmation, newest_digest}
@@ -24,13 +22,13 @@ use Rattle.monitor.proofs.Shown.{a-confirmation, a-status, a-vote, both}
 
 -- ---- what the record tells of a statement
 
-told-vote : (me : ℕ) (r : LogRecord) (claim : Claim) (log epoch : ℕ) (roots : Roots) → claim ≡ vote log epoch roots.0 roots.1 → Told me r.voted r.stated r.confirmed claim
-    → (log ≡ me) × HasVoted r.voted epoch (value_of_roots roots)
+told-vote : (me : ℕ) (r : LogRecord) (claim : Claim) (log epoch : ℕ) (value : Value) → claim ≡ vote log epoch value.base value.root → Told me r.voted r.stated r.confirmed claim
+    → (log ≡ me) × HasVoted r.voted epoch value
 unfolding Told
-told-vote me r claim log epoch roots is t = subst (Told me r.voted r.stated r.confirmed) is t
+told-vote me r claim log epoch value is t = subst (Told me r.voted r.stated r.confirmed) is t
 
-told-status : (me : ℕ) (r : LogRecord) (claim : Claim) (log epoch : ℕ) (value : Option Roots) → claim ≡ status log epoch value → Told me r.voted r.stated r.confirmed claim
-    → (log ≡ me) × HasStated r.stated epoch (option_map value_of_roots value)
+told-status : (me : ℕ) (r : LogRecord) (claim : Claim) (log epoch : ℕ) (value : Option Value) → claim ≡ status log epoch value → Told me r.voted r.stated r.confirmed claim
+    → (log ≡ me) × HasStated r.stated epoch value
 unfolding Told
 told-status me r claim log epoch value is t = subst (Told me r.voted r.stated r.confirmed) is t
 
@@ -47,72 +45,64 @@ told-confirmation me r claim signer epoch name (Some certificate) root is t = su
 pub one-ballot : (council : Council) (me : ℕ) (r : LogRecord) (one other : Claim) → HonestLog council me r → Told me r.voted r.stated r.confirmed one → Told me r.voted r.stated r.confirmed other
     → are_votes one other ≡ true → one ≡ other
 one-ballot council me r one other h told told-other e =
-    let found = both (λ (v w : ℕ × Roots). v.0 == w.0) (vote_in one) (vote_in other) e in
-    let v : ℕ × Roots = found.0 in
-    let w : ℕ × Roots = found.1 in
+    let found = both (λ (v w : ℕ × Value). v.0 == w.0) (vote_in one) (vote_in other) e in
+    let v : ℕ × Value = found.0 in
+    let w : ℕ × Value = found.1 in
     let is-v = a-vote one v found.2 in
     let is-w = a-vote other w found.3 in
     let epoch : v.0 ≡ w.0 = eqb-true v.0 w.0 found.4 in
     let has-v = told-vote me r one is-v.0 v.0 v.1 is-v.1 told in
     let has-w = told-vote me r other is-w.0 w.0 w.1 is-w.1 told-other in
     let log : is-v.0 ≡ is-w.0 = has-v.0 ∙ sym has-w.0 in
-    let value : value_of_roots v.1 ≡ value_of_roots w.1 = one-vote council me r w.0 (value_of_roots v.1) (value_of_roots w.1) h (subst (λ k. HasVoted r.voted k (value_of_roots v.1)) epoch has-v.1) has-w.1 in
-    let base : v.1.0 ≡ w.1.0 = ap (λ (x : Value). x.base) value in
-    let root : v.1.1 ≡ w.1.1 = ap (λ (x : Value). x.root) value in
-    let same : vote is-v.0 v.0 v.1.0 v.1.1 ≡ vote is-w.0 w.0 w.1.0 w.1.1 = λ i. vote (log i) (epoch i) (base i) (root i) in
+    let value : v.1 ≡ w.1 = one-vote council me r w.0 v.1 w.1 h (subst (λ k. HasVoted r.voted k v.1) epoch has-v.1) has-w.1 in
+    let base : v.1.base ≡ w.1.base = ap (λ (x : Value). x.base) value in
+    let root : v.1.root ≡ w.1.root = ap (λ (x : Value). x.root) value in
+    let same : vote is-v.0 v.0 v.1.base v.1.root ≡ vote is-w.0 w.0 w.1.base w.1.root = λ i. vote (log i) (epoch i) (base i) (root i) in
     is-v.1 ∙ same ∙ sym is-w.1
 
 -- a status of an epoch says what the vote of the epoch is for
 pub not-denied : (council : Council) (me : ℕ) (r : LogRecord) (one other : Claim) → HonestLog council me r → Told me r.voted r.stated r.confirmed one → Told me r.voted r.stated r.confirmed other
     → is_denied one other ≡ true → ⊥
 not-denied council me r one other h told told-other e =
-    let found = both (λ (v : ℕ × Roots) (s : ℕ × Option Roots). v.0 == s.0 && not (is_value s.1 v.1)) (vote_in one) (status_in other) e in
-    let v : ℕ × Roots = found.0 in
-    let s : ℕ × Option Roots = found.1 in
+    let found = both (λ (v : ℕ × Value) (s : ℕ × Option Value). v.0 == s.0 && not (is_value s.1 v.1)) (vote_in one) (status_in other) e in
+    let v : ℕ × Value = found.0 in
+    let s : ℕ × Option Value = found.1 in
     let is-v = a-vote one v found.2 in
     let is-s = a-status other s found.3 in
     let parts = and_parts (v.0 == s.0) (not (is_value s.1 v.1)) found.4 in
     let epoch : v.0 ≡ s.0 = eqb-true v.0 s.0 parts.0 in
     let has-v = told-vote me r one is-v.0 v.0 v.1 is-v.1 told in
     let has-s = told-status me r other is-s.0 s.0 s.1 is-s.1 told-other in
-    let value : option_map value_of_roots s.1 ≡ Some (value_of_roots v.1) =
-    status-is-vote council me r s.0 (option_map value_of_roots s.1) (value_of_roots v.1) h has-s.1 (subst (λ k. HasVoted r.voted k (value_of_roots v.1)) epoch has-v.1) in
+    let value : s.1 ≡ Some v.1 =
+    status-is-vote council me r s.0 s.1 v.1 h has-s.1 (subst (λ k. HasVoted r.voted k v.1) epoch has-v.1) in
     by s.1 v.1 value parts.1
   where
-    by : (o : Option Roots) (voted : Roots) → option_map value_of_roots o ≡ Some (value_of_roots voted) → not (is_value o voted) ≡ true → ⊥
+    by : (o : Option Value) (voted : Value) → o ≡ Some voted → not (is_value o voted) ≡ true → ⊥
     by None voted is e = absurd cc
     by (Some x) voted is e =
-        let same : value_of_roots x ≡ value_of_roots voted = same_Some (value_of_roots x) (value_of_roots voted) is in
-        let base : bytes_eq x.0 voted.0 ≡ true = (bytes_eq-Decides x.0 voted.0).1 (ap (λ (y : Value). y.base) same) in
-        let root : bytes_eq x.1 voted.1 ≡ true = (bytes_eq-Decides x.1 voted.1).1 (ap (λ (y : Value). y.root) same) in
-        let no : not (true && true) ≡ true = subst (λ b. not (b && true) ≡ true) base (subst (λ b. not (bytes_eq x.0 voted.0 && b) ≡ true) root e) in
+        let same : x ≡ voted = same_Some x voted is in
+        let base : bytes_eq x.base voted.base ≡ true = (bytes_eq-Decides x.base voted.base).1 (ap (λ (y : Value). y.base) same) in
+        let root : bytes_eq x.root voted.root ≡ true = (bytes_eq-Decides x.root voted.root).1 (ap (λ (y : Value). y.root) same) in
+        let no : not (true && true) ≡ true = subst (λ b. not (b && true) ≡ true) base (subst (λ b. not (bytes_eq x.base voted.base && b) ≡ true) root e) in
         cc
-
-one-value : (x y : Option Roots) → option_map value_of_roots x ≡ option_map value_of_roots y → x ≡ y
-one-value None None e = refl
-one-value None (Some y) e = absurd cc
-one-value (Some x) None e = absurd cc
-one-value (Some x) (Some y) e =
-    let same : value_of_roots x ≡ value_of_roots y = same_Some (value_of_roots x) (value_of_roots y) e in
-    ap (λ (v : Value). Some (v.base, v.root)) same
 
 -- two statuses of one epoch are one
 pub one-status : (council : Council) (me : ℕ) (r : LogRecord) (one other : Claim) → HonestLog council me r → Told me r.voted r.stated r.confirmed one → Told me r.voted r.stated r.confirmed other
     → are_statuses one other ≡ true → one ≡ other
 one-status council me r one other h told told-other e =
-    let found = both (λ (s t : ℕ × Option Roots). s.0 == t.0) (status_in one) (status_in other) e in
-    let s : ℕ × Option Roots = found.0 in
-    let t : ℕ × Option Roots = found.1 in
+    let found = both (λ (s t : ℕ × Option Value). s.0 == t.0) (status_in one) (status_in other) e in
+    let s : ℕ × Option Value = found.0 in
+    let t : ℕ × Option Value = found.1 in
     let is-s = a-status one s found.2 in
     let is-t = a-status other t found.3 in
     let epoch : s.0 ≡ t.0 = eqb-true s.0 t.0 found.4 in
     let has-s = told-status me r one is-s.0 s.0 s.1 is-s.1 told in
     let has-t = told-status me r other is-t.0 t.0 t.1 is-t.1 told-other in
     let log : is-s.0 ≡ is-t.0 = has-s.0 ∙ sym has-t.0 in
-    let entry-s : Stated = record { epoch = s.0; value = option_map value_of_roots s.1 } in
-    let entry-t : Stated = record { epoch = t.0; value = option_map value_of_roots t.1 } in
+    let entry-s : Stated = record { epoch = s.0; value = s.1 } in
+    let entry-t : Stated = record { epoch = t.0; value = t.1 } in
     let entry : entry-s ≡ entry-t = one-of (λ (x : Stated). x.epoch) r.stated entry-s entry-t h.states_its_vote.once has-s.1 has-t.1 epoch in
-    let value : s.1 ≡ t.1 = one-value s.1 t.1 (ap (λ (x : Stated). x.value) entry) in
+    let value : s.1 ≡ t.1 = ap (λ (x : Stated). x.value) entry in
     let same : status is-s.0 s.0 s.1 ≡ status is-t.0 t.0 t.1 = λ i. status (log i) (epoch i) (value i) in
     is-s.1 ∙ same ∙ sym is-t.1
 

@@ -5,8 +5,9 @@ use Rattle.std.proofs.lemmas.Bool.{and_parts}
 use Rattle.std.proofs.lemmas.Option.{same_Some}
 use Rattle.std.proofs.lemmas.Slice.Eq.{bytes_eq-Decides}
 use Rattle.ar_statement.specs.declared.party.Party.{Party}
-use Rattle.ar_statement.specs.Claims.{Claim, Roots, endorse, handover, propose, vote, confirm, confirm_absent, answer, status, roll, object, confirmation_by}
+use Rattle.ar_statement.specs.Claims.{Claim, endorse, handover, propose, vote, confirm, confirm_absent, answer, status, roll, object, confirmation_by, value_with}
 use Rattle.party_keys.specs.Signatures.{rolls_from}
+use Rattle.vote_quorum.specs.declared.value.Value.{Value}
 use Rattle.monitor.specs.Items.{Sworn}
 use Rattle.monitor.specs.Rules.{are_confirmations, are_rolls, are_statuses, are_two_of_one, are_votes, confirmation_in, have_one_leaf, holds_of_both, is_denied, rule_fitting, rule_of, status_in, vote_in}
 
@@ -18,8 +19,8 @@ both test None p e = absurd cc
 
 -- ---- what a statement is
 
-pub a-vote : (claim : Claim) (v : ℕ × Roots) → vote_in claim ≡ Some v → (log : ℕ) × (claim ≡ vote log v.0 v.1.0 v.1.1)
-a-vote (vote log epoch base root) v e = (log, ap (λ (w : ℕ × Roots). vote log w.0 w.1.0 w.1.1) (same_Some (epoch, (base, root)) v e))
+pub a-vote : (claim : Claim) (v : ℕ × Value) → vote_in claim ≡ Some v → (log : ℕ) × (claim ≡ vote log v.0 v.1.base v.1.root)
+a-vote (vote log epoch base root) v e = (log, ap (λ (w : ℕ × Value). vote log w.0 w.1.base w.1.root) (same_Some (epoch, value_with base root) v e))
 a-vote (endorse authority certificate) v e = absurd cc
 a-vote (handover certificate) v e = absurd cc
 a-vote (propose log epoch base root) v e = absurd cc
@@ -30,8 +31,8 @@ a-vote (status log epoch value) v e = absurd cc
 a-vote (roll signer generation key) v e = absurd cc
 a-vote (object certificate) v e = absurd cc
 
-pub a-status : (claim : Claim) (v : ℕ × Option Roots) → status_in claim ≡ Some v → (log : ℕ) × (claim ≡ status log v.0 v.1)
-a-status (status log epoch value) v e = (log, ap (λ (w : ℕ × Option Roots). status log w.0 w.1) (same_Some (epoch, value) v e))
+pub a-status : (claim : Claim) (v : ℕ × Option Value) → status_in claim ≡ Some v → (log : ℕ) × (claim ≡ status log v.0 v.1)
+a-status (status log epoch value) v e = (log, ap (λ (w : ℕ × Option Value). status log w.0 w.1) (same_Some (epoch, value) v e))
 a-status (endorse authority certificate) v e = absurd cc
 a-status (handover certificate) v e = absurd cc
 a-status (propose log epoch base root) v e = absurd cc

@@ -16,7 +16,7 @@ use Rattle.party_keys.proofs.Claims.{one_claim}
 use Rattle.key_roll.specs.Book.{IsRollBook, RollBook, texts_of}
 use Rattle.key_roll.specs.Entry.{Serves}
 use Rattle.key_roll.specs.Rolls.{is_roll, named_generation}
-use Rattle.key_roll.specs.declared.signed.Signed.{Signed}
+use Rattle.key_roll.specs.declared.signed.SignedText.{SignedText}
 use Rattle.key_roll.proofs.Books.{is_roll-kind, leaf-roll, named-roll, one_text}
 use Rattle.monitor.specs.declared.item.Item.{Item}
 use Rattle.monitor.specs.Items.{Sworn, sworn_as, sworn_by, sworn_if, sworn_in}
@@ -56,11 +56,11 @@ pub served : (book : RollBook) (g leaf : ℕ) (text : List ℕ) → Serves book 
 served book g leaf text (place, s, facts) =
     let at : slice_get book.list place ≡ Some s = facts.0 in
     let within = slice_get_within book.list place s at in
-    let same : length (texts_of book) ≡ length book.list = length-map book.list (λ (x : Signed). x.text) in
+    let same : length (texts_of book) ≡ length book.list = length-map book.list (λ (x : SignedText). x.text) in
     let there : Contains (texts_of book) s.text = (
       place,
       subst (λ n. place < n) (sym same) within,
-      get_or-map (λ (x : Signed). x.text) book.list place s s.text within ∙ ap (λ (x : Signed). x.text) (get_or_from_slice_get book.list place s s at),
+      get_or-map (λ (x : SignedText). x.text) book.list place s s.text within ∙ ap (λ (x : SignedText). x.text) (get_or_from_slice_get book.list place s s at),
     ) in
     subst (Contains (texts_of book)) facts.2 there
 
@@ -97,7 +97,7 @@ roll-leaf book text claim g leaf named sound valid is (signer, key, says) (place
   where
     All-at : is_roll s.text ≡ true → named_generation s.text ≡ s.generation
     All-at rolls =
-        All-contains (λ (x : Signed). is_roll x.text ≡ true → named_generation x.text ≡ x.generation) book.list s sound.named
+        All-contains (λ (x : SignedText). is_roll x.text ≡ true → named_generation x.text ≡ x.generation) book.list s sound.named
         (place, slice_get_within book.list place s facts.0, get_or_from_slice_get book.list place s s facts.0) rolls
 
 -- two Rolls of one generation have one text

@@ -3,10 +3,11 @@ use Rattle.std.proofs.Common.{◌≡◌, ℕ, ◌==◌, List, refl, sym, ap, ◌
 use Rattle.std.specs.Str.{bytes_eq}
 use Rattle.std.proofs.lemmas.Bool.{and_parts, eq-eqb, eqb-true}
 use Rattle.std.proofs.lemmas.Slice.Eq.{bytes_eq-Decides}
-use Rattle.ar_statement.specs.Claims.{Claim, Roots, is_party, role_number, signer_of}
+use Rattle.ar_statement.specs.Claims.{Claim, is_party, role_number, signer_of}
 use Rattle.ar_statement.specs.declared.party.Party.{Party}
 use Rattle.ar_council.proofs.Seeing.{one_party}
 use Rattle.party_keys.specs.Signatures.{rolls_from}
+use Rattle.vote_quorum.specs.declared.value.Value.{Value}
 use Rattle.monitor.specs.Items.{Sworn}
 use Rattle.monitor.specs.Rules.{are_confirmations, are_one, are_rolls, are_statuses, are_two_of_one, are_votes, confirmation_in, have_one_leaf, holds_of_both, is_denied, is_of_log, rule_fitting, rule_of, status_in, vote_in}
 use Rattle.monitor.proofs.Shown.{chosen}
@@ -51,11 +52,11 @@ one-turned o p = turned (λ (a b : ℕ). a == b) (λ (a b : ℕ). a == b) number
 
 votes-turned : (one other : Claim) → are_votes one other ≡ are_votes other one
 votes-turned one other =
-    turned (λ (v w : ℕ × Roots). v.0 == w.0) (λ (v w : ℕ × Roots). v.0 == w.0) (λ (v w : ℕ × Roots). number-turned v.0 w.0) (vote_in one) (vote_in other)
+    turned (λ (v w : ℕ × Value). v.0 == w.0) (λ (v w : ℕ × Value). v.0 == w.0) (λ (v w : ℕ × Value). number-turned v.0 w.0) (vote_in one) (vote_in other)
 
 statuses-turned : (one other : Claim) → are_statuses one other ≡ are_statuses other one
 statuses-turned one other =
-    turned (λ (s t : ℕ × Option Roots). s.0 == t.0) (λ (s t : ℕ × Option Roots). s.0 == t.0) (λ (s t : ℕ × Option Roots). number-turned s.0 t.0) (status_in one) (status_in other)
+    turned (λ (s t : ℕ × Option Value). s.0 == t.0) (λ (s t : ℕ × Option Value). s.0 == t.0) (λ (s t : ℕ × Option Value). number-turned s.0 t.0) (status_in one) (status_in other)
 
 confirmations-turned : (one other : Claim) → signer_of one ≡ signer_of other → are_confirmations one other ≡ are_confirmations other one
 confirmations-turned one other signer =

@@ -1,18 +1,19 @@
 -- When two statements of one party contradict each other.
 use Rattle.std.specs.Prelude.{ℕ, ◌==◌, Bool, false, not, ◌&&◌, ◌||◌, if◌then◌else◌, List, Option, Some, None}
 use Rattle.std.specs.Str.{bytes_eq}
-use Rattle.ar_statement.specs.Claims.{Claim, Roots, endorse, handover, propose, vote, confirm, confirm_absent, answer, status, roll, object, is_party, role_number, signer_of}
+use Rattle.ar_statement.specs.Claims.{Claim, endorse, handover, propose, vote, confirm, confirm_absent, answer, status, roll, object, is_party, role_number, signer_of, value_with}
 use Rattle.party_keys.specs.Signatures.{rolls_from}
+use Rattle.vote_quorum.specs.declared.value.Value.{Value}
 use Rattle.monitor.specs.Items.{Sworn}
 
 -- ---- what a statement says
 
 -- the epoch of a vote, and what it is for
-abbrev pub vote_in : Claim → Option (ℕ × Roots)
+abbrev pub vote_in : Claim → Option (ℕ × Value)
 vote_in (endorse authority certificate) = None
 vote_in (handover certificate) = None
 vote_in (propose log epoch base root) = None
-vote_in (vote log epoch base root) = Some (epoch, (base, root))
+vote_in (vote log epoch base root) = Some (epoch, value_with base root)
 vote_in (confirm signer epoch name certificate root) = None
 vote_in (confirm_absent signer epoch name root) = None
 vote_in (answer name certificate challenge) = None
@@ -21,7 +22,7 @@ vote_in (roll signer generation key) = None
 vote_in (object certificate) = None
 
 -- the epoch of a status, and what it says that the log voted for, if anything
-abbrev pub status_in : Claim → Option (ℕ × Option Roots)
+abbrev pub status_in : Claim → Option (ℕ × Option Value)
 status_in (endorse authority certificate) = None
 status_in (handover certificate) = None
 status_in (propose log epoch base root) = None
@@ -59,9 +60,9 @@ abbrev pub are_votes : Claim → Claim → Bool
 are_votes one other = holds_of_both (λ v w. v.0 == w.0) (vote_in one) (vote_in other)
 
 -- this is what a status says that the log voted for
-abbrev pub is_value : Option Roots → Roots → Bool
+abbrev pub is_value : Option Value → Value → Bool
 is_value None voted = false
-is_value (Some value) voted = bytes_eq value.0 voted.0 && bytes_eq value.1 voted.1
+is_value (Some value) voted = bytes_eq value.base voted.base && bytes_eq value.root voted.root
 
 -- a vote, and a status of its epoch that does not say what the vote is for
 abbrev pub is_denied : Claim → Claim → Bool

@@ -51,7 +51,9 @@ fn conflict_of(sworn: &[Sworn], party: Party) -> Option<Conflict>
 
 /// Puts the pair of a party behind the others, where it contradicts itself. The only error is want of memory.
 fn name_one(party: Party, sworn: &[Sworn], conflicts: &mut Vec<Conflict>) -> Result<(), AllocError>
-    ensures { OnOk result (conflicts.new.items ≡ conflicts.old.items ++ filter_map (conflict_of sworn.now) (party ∷ [])) }
+    ensures { OnOk result
+        (conflicts.new.items
+        ≡ conflicts.old.items ++ filter_map (conflict_of sworn.now) (party ∷ [])) }
 {
     if let Some(conflict) = conflict_of(sworn, party) {
         conflicts.push(conflict)?;
@@ -67,7 +69,8 @@ pub(crate) fn name_all(
     sworn: &[Sworn],
     conflicts: &mut Vec<Conflict>,
 ) -> Result<(), AllocError>
-    ensures { OnOk result (conflicts.new.items ≡ conflicts.old.items ++ conflicts_of role count sworn.now) }
+    ensures { OnOk result
+        (conflicts.new.items ≡ conflicts.old.items ++ conflicts_of role count sworn.now) }
 {
     for number in 0..count {
         name_one(role.party(number), sworn, conflicts)?;

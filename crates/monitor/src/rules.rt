@@ -7,12 +7,10 @@ ghost use Rattle.monitor.specs.Rules.{are_confirmations, are_one, are_rolls, are
 
 use crate::sworn::Sworn;
 use ar_statement::{Role, Statement};
-
-/// A base and a root.
-type Roots = ([u8; 32], [u8; 32]);
+use vote_quorum::Value;
 
 /// The epoch of a vote, and what it is for.
-fn vote_in(statement: &Statement) -> Option<(u64, Roots)>
+fn vote_in(statement: &Statement) -> Option<(u64, Value)>
     ensures { result ≡ vote_in (claim_of statement.now) }
 {
     match statement {
@@ -21,13 +19,16 @@ fn vote_in(statement: &Statement) -> Option<(u64, Roots)>
             base,
             root,
             ..
-        } => Some((*epoch, (*base, *root))),
+        } => {
+            let (base, root) = (*base, *root);
+            Some((*epoch, Value { base, root }))
+        }
         _ => None,
     }
 }
 
 /// The epoch of a status, and what it says that the log voted for.
-fn status_in(statement: &Statement) -> Option<(u64, Option<Roots>)>
+fn status_in(statement: &Statement) -> Option<(u64, Option<Value>)>
     ensures { result ≡ status_in (claim_of statement.now) }
 {
     match statement {
@@ -38,7 +39,8 @@ fn status_in(statement: &Statement) -> Option<(u64, Option<Roots>)>
 
 /// The epoch, the name and the root of a confirmation.
 fn confirmation_in<'a>(statement: &'a Statement) -> Option<(u64, (&'a [u8], &'a [u8]))>
-    ensures { option_map (λ c. (c.0, (c.1.0.now, c.1.1.now))) result ≡ confirmation_in (claim_of statement.now) }
+    ensures { option_map (λ c.
+        (c.0, (c.1.0.now, c.1.1.now))) result ≡ confirmation_in (claim_of statement.now) }
 {
     match statement {
         Statement::Confirm {
@@ -78,11 +80,11 @@ fn are_votes(one: &Statement, other: &Statement) -> bool
 }
 
 /// Whether this is what a status says that the log voted for.
-fn is_value(value: &Option<Roots>, voted: &Roots) -> bool
+fn is_value(value: &Option<Value>, voted: &Value) -> bool
     ensures { result ≡ is_value value.now voted.now }
 {
     match value {
-        Some(value) => value.0 == voted.0 && value.1 == voted.1,
+        Some(value) => value.base == voted.base && value.root == voted.root,
         None => false,
     }
 }

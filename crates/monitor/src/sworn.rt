@@ -30,7 +30,13 @@ impl<'a> Model for Sworn<'a> {
 
     ghost Value = { Spec };
 
-    ghost view = { λ s. record { line = s.line; claim = claim_of s.statement; text = s.text.now; generation = s.generation; leaf = s.leaf } };
+    ghost view = { λ s. record {
+      line = s.line;
+      claim = claim_of s.statement;
+      text = s.text.now;
+      generation = s.generation;
+      leaf = s.leaf;
+    } };
 }
 
 /// The statement that has this text.
@@ -116,8 +122,10 @@ fn put<'a>(
     sworn: &mut Vec<Sworn<'a>>,
     ignored: &mut Vec<(u32, Ignored)>,
 ) -> Result<(), AllocError>
-    ensures sworn { OnOk result (sworn.new.items ≡ sworn.old.items ++ sworn_of directory.now (item.now ∷ [])) }
-    ensures ignored { OnOk result (ignored.new.items ≡ ignored.old.items ++ ignored_of directory.now (item.now ∷ [])) }
+    ensures sworn { OnOk result
+        (sworn.new.items ≡ sworn.old.items ++ sworn_of directory.now (item.now ∷ [])) }
+    ensures ignored { OnOk result
+        (ignored.new.items ≡ ignored.old.items ++ ignored_of directory.now (item.now ∷ [])) }
 {
     match Sworn::of(directory, item) {
         Ok(statement) => sworn.push(statement)?,
@@ -133,7 +141,8 @@ pub(crate) fn sort<'a>(
     items: &'a [Item],
 ) -> Result<Sorted<'a>, AllocError>
     ensures sworn { IfOk result (λ sorted. sorted.sworn.items ≡ sworn_of directory.now items.now) }
-    ensures ignored { IfOk result (λ sorted. sorted.ignored.items ≡ ignored_of directory.now items.now) }
+    ensures ignored { IfOk result (λ sorted.
+        sorted.ignored.items ≡ ignored_of directory.now items.now) }
 {
     let mut sworn = Vec::new(alloc);
     let mut ignored = Vec::new(alloc);

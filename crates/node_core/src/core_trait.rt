@@ -33,6 +33,7 @@ pub trait Core: Send + Drop {
         input: &Self::Input,
     ) -> Result<(Self::Reply, Self::Note), AllocError>
         ensures legal { IfOk result (λ made. legal (state self.old) input.now made.1) }
-        ensures next { IfOk result (λ made. next (state self.old) input.now made.1 ≡ (made.0, state self.new)) }
+        ensures next { IfOk result (λ made.
+            next (state self.old) input.now made.1 ≡ (made.0, state self.new)) }
         ensures err { OnErr result (state self.new ≡ state self.old) };
 }

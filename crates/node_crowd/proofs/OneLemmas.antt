@@ -6,7 +6,7 @@ use Rattle.ar_seats.specs.Shares.{given_of, left_of}
 use Rattle.ar_seats.proofs.RisingLemmas.{times-merged}
 use Rattle.seat_orders.specs.Carrying.{Carries, Serves}
 use Rattle.seat_orders.proofs.CarriesLemmas.{carries_joined, serves_called}
-use Rattle.shared_node.specs.Seats.{Asked, IsSeatOf, NodeParts, SeatParts, given_seat, joined_seat, left_seat}
+use Rattle.shared_node.specs.Seats.{Answered, IsSeatOf, NodeParts, SeatParts, given_seat, joined_seat, left_seat}
 use Rattle.node_crowd.specs.Stalls.{HasServed, IsIdle, IsJoined, IsSplit, StallParts}
 
 halves : (share : ℕ) → left_of share + given_of share ≡ share
@@ -45,7 +45,7 @@ module _ {S I N T : Type 0} where
     }
 
     pub has_served : (legal : S → I → N → Type 0) (node : NodeParts S) (finish : R → T) (old new : StallParts S I N T) (brought : List I) (input : I) (place : ℕ) (reply : R)
-        → Asked next legal node.first old.seat input place reply new.seat → new.told ≡ old.told ++ (place, finish reply) ∷ []
+        → Answered next legal node.first old.seat input place reply new.seat → new.told ≡ old.told ++ (place, finish reply) ∷ []
         → HasServed next node finish old brought → HasServed next node finish new (brought ++ input ∷ [])
     has_served legal node finish old new brought input place reply asked told served = record {
       own = subst (λ s. IsSeatOf node s) (sym asked.after) served.own;

@@ -18,7 +18,9 @@ fn deal_row<C: Core, F, T: Drop>(
     base: &mut [Stall<C, T>],
 ) -> Result<Row<C, T>, SplitFault>
     requires { AllZip (λ booth stall. IsIdle booth.node stall) booths.now base.old }
-    ensures { IfOk result (λ row. Along (λ booth old new given. IsSplit booth.node old new given) booths.now base.old base.new row.stalls.items) }
+    ensures { IfOk result (λ row.
+        Along (λ booth old new given.
+        IsSplit booth.node old new given) booths.now base.old base.new row.stalls.items) }
 {
     let mut stalls = Vec::new(alloc);
     for place in 0..booths.len() {
@@ -40,11 +42,16 @@ pub fn deal<C: Core, F, T: Drop>(
     workers: usize,
 ) -> Result<Vec<Row<C, T>>, SplitFault>
     requires { AllZip (λ booth stall. IsIdle booth.node stall) booths.now base.old }
-    ensures base { OnOk result (AllZip (λ booth stall. IsIdle booth.node stall) booths.now base.new) }
+    ensures base { OnOk result (AllZip (λ booth stall.
+        IsIdle booth.node stall) booths.now base.new) }
     ensures many { IfOk result (λ rows. length rows.items ≡ workers) }
-    ensures rows { IfOk result (λ rows. AllByRecursion (λ row. AllZip (λ booth stall. IsIdle booth.node stall) booths.now row.stalls.items) rows.items) }
+    ensures rows { IfOk result (λ rows.
+        AllByRecursion (λ row.
+        AllZip (λ booth stall.
+        IsIdle booth.node stall) booths.now row.stalls.items) rows.items) }
     ensures shares { IfOk result (λ rows. (place : ℕ)
-        → share_at place base.new + total (λ row. share_at place row.stalls.items) rows.items ≡ share_at place base.old) }
+        → share_at place base.new + total (λ row.
+        share_at place row.stalls.items) rows.items ≡ share_at place base.old) }
 {
     let mut rows = Vec::new(alloc);
     for _ in 0..workers {

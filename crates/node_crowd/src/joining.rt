@@ -17,7 +17,9 @@ pub fn join_row<C: Core, F, T: Drop>(
 ) -> Result<(), AllocError>
     requires base { AllZip (λ booth stall. IsStallOf booth.node stall) booths.now base.old }
     requires row { AllZip (λ booth stall. IsStallOf booth.node stall) booths.now row.stalls.items }
-    ensures { OnOk result (Along (λ booth old other new. IsJoined C.next booth.node old other new) booths.now base.old row.stalls.items base.new) }
+    ensures { OnOk result (Along (λ booth old other new.
+        IsJoined C.next booth.node old other new) booths.now base.old row.stalls.items
+        base.new) }
 {
     let Row { stalls } = row;
     let mut place = 0;

@@ -13,7 +13,7 @@ pub enum Outcome {
 
 /// What was asked, and what it came to.
 #[derive(Debug, Drop)]
-pub struct Answer {
+pub struct CheckAnswer {
     /// The name and the key that were asked about.
     pub pair: Pair,
     /// What the check said, or that it failed; an ask that lacked memory is not kept.

@@ -2,7 +2,7 @@ ghost use Rattle.std.specs.Prelude.{◌≡◌, OnOk, OnErr, IfOk};
 ghost use Rattle.owner_check.specs.Answers.{with_answer};
 ghost use Rattle.owner_check.specs.Book.{has_pair, is_of, pair_of, with_pair, without_pair};
 
-use crate::{Answer, Outcome, Pair};
+use crate::{CheckAnswer, Outcome, Pair};
 use ar_base::Items;
 use std::alloc::{AllocError, Global};
 
@@ -58,15 +58,16 @@ pub(crate) fn strike(book: &mut Vec<Pair>, name: &[u8], key: &[u8; 56])
 /// Keeps what an ask of the name and the key came to, behind the other answers.
 pub(crate) fn keep(
     alloc: Global,
-    answers: &mut Vec<Answer>,
+    answers: &mut Vec<CheckAnswer>,
     name: &[u8],
     key: &[u8; 56],
     outcome: Outcome,
 ) -> Result<(), AllocError>
-    ensures ok { OnOk result (answers.new.items ≡ with_answer answers.old.items name.now key.now outcome) }
+    ensures ok { OnOk result
+        (answers.new.items ≡ with_answer answers.old.items name.now key.now outcome) }
     ensures err { OnErr result (answers.new.items ≡ answers.old.items) }
 {
     let pair = make_pair(alloc, name, key)?;
-    answers.push(Answer { pair, outcome })?;
+    answers.push(CheckAnswer { pair, outcome })?;
     Ok(())
 }

@@ -4,7 +4,7 @@ ghost use Rattle.owner_check.specs.Book.{with_pair, without_pair};
 ghost use Rattle.owner_check.specs.declared.answer.Outcome.TheVariants.{Failed};
 
 use crate::book::{enter, has, keep, strike};
-use crate::{Answer, AskFault, Outcome, OwnerCheck, Pair};
+use crate::{AskFault, CheckAnswer, Outcome, OwnerCheck, Pair};
 use std::alloc::{AllocError, Global};
 use std::marker::Model;
 
@@ -14,7 +14,7 @@ use std::marker::Model;
 #[derive(Debug, Drop)]
 pub struct BookCheck {
     book: Vec<Pair>,
-    answers: Vec<Answer>,
+    answers: Vec<CheckAnswer>,
 }
 
 // Clauses see the book, each pair once in the order in which it was learnt, and the answers.
@@ -45,7 +45,7 @@ impl BookCheck {
     }
 
     /// The answers that the check gave, in order.
-    pub fn answers(&self) -> &[Answer]
+    pub fn answers(&self) -> &[CheckAnswer]
         ensures { result.now ≡ self.now.answers }
     {
         self.answers.as_slice()
@@ -58,7 +58,9 @@ impl BookCheck {
         name: &[u8],
         key: &[u8; 56],
     ) -> Result<(), AllocError>
-        ensures ok { OnOk result (self.new ≡ record self.old { answers = with_answer self.old.answers name.now key.now Failed }) }
+        ensures ok { OnOk result
+            (self.new ≡ record self.old
+            { answers = with_answer self.old.answers name.now key.now Failed }) }
         ensures err { OnErr result (self.new ≡ self.old) }
     {
         keep(alloc, &mut self.answers, name, key, Outcome::Failed)
@@ -92,14 +94,16 @@ impl OwnerCheck for BookCheck {
     }
 
     fn learn(&mut self, alloc: Global, name: &[u8], key: &[u8; 56]) -> Result<(), AllocError>
-        ensures ok { OnOk result (self.new ≡ record self.old { book = with_pair self.old.book name.now key.now }) }
+        ensures ok { OnOk result
+            (self.new ≡ record self.old { book = with_pair self.old.book name.now key.now }) }
         ensures err { OnErr result (self.new ≡ self.old) }
     {
         enter(alloc, &mut self.book, name, key)
     }
 
     fn forget(&mut self, name: &[u8], key: &[u8; 56])
-        ensures { self.new ≡ record self.old { book = without_pair self.old.book name.now key.now } }
+        ensures { self.new ≡ record self.old
+            { book = without_pair self.old.book name.now key.now } }
     {
         strike(&mut self.book, name, key);
     }

@@ -2,7 +2,7 @@ ghost use Rattle.std.specs.Prelude.{◌≡◌, ◌≤◌, ℕ, List, Option, Err
 ghost use Rattle.std.specs.Option.{option_map};
 ghost use Rattle.ar_base.specs.Faults.{HasRisen};
 ghost use Rattle.owner_check.specs.Answers.{AnswersBy, Told, after_ask, forgotten, learnt};
-ghost use Rattle.owner_check.specs.declared.answer.Answer.{Answer};
+ghost use Rattle.owner_check.specs.declared.answer.CheckAnswer.{CheckAnswer};
 ghost use Rattle.owner_check.specs.declared.fault.AskFault.TheVariants.{Failed, Memory};
 
 use crate::AskFault;
@@ -16,7 +16,7 @@ pub trait OwnerCheck: Drop {
     ghost told: { Self → Option Told };
 
     /// The answers that it gave, in order.
-    ghost answers: { Self → List Answer };
+    ghost answers: { Self → List CheckAnswer };
 
     /// How many faults the check has had, in a count that may stay at 2^64 - 1 once it is there.
     ghost faults: { Self → ℕ };
@@ -38,7 +38,8 @@ pub trait OwnerCheck: Drop {
     /// Puts the name with the key into the book, unless it is there. The only error is want of memory, and
     /// then the check is as before.
     fn learn(&mut self, alloc: Global, name: &[u8], key: &[u8; 56]) -> Result<(), AllocError>
-        ensures ok { OnOk result (told self.new ≡ option_map (learnt name.now key.now) (told self.old)) }
+        ensures ok { OnOk result
+            (told self.new ≡ option_map (learnt name.now key.now) (told self.old)) }
         ensures err { OnErr result (told self.new ≡ told self.old) }
         ensures answers { answers self.new ≡ answers self.old }
         ensures faults { faults self.new ≡ faults self.old };

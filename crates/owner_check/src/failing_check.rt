@@ -74,14 +74,21 @@ impl OwnerCheck for FailingCheck {
     }
 
     fn learn(&mut self, alloc: Global, name: &[u8], key: &[u8; 56]) -> Result<(), AllocError>
-        ensures ok { OnOk result (self.new ≡ record self.old { booked = record self.old.booked { book = with_pair self.old.booked.book name.now key.now } }) }
+        ensures ok { OnOk result
+            (self.new ≡ record self.old {
+              booked = record self.old.booked
+                  { book = with_pair self.old.booked.book name.now key.now };
+            }) }
         ensures err { OnErr result (self.new ≡ self.old) }
     {
         self.check.learn(alloc, name, key)
     }
 
     fn forget(&mut self, name: &[u8], key: &[u8; 56])
-        ensures { self.new ≡ record self.old { booked = record self.old.booked { book = without_pair self.old.booked.book name.now key.now } } }
+        ensures { self.new ≡ record self.old {
+          booked = record self.old.booked
+              { book = without_pair self.old.booked.book name.now key.now };
+        } }
     {
         self.check.forget(name, key);
     }

@@ -14,7 +14,7 @@
 //! Its tests: `base_tests`, module `owner_check_tests`.
 #![tactic(auto)]
 
-pub use answer::{Answer, Outcome};
+pub use answer::{CheckAnswer, Outcome};
 pub use book_check::{BookCheck, empty_books};
 pub use boxed::Boxed;
 pub use check::OwnerCheck;

@@ -24,9 +24,15 @@ impl Model for Draft {
 
     ghost Value = { Change };
 
-    ghost view = { λ d. record { cert = d.cert; endorsements = d.endorsements.items; handover = d.handover; objection = None } };
+    ghost view = { λ d. record {
+      cert = d.cert;
+      endorsements = d.endorsements.items;
+      handover = d.handover;
+      objection = None;
+    } };
 
-    ghost invariant = { λ d. (d.digest ≡ digest_of d.cert) × AreEndorsements d.endorsements.items × IfSome d.handover IsSignature };
+    ghost invariant = { λ d. (d.digest ≡ digest_of d.cert) × AreEndorsements d.endorsements.items
+        × IfSome d.handover IsSignature };
 }
 
 impl Draft {
@@ -57,7 +63,8 @@ impl Draft {
 
     /// Takes an endorsement, unless its authority has endorsed the draft.
     pub(crate) fn endorse(&mut self, endorsement: Endorsement) -> Result<(), OwnerRefusal>
-        ensures { StepsUnless Memory (λ draft _. draft) result self.old self.new (endorsed endorsement self.old) }
+        ensures { StepsUnless Memory (λ draft _.
+            draft) result self.old self.new (endorsed endorsement self.old) }
     {
         if has_endorsed(endorsement.authority, &self.endorsements) {
             return Ok(());

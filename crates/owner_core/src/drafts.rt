@@ -59,8 +59,11 @@ pub(crate) fn attach(
     handover: Vec<u8>,
 ) -> Result<(), OwnerRefusal>
     requires { length handover.items < 2 ^ 16 }
-    ensures ok { IfOk result (λ u. changed_draft drafts.old digest.now (handed_over handover.items) ≡ Ok drafts.new) }
-    ensures err { IfErr result (λ e. (drafts.new ≡ drafts.old) × (changed_draft drafts.old digest.now (handed_over handover.items) ≡ Err e)) }
+    ensures ok { IfOk result (λ u.
+        changed_draft drafts.old digest.now (handed_over handover.items) ≡ Ok drafts.new) }
+    ensures err { IfErr result (λ e.
+        (drafts.new ≡ drafts.old)
+        × (changed_draft drafts.old digest.now (handed_over handover.items) ≡ Err e)) }
 {
     let Some(place) = place_of(drafts, digest) else {
         return Err(OwnerRefusal::NoDraft);

@@ -21,7 +21,8 @@ use sign_book::laws::a_statement_keeps_its_leaf;
 /// A handover that was signed is the same bytes when it is asked for again, whatever was signed
 /// since, and the owner stays as it is.
 pub fn a_handover_is_signed_once()
-    ensures { (me later after : Owner) (more : List (List ℕ)) (digest bytes : List ℕ) → IsSound after.book → after.key ≡ me.key
+    ensures { (me later after : Owner) (more : List (List ℕ)) (digest bytes : List ℕ)
+        → IsSound after.book → after.key ≡ me.key
         → handover_row me digest ≡ Ok (bytes, later) → after.book.texts ≡ later.book.texts ++ more
         → handover_row after digest ≡ Ok (bytes, after) }
 {
@@ -31,7 +32,8 @@ pub fn a_handover_is_signed_once()
 /// An endorsement that a draft takes is there then, and what stands there ascends by the numbers of
 /// the authorities, and is 8 at most.
 pub fn endorsements_ascend()
-    ensures few { (new : Endorsement) (draft later : Change) → IsEndorsement new → AreEndorsements draft.endorsements
+    ensures few { (new : Endorsement) (draft later : Change) → IsEndorsement new
+        → AreEndorsements draft.endorsements
         → endorsed new draft ≡ Ok later → AreEndorsements later.endorsements }
     ensures there { (new : Endorsement) (draft later : Change)
         → endorsed new draft ≡ Ok later → has_endorsed new.authority later.endorsements ≡ true }
@@ -40,16 +42,26 @@ pub fn endorsements_ascend()
 /// An objection carries no endorsement and no handover: what is sent is one change, to the logs, of
 /// the certificate with a signature.
 pub fn an_objection_stands_alone()
-    ensures { (me later : Owner) (cert : Certificate) (reply : Sent) → object_row me cert ≡ Ok (reply, later)
-        → (signature : List ℕ) × (reply ≡ sent (letter Logs (Submit (record { cert = cert; endorsements = []; handover = None; objection = Some signature })) ∷ [])) }
+    ensures { (me later : Owner) (cert : Certificate) (reply : Sent)
+        → object_row me cert ≡ Ok (reply, later)
+        → (signature : List ℕ)
+        × (reply ≡ sent (letter Logs
+        (Submit (record {
+          cert = cert;
+          endorsements = [];
+          handover = None;
+          objection = Some signature;
+        })) ∷ [])) }
 {}
 
 /// Each endorsement of a draft is its authority's of the draft's certificate, under the keys that
 /// the owner knows: it is so before anything came, and whatever comes keeps it; so it is so of what
 /// goes to the logs.
 pub fn what_is_submitted_is_endorsed()
-    ensures new { (number : ℕ) (keys : Directory) (key : KeyParts) (leaves : ℕ) → AreEndorsed (first_owner number keys key leaves) }
-    ensures begin { (me later : Owner) (cert : Certificate) (asks : List ℕ) (reply : Sent) → AreEndorsed me
+    ensures new { (number : ℕ) (keys : Directory) (key : KeyParts) (leaves : ℕ)
+        → AreEndorsed (first_owner number keys key leaves) }
+    ensures begin { (me later : Owner) (cert : Certificate) (asks : List ℕ) (reply : Sent)
+        → AreEndorsed me
         → begin_row me cert asks ≡ Ok (reply, later) → AreEndorsed later }
     ensures step { (me later : Owner) (bytes : List ℕ) (reply : Sent) → AreEndorsed me
         → step_row me bytes ≡ Ok (reply, later) → AreEndorsed later }
@@ -59,8 +71,10 @@ pub fn what_is_submitted_is_endorsed()
         → handover_row me digest ≡ Ok (bytes, later) → AreEndorsed later }
     ensures object { (me later : Owner) (cert : Certificate) (reply : Sent) → AreEndorsed me
         → object_row me cert ≡ Ok (reply, later) → AreEndorsed later }
-    ensures submit { (me : Owner) (digest : List ℕ) (reply : Sent) → AreEndorsed me → submit_row me digest ≡ Ok reply
-        → (draft : Change) × ((digest_of draft.cert ≡ digest) × IsEndorsed me.directory draft × (reply ≡ submission draft)) }
+    ensures submit { (me : Owner) (digest : List ℕ) (reply : Sent) → AreEndorsed me
+        → submit_row me digest ≡ Ok reply
+        → (draft : Change) × ((digest_of draft.cert ≡ digest) × IsEndorsed me.directory draft
+        × (reply ≡ submission draft)) }
 {
     what_was_verified_stays_so()
 }

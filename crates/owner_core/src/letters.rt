@@ -21,7 +21,8 @@ fn ask_text(alloc: Global, owner: u16, cert: &Cert) -> Result<Vec<u8>, AllocErro
 
 /// A text to an authority.
 fn to_authority(alloc: Global, authority: u16, text: &[u8]) -> Result<Outgoing, AllocError>
-    ensures { IfOk result (λ out. out ≡ record { to = One (authority_party authority); bytes = text.now }) }
+    ensures { IfOk result (λ out.
+        out ≡ record { to = One (authority_party authority); bytes = text.now }) }
 {
     let to = Address::One(Role::Authority.party(authority));
     Ok(Outgoing::new(to, Vec::from_slice(alloc, text)?))
@@ -30,7 +31,10 @@ fn to_authority(alloc: Global, authority: u16, text: &[u8]) -> Result<Outgoing, 
 /// One text to each of these authorities, in their order.
 fn to_each(alloc: Global, authorities: &[u16], text: &[u8]) -> Result<Vec<Outgoing>, AllocError>
     ensures { IfOk result (λ list. list.items
-        ≡ map (λ authority. record { to = One (authority_party authority); bytes = text.now }) authorities.now) }
+        ≡ map (λ authority. record {
+          to = One (authority_party authority);
+          bytes = text.now;
+        }) authorities.now) }
 {
     let mut list = Vec::with_capacity(alloc, authorities.len())?;
     for authority in authorities {
@@ -47,7 +51,9 @@ pub(crate) fn asking(
     asks: &[u16],
 ) -> Result<Sent, AllocError>
     ensures { IfOk result (λ s. s
-        ≡ sent (map (λ authority. letter (One (authority_party authority)) (EndorseAsk owner cert.now)) asks.now)) }
+        ≡ sent (map (λ authority.
+        letter (One (authority_party authority))
+        (EndorseAsk owner cert.now)) asks.now)) }
 {
     let text = ask_text(alloc, owner, cert)?;
     Ok(Sent {

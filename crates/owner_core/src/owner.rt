@@ -24,7 +24,13 @@ impl Model for Owner {
 
     ghost Value = { State };
 
-    ghost view = { λ o. record { number = o.number; directory = o.directory; key = o.key; book = o.book; drafts = o.drafts.items } };
+    ghost view = { λ o. record {
+      number = o.number;
+      directory = o.directory;
+      key = o.key;
+      book = o.book;
+      drafts = o.drafts.items;
+    } };
 
     ghost invariant = { λ o. o.book.leaves ≡ leaves_of o.key.lms };
 }

@@ -17,7 +17,8 @@ use std::alloc::{AllocError, Global};
 
 /// As many zero bytes as a signature of the key has.
 fn blank(alloc: Global, key: &LmsKey) -> Result<Vec<u8>, AllocError>
-    ensures { IfOk result (λ bytes. length bytes.items ≡ lms_signature_len_of key.now.lms key.now.ots) }
+    ensures { IfOk result (λ bytes.
+        length bytes.items ≡ lms_signature_len_of key.now.lms key.now.ots) }
 {
     let bytes = vec![in alloc; 0u8; key.signature_len()]?;
     Ok(bytes)
@@ -27,8 +28,11 @@ fn blank(alloc: Global, key: &LmsKey) -> Result<Vec<u8>, AllocError>
 fn sign_tail(key: &LmsKey, due: Due, text: &mut [u8])
     requires leaves { due.leaves ≡ leaves_of key.now.lms }
     requires room { lms_signature_len_of key.now.lms key.now.ots ≤ length text.old }
-    ensures text { text.new ≡ take (length text.old - lms_signature_len_of key.now.lms key.now.ots) text.old ++ signature_of key.now due.leaf due.text }
-    ensures len { length (signature_of key.now due.leaf due.text) ≡ lms_signature_len_of key.now.lms key.now.ots }
+    ensures text { text.new
+        ≡ take (length text.old - lms_signature_len_of key.now.lms key.now.ots) text.old
+        ++ signature_of key.now due.leaf due.text }
+    ensures len { length (signature_of key.now due.leaf due.text)
+        ≡ lms_signature_len_of key.now.lms key.now.ots }
 {
     let at = text.len() - key.signature_len();
     sign(key, due, &mut text[at..]);
@@ -38,7 +42,8 @@ fn sign_tail(key: &LmsKey, due: Due, text: &mut [u8])
 /// the key's signature.
 #[tactic(auto, using(crate::proofs::Texts::unsigned))]
 fn unsigned_objection(alloc: Global, key: &LmsKey, cert: &Cert) -> Result<Vec<u8>, AllocError>
-    ensures { IfOk result (λ text. AwaitsSignature (lms_signature_len_of key.now.lms key.now.ots) cert.now text.items) }
+    ensures { IfOk result (λ text.
+        AwaitsSignature (lms_signature_len_of key.now.lms key.now.ots) cert.now text.items) }
 {
     let zeros = blank(alloc, key)?;
     let change = Change {
@@ -64,7 +69,8 @@ impl Owner {
     fn enter(&mut self, alloc: Global, statement: &Statement) -> Result<Due, OwnerRefusal>
         ensures due { IfOk result (λ due. due.leaves ≡ leaves_of self.old.key.lms) }
         ensures key { self.new.key ≡ self.old.key }
-        ensures step { StepsUnless Memory (λ me due. (signature_of self.old.key due.leaf due.text, me)) result
+        ensures step { StepsUnless Memory (λ me due.
+            (signature_of self.old.key due.leaf due.text, me)) result
             self.old self.new (signed self.old (claim_of statement.now)) }
     {
         let due = self.book.enter(alloc, statement)?;
@@ -80,7 +86,8 @@ impl Owner {
     /// it. The signature is bare: it has no generation in front.
     #[tactic(auto, using(crate::proofs::Texts::signature_fits))]
     pub fn handover(&mut self, alloc: Global, digest: &[u8; 32]) -> Result<Vec<u8>, OwnerRefusal>
-        ensures answer { Answers (λ signature. signature.items) self.old self.new result (handover_row self.old digest.now) }
+        ensures answer { Answers (λ signature.
+            signature.items) self.old self.new result (handover_row self.old digest.now) }
         // It can be attached to a draft.
         ensures fits { IfOk result (λ signature. length signature.items < 2 ^ 16) }
     {

@@ -43,7 +43,8 @@ fn verify(
     signature: &[u8],
 ) -> Result<(), OwnerRefusal>
     ensures { result ≡ verified_as (authority_party authority)
-        (verified directory.now (authority_party authority) (text_of (endorse authority certificate)) signature.now) }
+        (verified directory.now (authority_party authority)
+        (text_of (endorse authority certificate)) signature.now) }
 {
     let signer = Role::Authority.party(authority);
     let text = Text::of(&Statement::Endorse {
@@ -82,7 +83,9 @@ impl Owner {
         certificate: [u8; 32],
         signature: Signature,
     ) -> Result<Sent, OwnerRefusal>
-        ensures { Answers (λ s. s) self.old self.new result (endorsed_row self.old owner authority certificate signature) }
+        ensures { Answers (λ s.
+            s) self.old self.new result
+            (endorsed_row self.old owner authority certificate signature) }
     {
         if owner != self.number {
             return Err(OwnerRefusal::NotForOwner);

@@ -34,8 +34,10 @@ impl Owner {
     /// `NoDraft` (O5) comes exactly where no draft has this digest. It takes no memory.
     pub fn attach(&mut self, digest: &[u8; 32], handover: Vec<u8>) -> Result<(), OwnerRefusal>
         requires { length handover.items < 2 ^ 16 }
-        ensures ok { IfOk result (λ u. attach_row self.old digest.now handover.items ≡ Ok (tt, self.new)) }
-        ensures err { IfErr result (λ e. (self.new ≡ self.old) × (attach_row self.old digest.now handover.items ≡ Err e)) }
+        ensures ok { IfOk result (λ u.
+            attach_row self.old digest.now handover.items ≡ Ok (tt, self.new)) }
+        ensures err { IfErr result (λ e.
+            (self.new ≡ self.old) × (attach_row self.old digest.now handover.items ≡ Err e)) }
     {
         drafts::attach(&mut self.drafts, digest, handover)
     }

@@ -29,7 +29,11 @@ impl Model for Directory {
 
     ghost view = { λ d. record { logs = d.logs; authorities = d.authorities; quorum = d.quorum } };
 
-    ghost invariant = { λ d. IsDirectory (record { logs = d.logs; authorities = d.authorities; quorum = d.quorum }) };
+    ghost invariant = { λ d. IsDirectory (record {
+      logs = d.logs;
+      authorities = d.authorities;
+      quorum = d.quorum;
+    }) };
 }
 
 /// Whether a directory may have so many logs, or so many authorities: 3 to 16.

@@ -25,10 +25,14 @@ pub fn a_directory_keeps_its_bounds()
 pub fn what_was_verified_stays_so()
     ensures keys { (keys : Directory) (announced : List Announced) (party : Party)
         → BeginsWith (keys_of (after_all keys announced) party) (keys_of keys party) }
-    ensures valid { (keys : Directory) (announced : List Announced) (party : Party) (text signature : List ℕ)
-        → IsVerified keys party text signature → IsVerified (after_all keys announced) party text signature }
-    ensures bad { (keys : Directory) (announced : List Announced) (party : Party) (text signature : List ℕ) (k : ℕ)
-        → k ≢ 6 → verified keys party text signature ≡ Err (Bad k) → verified (after_all keys announced) party text signature ≡ Err (Bad k) }
+    ensures valid { (keys : Directory) (announced : List Announced) (party : Party)
+        (text signature : List ℕ)
+        → IsVerified keys party text signature
+        → IsVerified (after_all keys announced) party text signature }
+    ensures bad { (keys : Directory) (announced : List Announced) (party : Party)
+        (text signature : List ℕ) (k : ℕ)
+        → k ≢ 6 → verified keys party text signature ≡ Err (Bad k)
+        → verified (after_all keys announced) party text signature ≡ Err (Bad k) }
 {}
 
 /// What a directory learns or adopts of one party leaves what it knows of every other party as it was.
@@ -36,8 +40,10 @@ pub fn other_parties_keys_stay()
     ensures learn { (keys : Directory) (a : Announced) (other : Party) → other ≢ a.party
         → keys_of (after_learning keys a) other ≡ keys_of keys other }
     ensures learn_all { (keys : Directory) (announced : List Announced) (other : Party)
-        → All (λ a. other ≢ a.party) announced → keys_of (after_all keys announced) other ≡ keys_of keys other }
-    ensures adopt { (keys : Directory) (party other : Party) (generation : ℕ) (key : LmsPublic) → other ≢ party
+        → All (λ a. other ≢ a.party) announced
+        → keys_of (after_all keys announced) other ≡ keys_of keys other }
+    ensures adopt { (keys : Directory) (party other : Party) (generation : ℕ) (key : LmsPublic)
+        → other ≢ party
         → keys_of (after_adopting keys party generation key) other ≡ keys_of keys other }
 {}
 
@@ -48,10 +54,12 @@ pub fn a_party_gets_one_key_more()
         → keys_of (after_learning keys a) a.party ≡ keys_of keys a.party ++ a.key ∷ [] }
     ensures adopt { (keys : Directory) (party : Party) (generation : ℕ) (key : LmsPublic)
         → generation < length (keys_of keys party)
-        → keys_of (after_adopting keys party generation key) party ≡ take (generation + 1) (keys_of keys party) ++ key ∷ [] }
+        → keys_of (after_adopting keys party generation key) party
+        ≡ take (generation + 1) (keys_of keys party) ++ key ∷ [] }
 {}
 
 /// A statement that was seen stays seen, whatever is seen after it.
 pub fn what_was_seen_stays_seen()
-    ensures { (seen more : List SeenText) (signer : Party) (claim : Claim) → Saw seen signer claim → Saw (seen ++ more) signer claim }
+    ensures { (seen more : List SeenText) (signer : Party) (claim : Claim) → Saw seen signer claim
+        → Saw (seen ++ more) signer claim }
 {}

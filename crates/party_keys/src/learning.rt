@@ -41,7 +41,12 @@ impl<'a> Model for Announced<'a> {
 
     ghost Value = { Announced };
 
-    ghost view = { λ a. record { party = a.party; generation = a.generation; key = a.key; signature = a.signature.now } };
+    ghost view = { λ a. record {
+      party = a.party;
+      generation = a.generation;
+      key = a.key;
+      signature = a.signature.now;
+    } };
 }
 
 impl<'a> Announced<'a> {
@@ -74,7 +79,8 @@ impl Directory {
     #[tactic(auto, unfolding(crate::specs::Learning::learned))]
     pub fn learn(&mut self, alloc: Global, announced: &Announced) -> Result<Learned, LearnFault>
         // What is learnt.
-        ensures answer { GivesOrWants Memory (λ learned. learned) result (learned self.old announced.now) }
+        ensures answer { GivesOrWants Memory (λ learned.
+            learned) result (learned self.old announced.now) }
         // When memory may be wanting.
         ensures memory { result ≡ Err Memory → learned self.old announced.now ≡ Ok New }
         // What it leaves.

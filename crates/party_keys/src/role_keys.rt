@@ -109,7 +109,9 @@ fn put_at(
     key: LmsPublic,
 ) -> Result<(), AllocError>
     requires { number < length later.old.items }
-    ensures ok { OnOk result (later.new.items ≡ slice_set later.old.items number (take place (keys_at later.old.items number) ++ key ∷ [])) }
+    ensures ok { OnOk result
+        (later.new.items ≡ slice_set later.old.items number
+        (take place (keys_at later.old.items number) ++ key ∷ [])) }
     ensures err { OnErr result (later.new.items ≡ later.old.items) }
 {
     later[number].put(place, key)

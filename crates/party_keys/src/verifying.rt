@@ -1,4 +1,4 @@
-ghost use Rattle.std.specs.Prelude.{◌≡◌, Some};
+ghost use Rattle.std.specs.Prelude.{◌≡◌, ◌==◌, Some, slice_index};
 ghost use Rattle.std.specs.Option.{option_map};
 ghost use Rattle.ar_statement.specs.Claims.{claim_of};
 ghost use Rattle.party_keys.specs.Signatures.{answer_by, claim_in, is_in_place, is_last_leaf, leaf_of, number_in_front, roll_in, rolls_from, verified};
@@ -8,6 +8,9 @@ use crate::fault::VerifyFault;
 use ar_bytes::u32_of;
 use ar_statement::{Party, Statement};
 use lms_tree::{LmsPublic, Verdict, valid};
+
+/// The kind of a Roll, with which its text begins.
+const ROLL_KIND: u8 = 10;
 
 /// The number that the first four bytes are, where there are so many.
 fn number_in_front(bytes: &[u8]) -> Option<u32>
@@ -36,10 +39,24 @@ fn rolls_from(statement: &Statement) -> Option<u32>
     }
 }
 
-/// The generation that a text names, where it is the text of a Roll.
+/// Whether a text begins as that of a Roll. A text that begins otherwise is of none.
+fn begins_as_roll(text: &[u8]) -> bool
+    ensures { result ≡ (slice_index text.now 0 == 10) }
+{
+    match text.first() {
+        Some(kind) => *kind == ROLL_KIND,
+        None => false,
+    }
+}
+
+/// The generation that a text names, where it is the text of a Roll. A text that begins otherwise is not read.
+#[tactic(auto, using(crate::proofs::Claims::no_roll))]
 fn roll_in(text: &[u8]) -> Option<u32>
     ensures { result ≡ roll_in text.now }
 {
+    if !begins_as_roll(text) {
+        return None;
+    }
     let statement = statement_in(text)?;
     rolls_from(&statement)
 }

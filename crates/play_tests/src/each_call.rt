@@ -118,49 +118,49 @@ fn first_write_without_fault(
     Ok(1000)
 }
 
+// What is read, the numbers of the first read and the first write that never come, and the SHA-256 of what another program writes.
+const CASES: [(Input, u64, u64, &str); 6] = [
+    (
+        Input::Signature,
+        51,
+        2,
+        "009d962905920ad0e3ff46c6987fad36418982deb81796fd1f58e326d167c268",
+    ),
+    (
+        Input::Question,
+        92,
+        2,
+        "47baad8c7e7b98350b1b038a53443405dffb8d202673d6429bed3582a9600de4",
+    ),
+    (
+        Input::Statements,
+        121,
+        3,
+        "05ae3b519dace9135a4d6ee8b4a35ebf11f495a86b2c5fa1cf0ace270ed27d46",
+    ),
+    (
+        Input::TwoQuestions,
+        174,
+        3,
+        "a67165cd8d418a51c011893450cef738852717c42d24231d6f26acc5373e68a2",
+    ),
+    (
+        Input::Script,
+        5,
+        66,
+        "faa6b1b3c4aff502daa2feee4c5bed870122c81cf01f09c703e84fe0383ce3f1",
+    ),
+    (
+        Input::Restart,
+        5,
+        2,
+        "e89aa1fb7184670b210386acd5ff695ee3d2ee75c8702963dd44437b1e540f28",
+    ),
+];
+
 #[test]
 fn each_read_and_each_write_fails_once(rt: HostRuntime) -> Result<(), Fail> {
-    // What is read, the numbers of the first read and the first write that never come, and the SHA-256 of what another program
-    // writes.
-    let cases: [(Input, u64, u64, &str); 6] = [
-        (
-            Input::Signature,
-            51,
-            2,
-            "009d962905920ad0e3ff46c6987fad36418982deb81796fd1f58e326d167c268",
-        ),
-        (
-            Input::Question,
-            92,
-            2,
-            "47baad8c7e7b98350b1b038a53443405dffb8d202673d6429bed3582a9600de4",
-        ),
-        (
-            Input::Statements,
-            121,
-            3,
-            "05ae3b519dace9135a4d6ee8b4a35ebf11f495a86b2c5fa1cf0ace270ed27d46",
-        ),
-        (
-            Input::TwoQuestions,
-            174,
-            3,
-            "a67165cd8d418a51c011893450cef738852717c42d24231d6f26acc5373e68a2",
-        ),
-        (
-            Input::Script,
-            5,
-            66,
-            "faa6b1b3c4aff502daa2feee4c5bed870122c81cf01f09c703e84fe0383ce3f1",
-        ),
-        (
-            Input::Restart,
-            5,
-            2,
-            "e89aa1fb7184670b210386acd5ff695ee3d2ee75c8702963dd44437b1e540f28",
-        ),
-    ];
-    for (input, no_read, no_write, digest) in cases {
+    for (input, no_read, no_write, digest) in CASES {
         let text = input.text(rt.alloc())?;
         let words = input.words();
         let (status, hash) = whole_run(rt.alloc(), words, text.as_str())?;

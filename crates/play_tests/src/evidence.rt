@@ -2,7 +2,7 @@ use crate::records::world_behind;
 use crate::runs::run;
 use ar_statement::{Party, Role, Statement};
 use ar_world::World;
-use key_roll::{KeyRing, Signed};
+use key_roll::{KeyRing, SignedText};
 use lms_tree::LmsKey;
 use owner_check::BookCheck;
 use party_keys::{Directory, party_seed};
@@ -120,7 +120,7 @@ fn two_keys(alloc: Global, party: Party) -> Result<Vec<LmsKey>, AllocError> {
 fn put_statement(
     alloc: Global,
     text: &mut String,
-    entry: &Signed,
+    entry: &SignedText,
     key: &LmsKey,
     leaf: u32,
 ) -> Result<(), AllocError> {
@@ -148,7 +148,7 @@ fn put_book(
     alloc: Global,
     text: &mut String,
     party: Party,
-    book: &[Signed],
+    book: &[SignedText],
 ) -> Result<(), AllocError> {
     let keys = two_keys(alloc, party)?;
     let mut generation = 0;

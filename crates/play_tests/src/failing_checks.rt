@@ -1,6 +1,7 @@
-use crate::runs::{no_disks, words_of};
+use crate::runs::words_of;
 use ar_io::{QuietSink, QuietSource};
 use arpki_play::arpki_main;
+use log_restart::Disks;
 use owner_check::FailingCheck;
 use std::alloc::{AllocError, Global};
 use std::test::Fail;
@@ -60,7 +61,7 @@ fn failing_run(alloc: Global, script: &str, fails: u64) -> Result<(u8, u64, Stri
     let mut source = QuietSource::new(Vec::from_slice(alloc, script.as_bytes())?);
     let mut sink = QuietSink::new();
     let checks = failing_checks(alloc, fails)?;
-    let mut disks = no_disks(alloc);
+    let mut disks = Disks::empty(alloc);
     let status = arpki_main(alloc, &words, &mut source, &mut sink, checks, &mut disks);
     let len = sink.len();
     let digest = sink.into_digest();

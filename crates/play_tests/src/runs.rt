@@ -4,7 +4,6 @@ use crate::fitted::{inquiry, three_lines};
 use crate::scripts::empty_books;
 use ar_io::{MemSink, MemSource, QuietSink, QuietSource};
 use arpki_play::arpki_main;
-use kept_disk::MemDisk;
 use log_restart::Disks;
 use owner_check::BookCheck;
 use std::alloc::{AllocError, Global};
@@ -13,14 +12,6 @@ use std::test::Fail;
 // No checks of owners: no script is played.
 pub(crate) fn no_checks(alloc: Global) -> Vec<BookCheck> {
     Vec::new(alloc)
-}
-
-// Two empty disks.
-pub(crate) fn no_disks(alloc: Global) -> Disks {
-    Disks {
-        before: MemDisk::new(alloc, Vec::new(alloc)),
-        after: MemDisk::new(alloc, Vec::new(alloc)),
-    }
 }
 
 // The words of a run.
@@ -51,7 +42,7 @@ pub(crate) fn run(
     let mut source = MemSource::new(bytes, chunk, Vec::from_slice(alloc, reads)?);
     let mut sink = MemSink::new(alloc, Vec::from_slice(alloc, writes)?);
     sink.reserve(alloc, room)?;
-    let (checks, mut disks) = (empty_books(alloc)?, no_disks(alloc));
+    let (checks, mut disks) = (empty_books(alloc)?, Disks::empty(alloc));
     let status = arpki_main(alloc, &words, &mut source, &mut sink, checks, &mut disks);
     Ok((status, sink))
 }
@@ -64,7 +55,7 @@ fn quiet_run(alloc: Global, command: &str, input: &str) -> Result<(u8, u64), All
     let words = words_of(alloc, &[command])?;
     let mut source = QuietSource::new(Vec::from_slice(alloc, input.as_bytes())?);
     let mut sink = QuietSink::new();
-    let (checks, mut disks) = (no_checks(alloc), no_disks(alloc));
+    let (checks, mut disks) = (no_checks(alloc), Disks::empty(alloc));
     let status = arpki_main(alloc, &words, &mut source, &mut sink, checks, &mut disks);
     Ok((status, sink.len()))
 }

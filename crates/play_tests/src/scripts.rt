@@ -1,6 +1,7 @@
-use crate::runs::{no_checks, no_disks, run, words_of};
+use crate::runs::{no_checks, run, words_of};
 use ar_io::{MemSink, QuietSink, QuietSource};
 use arpki_play::arpki_main;
+use log_restart::Disks;
 use owner_check::BookCheck;
 use std::alloc::{AllocError, Global};
 use std::test::Fail;
@@ -10,7 +11,7 @@ fn status_of(alloc: Global, words: &[&str]) -> Result<u8, AllocError> {
     let words = words_of(alloc, words)?;
     let mut source = QuietSource::new(Vec::new(alloc));
     let mut sink = QuietSink::new();
-    let (checks, mut disks) = (no_checks(alloc), no_disks(alloc));
+    let (checks, mut disks) = (no_checks(alloc), Disks::empty(alloc));
     Ok(arpki_main(alloc, &words, &mut source, &mut sink, checks, &mut disks))
 }
 
@@ -29,7 +30,7 @@ fn played_run(alloc: Global, words: &[&str]) -> Result<(u8, MemSink), AllocError
     let mut source = QuietSource::new(Vec::new(alloc));
     let mut sink = MemSink::new(alloc, Vec::new(alloc));
     sink.reserve(alloc, 200)?;
-    let (checks, mut disks) = (empty_books(alloc)?, no_disks(alloc));
+    let (checks, mut disks) = (empty_books(alloc)?, Disks::empty(alloc));
     let status = arpki_main(alloc, &words, &mut source, &mut sink, checks, &mut disks);
     Ok((status, sink))
 }

@@ -58,7 +58,12 @@ pub fn connect<'a>(
     challenge: &[u8; 32],
     answer: &[u8],
 ) -> Connection<'a>
-    ensures { result ≡ connection_of (record { keys = directory.now; name = name.now; epoch = now; age = age }) confirmation.now challenge.now answer.now }
+    ensures { result ≡ connection_of (record {
+      keys = directory.now;
+      name = name.now;
+      epoch = now;
+      age = age;
+    }) confirmation.now challenge.now answer.now }
 {
     match judge(directory, name, confirmation, now, age) {
         Judgement::Accepted {

@@ -18,13 +18,16 @@ ghost use Rattle.possession.specs.declared.connection.Connection.TheVariants as 
 /// by a number exactly where the same facts hold and the answer fails by this condition of a signature. The name is
 /// absent, or the confirmation refused by a number, exactly where the client's rule says so.
 pub fn a_connection_means_its_facts()
-    ensures open { (asked : Asked) (confirmation challenge answer : List ℕ) (certificate : Certificate) (digest : List ℕ) (epoch : ℕ) (root : List ℕ)
-        → (connection_of asked confirmation challenge answer ≡ connection.Open certificate digest epoch root)
+    ensures open { (asked : Asked) (confirmation challenge answer : List ℕ)
+        (certificate : Certificate) (digest : List ℕ) (epoch : ℕ) (root : List ℕ)
+        → (connection_of asked confirmation challenge answer
+        ≡ connection.Open certificate digest epoch root)
         ↔ Shows asked confirmation challenge answer certificate digest epoch root Valid }
     ensures no_possession { (asked : Asked) (confirmation challenge answer : List ℕ) (k : ℕ)
         → (connection_of asked confirmation challenge answer ≡ connection.NoPossession k)
         ↔ LacksKey asked confirmation challenge answer k }
-    ensures absent { (asked : Asked) (confirmation challenge answer : List ℕ) (epoch : ℕ) (root : List ℕ)
+    ensures absent { (asked : Asked) (confirmation challenge answer : List ℕ) (epoch : ℕ)
+        (root : List ℕ)
         → (connection_of asked confirmation challenge answer ≡ connection.Absent epoch root)
         ↔ AcceptsNone asked confirmation epoch root }
     ensures refused { (asked : Asked) (confirmation challenge answer : List ℕ) (k : ℕ)
@@ -48,11 +51,13 @@ pub fn an_answer_is_to_one_challenge()
 /// What a server answers to a challenge opens the connection of a client that asks for its name and accepts its
 /// certificate, whose subject key is the server's.
 pub fn an_answer_opens()
-    ensures { (server : Server) (asked : Asked) (confirmation challenge : List ℕ) (leaf : ℕ) (certificate : Certificate) (epoch : ℕ) (root : List ℕ)
+    ensures { (server : Server) (asked : Asked) (confirmation challenge : List ℕ) (leaf : ℕ)
+        (certificate : Certificate) (epoch : ℕ) (root : List ℕ)
         → leaf < leaves_of server.key.lms
         → certificate.subject ≡ public_of server.key
         → asked.name ≡ server.name
         → Accepts asked confirmation certificate server.certificate epoch root
-        → connection_of asked confirmation challenge (signature_of server.key leaf (answer_text server.name server.certificate challenge))
+        → connection_of asked confirmation challenge
+        (signature_of server.key leaf (answer_text server.name server.certificate challenge))
         ≡ connection.Open certificate server.certificate epoch root }
 {}

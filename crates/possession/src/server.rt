@@ -34,7 +34,12 @@ impl Model for Server {
 
     ghost Value = { Spec };
 
-    ghost view = { λ s. record { book = s.book; key = s.key; name = s.name; certificate = s.certificate } };
+    ghost view = { λ s. record {
+      book = s.book;
+      key = s.key;
+      name = s.name;
+      certificate = s.certificate;
+    } };
 
     ghost invariant = { λ s. s.book.leaves ≡ leaves_of s.key.lms };
 }
@@ -110,7 +115,9 @@ impl Server {
         requires own { seat.old.book ≡ self.now.book }
         requires room { length out.old ≡ lms_signature_len_of self.now.key.lms self.now.key.ots }
         ensures leaf { IfOk result (λ leaf. Draws seat.old leaf seat.new) }
-        ensures signed { IfOk result (λ leaf. out.new ≡ signature_of self.now.key leaf (answer_text self.now.name self.now.certificate challenge.now)) }
+        ensures signed { IfOk result (λ leaf.
+            out.new ≡ signature_of self.now.key leaf
+            (answer_text self.now.name self.now.certificate challenge.now)) }
         ensures none { IfErr result (λ fault. FindsNone seat.old fault.seen seat.new) }
         ensures unsigned { OnErr result (out.new ≡ out.old) }
     {
@@ -128,7 +135,8 @@ impl Server {
         requires own { seat.old.book ≡ self.now.book }
         requires room { length out.old ≡ lms_signature_len_of self.now.key.lms self.now.key.ots }
         ensures leaf { IfOk result (λ leaf. Draws seat.old leaf seat.new) }
-        ensures signed { IfOk result (λ leaf. out.new ≡ signature_of self.now.key leaf (handover_text digest.now)) }
+        ensures signed { IfOk result (λ leaf.
+            out.new ≡ signature_of self.now.key leaf (handover_text digest.now)) }
         ensures none { IfErr result (λ fault. FindsNone seat.old fault.seen seat.new) }
         ensures unsigned { OnErr result (out.new ≡ out.old) }
     {

@@ -26,8 +26,8 @@ use Rattle.report_text.specs.declared.happening.Kind.{Kind}
 use Rattle.report_text.specs.declared.happening.Kind.TheVariants as kind
 use Rattle.report_text.specs.declared.happening.Said.{Said}
 use Rattle.report_text.specs.declared.happening.Said.TheVariants as said
-use Rattle.report_text.specs.declared.happening.Shown.{Shown}
-use Rattle.report_text.specs.declared.happening.Shown.TheVariants as shown
+use Rattle.report_text.specs.declared.happening.CodeValue.{CodeValue}
+use Rattle.report_text.specs.declared.happening.CodeValue.TheVariants as shown
 use Rattle.report_text.specs.declared.happening.Target.{Target}
 use Rattle.report_text.specs.declared.happening.Target.TheVariants as target
 use Rattle.report_text.specs.declared.happening.Unlearnt.{Unlearnt}
@@ -45,7 +45,7 @@ newline = 10 ∷ []
 
 -- ---- a line as its words
 
-valued : (v : Shown) → value_text v ≡ 32 ∷ value_word v
+valued : (v : CodeValue) → value_text v ≡ 32 ∷ value_word v
 valued (shown.Number n) = refl
 valued (shown.Party p) = refl
 valued (shown.Digest d) = refl
@@ -125,7 +125,7 @@ word_of_party p h = by p.role
 digest_word : (d : List ℕ) → IsDigest d → is_word (encode_lower d) ≡ true
 digest_word d h = hex_is_word d h.bytes
 
-value_right : (v : Shown) → IsShown v → is_word (value_word v) ≡ true
+value_right : (v : CodeValue) → IsShown v → is_word (value_word v) ≡ true
 value_right (shown.Number n) h = decimal_is_word n h
 value_right (shown.Party p) h = word_of_party p h
 value_right (shown.Digest d) h = digest_word d h

@@ -28,8 +28,8 @@ use Rattle.report_text.specs.declared.happening.Kind.{Kind}
 use Rattle.report_text.specs.declared.happening.Kind.TheVariants as kind
 use Rattle.report_text.specs.declared.happening.Said.{Said}
 use Rattle.report_text.specs.declared.happening.Said.TheVariants as said
-use Rattle.report_text.specs.declared.happening.Shown.{Shown}
-use Rattle.report_text.specs.declared.happening.Shown.TheVariants as shown
+use Rattle.report_text.specs.declared.happening.CodeValue.{CodeValue}
+use Rattle.report_text.specs.declared.happening.CodeValue.TheVariants as shown
 use Rattle.report_text.specs.declared.happening.Target.{Target}
 use Rattle.report_text.specs.declared.happening.Target.TheVariants as target
 use Rattle.report_text.specs.declared.happening.Unlearnt.{Unlearnt}
@@ -134,19 +134,19 @@ digest_no_number digest h = by (number_of (encode_lower digest)) refl
 
 -- ---- codes
 
-unfoldable pub value_told : List ℕ → Option Shown
+unfoldable pub value_told : List ℕ → Option CodeValue
 value_told word =
     or_else (number_told word) (λ n. shown.Number n) (or_else (digest_told word) (λ d. shown.Digest d) (or_else (party_told word) (λ p. shown.Party p)
     (if bytes_eq word (codes "full") then Some shown.Full else (if bytes_eq word (codes "none") then Some shown.NoRoot else None))))
 
-abbrev pub value_word : Shown → List ℕ
+abbrev pub value_word : CodeValue → List ℕ
 value_word (shown.Number number) = decimal number
 value_word (shown.Party party) = party_word party
 value_word (shown.Digest digest) = encode_lower digest
 value_word shown.Full = codes "full"
 value_word shown.NoRoot = codes "none"
 
-value_is_told : (value : Shown) → IsShown value → value_told (value_word value) ≡ Some value
+value_is_told : (value : CodeValue) → IsShown value → value_told (value_word value) ≡ Some value
 unfolding value_told
 value_is_told (shown.Number n) h = rw (number_is_told n h) refl
 value_is_told (shown.Party p) h = rw (no_number_with p.role p.number, no_hex_with p.role p.number, party_is_told p h) refl

@@ -9,8 +9,8 @@ use Rattle.report_text.specs.declared.happening.Happening.{Happening}
 use Rattle.report_text.specs.declared.happening.Happening.TheVariants as happening
 use Rattle.report_text.specs.declared.happening.Said.{Said}
 use Rattle.report_text.specs.declared.happening.Said.TheVariants as said
-use Rattle.report_text.specs.declared.happening.Shown.{Shown}
-use Rattle.report_text.specs.declared.happening.Shown.TheVariants as shown
+use Rattle.report_text.specs.declared.happening.CodeValue.{CodeValue}
+use Rattle.report_text.specs.declared.happening.CodeValue.TheVariants as shown
 use Rattle.report_text.specs.declared.happening.Target.{Target}
 use Rattle.report_text.specs.declared.happening.Target.TheVariants as target
 use Rattle.report_text.specs.declared.happening.Unlearnt.{Unlearnt}
@@ -27,7 +27,7 @@ IsNumber n = n < 2 ^ 64
 abbrev pub IsParty : Party → Type 0
 IsParty party = IsNumber party.number
 
-abbrev pub IsShown : Shown → Type 0
+abbrev pub IsShown : CodeValue → Type 0
 IsShown (shown.Number number) = IsNumber number
 IsShown (shown.Party party) = IsParty party
 IsShown (shown.Digest digest) = IsDigest digest

@@ -13,8 +13,8 @@ use Rattle.report_text.specs.declared.happening.Kind.{Kind}
 use Rattle.report_text.specs.declared.happening.Kind.TheVariants as kind
 use Rattle.report_text.specs.declared.happening.Said.{Said}
 use Rattle.report_text.specs.declared.happening.Said.TheVariants as said
-use Rattle.report_text.specs.declared.happening.Shown.{Shown}
-use Rattle.report_text.specs.declared.happening.Shown.TheVariants as shown
+use Rattle.report_text.specs.declared.happening.CodeValue.{CodeValue}
+use Rattle.report_text.specs.declared.happening.CodeValue.TheVariants as shown
 use Rattle.report_text.specs.declared.happening.Target.{Target}
 use Rattle.report_text.specs.declared.happening.Target.TheVariants as target
 use Rattle.report_text.specs.declared.happening.Unlearnt.{Unlearnt}
@@ -72,7 +72,7 @@ what_text (what.Handover draft) = codes "handover " ++ decimal draft
 what_text (what.Object draft) = codes "object " ++ decimal draft
 
 -- a value of a code behind a space
-abbrev pub value_text : Shown → List ℕ
+abbrev pub value_text : CodeValue → List ℕ
 value_text (shown.Number number) = codes " " ++ decimal number
 value_text (shown.Party party) = codes " " ++ party_word party
 value_text (shown.Digest digest) = codes " " ++ encode_lower digest
@@ -146,8 +146,8 @@ abbrev pub draft_text : ℕ → List ℕ → List ℕ
 draft_text draft digest = codes "draft " ++ (decimal draft ++ digest_text digest)
 
 -- a party makes a step
-abbrev pub step_text : Party → What → Option Code → List ℕ
-step_text party what refused = party_word party ++ (codes " " ++ (what_text what ++ outcome_text refused))
+abbrev pub step_line : Party → What → Option Code → List ℕ
+step_line party what refused = party_word party ++ (codes " " ++ (what_text what ++ outcome_text refused))
 
 -- an epoch ends
 abbrev pub ended_text : ℕ → ℕ → Option (List ℕ) → List ℕ
@@ -178,7 +178,7 @@ line_of (happening.Taught authority) = check_text authority (codes " taught\n")
 line_of (happening.Forgot authority) = check_text authority (codes " forgot\n")
 line_of (happening.Retired authority) = check_text authority (codes " retired\n")
 line_of (happening.Draft draft digest) = draft_text draft digest
-line_of (happening.Step party what refused) = step_text party what refused
+line_of (happening.Step party what refused) = step_line party what refused
 line_of (happening.Ended log epoch root) = ended_text log epoch root
 line_of (happening.Learnt message refused) = codes "learn " ++ (decimal message ++ learning_text refused)
 line_of (happening.Entered message kind from to length digest) = entry_text message kind from to length digest

@@ -4,7 +4,7 @@ use ar_statement::{Party, Role};
 
 /// A value that stands behind the number of a refusal.
 #[derive(Clone, Copy, Debug, PartialEq, Eq)]
-pub enum Shown {
+pub enum CodeValue {
     /// A place, an epoch, a count, a log, or the number of a condition or clause.
     Number(u64),
     /// A party.
@@ -23,9 +23,9 @@ pub enum Values {
     /// None.
     Nothing,
     /// This one.
-    One(Shown),
+    One(CodeValue),
     /// These two.
-    Two(Shown, Shown),
+    Two(CodeValue, CodeValue),
 }
 
 /// Why a step is refused: whose rule it is, the number of the refusal, and the values that belong to it.

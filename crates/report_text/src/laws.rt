@@ -7,5 +7,6 @@ ghost use Rattle.report_text.specs.declared.happening.Happening.{Happening};
 
 /// No two happenings print one line.
 pub fn one_line_tells_one_happening()
-    ensures { (one other : Happening) → IsHappening one → IsHappening other → line_of one ≡ line_of other → one ≡ other }
+    ensures { (one other : Happening) → IsHappening one → IsHappening other
+        → line_of one ≡ line_of other → one ≡ other }
 {}

@@ -7,7 +7,7 @@
 //! Its tests: `call_tests`, module `report_text_tests`.
 #![tactic(auto)]
 
-pub use happening::{Code, Happening, Kind, Said, Shown, Target, Unlearnt, Values, What};
+pub use happening::{Code, CodeValue, Happening, Kind, Said, Target, Unlearnt, Values, What};
 pub use printing::print;
 pub use said::say;
 pub use verdicts::said_of;

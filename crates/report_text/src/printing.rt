@@ -1,6 +1,6 @@
 ghost use Rattle.std.specs.Prelude.{◌≡◌, ◌+◌, ◌≤◌, ◌++◌, length, vec_len, vec_capacity, IsOk, OnOk, OnErr};
 ghost use Rattle.ar_base.specs.Appending.{Appends};
-ghost use Rattle.report_text.specs.Lines.{check_text, digest_text, dishonest_text, draft_text, ended_text, ending_text, entry_text, learning_text, line_of, made_text, message_text, order_text, outcome_text, route_text, step_text};
+ghost use Rattle.report_text.specs.Lines.{check_text, digest_text, dishonest_text, draft_text, ended_text, ending_text, entry_text, learning_text, line_of, made_text, message_text, order_text, outcome_text, route_text, step_line};
 
 use crate::happening::{Code, Happening, Kind, Said, Target, Unlearnt, What};
 use crate::said::say;
@@ -95,7 +95,7 @@ fn put_step(
     what: What,
     refused: Option<Code>,
 ) -> Result<(), AllocError>
-    ensures { Appends (step_text party what refused) out.old out.new result }
+    ensures { Appends (step_line party what refused) out.old out.new result }
 {
     put_party(alloc, out, party)?;
     put(alloc, out, b" ")?;
@@ -140,7 +140,8 @@ fn put_route(
 
 /// Appends the line of a message that enters the pool.
 fn put_entry(alloc: Global, out: &mut Vec<u8>, entry: &Entry) -> Result<(), AllocError>
-    ensures { Appends (entry_text entry.now.message entry.now.kind entry.now.from entry.now.to entry.now.length entry.now.digest.now) out.old out.new result }
+    ensures { Appends (entry_text entry.now.message entry.now.kind entry.now.from entry.now.to
+        entry.now.length entry.now.digest.now) out.old out.new result }
 {
     put_message(alloc, out, entry.message, entry.kind)?;
     put_route(alloc, out, entry.from, entry.to)?;
@@ -292,7 +293,8 @@ fn put_happening(alloc: Global, out: &mut Vec<u8>, happening: &Happening) -> Res
 pub fn print(alloc: Global, happening: &Happening, out: &mut Vec<u8>) -> Result<(), AllocError>
     ensures ok { OnOk result (out.new.items ≡ out.old.items ++ line_of happening.now) }
     ensures err { OnErr result (out.new.items ≡ out.old.items) }
-    ensures room { vec_len out.old + length (line_of happening.now) ≤ vec_capacity out.old → IsOk result }
+    ensures room { vec_len out.old + length (line_of happening.now) ≤ vec_capacity out.old
+        → IsOk result }
 {
     let start = out.len();
     let result = put_happening(alloc, out, happening);

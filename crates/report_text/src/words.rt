@@ -4,7 +4,7 @@ ghost use Rattle.ar_base.specs.Appending.{Appends};
 ghost use Rattle.ar_lines.specs.Parties.{party_word};
 ghost use Rattle.report_text.specs.Lines.{code_text, kind_text, rule_letter, sender_text, taken_text, target_text, value_text, values_text, what_text};
 
-use crate::happening::{Code, Kind, Shown, Target, Values, What};
+use crate::happening::{Code, CodeValue, Kind, Target, Values, What};
 use ar_lines::letter_of;
 use ar_statement::{Party, Role};
 use ar_text::{Part, append};
@@ -129,18 +129,20 @@ pub(crate) fn put_what(alloc: Global, out: &mut Vec<u8>, what: What) -> Result<(
 }
 
 /// Appends a value of a code behind a space.
-fn put_value(alloc: Global, out: &mut Vec<u8>, value: Shown) -> Result<(), AllocError>
+fn put_value(alloc: Global, out: &mut Vec<u8>, value: CodeValue) -> Result<(), AllocError>
     ensures { Appends (value_text value) out.old out.new result }
 {
     match value {
-        Shown::Number(number) => put_numbered(alloc, out, b" ", number),
-        Shown::Party(party) => {
+        CodeValue::Number(number) => put_numbered(alloc, out, b" ", number),
+        CodeValue::Party(party) => {
             put(alloc, out, b" ")?;
             put_party(alloc, out, party)
         }
-        Shown::Digest(digest) => { append(alloc, out, &[Part::Bytes(b" "), Part::Digest(&digest)]) }
-        Shown::Full => put(alloc, out, b" full"),
-        Shown::NoRoot => put(alloc, out, b" none"),
+        CodeValue::Digest(digest) => {
+            append(alloc, out, &[Part::Bytes(b" "), Part::Digest(&digest)])
+        }
+        CodeValue::Full => put(alloc, out, b" full"),
+        CodeValue::NoRoot => put(alloc, out, b" none"),
     }
 }
 

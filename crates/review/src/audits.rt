@@ -83,7 +83,8 @@ fn no_more(alloc: Global, lines: &mut Lines) -> Result<(), LineFault>
 /// The items of the lines `statement`, of which there are at most 10,000, up to the end of the input.
 #[tactic(auto, using(crate::proofs::StatementLines::statement_lines))]
 fn statements(alloc: Global, lines: &mut Lines) -> Result<Vec<Item>, LineFault>
-    ensures reads { FollowsUnless (λ items. items.items) result lines.new (statements_at most_statements [] lines.old) }
+    ensures reads { FollowsUnless (λ items.
+        items.items) result lines.new (statements_at most_statements [] lines.old) }
     ensures ascend { IfOk result (λ items. Ascend items.items) }
 {
     let mut items = Vec::new(alloc);
@@ -119,7 +120,8 @@ fn audited(alloc: Global, asked: &Audit) -> Result<Answer, AllocError>
 
 /// The answer to an input that is not too long.
 pub fn answer(alloc: Global, input: &[u8]) -> Result<Answer, AllocError>
-    ensures { IfOk result (λ answer. answer ≡ unless_refused audited (audit_at (start_of_lines input.now))) }
+    ensures { IfOk result (λ answer.
+        answer ≡ unless_refused audited (audit_at (start_of_lines input.now))) }
 {
     match read(alloc, input) {
         Ok(asked) => audited(alloc, &asked),

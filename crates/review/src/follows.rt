@@ -41,7 +41,13 @@ impl Model for Group {
 
     ghost Value = { Spec };
 
-    ghost view = { λ g. record { name = g.name; epoch = g.now; age = g.age; links = g.links.items; confirmation = g.confirmation.items } };
+    ghost view = { λ g. record {
+      name = g.name;
+      epoch = g.now;
+      age = g.age;
+      links = g.links.items;
+      confirmation = g.confirmation.items;
+    } };
 }
 
 /// The next line, where there is one, is among those that may be read.
@@ -58,7 +64,8 @@ fn room(lines: &Lines) -> Result<(), Refusal>
 
 /// The change of which a word spells the text.
 fn change(alloc: Global, word: &Word) -> Result<Change, LineFault>
-    ensures { ReadsUnless (λ change. change) result (spelled word.now (change_of_hex word.now.text)) }
+    ensures { ReadsUnless (λ change.
+        change) result (spelled word.now (change_of_hex word.now.text)) }
 {
     let bytes = word.bytes(alloc)?;
     match Change::read(alloc, &bytes) {
@@ -81,7 +88,8 @@ fn link(alloc: Global, lines: &mut Lines) -> Result<Change, LineFault>
 /// The changes of the lines `link`, of which there are at most 65.
 #[tactic(auto, using(crate::proofs::LinkLines::link_lines))]
 fn links(alloc: Global, lines: &mut Lines) -> Result<Vec<Change>, LineFault>
-    ensures { FollowsUnless (λ links. links.items) result lines.new (links_at most_link_lines [] lines.old) }
+    ensures { FollowsUnless (λ links.
+        links.items) result lines.new (links_at most_link_lines [] lines.old) }
 {
     let mut links = Vec::new(alloc);
     for _ in 0..MOST_LINK_LINES {
@@ -139,7 +147,9 @@ fn answered(
     book: &mut PinBook,
     lines: &mut Lines,
 ) -> Result<Vec<u8>, LineFault>
-    ensures { FollowsUnless (λ line. (line.items, book.new)) result lines.new (answered_at directory.now book.old lines.old) }
+    ensures { FollowsUnless (λ line.
+        (line.items, book.new)) result lines.new
+        (answered_at directory.now book.old lines.old) }
 {
     let group = read_group(alloc, lines)?;
     let answer = judged(alloc, directory, book, group)?;
@@ -197,7 +207,8 @@ fn followed(alloc: Global, directory: &Directory, lines: &mut Lines) -> Result<A
 
 /// The answer to an input that is not too long.
 pub fn answer(alloc: Global, input: &[u8]) -> Result<Answer, AllocError>
-    ensures { IfOk result (λ answer. answer ≡ unless_refused followed (directory_at (start_of_lines input.now))) }
+    ensures { IfOk result (λ answer.
+        answer ≡ unless_refused followed (directory_at (start_of_lines input.now))) }
 {
     let mut lines = Lines::new(input);
     match directory(alloc, &mut lines) {

@@ -20,7 +20,8 @@ fn numbered(alloc: Global, word: &[u8], number: u64) -> Result<Vec<u8>, AllocErr
 
 /// `link <i> ..`: the place of the first change that is no link, and why it is none.
 fn link_line(alloc: Global, place: usize, why: LinkFault) -> Result<Vec<u8>, AllocError>
-    ensures { IfOk result (λ line. line.items ≡ codes "link " ++ (decimal place ++ fault_text why)) }
+    ensures { IfOk result (λ line.
+        line.items ≡ codes "link " ++ (decimal place ++ fault_text why)) }
 {
     let (letter, number): (&[u8], u64) = match why {
         LinkFault::Endorsement(authority) => (b" e ", u64::from(authority)),

@@ -94,7 +94,8 @@ fn add_ignored(
     item: &(u32, Ignored),
     lines: &mut Vec<Vec<u8>>,
 ) -> Result<(), AllocError>
-    ensures { OnOk result (map bytes_of lines.new.items ≡ map bytes_of lines.old.items ++ ignored_line item.now ∷ []) }
+    ensures { OnOk result (map bytes_of lines.new.items ≡ map bytes_of lines.old.items
+        ++ ignored_line item.now ∷ []) }
 {
     let (line, why) = *item;
     let line = ignored_line(alloc, line, why)?;
@@ -109,7 +110,8 @@ fn add_conflict(
     conflict: &Conflict,
     lines: &mut Vec<Vec<u8>>,
 ) -> Result<(), AllocError>
-    ensures { OnOk result (map bytes_of lines.new.items ≡ map bytes_of lines.old.items ++ conflict_line conflict.now ∷ []) }
+    ensures { OnOk result (map bytes_of lines.new.items ≡ map bytes_of lines.old.items
+        ++ conflict_line conflict.now ∷ []) }
 {
     let line = conflict_line(alloc, conflict)?;
     lines.push(line)?;
@@ -122,7 +124,8 @@ fn tell_ignored(
     ignored: &[(u32, Ignored)],
     lines: &mut Vec<Vec<u8>>,
 ) -> Result<(), AllocError>
-    ensures { OnOk result (map bytes_of lines.new.items ≡ map bytes_of lines.old.items ++ map ignored_line ignored.now) }
+    ensures { OnOk result (map bytes_of lines.new.items ≡ map bytes_of lines.old.items
+        ++ map ignored_line ignored.now) }
 {
     for item in ignored {
         add_ignored(alloc, item, lines)?;
@@ -136,7 +139,8 @@ fn tell_conflicts(
     conflicts: &[Conflict],
     lines: &mut Vec<Vec<u8>>,
 ) -> Result<(), AllocError>
-    ensures { OnOk result (map bytes_of lines.new.items ≡ map bytes_of lines.old.items ++ map conflict_line conflicts.now) }
+    ensures { OnOk result (map bytes_of lines.new.items ≡ map bytes_of lines.old.items
+        ++ map conflict_line conflicts.now) }
 {
     for conflict in conflicts {
         add_conflict(alloc, conflict, lines)?;

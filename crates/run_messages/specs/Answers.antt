@@ -3,7 +3,7 @@ use Rattle.std.specs.Prelude.{ℕ, ◌≡◌, Bool, true, false, nat_lt, MatchBo
 use Rattle.ar_io.specs.Wrote.{Appended, AppendedFront}
 use Rattle.ar_nodes.specs.Parties.{CheckParts}
 use Rattle.ar_run.specs.Answers.{Answer, one_line, written_of}
-use Rattle.ar_run.specs.Runs.{TakesAll, most_bytes}
+use Rattle.ar_run.specs.Runs.{TakesAll, most_read_bytes}
 use Rattle.ar_world.specs.Run.{Saying, run}
 use Rattle.arpki_ask.specs.Answers.{refused_line, too_long}
 use Rattle.run_messages.specs.Telling.{told_of}
@@ -30,7 +30,7 @@ pub record IsToldOf (checks : List CheckParts) (script : List ℕ) (answer : Ans
 -- an answer to an input: that, unless it is too long
 abbrev pub IsAnswer : List CheckParts → List ℕ → Answer → Type 0
 IsAnswer checks input answer =
-    MatchBool (nat_lt most_bytes (length input)) (answer ≡ refused_line too_long) (IsToldOf checks input answer)
+    MatchBool (nat_lt most_read_bytes (length input)) (answer ≡ refused_line too_long) (IsToldOf checks input answer)
 
 -- ---- a run of the program
 

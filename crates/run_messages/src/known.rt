@@ -19,7 +19,8 @@ fn put_key(
     party: Party,
     lines: &mut Vec<Vec<u8>>,
 ) -> Result<(), AllocError>
-    ensures { OnOk result (map bytes_of lines.new.items ≡ map bytes_of lines.old.items ++ first_line (slice_get (keys_of directory.now party) 0)) }
+    ensures { OnOk result (map bytes_of lines.new.items ≡ map bytes_of lines.old.items
+        ++ first_line (slice_get (keys_of directory.now party) 0)) }
 {
     match directory.key(party, 0) {
         Some(key) => put_line(lines, key_line(alloc, key)?),
@@ -37,7 +38,8 @@ fn put_keys(
     lines: &mut Vec<Vec<u8>>,
 ) -> Result<(), AllocError>
     requires all { count ≡ length (role_keys directory.now role) }
-    ensures { OnOk result (map bytes_of lines.new.items ≡ map bytes_of lines.old.items ++ first_lines (role_keys directory.now role)) }
+    ensures { OnOk result (map bytes_of lines.new.items ≡ map bytes_of lines.old.items
+        ++ first_lines (role_keys directory.now role)) }
 {
     for number in 0..count {
         put_key(alloc, directory, role.party(number), lines)?;
@@ -70,7 +72,8 @@ fn put_directory(
     directory: &Directory,
     lines: &mut Vec<Vec<u8>>,
 ) -> Result<(), AllocError>
-    ensures { OnOk result (map bytes_of lines.new.items ≡ map bytes_of lines.old.items ++ directory_lines directory.now) }
+    ensures { OnOk result (map bytes_of lines.new.items ≡ map bytes_of lines.old.items
+        ++ directory_lines directory.now) }
 {
     put_line(lines, logs_line(alloc, directory)?)?;
     put_keys(
@@ -99,7 +102,8 @@ pub(crate) fn put_known<C: OwnerCheck>(
     world: &World<C>,
     lines: &mut Vec<Vec<u8>>,
 ) -> Result<(), AllocError>
-    ensures { OnOk result (map bytes_of lines.new.items ≡ map bytes_of lines.old.items ++ known_lines world.now) }
+    ensures { OnOk result (map bytes_of lines.new.items ≡ map bytes_of lines.old.items
+        ++ known_lines world.now) }
 {
     if !world.has_parties() {
         return Ok(());

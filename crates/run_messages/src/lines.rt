@@ -10,7 +10,8 @@ use std::alloc::{AllocError, Global};
 /// Puts a line behind the others. The only error is want of memory.
 #[tactic(auto, using(crate::proofs::Behind::one_behind))]
 pub(crate) fn put_line(lines: &mut Vec<Vec<u8>>, line: Vec<u8>) -> Result<(), AllocError>
-    ensures { OnOk result (map bytes_of lines.new.items ≡ map bytes_of lines.old.items ++ line.items ∷ []) }
+    ensures { OnOk result (map bytes_of lines.new.items ≡ map bytes_of lines.old.items ++ line.items
+        ∷ []) }
 {
     lines.push(line)?;
     Ok(())

@@ -3,7 +3,7 @@ ghost use Rattle.ar_base.specs.Faults.{HasRisen};
 ghost use Rattle.ar_io.specs.Wrote.{Unchanged};
 ghost use Rattle.ar_nodes.specs.Parties.{checks_told};
 ghost use Rattle.ar_run.specs.Answers.{written_of};
-ghost use Rattle.ar_run.specs.Runs.{IsInput, TakesAtMost, most_bytes};
+ghost use Rattle.ar_run.specs.Runs.{IsInput, TakesAtMost, most_read_bytes};
 ghost use Rattle.ar_run.specs.Writing.{Writes};
 ghost use Rattle.run_messages.specs.Telling.{IsScriptStatus};
 ghost use Rattle.run_messages.specs.Answers.{Answers, BreaksOff, IsAnswer, IsToldOf, TellsFront, TellsWhole, is_form, usage};
@@ -53,7 +53,9 @@ fn answer<C: OwnerCheck>(
     checks: Vec<C>,
     input: Option<Vec<u8>>,
 ) -> Result<Answer, AllocError>
-    ensures told { IfOk result (λ answer. (all : List ℕ) → IsInput input all → IsAnswer (checks_told C.told C.answers checks.items) all answer) }
+    ensures told { IfOk result (λ answer.
+        (all : List ℕ) → IsInput input all
+        → IsAnswer (checks_told C.told C.answers checks.items) all answer) }
     ensures script { IfOk result (λ answer. IsScriptStatus answer.status) }
 {
     match input {
@@ -69,19 +71,26 @@ fn tell<C: OwnerCheck, S: Source, K: Sink>(
     source: &mut S,
     sink: &mut K,
 ) -> Result<u8, Fault>
-    ensures ok { IfOk result (λ status. TellsWhole (checks_told C.told C.answers checks.items) (S.left source.old) (S.left source.new)
+    ensures ok { IfOk result (λ status.
+        TellsWhole (checks_told C.told C.answers checks.items) (S.left source.old)
+        (S.left source.new)
         K.wrote sink.old sink.new status) }
     ensures bound { IfOk result (λ status. status < 4) }
     ensures script { IfOk result IsScriptStatus }
-    ensures source { result ≡ Err Fault.Source → HasRisen (S.faults source.old) (S.faults source.new)
+    ensures source { result ≡ Err Fault.Source
+        → HasRisen (S.faults source.old) (S.faults source.new)
         × Unchanged K.wrote sink.old sink.new }
     ensures sink { result ≡ Err Fault.Sink → HasRisen (K.faults sink.old) (K.faults sink.new)
-        × TellsFront (checks_told C.told C.answers checks.items) (S.left source.old) (S.left source.new) K.wrote sink.old sink.new }
+        × TellsFront (checks_told C.told C.answers checks.items) (S.left source.old)
+        (S.left source.new) K.wrote sink.old sink.new }
     ensures memory { result ≡ Err Fault.Memory → Unchanged K.wrote sink.old sink.new }
-    ensures source_uncounted { result ≢ Err Fault.Source → S.faults source.new ≡ S.faults source.old }
+    ensures source_uncounted { result ≢ Err Fault.Source
+        → S.faults source.new ≡ S.faults source.old }
     ensures sink_uncounted { result ≢ Err Fault.Sink → K.faults sink.new ≡ K.faults sink.old }
-    ensures source_taken { result ≡ Err Fault.Source → TakesAtMost most_bytes (S.left source.old) (S.left source.new) }
-    ensures memory_taken { result ≡ Err Fault.Memory → TakesAtMost (most_bytes + 1) (S.left source.old) (S.left source.new) }
+    ensures source_taken { result ≡ Err Fault.Source
+        → TakesAtMost most_read_bytes (S.left source.old) (S.left source.new) }
+    ensures memory_taken { result ≡ Err Fault.Memory
+        → TakesAtMost (most_read_bytes + 1) (S.left source.old) (S.left source.new) }
     ensures source_faults { S.faults source.old ≤ S.faults source.new }
     ensures sink_faults { K.faults sink.old ≤ K.faults sink.new }
 {
@@ -126,12 +135,14 @@ pub fn messages_main<C: OwnerCheck, S: Source, K: Sink>(
     ensures statuses { result ≤ 6 }
 
     // At 0 to 3 the whole answer was written, and the status is the answer's.
-    ensures answered { result < 4 → Answers (is_form words.now) (checks_told C.told C.answers checks.items)
+    ensures answered { result < 4
+        → Answers (is_form words.now) (checks_told C.told C.answers checks.items)
         (S.left source.old) (S.left source.new) K.wrote sink.old sink.new result }
 
     // Words are answered by the usage line, and nothing is read.
     ensures usage { result ≡ 2 → is_form words.now ≡ false }
-    ensures no_form { is_form words.now ≡ false → (source.new ≡ source.old) × ((result ≡ 2) ⊎ (result ≡ 5)) }
+    ensures no_form { is_form words.now ≡ false
+        → (source.new ≡ source.old) × ((result ≡ 2) ⊎ (result ≡ 5)) }
 
     // A fault has its cause in a count of faults, and none is hidden: at each other status the count stays. Before a fault no more
     // than a front of the answer was written.
@@ -143,8 +154,10 @@ pub fn messages_main<C: OwnerCheck, S: Source, K: Sink>(
     ensures memory { result ≡ 6 → Unchanged K.wrote sink.old sink.new }
 
     // What was taken before a fault: no more than an input may have, and than one byte more for want of memory.
-    ensures source_taken { result ≡ 4 → TakesAtMost most_bytes (S.left source.old) (S.left source.new) }
-    ensures memory_taken { result ≡ 6 → TakesAtMost (most_bytes + 1) (S.left source.old) (S.left source.new) }
+    ensures source_taken { result ≡ 4
+        → TakesAtMost most_read_bytes (S.left source.old) (S.left source.new) }
+    ensures memory_taken { result ≡ 6
+        → TakesAtMost (most_read_bytes + 1) (S.left source.old) (S.left source.new) }
 
     ensures source_uncounted { result ≢ 4 → S.faults source.new ≡ S.faults source.old }
     ensures sink_uncounted { result ≢ 5 → K.faults sink.new ≡ K.faults sink.old }

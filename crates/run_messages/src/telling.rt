@@ -21,7 +21,8 @@ fn put_message<C: OwnerCheck>(
     number: u64,
     lines: &mut Vec<Vec<u8>>,
 ) -> Result<(), AllocError>
-    ensures { OnOk result (map bytes_of lines.new.items ≡ map bytes_of lines.old.items ++ line_at number (bytes_at world.now number)) }
+    ensures { OnOk result (map bytes_of lines.new.items ≡ map bytes_of lines.old.items
+        ++ line_at number (bytes_at world.now number)) }
 {
     match world.message(number) {
         Some(bytes) => put_line(lines, message_line(alloc, number, bytes)?),
@@ -36,7 +37,8 @@ fn put_messages<C: OwnerCheck>(
     world: &World<C>,
     lines: &mut Vec<Vec<u8>>,
 ) -> Result<(), AllocError>
-    ensures { OnOk result (map bytes_of lines.new.items ≡ map bytes_of lines.old.items ++ message_lines 1 world.now.pool) }
+    ensures { OnOk result (map bytes_of lines.new.items ≡ map bytes_of lines.old.items
+        ++ message_lines 1 world.now.pool) }
 {
     for place in 0..world.messages() {
         put_message(alloc, world, place + 1, lines)?;
@@ -50,7 +52,8 @@ fn put_refusal(
     refused: Option<(u64, Cause)>,
     lines: &mut Vec<Vec<u8>>,
 ) -> Result<(), AllocError>
-    ensures { OnOk result (map bytes_of lines.new.items ≡ map bytes_of lines.old.items ++ refused_lines refused) }
+    ensures { OnOk result (map bytes_of lines.new.items ≡ map bytes_of lines.old.items
+        ++ refused_lines refused) }
 {
     match refused {
         Some((number, cause)) => put_line(lines, refused_line(alloc, number, cause)?),

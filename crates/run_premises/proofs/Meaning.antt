@@ -15,7 +15,7 @@ use Rattle.ar_statement.specs.Claims.{has_party}
 use Rattle.ar_statement.specs.declared.party.Role.{Role}
 use Rattle.ar_statement.specs.declared.party.Role.TheVariants.{LogServer, Authority, Owner, Client}
 use Rattle.key_roll.specs.Book.{RollBook, texts_of}
-use Rattle.key_roll.specs.declared.signed.Signed.{Signed}
+use Rattle.key_roll.specs.declared.signed.SignedText.{SignedText}
 use Rattle.party_keys.specs.Signatures.{IsVerified, verified}
 use Rattle.party_keys.specs.Signers.{Claimed}
 use Rattle.party_keys.specs.declared.fault.VerifyFault.{VerifyFault}

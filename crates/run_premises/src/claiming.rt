@@ -2,12 +2,11 @@
 
 ghost use Rattle.std.specs.Prelude.{◌≡◌, ◌++◌, ◌∷◌, [], flat_map, map, IfOk, OnOk};
 ghost use Rattle.ar_claims.specs.Claimed.{claimed_in, confirmed_by, confirmed_in, votes_behind};
-ghost use Rattle.ar_claims.specs.Lists.{endorsements_in, statuses_in, votes_in};
-ghost use Rattle.ar_council.specs.Values.{status_claim, value_of_roots};
+ghost use Rattle.ar_claims.specs.Lists.{endorsements_in, claimed_statuses, claimed_votes};
+ghost use Rattle.ar_council.specs.Values.{status_claim};
 ghost use Rattle.ar_message.specs.Confirmation.{digest_in};
 ghost use Rattle.ar_message.specs.Messages.{shown_in};
-ghost use Rattle.ar_statement.specs.Claims.{authority_party, claim_of, endorse, log_party, signer_of};
-ghost use Rattle.std.specs.Option.{option_map};
+ghost use Rattle.ar_statement.specs.Claims.{authority_party, claim_of, endorse, log_party, signer_of, value_with};
 ghost use Rattle.ar_message.specs.declared.message.Message.TheVariants.{HalfConfirmed, LogConfirmed};
 ghost use Rattle.party_keys.specs.Signers.{signed_by};
 ghost use Rattle.run_premises.specs.Books.{claimed_of_confirmations, claimed_of_logs, claimed_of_others};
@@ -27,7 +26,10 @@ fn put<'a>(
     signature: &'a [u8],
     claims: &mut Vec<Claimed<'a>>,
 ) -> Result<(), AllocError>
-    ensures { OnOk result (claims.new.items ≡ claims.old.items ++ signed_by (signer_of (claim_of statement.now)) (claim_of statement.now) signature.now ∷ []) }
+    ensures { OnOk result
+        (claims.new.items ≡ claims.old.items
+        ++ signed_by (signer_of (claim_of statement.now)) (claim_of statement.now) signature.now
+        ∷ []) }
 {
     claims.push(Claimed::new(statement.signer(), Text::of(statement), signature))?;
     Ok(())
@@ -42,7 +44,8 @@ fn put_each<'a>(
     claims: &mut Vec<Claimed<'a>>,
 ) -> Result<(), AllocError>
     ensures { OnOk result (claims.new.items ≡ claims.old.items
-        ++ map (λ e. signed_by (authority_party e.authority) (endorse e.authority certificate) e.signature) endorsements.now) }
+        ++ map (λ e. signed_by (authority_party e.authority)
+        (endorse e.authority certificate) e.signature) endorsements.now) }
 {
     if let [endorsement, rest @ ..] = endorsements {
         let authority = endorsement.authority;
@@ -65,7 +68,8 @@ fn put_endorsements<'a>(change: &'a Change, claims: &mut Vec<Claimed<'a>>) -> Re
 
 /// Puts the endorsements of changes behind the others.
 fn put_changes<'a>(changes: &'a [Change], claims: &mut Vec<Claimed<'a>>) -> Result<(), AllocError>
-    ensures { OnOk result (claims.new.items ≡ claims.old.items ++ flat_map endorsements_in changes.now) }
+    ensures { OnOk result
+        (claims.new.items ≡ claims.old.items ++ flat_map endorsements_in changes.now) }
 {
     if let [change, rest @ ..] = changes {
         put_endorsements(change, claims)?;
@@ -76,7 +80,7 @@ fn put_changes<'a>(changes: &'a [Change], claims: &mut Vec<Claimed<'a>>) -> Resu
 
 /// A base and a root as the value that is voted for.
 fn value(base: [u8; 32], root: [u8; 32]) -> Value
-    ensures { result ≡ value_of_roots (base, root) }
+    ensures { result ≡ value_with base root }
 {
     Value { base, root }
 }
@@ -88,7 +92,8 @@ fn put_votes<'a>(
     votes: &'a [Vote],
     claims: &mut Vec<Claimed<'a>>,
 ) -> Result<(), AllocError>
-    ensures { OnOk result (claims.new.items ≡ claims.old.items ++ votes_in epoch value.now votes.now) }
+    ensures { OnOk result
+        (claims.new.items ≡ claims.old.items ++ claimed_votes epoch value.now votes.now) }
 {
     if let [vote, rest @ ..] = votes {
         let statement = vote_statement(vote.log, epoch, value);
@@ -102,12 +107,12 @@ fn put_votes<'a>(
 fn put_status<'a>(
     log: u16,
     epoch: u64,
-    value: Option<([u8; 32], [u8; 32])>,
+    value: Option<Value>,
     signature: &'a [u8],
     claims: &mut Vec<Claimed<'a>>,
 ) -> Result<(), AllocError>
     ensures { OnOk result (claims.new.items ≡ claims.old.items
-        ++ signed_by (log_party log) (status_claim log epoch (option_map value_of_roots value)) signature.now ∷ []) }
+        ++ signed_by (log_party log) (status_claim log epoch value) signature.now ∷ []) }
 {
     put(&Statement::Status { log, epoch, value }, signature, claims)
 }
@@ -118,7 +123,8 @@ fn put_statuses<'a>(
     statuses: &'a [LogStatus],
     claims: &mut Vec<Claimed<'a>>,
 ) -> Result<(), AllocError>
-    ensures { OnOk result (claims.new.items ≡ claims.old.items ++ statuses_in epoch statuses.now) }
+    ensures { OnOk result
+        (claims.new.items ≡ claims.old.items ++ claimed_statuses epoch statuses.now) }
 {
     if let [status, rest @ ..] = statuses {
         put_status(
@@ -162,7 +168,8 @@ fn put_confirmed<'a>(
     claims: &mut Vec<Claimed<'a>>,
 ) -> Result<(), AllocError>
     ensures { OnOk result (claims.new.items ≡ claims.old.items
-        ++ confirmed_in about.now.epoch about.now.name.now (shown_in about.now.body.now) about.now.root party signature.now ∷ []) }
+        ++ confirmed_in about.now.epoch about.now.name.now
+        (shown_in about.now.body.now) about.now.root party signature.now ∷ []) }
 {
     let certificate = digest_in(about.body);
     let name = about.name.view();
@@ -178,7 +185,8 @@ fn put_part<'a>(
     signature: &'a [u8],
     claims: &mut Vec<Claimed<'a>>,
 ) -> Result<(), AllocError>
-    ensures { OnOk result (claims.new.items ≡ claims.old.items ++ confirmed_by part.now party signature.now ∷ []) }
+    ensures { OnOk result
+        (claims.new.items ≡ claims.old.items ++ confirmed_by part.now party signature.now ∷ []) }
 {
     let about = About {
         epoch: part.epoch,
@@ -210,7 +218,8 @@ fn put_proposal<'a>(
     claims: &mut Vec<Claimed<'a>>,
 ) -> Result<(), AllocError>
     ensures { OnOk result (claims.new.items ≡ claims.old.items
-        ++ signed_by (signer_of (claim_of statement.now)) (claim_of statement.now) signature.now ∷ flat_map endorsements_in changes.now) }
+        ++ signed_by (signer_of (claim_of statement.now)) (claim_of statement.now) signature.now
+        ∷ flat_map endorsements_in changes.now) }
 {
     put(statement, signature, claims)?;
     put_changes(changes, claims)
@@ -221,7 +230,8 @@ fn put_log_confirmed<'a>(
     part: &'a Confirming,
     claims: &mut Vec<Claimed<'a>>,
 ) -> Result<(), AllocError>
-    ensures { OnOk result (claims.new.items ≡ claims.old.items ++ claimed_in (LogConfirmed part.now)) }
+    ensures { OnOk result
+        (claims.new.items ≡ claims.old.items ++ claimed_in (LogConfirmed part.now)) }
 {
     put_part(
         part,
@@ -238,7 +248,9 @@ fn put_half_confirmed<'a>(
     first_signature: &'a [u8],
     claims: &mut Vec<Claimed<'a>>,
 ) -> Result<(), AllocError>
-    ensures { OnOk result (claims.new.items ≡ claims.old.items ++ claimed_in (HalfConfirmed part.now first_signature.now)) }
+    ensures { OnOk result
+        (claims.new.items ≡ claims.old.items
+        ++ claimed_in (HalfConfirmed part.now first_signature.now)) }
 {
     put_part(
         part,
@@ -260,7 +272,8 @@ fn put_confirmation<'a>(
     message: &'a Message,
     claims: &mut Vec<Claimed<'a>>,
 ) -> Result<(), AllocError>
-    ensures { OnOk result (claims.new.items ≡ claims.old.items ++ claimed_of_confirmations message.now) }
+    ensures { OnOk result
+        (claims.new.items ≡ claims.old.items ++ claimed_of_confirmations message.now) }
 {
     let Message::Confirmation {
         epoch,

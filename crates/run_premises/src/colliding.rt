@@ -23,7 +23,8 @@ fn note_log(
     number: u16,
 ) -> Result<(), AllocError>
     ensures { OnOk result ((others : List (List ℕ)) → AreNoted noted.old others
-        → AreNoted noted.new (flat_map table_strings (tables_of (records_of records.now) number) ++ others)) }
+        → AreNoted noted.new (flat_map table_strings (tables_of (records_of records.now) number)
+        ++ others)) }
 {
     if has_party(&records.dishonest, Role::LogServer.party(number)) {
         return Ok(());
@@ -38,7 +39,8 @@ fn note_log(
 /// Notes the strings of the tables of all honest logs.
 fn note_logs(alloc: Global, noted: &mut Noted, records: &Records) -> Result<(), AllocError>
     ensures { OnOk result ((others : List (List ℕ)) → AreNoted noted.old others
-        → AreNoted noted.new (flat_map table_strings (listed_tables (records_of records.now)) ++ others)) }
+        → AreNoted noted.new (flat_map table_strings (listed_tables (records_of records.now))
+        ++ others)) }
 {
     let count = records.directory.logs() as u16;
     for number in 0..count {

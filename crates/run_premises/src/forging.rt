@@ -108,7 +108,8 @@ fn is_held(records: &Records, party: Party, text: &[u8]) -> bool
 
 /// Whether the signature of a claim is valid under the keys.
 fn is_valid(directory: &Directory, claim: &Claimed) -> bool
-    ensures { result ≡ is_ok (verified directory.now claim.now.party claim.now.text claim.now.signature) }
+    ensures { result ≡ is_ok
+        (verified directory.now claim.now.party claim.now.text claim.now.signature) }
 {
     directory.all_signed(slice::from_ref(claim)).is_ok()
 }

@@ -21,9 +21,11 @@ ghost use Rattle.run_safety.specs.Unforged.{Unforged, messages_of};
 /// Where each claim of each message is fair, none is forged; and a claim that is not fair is a forgery: its party is not dishonest,
 /// its signature is valid under the keys that clients know, and the party's book does not have its text.
 pub fn what_is_not_fair_is_forged()
-    ensures fair { (h : Held) (messages : List (List ℕ)) → IsTrue (list_all (are_fair h) messages) → NoneForgedIn h messages }
+    ensures fair { (h : Held) (messages : List (List ℕ)) → IsTrue (list_all (are_fair h) messages)
+        → NoneForgedIn h messages }
     ensures forged { (h : Held) (c : Claimed) → is_fair h c ≡ false
-        → (has_party h.dishonest c.party ≡ false) × IsVerified h.directory c.party c.text c.signature
+        → (has_party h.dishonest c.party ≡ false)
+        × IsVerified h.directory c.party c.text c.signature
         × ¬ Contains (signed_by (records_of h) c.party) c.text }
 {}
 
@@ -31,12 +33,17 @@ pub fn what_is_not_fair_is_forged()
 /// the keys that clients know: so a run of which one is found does not meet it. And where clients know as many keys of each
 /// honest party as it has, the premise holds where none is found. They do where no honest party went on to a second key.
 pub fn the_test_is_of_the_premise()
-    ensures finds { (saying : Saying) (checks : List CheckParts) (input : List ℕ) → Unforged (run saying checks input).world
-        → NoneForgedIn (held_of (run saying checks input).world) (messages_of (run saying checks input).world.pool) }
-    ensures meets { (saying : Saying) (checks : List CheckParts) (input : List ℕ) → KnowAsMany (run saying checks input).world
-        → NoneForgedIn (held_of (run saying checks input).world) (messages_of (run saying checks input).world.pool)
+    ensures finds { (saying : Saying) (checks : List CheckParts) (input : List ℕ)
+        → Unforged (run saying checks input).world
+        → NoneForgedIn (held_of (run saying checks input).world)
+        (messages_of (run saying checks input).world.pool) }
+    ensures meets { (saying : Saying) (checks : List CheckParts) (input : List ℕ)
+        → KnowAsMany (run saying checks input).world
+        → NoneForgedIn (held_of (run saying checks input).world)
+        (messages_of (run saying checks input).world.pool)
         → Unforged (run saying checks input).world }
-    ensures first { (saying : Saying) (checks : List CheckParts) (input : List ℕ) → NoneRolled (run saying checks input).world
+    ensures first { (saying : Saying) (checks : List CheckParts) (input : List ℕ)
+        → NoneRolled (run saying checks input).world
         → KnowAsMany (run saying checks input).world }
 {}
 
@@ -48,5 +55,6 @@ pub fn the_strings_of_the_premise_are_told()
     ensures apart { (r : Records) → none_collide (hashed r) ≡ true → Apart (hashed r) }
     ensures collide { (r : Records) → none_collide (hashed r) ≡ false → Collide (hashed r) }
     ensures needed { (r : Records) → NoCollision r → none_collide (hashed r) ≡ true }
-    ensures enough { (r : Records) → none_collide (hashed r) ≡ true → AreAskedAlike r → NoCollision r }
+    ensures enough { (r : Records) → none_collide (hashed r) ≡ true → AreAskedAlike r
+        → NoCollision r }
 {}

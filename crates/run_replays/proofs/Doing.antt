@@ -13,7 +13,7 @@ use Rattle.lms_tree.specs.Key.{public_of}
 use Rattle.lms_tree.specs.KeyParts.{KeyParts}
 use Rattle.log_core.specs.Keyed.{AreBehind, IsPlain}
 use Rattle.log_core.specs.Row.{row}
-use Rattle.log_core.specs.State.{Answer, Input, passes, proposes, rolls, takes}
+use Rattle.log_core.specs.State.{LogAnswer, Input, passes, proposes, rolls, takes}
 use Rattle.log_journal.proofs.Replayed.{plain_own}
 use Rattle.log_journal.specs.Steps.{Steps}
 use Rattle.run_replays.specs.Inputs.{input_of_event}
@@ -47,7 +47,7 @@ pub answered-does : (pool : List Pooled) (node : LogNode) (event : LogEvent) (in
     → ((newest : KeyParts) → input_of_event pool newest event ≡ input) → DoesOrNot pool node (log_does node node.keys event (row node.core input)).0
 answered-does pool node event input plain there same = by (row node.core input) refl
   where
-    by : (a : Answer) → row node.core input ≡ a → DoesOrNot pool node (log_does node node.keys event a).0
+    by : (a : LogAnswer) → row node.core input ≡ a → DoesOrNot pool node (log_does node node.keys event a).0
     by (Ok reply) at = inr (record {
       event = event;
       there = there;
@@ -69,7 +69,7 @@ rolled-does pool node next is = by (row node.core (rolls (public_of next))) refl
     one-next : (other : KeyParts) → IsNext node.keys other → next ≡ other
     one-next other behind = next-newest node.keys behind.newest next behind.last is ∙ sym behind.is
 
-    by : (a : Answer) → row node.core (rolls (public_of next)) ≡ a → DoesOrNot pool node (log_does node (node.keys ++ next ∷ []) events.Roll a).0
+    by : (a : LogAnswer) → row node.core (rolls (public_of next)) ≡ a → DoesOrNot pool node (log_does node (node.keys ++ next ∷ []) events.Roll a).0
     by (Ok reply) at = inr (record {
       event = events.Roll;
       there = tt;

@@ -1,4 +1,3 @@
-pub mod Asked
 pub mod Becoming
 pub mod Doing
 pub mod Lines

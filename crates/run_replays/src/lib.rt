@@ -3,13 +3,10 @@
 //! `specs/Inputs.antt` has what a log was asked, by what it did (`World::taken`) and the pool's messages (`World::message`);
 //! `specs/Replayed.antt` that it is what these make of the log where the run began, with the directory of the first keys
 //! (`World::genesis`) and its own first key, which `make_key` of `ar_founding` makes by `World::setup`. `laws` has that this is
-//! so of each run, in the words of `log_journal`: a `KeptLog` that is stepped through the inputs (`step_event`) refuses none of
-//! them, and its record is the log's in the end.
+//! so of each run, in the words of `log_journal`: a `KeptLog` that is stepped through the inputs refuses none of them, and its
+//! record is the log's in the end. `run_restart` steps one so.
 //!
-//! Its tests: none yet.
+//! It has laws alone, and no tests.
 #![tactic(auto)]
 
 pub mod laws;
-mod taking;
-
-pub use taking::step_event;

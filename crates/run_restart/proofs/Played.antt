@@ -6,7 +6,7 @@ use Rattle.std.proofs.lemmas.Bool.Decides.{nat_tests}
 use Rattle.ar_io.specs.Wrote.{Appended, AppendedFront}
 use Rattle.ar_nodes.specs.Parties.{CheckParts}
 use Rattle.ar_run.specs.Answers.{Answer, written_of}
-use Rattle.ar_run.specs.Runs.{TakesAll, most_bytes}
+use Rattle.ar_run.specs.Runs.{TakesAll, most_read_bytes}
 use Rattle.ar_world.specs.Run.{Saying, run}
 use Rattle.arpki_ask.specs.Answers.{refused_line, too_long, unless_long}
 use Rattle.log_restart.specs.Restarted.{AreRestarted}
@@ -42,18 +42,18 @@ pub ruleset played_laws = (played-replayed, played-ended)
 
 -- ---- an input
 
-short-same : (input : List ℕ) (answer : Answer) → length input ≤ most_bytes → answer ≡ unless_long input answer
+short-same : (input : List ℕ) (answer : Answer) → length input ≤ most_read_bytes → answer ≡ unless_long input answer
 short-same input answer few =
-    let so : nat_lt most_bytes (length input) ≡ false = grind (arith, nat_tests) in
+    let so : nat_lt most_read_bytes (length input) ≡ false = grind (arith, nat_tests) in
     ap (λ (b : Bool). if b then refused_line too_long else answer) (sym so)
 
-long-same : (input : List ℕ) (answer : Answer) → most_bytes < length input → refused_line too_long ≡ unless_long input answer
+long-same : (input : List ℕ) (answer : Answer) → most_read_bytes < length input → refused_line too_long ≡ unless_long input answer
 long-same input answer many =
-    let so : nat_lt most_bytes (length input) ≡ true = grind (arith, nat_tests) in
+    let so : nat_lt most_read_bytes (length input) ≡ true = grind (arith, nat_tests) in
     ap (λ (b : Bool). if b then refused_line too_long else answer) (sym so)
 
 -- one that is not too long
-pub script-ended : (checks : List CheckParts) (asked : Restart) (script input : List ℕ) (ended : Ended) → script ≡ input → length input ≤ most_bytes
+pub script-ended : (checks : List CheckParts) (asked : Restart) (script input : List ℕ) (ended : Ended) → script ≡ input → length input ≤ most_read_bytes
     → EndsScript checks asked script ended → EndsInput checks asked input ended
 script-ended checks asked script input ended is few ends =
     let here = subst (λ (s : List ℕ). EndsScript checks asked s ended) is ends in
@@ -64,7 +64,7 @@ script-ended checks asked script input ended is few ends =
     }
 
 -- one that is
-pub long-ended : (checks : List CheckParts) (asked : Restart) (input : List ℕ) (ended : Ended) → most_bytes < length input
+pub long-ended : (checks : List CheckParts) (asked : Restart) (input : List ℕ) (ended : Ended) → most_read_bytes < length input
     → ended.answer ≡ refused_line too_long → ended.disks ≡ None → EndsInput checks asked input ended
 long-ended checks asked input ended many answer none =
     let saying : Saying = λ _ _. Failed in

@@ -7,7 +7,7 @@ use Rattle.ar_lines.specs.Lines.{lines_of}
 use Rattle.ar_nodes.specs.Parties.{CheckParts, LogNode}
 use Rattle.ar_nodes.specs.declared.fault.WorldFault.TheVariants.{Absent, Limit}
 use Rattle.ar_run.specs.Answers.{Answer, written_of}
-use Rattle.ar_run.specs.Runs.{TakesAll, most_bytes}
+use Rattle.ar_run.specs.Runs.{TakesAll, most_read_bytes}
 use Rattle.ar_world.specs.Finding.{log_at}
 use Rattle.ar_world.specs.Run.{Run, Saying, refused_text, run}
 use Rattle.ar_world.specs.State.{World}
@@ -87,7 +87,7 @@ pub record RestartTakes (checks : List CheckParts) (asked : Restart) (old new : 
   pub taken : TakesAll old new input
   pub written : IsWritten (restart_answer saying checks asked input)
   pub disks_are : AreLeft (restart_answer saying checks asked input).status (texts_in (run saying checks input).world asked.log) asked.calls disks left
-  pub safe : length input ≤ most_bytes → IsSafeRun (run saying checks input)
+  pub safe : length input ≤ most_read_bytes → IsSafeRun (run saying checks input)
 
 -- The answer was written whole, and the status is its own.
 abbrev pub RestartWhole : {K : Type 0} → List CheckParts → Restart → Option (List ℕ) → Option (List ℕ) → (K → List ℕ → Type 0) → K → K → Disks → Disks → ℕ → Type 0

@@ -44,7 +44,8 @@ fn restart_script<C: OwnerCheck>(
     script: &[u8],
     asked: Restart,
 ) -> Result<Ended, AllocError>
-    ensures { IfOk result (EndsScript (checks_told C.told C.answers checks.items) asked script.now) }
+    ensures { IfOk result
+        (EndsScript (checks_told C.told C.answers checks.items) asked script.now) }
 {
     let mut quiet = QuietSink::new();
     match play(alloc, checks, script, &mut quiet) {

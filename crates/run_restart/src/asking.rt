@@ -50,7 +50,8 @@ fn go_on(alloc: Global, ring: &mut KeyRing) -> Result<LmsPublic, AllocError>
 /// memory.
 fn asked_of(alloc: Global, ring: &mut KeyRing, event: LogEvent) -> Result<Asked, AllocError>
     ensures { IfOk result (λ asked. (newest : KeyParts) → IsNewestKey ring.old.keys newest
-        → (asked ≡ asked_of newest event) × IsNewestKey ring.new.keys (newest_behind newest event)) }
+        → (asked ≡ asked_of newest event)
+        × IsNewestKey ring.new.keys (newest_behind newest event)) }
 {
     match event {
         LogEvent::Take(message) => Ok(Asked::Take(message)),
@@ -107,7 +108,8 @@ pub(crate) fn inputs_of<'a, C: OwnerCheck>(
     world: &'a World<C>,
     asked: &'a [Asked],
 ) -> Result<Vec<LogInput<'a>>, AllocError>
-    ensures { IfOk result (λ inputs. map input_of inputs.items ≡ map (input_in world.now.pool) asked.now) }
+    ensures { IfOk result (λ inputs.
+        map input_of inputs.items ≡ map (input_in world.now.pool) asked.now) }
 {
     let mut inputs = Vec::new(alloc);
     for one in asked {

@@ -3,7 +3,6 @@
 ghost use Rattle.std.specs.Prelude.{◌≡◌, ◌≤◌, ◌∷◌, [], length, IfOk};
 ghost use Rattle.ar_world.specs.Finding.{log_at};
 ghost use Rattle.ar_world.specs.Records.{HasParties};
-ghost use Rattle.kept_disk.specs.Memory.{fresh};
 ghost use Rattle.kept_journal.specs.Replays.{Replays};
 ghost use Rattle.log_journal.specs.Steps.{LogStanding, takes};
 ghost use Rattle.log_restart.specs.Inputs.{most_input_bytes, texts_of, total_len};
@@ -22,7 +21,6 @@ use ar_founding::make_key;
 use ar_nodes::{LogEvent, WorldFault};
 use ar_statement::Role;
 use ar_world::World;
-use kept_disk::MemDisk;
 use key_roll::KeyRing;
 use log_core::LogInput;
 use log_restart::{Beginning, Disks, Told, restart, total_len};
@@ -60,16 +58,6 @@ fn first_ring<C: OwnerCheck>(
     }
 }
 
-/// Two empty disks.
-fn empty_disks(alloc: Global) -> Disks
-    ensures { (result.before ≡ fresh []) × (result.after ≡ fresh []) }
-{
-    Disks {
-        before: MemDisk::new(alloc, Vec::new(alloc)),
-        after: MemDisk::new(alloc, Vec::new(alloc)),
-    }
-}
-
 /// Runs the log twice, and gives what is told of it, with the disks. The only error is want of memory.
 fn run_twice<C: OwnerCheck>(
     alloc: Global,
@@ -79,15 +67,19 @@ fn run_twice<C: OwnerCheck>(
 ) -> Result<(Told, Disks), AllocError>
     requires late { HasParties world.now }
     requires small { total_len (texts_of inputs.now) ≤ most_input_bytes }
-    requires replays { (last : LogStanding) × Replays takes (first_standing world.now asked.log) (texts_of inputs.now) last }
-    ensures told { (last : LogStanding) → Replays takes (first_standing world.now asked.log) (texts_of inputs.now) last
+    requires replays { (last : LogStanding)
+        × Replays takes (first_standing world.now asked.log) (texts_of inputs.now) last }
+    ensures told { (last : LogStanding)
+        → Replays takes (first_standing world.now asked.log) (texts_of inputs.now) last
         → IfOk result (λ ended. ended.0
-        ≡ told_of (recovered_of (length inputs.now) asked.calls) (length inputs.now) last.core.log.past.signed) }
-    ensures disks { IfOk result (λ ended. AreRestarted (texts_of inputs.now) asked.calls ended.1.before ended.1.after) }
+        ≡ told_of (recovered_of (length inputs.now) asked.calls)
+        (length inputs.now) last.core.log.past.signed) }
+    ensures disks { IfOk result (λ ended.
+        AreRestarted (texts_of inputs.now) asked.calls ended.1.before ended.1.after) }
 {
     let first = beginning(alloc, world, asked.log)?;
     let again = beginning(alloc, world, asked.log)?;
-    let mut disks = empty_disks(alloc);
+    let mut disks = Disks::empty(alloc);
     let told = restart(
         alloc,
         asked.log,
@@ -109,8 +101,10 @@ fn restart_few<C: OwnerCheck>(
 ) -> Result<Ended, AllocError>
     requires late { HasParties world.now }
     requires small { total_len (texts_of inputs.now) ≤ most_input_bytes }
-    requires replays { (last : LogStanding) × Replays takes (first_standing world.now asked.log) (texts_of inputs.now) last }
-    ensures { (last : LogStanding) → Replays takes (first_standing world.now asked.log) (texts_of inputs.now) last
+    requires replays { (last : LogStanding)
+        × Replays takes (first_standing world.now asked.log) (texts_of inputs.now) last }
+    ensures { (last : LogStanding)
+        → Replays takes (first_standing world.now asked.log) (texts_of inputs.now) last
         → IfOk result (IsEnded (telling asked (texts_of inputs.now) last.core.log.past.signed)
         (texts_of inputs.now) asked.calls) }
 {
@@ -128,9 +122,12 @@ fn restart_by<C: OwnerCheck>(
     behind: u64,
 ) -> Result<Ended, AllocError>
     requires late { HasParties world.now }
-    requires replays { (last : LogStanding) × Replays takes (first_standing world.now asked.log) (texts_of inputs.now) last }
-    ensures { (last : LogStanding) → Replays takes (first_standing world.now asked.log) (texts_of inputs.now) last
-        → IfOk result (IsEnded (telling_few asked behind (texts_of inputs.now) last.core.log.past.signed)
+    requires replays { (last : LogStanding)
+        × Replays takes (first_standing world.now asked.log) (texts_of inputs.now) last }
+    ensures { (last : LogStanding)
+        → Replays takes (first_standing world.now asked.log) (texts_of inputs.now) last
+        → IfOk result (IsEnded
+        (telling_few asked behind (texts_of inputs.now) last.core.log.past.signed)
         (texts_of inputs.now) asked.calls) }
 {
     match total_len(inputs) {

@@ -4,7 +4,7 @@ ghost use Rattle.std.specs.Prelude.{◌≡◌, ◌≢◌, ◌+◌, ◌<◌, ◌�
 ghost use Rattle.ar_base.specs.Faults.{HasRisen};
 ghost use Rattle.ar_io.specs.Wrote.{Unchanged};
 ghost use Rattle.ar_nodes.specs.Parties.{checks_told};
-ghost use Rattle.ar_run.specs.Runs.{TakesAtMost, most_bytes};
+ghost use Rattle.ar_run.specs.Runs.{TakesAtMost, most_read_bytes};
 ghost use Rattle.run_restart.specs.Answers.{RestartFront, RestartWhole};
 
 use crate::Restart;
@@ -41,23 +41,30 @@ pub fn restart_input<C: OwnerCheck, S: Source, K: Sink>(
     sink: &mut K,
     disks: &mut Disks,
 ) -> Result<u8, Fault>
-    ensures ok { IfOk result (λ status. RestartWhole (checks_told C.told C.answers checks.items) asked
-        (S.left source.old) (S.left source.new) K.wrote sink.old sink.new disks.old disks.new status) }
+    ensures ok { IfOk result (λ status.
+        RestartWhole (checks_told C.told C.answers checks.items) asked
+        (S.left source.old) (S.left source.new) K.wrote sink.old sink.new disks.old disks.new
+        status) }
     ensures bound { IfOk result (λ status. status < 4) }
-    ensures source { result ≡ Err Fault.Source → HasRisen (S.faults source.old) (S.faults source.new)
+    ensures source { result ≡ Err Fault.Source
+        → HasRisen (S.faults source.old) (S.faults source.new)
         × Unchanged K.wrote sink.old sink.new }
     ensures sink { result ≡ Err Fault.Sink → HasRisen (K.faults sink.old) (K.faults sink.new)
-        × RestartFront (checks_told C.told C.answers checks.items) asked (S.left source.old) (S.left source.new)
+        × RestartFront (checks_told C.told C.answers checks.items) asked (S.left source.old)
+        (S.left source.new)
         K.wrote sink.old sink.new disks.old disks.new }
     ensures memory { result ≡ Err Fault.Memory → Unchanged K.wrote sink.old sink.new }
     // The disks change where the status is 0, and with the sink's fault perhaps.
     ensures kept { IfOk result (λ status. status ≢ 0 → disks.new ≡ disks.old) }
     ensures source_kept { result ≡ Err Fault.Source → disks.new ≡ disks.old }
     ensures memory_kept { result ≡ Err Fault.Memory → disks.new ≡ disks.old }
-    ensures source_uncounted { result ≢ Err Fault.Source → S.faults source.new ≡ S.faults source.old }
+    ensures source_uncounted { result ≢ Err Fault.Source
+        → S.faults source.new ≡ S.faults source.old }
     ensures sink_uncounted { result ≢ Err Fault.Sink → K.faults sink.new ≡ K.faults sink.old }
-    ensures source_taken { result ≡ Err Fault.Source → TakesAtMost most_bytes (S.left source.old) (S.left source.new) }
-    ensures memory_taken { result ≡ Err Fault.Memory → TakesAtMost (most_bytes + 1) (S.left source.old) (S.left source.new) }
+    ensures source_taken { result ≡ Err Fault.Source
+        → TakesAtMost most_read_bytes (S.left source.old) (S.left source.new) }
+    ensures memory_taken { result ≡ Err Fault.Memory
+        → TakesAtMost (most_read_bytes + 1) (S.left source.old) (S.left source.new) }
     ensures source_faults { S.faults source.old ≤ S.faults source.new }
     ensures sink_faults { K.faults sink.old ≤ K.faults sink.new }
 {

@@ -55,7 +55,8 @@ pub(crate) fn tell(
     told: &Told,
     disks: Disks,
 ) -> Result<Ended, AllocError>
-    ensures answer { IfOk result (λ ended. ended.answer ≡ record { lines = restart_line restart told.now ∷ []; status = 0 }) }
+    ensures answer { IfOk result (λ ended.
+        ended.answer ≡ record { lines = restart_line restart told.now ∷ []; status = 0 }) }
     ensures disks { IfOk result (λ ended. ended.disks ≡ Some disks) }
 {
     let line = restart_line(alloc, restart, told)?;

@@ -26,8 +26,8 @@ use Rattle.authority_core.specs.Confirming.{confirming_checks, confirming_too, c
 use Rattle.authority_core.specs.EndorseRow.{asked_of, endorse_due, endorse_row, endorsing}
 use Rattle.authority_core.specs.RollRows.{learning, roll_by, roll_message, roll_note_by, roll_note_row, roll_row, rolling}
 use Rattle.authority_core.specs.Row.{message_row, row}
-use Rattle.authority_core.specs.State.{Answer, AuthorityState, sends}
-use Rattle.authority_core.specs.declared.entries.Asked.{Asked}
+use Rattle.authority_core.specs.State.{AuthorityAnswer, AuthorityState, sends}
+use Rattle.authority_core.specs.declared.entries.Approved.{Approved}
 use Rattle.authority_core.specs.declared.entries.Kept.{Kept}
 use Rattle.authority_core.specs.declared.refusal.AuthorityRefusal.{AuthorityRefusal}
 use Rattle.client_rule.proofs.Claiming.{roll-claims}
@@ -51,15 +51,15 @@ use Rattle.run_safety.specs.Own.{PartyParts}
 -- ---- rows that leave an authority's directory
 
 -- where a row answers, the authority's directory is as it was
-abbrev SameBy : AuthorityState → Answer → Type 0
+abbrev SameBy : AuthorityState → AuthorityAnswer → Type 0
 SameBy s answer = (later : AuthorityState) (sent : Unsigned) → answer ≡ Ok (later, sent) → later.keys ≡ s.keys
 
 -- where checks stand before it
-ordered-same : (s : AuthorityState) (checks : Result (Unit {0}) AuthorityRefusal) (answer : Answer) → SameBy s answer → SameBy s (result_and checks answer)
+ordered-same : (s : AuthorityState) (checks : Result (Unit {0}) AuthorityRefusal) (answer : AuthorityAnswer) → SameBy s answer → SameBy s (result_and checks answer)
 ordered-same s (Ok u) answer same = same
 ordered-same s (Err refusal) answer same = λ later sent is. absurd cc
 
-endorsing-same : (s : AuthorityState) (owner : ℕ) (a : Asked) (said : Outcome) → SameBy s (endorsing s owner a said)
+endorsing-same : (s : AuthorityState) (owner : ℕ) (a : Approved) (said : Outcome) → SameBy s (endorsing s owner a said)
 unfolding endorsing
 endorsing-same s owner a said later sent is = ap (λ (x : AuthorityState). x.keys) (due-state (endorse_due s.me s.past a said) _ _ later sent is)
 

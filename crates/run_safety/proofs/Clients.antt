@@ -6,7 +6,7 @@ use Rattle.std.proofs.lemmas.List.{map-append}
 use Rattle.std.proofs.lemmas.List.Elements.{All-cons, All-head, All-nil, All-push, All-tail}
 use Rattle.ar_council.proofs.Members.{council-learning}
 use Rattle.ar_council.specs.Council.{council_of}
-use Rattle.ar_safety.specs.Held.{IsTaken, Taken, asked_by, verdict_on}
+use Rattle.ar_safety.specs.Held.{IsAccepting, Taken, asked_by, verdict_on}
 use Rattle.ar_world.specs.Records.{HasParties}
 use Rattle.ar_world.specs.Judging.{accepted_with, judged_by_rule}
 use Rattle.report_text.specs.Verdicts.{said_of}
@@ -28,7 +28,7 @@ use Rattle.run_safety.proofs.Parts.{Makes, part_of, told_by, told_in}
 -- ---- `learn`
 
 -- what was accepted is accepted by a directory that learnt
-same-verdict : (keys : Directory) (note : Option Announced) (t : Taken) (v : Judgement) → verdict_on keys t ≡ v → IsTaken v → verdict_on (knows_by keys note) t ≡ v
+same-verdict : (keys : Directory) (note : Option Announced) (t : Taken) (v : Judgement) → verdict_on keys t ≡ v → IsAccepting v → verdict_on (knows_by keys note) t ≡ v
 same-verdict keys None t v is taken = is
 same-verdict keys (Some a) t (Accepted certificate digest epoch root) is taken =
     still_accepted (asked_by keys t) (a ∷ []) t.bytes certificate digest epoch root is
@@ -38,18 +38,18 @@ same-verdict keys (Some a) t (Refused number) is taken = absurd taken
 
 -- all of it
 record AreSame (keys later : Directory) (judged : List Taken) : Type 0 where
-  taken : All (λ t. IsTaken (verdict_on later t)) judged
+  taken : All (λ t. IsAccepting (verdict_on later t)) judged
   told : map (told_by keys) judged ≡ map (told_by later) judged
 
-all-same : (keys : Directory) (note : Option Announced) (judged : List Taken) → All (λ t. IsTaken (verdict_on keys t)) judged → AreSame keys (knows_by keys note) judged
-all-same keys note [] taken = record { taken = All-nil (λ t. IsTaken (verdict_on (knows_by keys note) t)); told = refl }
+all-same : (keys : Directory) (note : Option Announced) (judged : List Taken) → All (λ t. IsAccepting (verdict_on keys t)) judged → AreSame keys (knows_by keys note) judged
+all-same keys note [] taken = record { taken = All-nil (λ t. IsAccepting (verdict_on (knows_by keys note) t)); told = refl }
 all-same keys note (t ∷ more) taken =
-    let holds : Taken → Type 0 = λ t. IsTaken (verdict_on keys t) in
+    let holds : Taken → Type 0 = λ t. IsAccepting (verdict_on keys t) in
     let head = All-head holds t more taken in
     let rest = all-same keys note more (All-tail holds t more taken) in
     let same : verdict_on (knows_by keys note) t ≡ verdict_on keys t = same-verdict keys note t (verdict_on keys t) refl head in
     record {
-      taken = All-cons (λ t. IsTaken (verdict_on (knows_by keys note) t)) t more (subst IsTaken (sym same) head) rest.taken;
+      taken = All-cons (λ t. IsAccepting (verdict_on (knows_by keys note) t)) t more (subst IsAccepting (sym same) head) rest.taken;
       told = ap (λ v. said_of t.name v ∷ map (told_by keys) more) (sym same) ∙ ap (λ xs. told_by (knows_by keys note) t ∷ xs) rest.told;
     }
 
@@ -91,13 +91,13 @@ learning-makes w message note = record {
 
 -- what is held and what is written behind a judgement
 record IsHeld (keys : Directory) (judged : List Taken) (t : Taken) (v : Judgement) : Type 0 where
-  taken : All (λ t. IsTaken (verdict_on keys t)) judged → All (λ t. IsTaken (verdict_on keys t)) (accepted_with judged t v)
+  taken : All (λ t. IsAccepting (verdict_on keys t)) judged → All (λ t. IsAccepting (verdict_on keys t)) (accepted_with judged t v)
   told : (message : ℕ) → map (told_by keys) judged ++ filter_map accepted_in (Judged message (said_of t.name v) ∷ []) ≡ map (told_by keys) (accepted_with judged t v)
 
 -- one more
-one-held : (keys : Directory) (judged : List Taken) (t : Taken) (v : Judgement) → verdict_on keys t ≡ v → IsTaken v
-    → All (λ t. IsTaken (verdict_on keys t)) judged → All (λ t. IsTaken (verdict_on keys t)) (judged ++ t ∷ [])
-one-held keys judged t v is taken all = All-push (λ t. IsTaken (verdict_on keys t)) judged t all (subst IsTaken (sym is) taken)
+one-held : (keys : Directory) (judged : List Taken) (t : Taken) (v : Judgement) → verdict_on keys t ≡ v → IsAccepting v
+    → All (λ t. IsAccepting (verdict_on keys t)) judged → All (λ t. IsAccepting (verdict_on keys t)) (judged ++ t ∷ [])
+one-held keys judged t v is taken all = All-push (λ t. IsAccepting (verdict_on keys t)) judged t all (subst IsAccepting (sym is) taken)
 
 one-told : (keys : Directory) (judged : List Taken) (t : Taken) (v : Judgement) → verdict_on keys t ≡ v
     → map (told_by keys) judged ++ said_of t.name v ∷ [] ≡ map (told_by keys) (judged ++ t ∷ [])

@@ -37,7 +37,7 @@ use Rattle.ar_world.specs.Step.{event_effect, step}
 use Rattle.ar_world.specs.declared.phase.Phase.TheVariants.{Running}
 use Rattle.authority_core.specs.ConfirmRows.{half_confirmed_row}
 use Rattle.authority_core.specs.Row.{message_row}
-use Rattle.authority_core.specs.State.{Answer}
+use Rattle.authority_core.specs.State.{AuthorityAnswer}
 use Rattle.client_rule.specs.Rule.{Asked, judgement}
 use Rattle.client_rule.specs.declared.judgement.Judgement.TheVariants.{Absent, Accepted}
 use Rattle.hash_tree.specs.declared.bottom.Bottom.{Bottom}
@@ -123,7 +123,7 @@ sent-in pool who letters letter is =
     (Contains-append_right (messages_of pool) (in_bytes letter.bytes ∷ []) (in_bytes letter.bytes) (0, omega arith, refl)))
 
 -- the authority's answer to it
-reply-is : (says : Outcome) (node : AuthorityNode) (bytes : List ℕ) (part : Confirming) (first_signature : List ℕ) (answer : Answer)
+reply-is : (says : Outcome) (node : AuthorityNode) (bytes : List ℕ) (part : Confirming) (first_signature : List ℕ) (answer : AuthorityAnswer)
     → message_in bytes ≡ Ok (HalfConfirmed part first_signature) → half_confirmed_row node.state part first_signature ≡ answer
     → authority_reply says node.state node.check (message_in bytes) ≡ answer
 unfolding message_row
@@ -134,7 +134,7 @@ delivery-sends : (says : Outcome) (w : World) (message number : ℕ) (node : Aut
     → ConfirmsToo w message number node part first_signature sent → IsSent (delivery says w message number (an_authority node)).0 node sent
 unfolding authority_delivered
 delivery-sends says w message number node part first_signature sent kept c =
-    subst (λ (a : Answer). Contains (messages_of (pool_behind noted who (authority_does (node_behind node (message_in bytes) reply) a).1)) (in_bytes (bytes_at (filled node.keys sent).messages 0)))
+    subst (λ (a : AuthorityAnswer). Contains (messages_of (pool_behind noted who (authority_does (node_behind node (message_in bytes) reply) a).1)) (in_bytes (bytes_at (filled node.keys sent).messages 0)))
     (sym is) (sent-in noted who (filled node.keys sent).messages _ (row-letter node.state node.keys part first_signature c.later sent (world-ring w number node kept c.there)
     (is-message w message number node part first_signature sent kept c) c.answers))
   where
@@ -147,7 +147,7 @@ delivery-sends says w message number node part first_signature sent kept c =
     bytes : List ℕ
     bytes = bytes_of (numbered w.pool message)
 
-    reply : Answer
+    reply : AuthorityAnswer
     reply = authority_reply says node.state node.check (message_in bytes)
 
     is : reply ≡ Ok (c.later, sent)

@@ -117,7 +117,7 @@ owner-takers w is pool role.Client n = refl
 posted-few : (who : Party) (letters : List Letter) → length letters ≤ 2 → length (map (pooled_from who) letters) ≤ 2
 posted-few who letters few = let many = length-map letters (pooled_from who) in omega arith
 
-log-sends : (w : World) (number : ℕ) (node : LogNode) (keys : List KeyParts) (what : What) (event : LogEvent) (a : log_state.Answer) → log_at w number ≡ Some node
+log-sends : (w : World) (number : ℕ) (node : LogNode) (keys : List KeyParts) (what : What) (event : LogEvent) (a : log_state.LogAnswer) → log_at w number ≡ Some node
     → ((reply : log_state.Reply) → a ≡ Ok reply → length reply.unsigned.sent.messages ≤ log_state.most_sent)
     → Sends w (log_made w number (acted w.pool (log_party number) what (log_does node keys event a))).0
 log-sends w number node keys what event (Ok reply) there few =
@@ -144,7 +144,7 @@ obeyed-sends : (w : World) (number : ℕ) (what : What) (event : LogEvent) (inpu
 unfolding log_obeyed
 obeyed-sends w number what event input node there = log-sends w number node node.keys what event (row node.core input) there (log.row-few node.core input)
 
-authority-sends : (w : World) (number : ℕ) (was node : AuthorityNode) (what : What) (a : authority_state.Answer) → authority_at w number ≡ Some was
+authority-sends : (w : World) (number : ℕ) (was node : AuthorityNode) (what : What) (a : authority_state.AuthorityAnswer) → authority_at w number ≡ Some was
     → ((later : authority_state.AuthorityState) (sent : Unsigned) → a ≡ Ok (later, sent) → length sent.sent.messages ≤ authority_state.most_sent)
     → Sends w (authority_made w number (acted w.pool (authority_party number) what (authority_does node a))).0
 authority-sends w number was node what (Ok answer) there few =

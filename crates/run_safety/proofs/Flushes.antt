@@ -10,7 +10,7 @@ use Rattle.ar_statement.specs.declared.party.Party.{Party}
 use Rattle.ar_world.specs.Delivering.{can_deliver, deliver_line, delivery, due_from, due_or, due_to, next_due, taker_at}
 use Rattle.ar_nodes.specs.Pool.{delivered_to}
 use Rattle.ar_world.specs.Finding.{Effect, has_room, message_at, room}
-use Rattle.ar_nodes.specs.Pool.{most_bytes, most_messages}
+use Rattle.ar_nodes.specs.Pool.{most_pool_bytes, most_messages}
 use Rattle.ar_world.specs.Founding.{led_to, may_come}
 use Rattle.ar_nodes.specs.Pool.{Pooled, bytes_in, numbered, set_numbered}
 use Rattle.ar_world.specs.Run.{Progress, delivering, flushed, most_deliveries, progress_of, taken, then_on}
@@ -73,7 +73,7 @@ record AreEnough (most : ℕ) (w : World) : Type 0 where
 has-free : (w : World) → has_room w ≡ true → length w.pool < most_messages
 unfolding has_room
 has-free w free =
-    ltb-true (length w.pool) most_messages (and_parts (nat_lt (length w.pool) most_messages) (nat_lt (bytes_in w.pool) most_bytes) free).0
+    ltb-true (length w.pool) most_messages (and_parts (nat_lt (length w.pool) most_messages) (nat_lt (bytes_in w.pool) most_pool_bytes) free).0
 
 -- messages come behind the pool, one of which is changed
 longer : (pool new : List Pooled) (place : ℕ) (p : Pooled) → length (slice_set pool place p ++ new) ≡ length pool + length new

@@ -14,7 +14,7 @@ use Rattle.ar_council.specs.Council.{council_of}
 use Rattle.ar_message.specs.Confirmation.{Confirmation, confirmation_at}
 use Rattle.ar_nodes.specs.Parties.{AuthorityNode, CheckParts, LogNode}
 use Rattle.ar_safety.proofs.Held.{own-record}
-use Rattle.ar_safety.specs.Held.{IsTaken, Taken, asked_by, judged_in, record_at, records_of, verdict_on}
+use Rattle.ar_safety.specs.Held.{IsAccepting, Taken, asked_by, judged_in, record_at, records_of, verdict_on}
 use Rattle.ar_safety.specs.Records.{AreSigned, IsHonest, Judged, carried, seen_by, signed_by}
 use Rattle.ar_safety.specs.Theorem.{NoForgery}
 use Rattle.ar_statement.specs.Claims.{authority_party, log_party, party}
@@ -194,7 +194,7 @@ record WasRead (directory : Directory) (t : Taken) : Type 0 where
   confirmation : Confirmation
   passes : Passes (asked_by directory t) t.bytes confirmation
 
-read-of : (directory : Directory) (t : Taken) (v : Judgement) → verdict_on directory t ≡ v → IsTaken v → WasRead directory t
+read-of : (directory : Directory) (t : Taken) (v : Judgement) → verdict_on directory t ≡ v → IsAccepting v → WasRead directory t
 read-of directory t (Accepted certificate digest epoch root) is taken =
     let a = (accepted (asked_by directory t) t.bytes certificate digest epoch root).0 is in record { confirmation = a.confirmation; passes = a.passes }
 read-of directory t (Absent epoch root) is taken =
@@ -238,7 +238,7 @@ judged-signed : (f : World) → KeepsWorld f → IsFinal f → Real f f → All 
 judged-signed f kept final real =
     all-taken (judged_in f.clients) (λ (j : Judged). AreSigned (records_of (held_of f)) (carried j.confirmation)) f.judged (λ t there j gives.
     let are : AreBytes t.bytes = All-contains (λ (x : Taken). AreBytes x.bytes) f.judged t kept.each_judged there in
-    let taken : IsTaken (verdict_on f.clients t) = All-contains (λ (x : Taken). IsTaken (verdict_on f.clients x)) f.judged t final.seated.taken there in
+    let taken : IsAccepting (verdict_on f.clients t) = All-contains (λ (x : Taken). IsAccepting (verdict_on f.clients x)) f.judged t final.seated.taken there in
     let was : WasRead f.clients t = read-of f.clients t (verdict_on f.clients t) refl taken in
     let same : as_judged f.clients t was.confirmation ≡ j = same_Some _ _ (sym (judged-is f.clients t was.confirmation was.passes.is_read) ∙ gives) in
     subst (λ (x : Judged). AreSigned (records_of (held_of f)) (carried x.confirmation)) same
@@ -295,7 +295,7 @@ judged-shown : (f : World) → KeepsWorld f → IsSeated f → Seen f → (t : T
     → (s : SeenText) → Contains (carried c) s → IsVerifiedIn f.clients (shown f) s
 judged-shown f kept seated seen t c there is s has =
     let are : AreBytes t.bytes = All-contains (λ (x : Taken). AreBytes x.bytes) f.judged t kept.each_judged there in
-    let taken : IsTaken (verdict_on f.clients t) = All-contains (λ (x : Taken). IsTaken (verdict_on f.clients x)) f.judged t seated.taken there in
+    let taken : IsAccepting (verdict_on f.clients t) = All-contains (λ (x : Taken). IsAccepting (verdict_on f.clients x)) f.judged t seated.taken there in
     let was : WasRead f.clients t = read-of f.clients t (verdict_on f.clients t) refl taken in
     let same : was.confirmation ≡ c = same_Some was.confirmation c (ap result_ok (sym was.passes.is_read ∙ is)) in
     All-contains (IsVerifiedIn f.clients (shown f)) (carried c) s

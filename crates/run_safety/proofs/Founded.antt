@@ -6,7 +6,7 @@ use Rattle.std.specs.Result.{result_ok}
 use Rattle.std.proofs.lemmas.List.{length-map}
 use Rattle.std.proofs.lemmas.List.Elements.{All-nil}
 use Rattle.std.proofs.lemmas.List.FromFn.{length-map-range_with_len}
-use Rattle.ar_safety.specs.Held.{IsTaken, Taken, verdict_on}
+use Rattle.ar_safety.specs.Held.{IsAccepting, Taken, verdict_on}
 use Rattle.ar_statement.specs.Claims.{authority_party, is_party, log_party}
 use Rattle.ar_statement.specs.declared.party.Party.{Party}
 use Rattle.ar_statement.specs.declared.party.Role.{Role}
@@ -113,8 +113,8 @@ pub keys-quiet : (setup : Setup) (r : Role) (count : ℕ) → filter_map marked_
 keys-quiet setup r count = made-quiet setup r (range_with_len 0 count)
 
 -- nothing is held
-none-taken : (clients : Directory) (judged : List Taken) → judged ≡ [] → All (λ t. IsTaken (verdict_on clients t)) judged
-none-taken clients judged none = subst (All (λ t. IsTaken (verdict_on clients t))) (sym none) (All-nil (λ t. IsTaken (verdict_on clients t)))
+none-taken : (clients : Directory) (judged : List Taken) → judged ≡ [] → All (λ t. IsAccepting (verdict_on clients t)) judged
+none-taken clients judged none = subst (All (λ t. IsAccepting (verdict_on clients t))) (sym none) (All-nil (λ t. IsAccepting (verdict_on clients t)))
 
 peopled-seated : (w : World) (count : ℕ) (genesis : Directory) → genesis_of w.setup count ≡ Some genesis → Bare (part_of w)
     → SeatedIn (part_of (peopled w count genesis).0)

@@ -99,7 +99,7 @@ pub log-does-kept : (node : LogNode) (event : LogEvent) (input : log_state.Input
     → KeepsLog (log_does node node.keys event (row node.core input)).0
 log-does-kept node event input kept is plain = by (row node.core input) refl
   where
-    by : (a : log_state.Answer) → row node.core input ≡ a → KeepsLog (log_does node node.keys event a).0
+    by : (a : log_state.LogAnswer) → row node.core input ≡ a → KeepsLog (log_does node node.keys event a).0
     by (Ok reply) at = record {
       core = kept-row node.core input reply kept.core is at;
       book = (log.plain-signs node.core input node.keys reply.after reply.unsigned kept.core is plain kept.book at).stays;
@@ -124,7 +124,7 @@ log-rolls-kept node next kept there = by (row node.core (log_state.rolls (public
     is : IsInput (log_state.rolls (public_of next))
     is = log.next_is_input (public_of next) (public-text next) (public-widths next)
 
-    by : (a : log_state.Answer) → row node.core (log_state.rolls (public_of next)) ≡ a → KeepsLog (log_does node (node.keys ++ next ∷ []) events.Roll a).0
+    by : (a : log_state.LogAnswer) → row node.core (log_state.rolls (public_of next)) ≡ a → KeepsLog (log_does node (node.keys ++ next ∷ []) events.Roll a).0
     by (Ok reply) at = record {
       core = kept-row node.core (log_state.rolls (public_of next)) reply kept.core is at;
       book = (log.rolled-signs node.core node.keys (node.keys ++ next ∷ []) next reply.after reply.unsigned kept.core is kept.book behind refl
@@ -160,7 +160,7 @@ authority-took-kept says node bytes kept are = by (authority_reply says node.sta
     said : Outcome
     said = says_to says node.check (rows.asked_in (message_in bytes))
 
-    by : (a : authority_state.Answer) → authority_reply says node.state node.check (message_in bytes) ≡ a → KeepsAuthority (authority_does (node_behind node (message_in bytes) a) a).0
+    by : (a : authority_state.AuthorityAnswer) → authority_reply says node.state node.check (message_in bytes) ≡ a → KeepsAuthority (authority_does (node_behind node (message_in bytes) a) a).0
     by (Ok answer) at =
         let signs = authority.row-signs node.state node.keys (is_none node.check) (message_in bytes) said kept.book kept.state.honest.sound answer.0 answer.1 at in
         record {
@@ -200,7 +200,7 @@ authority-rolls-kept node next kept there = by (roll_row node.state (public_of n
     Knows : authority_state.AuthorityState → Type 0
     Knows later = KnowsRing later.keys (authority_party later.me) later.past.signed.leaves more
 
-    by : (a : authority_state.Answer) → roll_row node.state (public_of next) ≡ a → KeepsAuthority (authority_turned node next a).0
+    by : (a : authority_state.AuthorityAnswer) → roll_row node.state (public_of next) ≡ a → KeepsAuthority (authority_turned node next a).0
     by (Ok answer) at =
         let rolled = authority.roll-signs s more (public_of next) answer.0 answer.1 (authority.rolled-ring s node.keys next kept.book behind) at in
         record {

@@ -23,8 +23,8 @@ use Rattle.authority_core.specs.Confirming.{confirming_checks, confirming_too, c
 use Rattle.authority_core.specs.EndorseRow.{asked_of, endorse_due, endorse_row, endorsing}
 use Rattle.authority_core.specs.RollRows.{learning, roll_note_by, roll_note_row}
 use Rattle.authority_core.specs.Row.{message_row, row}
-use Rattle.authority_core.specs.State.{Answer, AuthorityState}
-use Rattle.authority_core.specs.declared.entries.Asked.{Asked}
+use Rattle.authority_core.specs.State.{AuthorityAnswer, AuthorityState}
+use Rattle.authority_core.specs.declared.entries.Approved.{Approved}
 use Rattle.authority_core.specs.declared.entries.Kept.{Kept}
 use Rattle.authority_core.specs.declared.refusal.AuthorityRefusal.{AuthorityRefusal}
 use Rattle.lms_tree.specs.declared.public_key.LmsPublic.{LmsPublic}
@@ -44,15 +44,15 @@ abbrev Learns : AuthorityState → AuthorityState → Type 0
 Learns s later = (announced : List Announced) × (later.keys ≡ after_all s.keys announced)
 
 -- where a row answers, the authority's directory learnt
-abbrev pub LearnsBy : AuthorityState → Answer → Type 0
+abbrev pub LearnsBy : AuthorityState → AuthorityAnswer → Type 0
 LearnsBy s answer = (later : AuthorityState) (sent : Unsigned) → answer ≡ Ok (later, sent) → Learns s later
 
 -- where checks stand before it
-ordered-learns : (s : AuthorityState) (checks : Result (Unit {0}) AuthorityRefusal) (answer : Answer) → LearnsBy s answer → LearnsBy s (result_and checks answer)
+ordered-learns : (s : AuthorityState) (checks : Result (Unit {0}) AuthorityRefusal) (answer : AuthorityAnswer) → LearnsBy s answer → LearnsBy s (result_and checks answer)
 ordered-learns s (Ok u) answer learns = learns
 ordered-learns s (Err refusal) answer learns = λ later sent is. absurd cc
 
-endorsing-learns : (s : AuthorityState) (owner : ℕ) (a : Asked) (said : Outcome) → LearnsBy s (endorsing s owner a said)
+endorsing-learns : (s : AuthorityState) (owner : ℕ) (a : Approved) (said : Outcome) → LearnsBy s (endorsing s owner a said)
 unfolding endorsing
 endorsing-learns s owner a said later sent is = subst (Learns s) (sym (due-state (endorse_due s.me s.past a said) _ _ later sent is)) ([], refl)
 

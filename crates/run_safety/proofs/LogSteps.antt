@@ -1,19 +1,17 @@
 -- A log's row is a step of its party: its directory learns no more than the Roll of a note that it takes.
 use Rattle.std.proofs.Common.{◌≡◌, ◌∙◌, ◌⊎◌, inl, inr, ℕ, List, refl, ap, subst, Bool, true, false, cond, Option, Some, None, Result, Ok, Err}
 use Rattle.std.specs.Prelude.{Contains}
-use Rattle.std.specs.Option.{option_map}
 use Rattle.ar_base.specs.Bytes.{AreBytes}
 use Rattle.ar_base.specs.Prefixes.{BeginsWith}
 use Rattle.ar_cert.specs.Changes.{Change}
 use Rattle.ar_claims.specs.Claimed.{claimed_in_bytes}
 use Rattle.ar_claims.specs.Verified.{IsVerifiedIn}
-use Rattle.ar_council.specs.Values.{value_of_roots}
 use Rattle.ar_message.proofs.MessageLaws.{only_messages}
 use Rattle.ar_message.specs.Messages.{message_in}
 use Rattle.ar_message.specs.declared.lists.LogStatus.{LogStatus}
 use Rattle.ar_message.specs.declared.message.Message.{Message}
 use Rattle.ar_message.specs.declared.message.Message.TheVariants as messages
-use Rattle.ar_statement.specs.Claims.{log_party}
+use Rattle.ar_statement.specs.Claims.{log_party, value_with}
 use Rattle.ar_statement.specs.declared.party.Party.{Party}
 use Rattle.ar_statement.specs.declared.text.SeenText.{SeenText}
 use Rattle.client_rule.proofs.Claiming.{roll-claims}
@@ -28,7 +26,7 @@ use Rattle.log_core.proofs.Later.{row-adds}
 use Rattle.log_core.proofs.Passed.{passed}
 use Rattle.log_core.specs.Balloted.{ballot_checks, ballot_reply, ballot_row}
 use Rattle.log_core.specs.Claimed.{IsOwnSigned, claims_of}
-use Rattle.log_core.specs.Confirming.{Asked, confirm_checks, confirm_reply, confirm_row}
+use Rattle.log_core.specs.Confirming.{ConfirmQuestion, confirm_checks, confirm_reply, confirm_row}
 use Rattle.log_core.specs.Decided.{Decision, decision_checks, decision_reply, decision_row}
 use Rattle.log_core.specs.Keyed.{IsPlain}
 use Rattle.log_core.specs.Learning.{is_learned, roll_note_checks, roll_note_reply, roll_note_row}
@@ -86,7 +84,7 @@ skip-same : (s : CoreState) (epoch : ℕ) (statuses : List LogStatus) (reply : R
 unfolding skip_row
 skip-same s epoch statuses reply answer = subst (SameKeys s) (passed (skip_checks s epoch statuses) (skip_reply s statuses) reply answer).1 refl
 
-confirm-same : (s : CoreState) (asked : Asked) (reply : Reply) → confirm_row s asked ≡ Ok reply → SameKeys s reply
+confirm-same : (s : CoreState) (asked : ConfirmQuestion) (reply : Reply) → confirm_row s asked ≡ Ok reply → SameKeys s reply
 unfolding confirm_row
 confirm-same s asked reply answer = subst (SameKeys s) (passed (confirm_checks s asked) (confirm_reply s s.log.newest asked) reply answer).1 (by s.log.newest)
   where
@@ -132,12 +130,12 @@ message-teaches s bytes (messages.EndorseAsk owner cert) reply are read answer =
 message-teaches s bytes (messages.Endorsed owner authority certificate signature) reply are read answer = absurd cc
 message-teaches s bytes (messages.Submit change) reply are read answer = inl (submit-same s change reply answer)
 message-teaches s bytes (messages.Propose log epoch base root changes signature) reply are read answer =
-    inl (proposed-same s (record { log = log; epoch = epoch; value = value_of_roots (base, root); changes = changes; signature = signature }) reply answer)
-message-teaches s bytes (messages.Ballot log epoch base root signature) reply are read answer = inl (ballot-same s log epoch (value_of_roots (base, root)) signature reply answer)
+    inl (proposed-same s (record { log = log; epoch = epoch; value = value_with base root; changes = changes; signature = signature }) reply answer)
+message-teaches s bytes (messages.Ballot log epoch base root signature) reply are read answer = inl (ballot-same s log epoch (value_with base root) signature reply answer)
 message-teaches s bytes (messages.StatusNote log epoch value signature) reply are read answer =
-    inl (status-same s log epoch (option_map value_of_roots value) signature reply answer)
+    inl (status-same s log epoch value signature reply answer)
 message-teaches s bytes (messages.Decision epoch base root changes votes) reply are read answer =
-    inl (decision-same s (record { epoch = epoch; value = value_of_roots (base, root); changes = changes; votes = votes }) reply answer)
+    inl (decision-same s (record { epoch = epoch; value = value_with base root; changes = changes; votes = votes }) reply answer)
 message-teaches s bytes (messages.SkipNote epoch statuses) reply are read answer = inl (skip-same s epoch statuses reply answer)
 message-teaches s bytes (messages.ConfirmAsk client name first second) reply are read answer =
     inl (confirm-same s (record { client = client; name = name; first = first; second = second }) reply answer)

@@ -216,7 +216,7 @@ no-claims w c has = absurd (omega (arith, has.1))
 abbrev pub LogTakes : World → log_state.Input → Type 0
 LogTakes w input = (c : Claimed) → Contains (claims_of input) c → Contains (shown w) c
 
-log-answer-moves : (w : World) (number : ℕ) (pool : List Pooled) (what : What) (node : LogNode) (keys : List KeyParts) (event : LogEvent) (a : log_state.Answer) → log_at w number ≡ Some node
+log-answer-moves : (w : World) (number : ℕ) (pool : List Pooled) (what : What) (node : LogNode) (keys : List KeyParts) (event : LogEvent) (a : log_state.LogAnswer) → log_at w number ≡ Some node
     → messages_of pool ≡ messages_of w.pool
     → ((reply : log_state.Reply) → a ≡ Ok reply → Steps (log_party number) (shown w) (core_parts node.core node.keys) (core_parts reply.after keys))
     → Moves w (log_made w number (acted pool (log_party number) what (log_does node keys event a))).0
@@ -261,7 +261,7 @@ log-rolled-moves w number next node kept me there =
 
 -- ---- steps of authorities
 
-authority-answer-moves : (w : World) (number : ℕ) (pool : List Pooled) (what : What) (was node : AuthorityNode) (a : authority_state.Answer) → authority_at w number ≡ Some was
+authority-answer-moves : (w : World) (number : ℕ) (pool : List Pooled) (what : What) (was node : AuthorityNode) (a : authority_state.AuthorityAnswer) → authority_at w number ≡ Some was
     → messages_of pool ≡ messages_of w.pool → authority_parts node ≡ authority_parts was
     → ((later : authority_state.AuthorityState) (sent : Unsigned) → a ≡ Ok (later, sent) → Steps (authority_party number) (shown w) (authority_parts was) (state_parts later node.keys))
     → Moves w (authority_made w number (acted pool (authority_party number) what (authority_does node a))).0
@@ -284,7 +284,7 @@ authority-delivered-moves says w message number p node bytes there has =
     took-steps number (shown w) node.state node.keys (is_none node.check) taken (says_to says node.check (asked_in m)) later sent (delivered-bytes w.pool message bytes) at
     (λ c its. shown-within w message p has c (subst (λ (o : Option Pooled). Contains (claimed_in_bytes (bytes_of o)) c) has its)))
 
-turned-moves : (w : World) (number : ℕ) (next : KeyParts) (node : AuthorityNode) (a : authority_state.Answer) → authority_at w number ≡ Some node
+turned-moves : (w : World) (number : ℕ) (next : KeyParts) (node : AuthorityNode) (a : authority_state.AuthorityAnswer) → authority_at w number ≡ Some node
     → ((later : authority_state.AuthorityState) (sent : Unsigned) → a ≡ Ok (later, sent)
     → Steps (authority_party number) (shown w) (authority_parts node) (state_parts later (node.keys ++ next ∷ [])))
     → Moves w (authority_made w number (acted w.pool (authority_party number) whats.Roll (authority_turned node next a))).0

@@ -110,10 +110,10 @@ authority-put w number was is said there stays first none =
 -- ---- logs
 
 -- a step stays with who a log is, where its answer does
-abbrev LogStays : LogNode → log_state.Answer → Type 0
+abbrev LogStays : LogNode → log_state.LogAnswer → Type 0
 LogStays node a = (reply : log_state.Reply) → a ≡ Ok reply → (reply.after.log.me ≡ node.core.log.me) × (reply.after.log.council ≡ node.core.log.council)
 
-log-makes : (w : World) (number : ℕ) (pool : List Pooled) (node : LogNode) (keys : List KeyParts) (what : What) (event : LogEvent) (a : log_state.Answer) → log_at w number ≡ Some node
+log-makes : (w : World) (number : ℕ) (pool : List Pooled) (node : LogNode) (keys : List KeyParts) (what : What) (event : LogEvent) (a : log_state.LogAnswer) → log_at w number ≡ Some node
     → StaysFirst node.keys keys → LogStays node a → Makes w (log_made w number (acted pool (log_party number) what (log_does node keys event a)))
 log-makes w number pool node keys what event (Ok reply) there first stays =
     log-put w number node (record { core = reply.after; keys = keys; taken = node.taken ++ event ∷ [] }) _ there (stays reply refl) first
@@ -141,10 +141,10 @@ log-rolled-makes w number next node there =
 -- ---- authorities
 
 -- an answer keeps who an authority is
-abbrev Stays : authority_state.AuthorityState → authority_state.Answer → Type 0
+abbrev Stays : authority_state.AuthorityState → authority_state.AuthorityAnswer → Type 0
 Stays s a = (later : authority_state.AuthorityState) (sent : Unsigned) → a ≡ Ok (later, sent) → (later.me ≡ s.me) × (council_of later.keys ≡ council_of s.keys)
 
-authority-makes : (w : World) (number : ℕ) (pool : List Pooled) (was node : AuthorityNode) (what : What) (a : authority_state.Answer) → authority_at w number ≡ Some was
+authority-makes : (w : World) (number : ℕ) (pool : List Pooled) (was node : AuthorityNode) (what : What) (a : authority_state.AuthorityAnswer) → authority_at w number ≡ Some was
     → node.state ≡ was.state → StaysFirst was.keys node.keys → Stays was.state a
     → Makes w (authority_made w number (acted pool (authority_party number) what (authority_does node a)))
 authority-makes w number pool was node what (Ok answer) there same first stays =
@@ -163,7 +163,7 @@ authority-delivered-makes says w message number node there =
     in authority-makes w number (noted_in w.pool message (authority_party number)) node (node_behind node m a) (whats.Take message) a there refl (λ first is. is)
     (authority.row-stays node.state (is_none node.check) m (says_to says node.check (asked_in m)))
 
-turned-makes : (w : World) (number : ℕ) (node : AuthorityNode) (next : KeyParts) (a : authority_state.Answer) → authority_at w number ≡ Some node → Stays node.state a
+turned-makes : (w : World) (number : ℕ) (node : AuthorityNode) (next : KeyParts) (a : authority_state.AuthorityAnswer) → authority_at w number ≡ Some node → Stays node.state a
     → Makes w (authority_made w number (acted w.pool (authority_party number) whats.Roll (authority_turned node next a)))
 turned-makes w number node next (Ok answer) there stays =
     authority-makes w number w.pool node (record node { keys = node.keys ++ next ∷ [] }) whats.Roll (Ok answer) there refl (first-stays node.keys (next ∷ [])) stays

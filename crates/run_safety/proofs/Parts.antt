@@ -4,7 +4,7 @@ use Rattle.std.specs.Prelude.{ℕ, length, map, nat_le, slice_get, Some}
 use Rattle.std.specs.List.{filter_map}
 use Rattle.std.proofs.lemmas.List.Elements.{filter_map-append}
 use Rattle.ar_council.specs.Council.{council_of}
-use Rattle.ar_safety.specs.Held.{IsTaken, Taken, verdict_on}
+use Rattle.ar_safety.specs.Held.{IsAccepting, Taken, verdict_on}
 use Rattle.ar_statement.specs.declared.party.Party.{Party}
 use Rattle.ar_world.specs.Founding.{place_of}
 use Rattle.report_text.specs.Verdicts.{said_of}
@@ -52,7 +52,7 @@ pub record SeatedIn (p : Part) : Type 0 where
   pub logs : AreSeated log_party p.dishonest (length p.genesis.logs) (IsLogOf p.genesis) p.logs
   pub authorities : AreSeated authority_party p.dishonest (length p.genesis.authorities) (IsAuthorityOf p.genesis) p.authorities
   pub whole : length p.dishonest + (honest_count p.logs + honest_count p.authorities) ≡ length p.logs + length p.authorities
-  pub taken : All (λ t. IsTaken (verdict_on p.clients t)) p.judged
+  pub taken : All (λ t. IsAccepting (verdict_on p.clients t)) p.judged
 
 pub seated : (w : World) → SeatedIn (part_of w) → IsSeated w
 seated w s = record { council = s.council; known = s.known; logs = s.logs; authorities = s.authorities; whole = s.whole; taken = s.taken }

@@ -16,7 +16,7 @@ use Rattle.key_roll.specs.Book.{IsRollBook, RollBook, texts_of}
 use Rattle.key_roll.specs.Entry.{Serves, roll_text, with_roll}
 use Rattle.key_roll.specs.Later.{IsLaterBook}
 use Rattle.key_roll.specs.Rolls.{is_roll, is_roll_of, named_generation}
-use Rattle.key_roll.specs.declared.signed.Signed.{Signed}
+use Rattle.key_roll.specs.declared.signed.SignedText.{SignedText}
 use Rattle.lms_tree.specs.Key.{public_of}
 use Rattle.lms_tree.specs.KeyParts.{KeyParts}
 use Rattle.lms_tree.specs.PublicKey.{key_text}
@@ -26,16 +26,16 @@ use Rattle.run_safety.proofs.Rings.{get-push}
 -- ---- entries
 
 -- an entry has the text
-record HasEntry (list : List Signed) (text : List ℕ) : Type 0 where
+record HasEntry (list : List SignedText) (text : List ℕ) : Type 0 where
   place : ℕ
-  entry : Signed
+  entry : SignedText
   there : slice_get list place ≡ Some entry
   is : entry.text ≡ text
 
-entry-of : (list : List Signed) (text : List ℕ) → Contains (map (λ (s : Signed). s.text) list) text → HasEntry list text
+entry-of : (list : List SignedText) (text : List ℕ) → Contains (map (λ (s : SignedText). s.text) list) text → HasEntry list text
 entry-of list text there = at list there.0 there.1 there.2
   where
-    at : (list : List Signed) (k : ℕ) → k < length (map (λ (s : Signed). s.text) list) → get_or (map (λ (s : Signed). s.text) list) k text ≡ text → HasEntry list text
+    at : (list : List SignedText) (k : ℕ) → k < length (map (λ (s : SignedText). s.text) list) → get_or (map (λ (s : SignedText). s.text) list) k text ≡ text → HasEntry list text
     at [] k less same = absurd (omega (arith, less))
     at (s ∷ more) zero less same = record { place = 0; entry = s; there = refl; is = same }
     at (s ∷ more) (suc k) less same = let r = at more k (omega (arith, less)) same in record { place = suc r.place; entry = r.entry; there = r.there; is = r.is }
@@ -43,7 +43,7 @@ entry-of list text there = at list there.0 there.1 there.2
 -- the entry of a Roll is of the generation that it names
 record HasRoll (book : RollBook) (g : ℕ) (text : List ℕ) : Type 0 where
   place : ℕ
-  entry : Signed
+  entry : SignedText
   there : slice_get book.list place ≡ Some entry
   is : entry.text ≡ text
   rolls : is_roll entry.text ≡ true
@@ -54,13 +54,13 @@ roll-entry book g text sound rolls names has =
     let e = entry-of book.list text has in
     let is : is_roll e.entry.text ≡ true = ap is_roll e.is ∙ rolls in
     let named : named_generation e.entry.text ≡ e.entry.generation =
-    at-place (λ (s : Signed). is_roll s.text ≡ true → named_generation s.text ≡ s.generation) book.list e.place e.entry sound.named e.there is in
+    at-place (λ (s : SignedText). is_roll s.text ≡ true → named_generation s.text ≡ s.generation) book.list e.place e.entry sound.named e.there is in
     record { place = e.place; entry = e.entry; there = e.there; is = e.is; rolls = is; of = sym named ∙ ap named_generation e.is ∙ names }
 
 roll-serves : (book : RollBook) (g : ℕ) (text : List ℕ) → HasRoll book g text → Serves book g (book.leaves - 1) text
 roll-serves book g text r = (r.place, r.entry, (r.there, r.of, r.is, leaf-roll book r.place r.entry r.rolls))
 
-is-of : (g : ℕ) (s : Signed) → s.generation ≡ g → is_roll s.text ≡ true → is_roll_of g s ≡ true
+is-of : (g : ℕ) (s : SignedText) → s.generation ≡ g → is_roll s.text ≡ true → is_roll_of g s ≡ true
 is-of g s same holds = let e : eqb s.generation g ≡ true = eq-eqb _ _ same in rw (e, holds) refl
 
 -- and below the newest
@@ -103,9 +103,9 @@ rolled-is-next party p g key sound many rolls small has =
 
 pub texts-later : (book later : RollBook) (text : List ℕ) → IsLaterBook book later → Contains (texts_of book) text → Contains (texts_of later) text
 texts-later book later text on has =
-    subst (λ (list : List Signed). Contains (map (λ (s : Signed). s.text) list) text) (sym on.list.1)
-    (subst (λ texts. Contains texts text) (sym (map-append (λ (s : Signed). s.text) book.list on.list.0))
-    (Contains-append_left (texts_of book) (map (λ (s : Signed). s.text) on.list.0) text has))
+    subst (λ (list : List SignedText). Contains (map (λ (s : SignedText). s.text) list) text) (sym on.list.1)
+    (subst (λ texts. Contains texts text) (sym (map-append (λ (s : SignedText). s.text) book.list on.list.0))
+    (Contains-append_left (texts_of book) (map (λ (s : SignedText). s.text) on.list.0) text has))
 
 -- with the same keys, all of them are announced later too
 pub rolls-later : (party : Party) (book later : RollBook) (keys : List KeyParts) → IsLaterBook book later → HasRolls party book keys → HasRolls party later keys
@@ -120,7 +120,7 @@ rolls-first party book key g next there =
 -- the Roll stands in the book behind it
 with-roll-has : (book : RollBook) (text : List ℕ) → Contains (texts_of (with_roll book text)) text
 with-roll-has book text =
-    subst (λ texts. Contains texts text) (sym (map-append (λ (s : Signed). s.text) book.list (record { generation = book.newest; text = text } ∷ [])))
+    subst (λ texts. Contains texts text) (sym (map-append (λ (s : SignedText). s.text) book.list (record { generation = book.newest; text = text } ∷ [])))
     (Contains-push (texts_of book) text)
 
 -- and so it is with one key more, behind its Roll

@@ -5,7 +5,7 @@ use Rattle.std.specs.List.{filter_map}
 use Rattle.std.proofs.lemmas.Bool.{false_from_ne_true, leb-true, ltb-true}
 use Rattle.std.proofs.lemmas.List.Elements.{All-nil}
 use Rattle.std.proofs.lemmas.Result.{IfOk-weaker}
-use Rattle.ar_safety.specs.Held.{IsTaken, verdict_on}
+use Rattle.ar_safety.specs.Held.{IsAccepting, verdict_on}
 use Rattle.ar_world.specs.Founding.{is_peopled, may_come, place_of}
 use Rattle.ar_nodes.specs.Parties.{CheckParts}
 use Rattle.ar_world.specs.Records.{held_of}
@@ -140,7 +140,7 @@ first-stands checks = record {
     logs = record { all = refl; own = λ number node there. absurd cc; empty = λ number less. absurd (omega (arith, less)) };
     authorities = record { all = refl; own = λ number node there. absurd cc; empty = λ number less. absurd (omega (arith, less)) };
     whole = refl;
-    taken = All-nil (λ t. IsTaken (verdict_on no_directory t));
+    taken = All-nil (λ t. IsAccepting (verdict_on no_directory t));
   };
   bare = λ before. record { dishonest = refl; judged = refl };
   counted = omega arith;

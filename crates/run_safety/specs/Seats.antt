@@ -2,7 +2,7 @@
 use Rattle.std.specs.Prelude.{◌≡◌, ℕ, ◌+◌, ◌<◌, List, All, length, is_none, slice_get, Option, Some}
 use Rattle.std.specs.List.{filter_map}
 use Rattle.ar_council.specs.Council.{council_of}
-use Rattle.ar_safety.specs.Held.{IsTaken, verdict_on}
+use Rattle.ar_safety.specs.Held.{IsAccepting, verdict_on}
 use Rattle.ar_statement.specs.Claims.{authority_party, has_party, log_party}
 use Rattle.ar_statement.specs.declared.party.Party.{Party}
 use Rattle.ar_nodes.specs.Finding.{honest_in}
@@ -53,4 +53,4 @@ pub record IsSeated (w : World) : Type 0 where
   pub logs : AreSeated log_party (held_of w).dishonest (length w.genesis.logs) (IsLogOf w.genesis) w.logs
   pub authorities : AreSeated authority_party (held_of w).dishonest (length w.genesis.authorities) (IsAuthorityOf w.genesis) w.authorities
   pub whole : length (held_of w).dishonest + (honest_count w.logs + honest_count w.authorities) ≡ length w.logs + length w.authorities
-  pub taken : All (λ t. IsTaken (verdict_on w.clients t)) w.judged
+  pub taken : All (λ t. IsAccepting (verdict_on w.clients t)) w.judged

@@ -47,7 +47,8 @@ ghost use Rattle.script_text.specs.declared.line.Line.TheVariants.{Event};
 /// place of each other is empty, and it is one of the dishonest parties; and what clients hold they accepted, by their
 /// directory as it is. Before the line `authorities` there is none of them.
 pub fn a_run_keeps_its_parties()
-    ensures { (saying : Saying) (checks : List CheckParts) (input : List ℕ) → IsSeated (run saying checks input).world }
+    ensures { (saying : Saying) (checks : List CheckParts) (input : List ℕ)
+        → IsSeated (run saying checks input).world }
 {}
 
 /// What is written of a script as accepted, a certificate or that there is none, is what its clients hold, each by its
@@ -55,9 +56,11 @@ pub fn a_run_keeps_its_parties()
 pub fn what_is_written_as_accepted_is_held()
     ensures accepted { (saying : Saying) (checks : List CheckParts) (input : List ℕ)
         → filter_map accepted_in (run saying checks input).said
-        ≡ map (said_by (held_of (run saying checks input).world)) (held_of (run saying checks input).world).judged }
+        ≡ map (said_by (held_of (run saying checks input).world))
+        (held_of (run saying checks input).world).judged }
     ensures dishonest { (saying : Saying) (checks : List CheckParts) (input : List ℕ)
-        → filter_map dishonest_in (run saying checks input).said ≡ (held_of (run saying checks input).world).dishonest }
+        → filter_map dishonest_in (run saying checks input).said
+        ≡ (held_of (run saying checks input).world).dishonest }
 {}
 
 /// Where all parties are seated, and each keeps its own record, what they hold is what the theorem speaks of: the records of
@@ -71,7 +74,8 @@ pub fn what_seated_parties_hold_is_kept()
 /// and the clients' directory is one. So each honest party's record is an honest one's. (That the first key of a ring is the one
 /// of its place is in `a_run_keeps_its_parties`.)
 pub fn a_run_keeps_its_nodes()
-    ensures nodes { (saying : Saying) (checks : List CheckParts) (input : List ℕ) → KeepsWorld (run saying checks input).world }
+    ensures nodes { (saying : Saying) (checks : List CheckParts) (input : List ℕ)
+        → KeepsWorld (run saying checks input).world }
     ensures records { (w : World) → KeepsWorld w → HasParties w → KeepsRecords w }
 {}
 
@@ -79,31 +83,40 @@ pub fn a_run_keeps_its_nodes()
 /// front of its lines, and its book, its keys and what it saw have only grown since; and each message of then is there,
 /// with its bytes.
 pub fn what_is_signed_stays_signed()
-    ensures { (saying : Saying) (checks : List CheckParts) (input : List ℕ) (front rest : List (List ℕ))
+    ensures { (saying : Saying) (checks : List CheckParts) (input : List ℕ)
+        (front rest : List (List ℕ))
         → lines_of input ≡ front ++ rest
-        → Lasts (run_from saying 1 (first_world checks) front).world (run saying checks input).world }
+        → Lasts (run_from saying 1 (first_world checks) front).world
+        (run saying checks input).world }
 {}
 
 /// Where none of some claims is forged, a directory that knows of honest parties no keys but their real ones goes on so: a key
 /// that it learns of one, by a note that is one of the claims and that it verified, is the party's own next one, and so is
 /// one that a party takes as its own. And what it verified of an honest party stands in that party's book.
 pub fn what_is_learnt_stays_real()
-    ensures learnt { (own : HonestParties) (claims : List Claimed) (keys : Directory) (a : Announced) → NoneForged own claims
+    ensures learnt { (own : HonestParties) (claims : List Claimed) (keys : Directory)
+        (a : Announced) → NoneForged own claims
         → ((party : Party) (p : PartyParts) → own party ≡ Some p → IsOwned party p) → IsNoted a
-        → IsVerifiedIn keys claims (seen_of a.party (roll_claim a)) → KnowsReal own keys → KnowsReal own (after_learning keys a) }
-    ensures adopted { (own : HonestParties) (keys : Directory) (who : Party) (generation : ℕ) (key : KeyParts)
-        → ((p : PartyParts) → own who ≡ Some p → slice_get p.ring (generation + 1) ≡ Some key) → KnowsReal own keys
+        → IsVerifiedIn keys claims (seen_of a.party (roll_claim a)) → KnowsReal own keys
+        → KnowsReal own (after_learning keys a) }
+    ensures adopted { (own : HonestParties) (keys : Directory) (who : Party) (generation : ℕ)
+        (key : KeyParts)
+        → ((p : PartyParts) → own who ≡ Some p → slice_get p.ring (generation + 1) ≡ Some key)
+        → KnowsReal own keys
         → KnowsReal own (after_adopting keys who generation (public_of key)) }
-    ensures seen { (own : HonestParties) (claims : List Claimed) (keys : Directory) (t : SeenText) (p : PartyParts)
+    ensures seen { (own : HonestParties) (claims : List Claimed) (keys : Directory) (t : SeenText)
+        (p : PartyParts)
         → NoneForged own claims
-        → KnowsReal own keys → own t.party ≡ Some p → IsVerifiedIn keys claims t → Contains (texts_of p.book) t.text }
+        → KnowsReal own keys → own t.party ≡ Some p → IsVerifiedIn keys claims t
+        → Contains (texts_of p.book) t.text }
 {}
 
 /// Whatever is taken from others in a run stands in its messages, with a signature that is valid under the keys that its holder
 /// knows: what each honest log and authority saw of another party, each Roll from which clients learnt a key, and each of the
 /// three statements of a confirmation that they accepted.
 pub fn what_a_run_took_was_shown()
-    ensures { (saying : Saying) (checks : List CheckParts) (input : List ℕ) → AllShown (run saying checks input).world }
+    ensures { (saying : Saying) (checks : List CheckParts) (input : List ℕ)
+        → AllShown (run saying checks input).world }
 {}
 
 /// Where no signature that is valid under an honest party's own key stands in any message of a run, but on what that party
@@ -113,13 +126,15 @@ pub fn what_a_run_knows_is_real()
     ensures known { (saying : Saying) (checks : List CheckParts) (input : List ℕ)
         → Unforged (run saying checks input).world → AllReal (run saying checks input).world }
     ensures records { (saying : Saying) (checks : List CheckParts) (input : List ℕ)
-        → Unforged (run saying checks input).world → NoForgery (records_of (held_of (run saying checks input).world)) }
+        → Unforged (run saying checks input).world
+        → NoForgery (records_of (held_of (run saying checks input).world)) }
 {}
 
 /// Each run is safe, whatever lines a script has, and whatever checks of owners say: with at most two dishonest parties, no
 /// forged signature and no collision, of which the one on signatures speaks of keys and of the bytes of messages alone.
 pub fn a_run_is_safe()
-    ensures { (saying : Saying) (checks : List CheckParts) (input : List ℕ) → IsSafeRun (run saying checks input) }
+    ensures { (saying : Saying) (checks : List CheckParts) (input : List ℕ)
+        → IsSafeRun (run saying checks input) }
 {}
 
 /// In each world through which a run goes, behind each line and behind each delivery of a `flush`, each honest authority has its
@@ -128,27 +143,35 @@ pub fn a_run_is_safe()
 /// has the keys of the three signatures, as the clients' at the end of the run may. And what it sends so in a delivery of the
 /// run is one of the messages at its end. A run goes through each world in which it delivers, and through its last.
 pub fn what_a_run_confirms_is_accepted()
-    ensures ring { (saying : Saying) (checks : List CheckParts) (input : List ℕ) (w : World) (number : ℕ) (node : AuthorityNode)
-        → GoesThrough saying checks input w → authority_at w number ≡ Some node → IsWithRing node.state node.keys }
+    ensures ring { (saying : Saying) (checks : List CheckParts) (input : List ℕ) (w : World)
+        (number : ℕ) (node : AuthorityNode)
+        → GoesThrough saying checks input w → authority_at w number ≡ Some node
+        → IsWithRing node.state node.keys }
     ensures accepted { (saying : Saying) (checks : List CheckParts) (input : List ℕ) (w : World)
         (message number : ℕ) (node : AuthorityNode)
-        (part : Confirming) (first_signature : List ℕ) (sent : Unsigned) (asked : Asked) (certificate : Certificate)
-        → GoesThrough saying checks input w → ConfirmsToo w message number node part first_signature sent
+        (part : Confirming) (first_signature : List ℕ) (sent : Unsigned) (asked : Asked)
+        (certificate : Certificate)
+        → GoesThrough saying checks input w
+        → ConfirmsToo w message number node part first_signature sent
         → AsksForIt node part first_signature asked → shown_in part.body ≡ present certificate
         → judgement asked (bytes_at (filled node.keys sent).messages 0)
         ≡ Accepted certificate (digest_of certificate) part.epoch part.root }
     ensures absent { (saying : Saying) (checks : List CheckParts) (input : List ℕ) (w : World)
         (message number : ℕ) (node : AuthorityNode)
-        (part : Confirming) (first_signature : List ℕ) (sent : Unsigned) (asked : Asked) (bottom : Bottom)
-        → GoesThrough saying checks input w → ConfirmsToo w message number node part first_signature sent
+        (part : Confirming) (first_signature : List ℕ) (sent : Unsigned) (asked : Asked)
+        (bottom : Bottom)
+        → GoesThrough saying checks input w
+        → ConfirmsToo w message number node part first_signature sent
         → AsksForIt node part first_signature asked → shown_in part.body ≡ absent bottom
-        → judgement asked (bytes_at (filled node.keys sent).messages 0) ≡ Absent part.epoch part.root }
+        → judgement asked (bytes_at (filled node.keys sent).messages 0)
+        ≡ Absent part.epoch part.root }
     ensures sent { (saying : Saying) (checks : List CheckParts) (input : List ℕ) (w : World)
         (message number : ℕ) (node : AuthorityNode)
         (part : Confirming) (first_signature : List ℕ) (sent : Unsigned) (made : Moved)
         → Delivers saying checks input w message (authority_party number) made
         → ConfirmsToo w message number node part first_signature sent
-        → Contains (messages_of (run saying checks input).world.pool) (bytes_at (filled node.keys sent).messages 0) }
+        → Contains (messages_of (run saying checks input).world.pool)
+        (bytes_at (filled node.keys sent).messages 0) }
     ensures delivered { (saying : Saying) (checks : List CheckParts) (input : List ℕ) (w : World)
         (message : ℕ) (who : Party) (made : Moved)
         → Delivers saying checks input w message who made → GoesThrough saying checks input w }
@@ -163,6 +186,7 @@ pub fn a_flush_goes_to_its_end()
         → LeavesNothingDue (flushed most_deliveries says 0 w) }
     ensures logs { (saying : Saying) (checks : List CheckParts) (input : List ℕ)
         → length (run saying checks input).world.logs ≤ 16 }
-    ensures line { (saying : Saying) (checks : List CheckParts) (input : List ℕ) (says : ℕ → Outcome)
+    ensures line { (saying : Saying) (checks : List CheckParts) (input : List ℕ)
+        (says : ℕ → Outcome)
         → LeavesNothingDue (taken says (run saying checks input).world (Event Flush)) }
 {}

@@ -97,7 +97,8 @@ fn put_update(alloc: Global, out: &mut Vec<u8>, domains: u32, k: u32) -> Result<
 /// All batches of registrations.
 fn put_registrations(alloc: Global, out: &mut Vec<u8>, domains: u32) -> Result<(), AllocError>
     requires { domains ≤ 400 }
-    ensures { Appends (flat_map (registration domains) (range_with_len 0 (batches_of domains))) out.old out.new result }
+    ensures { Appends (flat_map (registration domains)
+        (range_with_len 0 (batches_of domains))) out.old out.new result }
 {
     for k in 0..batches_of(domains) {
         put_registration(alloc, out, domains, k)?;
@@ -108,7 +109,8 @@ fn put_registrations(alloc: Global, out: &mut Vec<u8>, domains: u32) -> Result<(
 /// All batches of updates.
 fn put_updates(alloc: Global, out: &mut Vec<u8>, domains: u32) -> Result<(), AllocError>
     requires { domains ≤ 400 }
-    ensures { Appends (flat_map (update domains) (range_with_len 0 (batches_of (updates_of domains)))) out.old out.new result }
+    ensures { Appends (flat_map (update domains)
+        (range_with_len 0 (batches_of (updates_of domains)))) out.old out.new result }
 {
     for k in 0..batches_of(updates_of(domains)) {
         put_update(alloc, out, domains, k)?;

@@ -246,7 +246,8 @@ pub(crate) fn put_rows(
     span: Span,
 ) -> Result<(), AllocError>
     requires { span.first + span.count ≤ 1000 }
-    ensures { Appends (flat_map (row_text row) (range_with_len span.first span.count)) out.old out.new result }
+    ensures { Appends (flat_map (row_text row)
+        (range_with_len span.first span.count)) out.old out.new result }
 {
     for i in span.first..span.first + span.count {
         put_row(alloc, out, row, i)?;

@@ -3,7 +3,7 @@ use Rattle.std.proofs.Common.{◌≡◌, ℕ, ◌+◌, ◌≤◌, ◌<◌, lengt
 use Rattle.std.proofs.lemmas.Bool.Decides.{nat_tests}
 use Rattle.ar_base.specs.Faults.{HasRisen}
 use Rattle.ar_run.specs.Answers.{Answer, written_of}
-use Rattle.ar_run.specs.Runs.{TakesAll, TakesAtMost, most_bytes}
+use Rattle.ar_run.specs.Runs.{TakesAll, TakesAtMost, most_read_bytes}
 use Rattle.ar_run.specs.Writing.{Writes}
 use Rattle.ar_run.specs.declared.fault.Fault.{Fault}
 use Rattle.ar_run.specs.declared.fault.Fault.TheVariants as fault
@@ -43,27 +43,27 @@ pub ruleset refusing_laws = (refusing-done, refusing-broken, refusing-no_more)
 
 -- ---- what is taken
 
-pub input-taken : (old new : Option (List ℕ)) (input : List ℕ) → TakesAll old new input → TakesAtMost (most_bytes + 1) old new
+pub input-taken : (old new : Option (List ℕ)) (input : List ℕ) → TakesAll old new input → TakesAtMost (most_read_bytes + 1) old new
 input-taken old new input takes = (input, takes.taken, takes.bounded)
 
 module _ {S : List ℕ → Type 0} (runs : (input : List ℕ) → S input → Run) where
   -- ---- the answer
 
-  short-answer : (input : List ℕ) (choice : S input) → length input ≤ most_bytes → answer_by runs input choice ≡ run_answer (runs input choice)
+  short-answer : (input : List ℕ) (choice : S input) → length input ≤ most_read_bytes → answer_by runs input choice ≡ run_answer (runs input choice)
   short-answer input choice few =
-      let so : nat_lt most_bytes (length input) ≡ false = grind (arith, nat_tests) in
+      let so : nat_lt most_read_bytes (length input) ≡ false = grind (arith, nat_tests) in
       ap (λ (b : Bool). if b then refused_line too_long else run_answer (runs input choice)) so
 
-  long-answer : (input : List ℕ) (choice : S input) → most_bytes < length input → answer_by runs input choice ≡ refused_line too_long
+  long-answer : (input : List ℕ) (choice : S input) → most_read_bytes < length input → answer_by runs input choice ≡ refused_line too_long
   long-answer input choice many =
-      let so : nat_lt most_bytes (length input) ≡ true = grind (arith, nat_tests) in
+      let so : nat_lt most_read_bytes (length input) ≡ true = grind (arith, nat_tests) in
       ap (λ (b : Bool). if b then refused_line too_long else run_answer (runs input choice)) so
 
   -- ---- an input that is played
 
   -- one that is not too long
   pub short-done : {K : Type 0} (faults : K → ℕ) (wrote : K → List ℕ → Type 0) (a b : K) (input : List ℕ) (p : Played) (status : ℕ)
-      → Plays runs faults wrote a b input (Ok p) → length input ≤ most_bytes → status ≡ run_status p.refused → IsPlayed runs faults wrote a b input (Ok status)
+      → Plays runs faults wrote a b input (Ok p) → length input ≤ most_read_bytes → status ≡ run_status p.refused → IsPlayed runs faults wrote a b input (Ok status)
   short-done faults wrote a b input p status plays few is =
       let whole = sym (short-answer input plays.choice few) in
       let bytes = text_of_run (runs input plays.choice) in
@@ -74,7 +74,7 @@ module _ {S : List ℕ → Type 0} (runs : (input : List ℕ) → S input → Ru
       }
 
   pub short-broken : {K : Type 0} (faults : K → ℕ) (wrote : K → List ℕ → Type 0) (a b : K) (input : List ℕ) (f : Fault)
-      → Plays runs faults wrote a b input (Err f) → length input ≤ most_bytes → IsPlayed runs faults wrote a b input (Err f)
+      → Plays runs faults wrote a b input (Err f) → length input ≤ most_read_bytes → IsPlayed runs faults wrote a b input (Err f)
   short-broken faults wrote a b input f plays few =
       let whole = sym (short-answer input plays.choice few) in
       let bytes = text_of_run (runs input plays.choice) in
@@ -86,7 +86,7 @@ module _ {S : List ℕ → Type 0} (runs : (input : List ℕ) → S input → Ru
 
   -- one that is
   pub long-played : {K : Type 0} (faults : K → ℕ) (wrote : K → List ℕ → Type 0) (a b : K) (input : List ℕ) (choice : S input) (result : Result ℕ Fault)
-      → most_bytes < length input → RefusesLong faults wrote a b result → IsPlayed runs faults wrote a b input result
+      → most_read_bytes < length input → RefusesLong faults wrote a b result → IsPlayed runs faults wrote a b input result
   long-played faults wrote a b input choice result many refuses =
       let whole = sym (long-answer input choice many) in
       record {
@@ -97,29 +97,29 @@ module _ {S : List ℕ → Type 0} (runs : (input : List ℕ) → S input → Ru
 
   -- one of which all is there
   pub script-same : {K : Type 0} (faults : K → ℕ) (wrote : K → List ℕ → Type 0) (a b : K) (script input : List ℕ) (result : Result ℕ Fault)
-      → script ≡ input → length input ≤ most_bytes → (length script ≤ most_bytes → IsPlayed runs faults wrote a b script result) → IsPlayed runs faults wrote a b input result
+      → script ≡ input → length input ≤ most_read_bytes → (length script ≤ most_read_bytes → IsPlayed runs faults wrote a b script result) → IsPlayed runs faults wrote a b input result
   script-same faults wrote a b script input result is few plays =
       let Same = λ (text : List ℕ). IsPlayed runs faults wrote a b text result in
-      subst Same is (plays (subst (λ (text : List ℕ). length text ≤ most_bytes) (sym is) few))
+      subst Same is (plays (subst (λ (text : List ℕ). length text ≤ most_read_bytes) (sym is) few))
 
   -- ---- an input that was taken, where each run is safe
 
   pub input-whole : {K : Type 0} (IsSafe : Run → Type 0) (faults : K → ℕ) (wrote : K → List ℕ → Type 0) (a b : K) (input : List ℕ) (old new : Option (List ℕ)) (result : Result ℕ Fault)
-      → ((choice : S input) → length input ≤ most_bytes → IsSafe (runs input choice))
+      → ((choice : S input) → length input ≤ most_read_bytes → IsSafe (runs input choice))
       → TakesAll old new input → IsPlayed runs faults wrote a b input result → IfOk result (λ status. PlaysWhole runs IsSafe old new wrote a b status)
   input-whole IsSafe faults wrote a b input old new (Ok status) safe takes plays =
       record { input = input; choice = plays.choice; taken = takes; written = (plays.status, plays.written.whole); safe = safe plays.choice }
   input-whole IsSafe faults wrote a b input old new (Err f) safe takes plays = tt
 
   pub input-front : {K : Type 0} (IsSafe : Run → Type 0) (faults : K → ℕ) (wrote : K → List ℕ → Type 0) (a b : K) (input : List ℕ) (old new : Option (List ℕ)) (result : Result ℕ Fault) (f : Fault)
-      → ((choice : S input) → length input ≤ most_bytes → IsSafe (runs input choice))
+      → ((choice : S input) → length input ≤ most_read_bytes → IsSafe (runs input choice))
       → TakesAll old new input → IsPlayed runs faults wrote a b input result → result ≡ Err f → PlaysFront runs IsSafe old new wrote a b
   input-front IsSafe faults wrote a b input old new (Ok status) f safe takes plays is = absurd (cc)
   input-front IsSafe faults wrote a b input old new (Err g) f safe takes plays is =
       record { input = input; choice = plays.choice; taken = takes; written = plays.written.broken; safe = safe plays.choice }
 
   pub input-sink : {K : Type 0} (IsSafe : Run → Type 0) (faults : K → ℕ) (wrote : K → List ℕ → Type 0) (a b : K) (input : List ℕ) (old new : Option (List ℕ)) (result : Result ℕ Fault)
-      → ((choice : S input) → length input ≤ most_bytes → IsSafe (runs input choice))
+      → ((choice : S input) → length input ≤ most_read_bytes → IsSafe (runs input choice))
       → TakesAll old new input → IsPlayed runs faults wrote a b input result → result ≡ Err fault.Sink → HasRisen (faults a) (faults b) × PlaysFront runs IsSafe old new wrote a b
   input-sink IsSafe faults wrote a b input old new result safe takes plays is =
       (plays.written.blames.sink is, input-front IsSafe faults wrote a b input old new result fault.Sink safe takes plays is)

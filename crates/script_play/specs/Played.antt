@@ -5,7 +5,7 @@ use Rattle.ar_io.specs.Wrote.{Appended}
 use Rattle.ar_nodes.specs.Parties.{CheckParts}
 use Rattle.ar_run.specs.Answers.{Answer}
 use Rattle.ar_run.specs.Answers as answers
-use Rattle.ar_run.specs.Runs.{TakesAll, most_bytes}
+use Rattle.ar_run.specs.Runs.{TakesAll, most_read_bytes}
 use Rattle.ar_run.specs.declared.fault.Fault.{Fault}
 use Rattle.ar_world.specs.Run.{Run, Saying, lines_of_run, run, text_of_run}
 use Rattle.ar_world.specs.declared.cause.Cause.{Cause}
@@ -66,7 +66,7 @@ module _ {S : List ℕ → Type 0} (runs : (input : List ℕ) → S input → Ru
     pub choice : S input
     pub taken : TakesAll old new input
     pub written : IsWritten (answer_by input choice)
-    pub safe : length input ≤ most_bytes → IsSafe (runs input choice)
+    pub safe : length input ≤ most_read_bytes → IsSafe (runs input choice)
 
   -- The input was taken, its answer was written whole, the status is the answer's, and the run is safe.
   abbrev pub PlaysWhole : {K : Type 0} → (Run → Type 0) → Option (List ℕ) → Option (List ℕ) → (K → List ℕ → Type 0) → K → K → ℕ → Type 0

@@ -37,7 +37,8 @@ impl<C: OwnerCheck> Stage<C> {
         party: Party,
     ) -> Result<Option<Cause>, Fault>
         ensures { PlaysSome K.faults K.wrote sink.old sink.new self.old self.new
-            (λ (says : Outcome). progress_of self.old.world (deliver_line says self.old.world message party)) result }
+            (λ (says : Outcome). progress_of self.old.world
+            (deliver_line says self.old.world message party)) result }
     {
         let made = self.world.deliver(alloc, message, party);
         tell_made(alloc, sink, &mut self.counts, made)

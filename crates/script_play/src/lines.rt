@@ -40,7 +40,8 @@ impl<C: OwnerCheck> Stage<C> {
         line: &Line,
     ) -> Result<Option<Cause>, Fault>
         ensures { PlaysSome K.faults K.wrote sink.old sink.new self.old self.new
-            (λ (says : Outcome). progress_of self.old.world (step says self.old.world line.now)) result }
+            (λ (says : Outcome). progress_of self.old.world
+            (step says self.old.world line.now)) result }
     {
         let made = self.world.step(alloc, line);
         tell_made(alloc, sink, &mut self.counts, made)

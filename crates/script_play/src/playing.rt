@@ -67,7 +67,9 @@ pub fn play<C: OwnerCheck, K: Sink>(
     input: &[u8],
     sink: &mut K,
 ) -> Result<Played<C>, Fault>
-    ensures { Plays (run_with (checks_told C.told C.answers checks.items)) K.faults K.wrote sink.old sink.new input.now result }
+    ensures { Plays (run_with
+        (checks_told C.told C.answers checks.items)) K.faults K.wrote sink.old sink.new
+        input.now result }
 {
     let mut stage = Stage::begin(alloc, checks);
     match stage.take_all(alloc, sink, input) {

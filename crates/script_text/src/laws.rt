@@ -7,5 +7,6 @@ ghost use Rattle.script_text.specs.declared.line.Line.{Line};
 
 /// A line is read from the text that writes it, and from no other, so that each line has one text.
 pub fn only_written_lines_are_read()
-    ensures { (text : List ℕ) (line : Line) → read_of text ≡ Ok (Some line) → text_of_line line ≡ text }
+    ensures { (text : List ℕ) (line : Line) → read_of text ≡ Ok (Some line)
+        → text_of_line line ≡ text }
 {}

@@ -87,7 +87,8 @@ impl<'a> Words<'a> {
 
     /// Takes the next word.
     fn next(&mut self) -> Result<Word<'a>, Reason>
-        ensures { MatchResult result (λ word. self.old ≡ word ∷ self.new) (λ e. (e ≡ reason.Words) × (self.old ≡ [])) }
+        ensures { MatchResult result (λ word.
+            self.old ≡ word ∷ self.new) (λ e. (e ≡ reason.Words) × (self.old ≡ [])) }
     {
         let Some(text) = self.behind else {
             return Err(Reason::Words);
@@ -191,7 +192,8 @@ impl<'a> Words<'a> {
 
     /// The first word, and the text of the others, of which there is at least one.
     pub(crate) fn some(mut self) -> Result<(Word<'a>, &'a [u8]), Reason>
-        ensures { result_map_both (λ x. (x.0, words_of x.1.now)) (λ e. e) result ≡ some_words self.entry }
+        ensures { result_map_both (λ x.
+            (x.0, words_of x.1.now)) (λ e. e) result ≡ some_words self.entry }
     {
         let a = self.next()?;
         match self.behind {

@@ -9,7 +9,7 @@ use Rattle.ar_lines.specs.Forms.{number_in}
 use Rattle.ar_lines.specs.Readings.{start_of_lines}
 use Rattle.ar_lines.specs.declared.refusal.Refusal.{Refusal}
 use Rattle.ar_run.specs.Answers.{Answer, one_line, written_of}
-use Rattle.ar_run.specs.Runs.{TakesAll, most_bytes}
+use Rattle.ar_run.specs.Runs.{TakesAll, most_read_bytes}
 use Rattle.arpki_ask.specs.Answers.{refused_line, too_long}
 use Rattle.lms_tree.specs.Key.{public_of}
 use Rattle.lms_tree.specs.PublicKey.{key_text}
@@ -70,7 +70,7 @@ IsAnswerTo workers (Ok service) answer = Serves workers service answer
 -- an answer of so many workers to an input
 abbrev pub IsAnswer : ℕ → List ℕ → Answer → Type 0
 IsAnswer workers input answer =
-    MatchBool (nat_lt most_bytes (length input)) (answer ≡ refused_line too_long) (IsAnswerTo workers (service_at (start_of_lines input)) answer)
+    MatchBool (nat_lt most_read_bytes (length input)) (answer ≡ refused_line too_long) (IsAnswerTo workers (service_at (start_of_lines input)) answer)
 
 -- ---- a run of the program
 

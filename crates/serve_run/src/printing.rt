@@ -11,7 +11,8 @@ use std::alloc::{AllocError, Global};
 
 /// The line of the public key.
 fn key_line(alloc: Global, key: &LmsPublic) -> Result<String, AllocError>
-    ensures { (secret : List ℕ) → key.now ≡ public_of (serving_key secret) → IfOk result (λ line. string_bytes line ≡ key_line secret) }
+    ensures { (secret : List ℕ) → key.now ≡ public_of (serving_key secret)
+        → IfOk result (λ line. string_bytes line ≡ key_line secret) }
 {
     let text = hex::encode(alloc, key.bytes().as_slice())?;
     format!(in alloc; "key {text}\n")

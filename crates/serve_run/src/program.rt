@@ -3,7 +3,7 @@ ghost use Rattle.ar_base.specs.Faults.{HasRisen};
 ghost use Rattle.ar_io.specs.Wrote.{Unchanged};
 ghost use Rattle.ar_lines.specs.Readings.{start_of_lines};
 ghost use Rattle.ar_run.specs.Answers.{written_of};
-ghost use Rattle.ar_run.specs.Runs.{IsInput, TakesAtMost, most_bytes};
+ghost use Rattle.ar_run.specs.Runs.{IsInput, TakesAtMost, most_read_bytes};
 ghost use Rattle.ar_run.specs.Writing.{Writes};
 ghost use Rattle.serve_run.specs.Answers.{Answers, BreaksOff, IsAnswer, IsAnswerTo, ServesFront, ServesWhole, texts, usage, workers_of};
 ghost use Rattle.serve_run.specs.Reading.{service_at};
@@ -42,7 +42,8 @@ fn answered<R: Threads + Sync, G: Gate>(
     input: &[u8],
 ) -> Result<Answer, AllocError>
     requires some { 0 < workers }
-    ensures { IfOk result (λ answer. IsAnswerTo workers (service_at (start_of_lines input.now)) answer) }
+    ensures { IfOk result (λ answer.
+        IsAnswerTo workers (service_at (start_of_lines input.now)) answer) }
 {
     match Service::read(alloc, input) {
         Ok(service) => served(rt, alloc, gate, &service, workers),
@@ -60,7 +61,8 @@ fn answer<R: Threads + Sync, G: Gate>(
     input: Option<Vec<u8>>,
 ) -> Result<Answer, AllocError>
     requires some { 0 < workers }
-    ensures { IfOk result (λ answer. (all : List ℕ) → IsInput input all → IsAnswer workers all answer) }
+    ensures { IfOk result (λ answer.
+        (all : List ℕ) → IsInput input all → IsAnswer workers all answer) }
 {
     match input {
         Some(input) => answered(rt, alloc, gate, workers, &input),
@@ -78,17 +80,23 @@ fn serve<R: Threads + Sync, S: Source, K: Sink, G: Gate>(
     sink: &mut K,
 ) -> Result<u8, Fault>
     requires some { 0 < workers }
-    ensures ok { IfOk result (λ status. ServesWhole workers (S.left source.old) (S.left source.new) K.wrote sink.old sink.new status) }
+    ensures ok { IfOk result (λ status.
+        ServesWhole workers (S.left source.old)
+        (S.left source.new) K.wrote sink.old sink.new status) }
     ensures bound { IfOk result (λ status. status < 4) }
-    ensures source { result ≡ Err Fault.Source → HasRisen (S.faults source.old) (S.faults source.new)
+    ensures source { result ≡ Err Fault.Source
+        → HasRisen (S.faults source.old) (S.faults source.new)
         × Unchanged K.wrote sink.old sink.new }
     ensures sink { result ≡ Err Fault.Sink → HasRisen (K.faults sink.old) (K.faults sink.new)
         × ServesFront workers (S.left source.old) (S.left source.new) K.wrote sink.old sink.new }
     ensures memory { result ≡ Err Fault.Memory → Unchanged K.wrote sink.old sink.new }
-    ensures source_uncounted { result ≢ Err Fault.Source → S.faults source.new ≡ S.faults source.old }
+    ensures source_uncounted { result ≢ Err Fault.Source
+        → S.faults source.new ≡ S.faults source.old }
     ensures sink_uncounted { result ≢ Err Fault.Sink → K.faults sink.new ≡ K.faults sink.old }
-    ensures source_taken { result ≡ Err Fault.Source → TakesAtMost most_bytes (S.left source.old) (S.left source.new) }
-    ensures memory_taken { result ≡ Err Fault.Memory → TakesAtMost (most_bytes + 1) (S.left source.old) (S.left source.new) }
+    ensures source_taken { result ≡ Err Fault.Source
+        → TakesAtMost most_read_bytes (S.left source.old) (S.left source.new) }
+    ensures memory_taken { result ≡ Err Fault.Memory
+        → TakesAtMost (most_read_bytes + 1) (S.left source.old) (S.left source.new) }
     ensures source_faults { S.faults source.old ≤ S.faults source.new }
     ensures sink_faults { K.faults sink.old ≤ K.faults sink.new }
 {
@@ -132,24 +140,29 @@ pub fn crowd_main<R: Threads + Sync, S: Source, K: Sink, G: Gate>(
     ensures statuses { result ≤ 6 }
 
     // At 0 to 3 the whole answer was written, and the status is the answer's.
-    ensures answered { result < 4 → Answers (workers_of (texts words.now)) (S.left source.old) (S.left source.new)
+    ensures answered { result < 4
+        → Answers (workers_of (texts words.now)) (S.left source.old) (S.left source.new)
         K.wrote sink.old sink.new result }
 
     // Words of no form are answered by the usage line, and nothing is read.
     ensures usage { result ≡ 2 → workers_of (texts words.now) ≡ None }
-    ensures no_form { workers_of (texts words.now) ≡ None → (source.new ≡ source.old) × ((result ≡ 2) ⊎ (result ≡ 5)) }
+    ensures no_form { workers_of (texts words.now) ≡ None
+        → (source.new ≡ source.old) × ((result ≡ 2) ⊎ (result ≡ 5)) }
 
     // A fault has its cause in a count of faults, and none is hidden: at each other status the count stays. Before a fault no more
     // than a front of the answer was written.
     ensures source_fault { result ≡ 4 → HasRisen (S.faults source.old) (S.faults source.new)
         × Unchanged K.wrote sink.old sink.new }
     ensures sink_fault { result ≡ 5 → HasRisen (K.faults sink.old) (K.faults sink.new)
-        × BreaksOff (workers_of (texts words.now)) (S.left source.old) (S.left source.new) K.wrote sink.old sink.new }
+        × BreaksOff (workers_of (texts words.now)) (S.left source.old)
+        (S.left source.new) K.wrote sink.old sink.new }
     ensures memory { result ≡ 6 → Unchanged K.wrote sink.old sink.new }
 
     // What was taken before a fault: no more than an input may have, and than one byte more for want of memory.
-    ensures source_taken { result ≡ 4 → TakesAtMost most_bytes (S.left source.old) (S.left source.new) }
-    ensures memory_taken { result ≡ 6 → TakesAtMost (most_bytes + 1) (S.left source.old) (S.left source.new) }
+    ensures source_taken { result ≡ 4
+        → TakesAtMost most_read_bytes (S.left source.old) (S.left source.new) }
+    ensures memory_taken { result ≡ 6
+        → TakesAtMost (most_read_bytes + 1) (S.left source.old) (S.left source.new) }
 
     ensures source_uncounted { result ≢ 4 → S.faults source.new ≡ S.faults source.old }
     ensures sink_uncounted { result ≢ 5 → K.faults sink.new ≡ K.faults sink.old }

@@ -32,7 +32,12 @@ impl Model for Service {
 
     ghost Value = { Spec };
 
-    ghost view = { λ s. record { secret = s.secret; name = s.name; certificate = s.certificate; challenges = s.challenges.items } };
+    ghost view = { λ s. record {
+      secret = s.secret;
+      name = s.name;
+      certificate = s.certificate;
+      challenges = s.challenges.items;
+    } };
 }
 
 /// The 32 bytes that a word spells in hex.
@@ -71,7 +76,8 @@ fn one_too_many(lines: &mut Lines) -> Result<Vec<[u8; 32]>, LineFault>
 /// The lines of challenges, to the end.
 #[tactic(auto, using(crate::proofs::ChallengeLines::challenge_lines))]
 fn challenges(alloc: Global, lines: &mut Lines) -> Result<Vec<[u8; 32]>, LineFault>
-    ensures { ReadsUnless (λ challenges. challenges.items) result (challenges_at most_challenges lines.old) }
+    ensures { ReadsUnless (λ challenges.
+        challenges.items) result (challenges_at most_challenges lines.old) }
 {
     let mut challenges = Vec::new(alloc);
     for _ in 0..MOST_CHALLENGES {

@@ -42,7 +42,8 @@ fn posts(
     workers: usize,
 ) -> Result<Vec<Post>, AllocError>
     requires fresh { IsFresh server.now.book seat.old }
-    ensures { IfOk result (λ posts. Posted server.now.book seat.old.share workers seat.new posts.items) }
+    ensures { IfOk result (λ posts.
+        Posted server.now.book seat.old.share workers seat.new posts.items) }
 {
     let mut posts = Vec::new(alloc);
     for worker in 0..workers {
@@ -87,7 +88,8 @@ fn all_told<R: Threads + Sync, G: Gate>(
         rt,
         posts,
         &|post: Post|
-            requires { (0 < workers) × IsServerOf service.now server.now × IsFresh server.now.book post.seat }
+            requires { (0 < workers) × IsServerOf service.now server.now
+                × IsFresh server.now.book post.seat }
             ensures { MayTell service.entry.now workers post result }
         { work(alloc, gate, service, server, workers, post) },
     )?;
@@ -103,9 +105,11 @@ fn joined(
     all: Vec<Told>,
 ) -> Result<Vec<VecDeque<Reply>>, AllocError>
     requires own { seat.old.book ≡ server.now.book }
-    requires others { AllByRecursion (λ (told : ToldValue). told.seat.book ≡ server.now.book) all.items }
+    requires others { AllByRecursion (λ (told : ToldValue). told.seat.book
+        ≡ server.now.book) all.items }
     ensures seat { IfOk result (λ rows. seat.new ≡ joined_all seat.old all.items) }
-    ensures rows { IfOk result (λ rows. map (λ r. r.items) rows.items ≡ map (λ (told : ToldValue). told.replies) all.items) }
+    ensures rows { IfOk result (λ rows.
+        map (λ r. r.items) rows.items ≡ map (λ (told : ToldValue). told.replies) all.items) }
 {
     let mut rows = Vec::new(alloc);
     for told in all {
@@ -133,7 +137,8 @@ fn rows_of<R: Threads + Sync, G: Gate>(
     requires some { 0 < workers }
     requires server { IsServerOf service.now server.now }
     requires seat { seat.old ≡ first_seat server.now.book whole }
-    ensures { IfOk result (λ rows. Brings service.now workers server.now.book seat.new (map (λ r. r.items) rows.items)) }
+    ensures { IfOk result (λ rows.
+        Brings service.now workers server.now.book seat.new (map (λ r. r.items) rows.items)) }
 {
     let posts = posts(alloc, server, seat, workers)?;
     let all = all_told(rt, alloc, gate, service, server, workers, posts)?;

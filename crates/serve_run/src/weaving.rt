@@ -22,7 +22,8 @@ pub(crate) fn woven(
 ) -> Result<Vec<Reply>, AllocError>
     requires some { 0 < length rows.old }
     requires rows { HasRows service.now (length rows.old) (map (λ r. r.items) rows.old) }
-    ensures { IfOk result (λ replies. IsWoven service.now (length rows.old) (map (λ r. r.items) rows.old) replies.items) }
+    ensures { IfOk result (λ replies.
+        IsWoven service.now (length rows.old) (map (λ r. r.items) rows.old) replies.items) }
 {
     let workers = rows.len();
     let mut replies = Vec::new(alloc);

@@ -21,7 +21,7 @@ use Rattle.atomic_table.specs.Table.{Allows, Final, Seen, opening}
 use Rattle.atomic_table.specs.Table.Act.{keeps, takes, gives}
 use Rattle.node_core.specs.History.{IsLegal, Replays, state_after}
 use Rattle.shared_node.specs.Rule.{Fits, IsHome, Keeps, IsKept}
-use Rattle.shared_node.specs.Steps.{Mine, Looks, Compares, Counts, Leaves, Enters, first_view}
+use Rattle.shared_node.specs.Steps.{Mine, Looks, Compares, Counts, LeavesSeat, Enters, first_view}
 use Rattle.shared_node.specs.declared.held.Held.{Held}
 use Rattle.shared_node.specs.declared.node.Node.{Node}
 use Rattle.shared_node.proofs.Keeping.{keeps_changed, other_is_free, whole_has_each, whole_is_home}
@@ -207,7 +207,7 @@ module _ {C S I N R : Type 0} (state : C → S) (next : S → I → N → R × S
   -- a store by which the seat that has the core gives it back
   pub leave_keeps : (slots id : ℕ) (v : Held S I N) (node : Node C I N) → v.holds ≡ true → 0 < v.share → node.history.items ≡ v.seen
       → Replays next legal first node.history.items (state node.core)
-      → Allows (IsKept state next legal first) slots id (v, (0, Some node) ∷ []) 1 (λ n. 0) (λ n. Leaves (v, (0, Some node) ∷ []) 0)
+      → Allows (IsKept state next legal first) slots id (v, (0, Some node) ∷ []) 1 (λ n. 0) (λ n. LeavesSeat (v, (0, Some node) ∷ []) 0)
   leave_keeps slots id v node holds some_share seen_it replays s kept homes at small =
       let history : List (I × N) = kept.0 in
       let fits : Fits first history v = kept.3.fits id v at in

@@ -49,7 +49,7 @@ module _ {S I N : Type 0} where
 
   -- a call was answered: it is the last of what the seat has now seen, which is legal; it stands at this
   -- place, behind all that the seat had seen; and the reply is the one that the core gives there
-  pub record Asked {R : Type 0} (next : S → I → N → R × S) (legal : S → I → N → Type 0) (first : S) (old : SeatParts S I N) (input : I) (place : ℕ) (reply : R) (new : SeatParts S I N) : Type 0 where
+  pub record Answered {R : Type 0} (next : S → I → N → R × S) (legal : S → I → N → Type 0) (first : S) (old : SeatParts S I N) (input : I) (place : ℕ) (reply : R) (new : SeatParts S I N) : Type 0 where
     pub before : List (I × N)
     pub note : N
     pub later : BeginsWith before old.seen

@@ -49,8 +49,8 @@ module _ {C S I N : Type 0} where
     pub after_is : after ≡ (record me.0 { seen = carried me.1; own = me.0.own ++ found ∷ [] }, me.1)
 
   -- the core was given back
-  abbrev pub Leaves : Mine C S I N → ℕ → Mine C S I N → Type 0
-  Leaves me found after = after ≡ (record me.0 { holds = false }, rest me.1)
+  abbrev pub LeavesSeat : Mine C S I N → ℕ → Mine C S I N → Type 0
+  LeavesSeat me found after = after ≡ (record me.0 { holds = false }, rest me.1)
 
 module _ {S I N : Type 0} where
   -- what the first seat knows

@@ -36,7 +36,7 @@ impl Place {
 
 /// What a node answered, and where the call stands in the history.
 #[derive(Drop)]
-pub struct Answer<R> {
+pub struct Served<R> {
     /// How many calls stand before this one.
     pub place: Place,
     /// What the core replied, in its state after those calls.

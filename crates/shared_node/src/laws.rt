@@ -15,17 +15,20 @@ use node_core::Core;
 /// What two seats have seen are beginnings of one history: the longer begins with both.
 pub fn two_seats_have_seen_one_history<C: Core>()
     ensures { (first : C.State) (history : List (C.Input × C.Note)) (holders : ℕ)
-        (slots : List (home.Option (Option (Node C C.Input C.Note)))) (seats : List (Held C.State C.Input C.Note))
+        (slots : List (home.Option (Option (Node C C.Input C.Note))))
+        (seats : List (Held C.State C.Input C.Note))
         (one two : ℕ) (seat other : Held C.State C.Input C.Note)
         → Keeps C.state C.next C.legal first history holders slots seats
         → get_elem? seats one ≡ some seat → get_elem? seats two ≡ some other
-        → BeginsWith (longer seat.seen other.seen) seat.seen × BeginsWith (longer seat.seen other.seen) other.seen }
+        → BeginsWith (longer seat.seen other.seen) seat.seen
+        × BeginsWith (longer seat.seen other.seen) other.seen }
 {}
 
 /// No call is an own call of two seats.
 pub fn no_call_is_of_two_seats<C: Core>()
     ensures { (first : C.State) (history : List (C.Input × C.Note)) (holders : ℕ)
-        (slots : List (home.Option (Option (Node C C.Input C.Note)))) (seats : List (Held C.State C.Input C.Note))
+        (slots : List (home.Option (Option (Node C C.Input C.Note))))
+        (seats : List (Held C.State C.Input C.Note))
         (one two place : ℕ) (seat other : Held C.State C.Input C.Note)
         → Keeps C.state C.next C.legal first history holders slots seats → one ≢ two
         → get_elem? seats one ≡ some seat → get_elem? seats two ≡ some other
@@ -35,12 +38,16 @@ pub fn no_call_is_of_two_seats<C: Core>()
 /// Each call of the history is an own call of some seat, and no other number is one.
 pub fn each_call_is_of_a_seat<C: Core>()
     ensures calls { (first : C.State) (history : List (C.Input × C.Note)) (holders : ℕ)
-        (slots : List (home.Option (Option (Node C C.Input C.Note)))) (seats : List (Held C.State C.Input C.Note)) (place : ℕ)
+        (slots : List (home.Option (Option (Node C C.Input C.Note))))
+        (seats : List (Held C.State C.Input C.Note)) (place : ℕ)
         → Keeps C.state C.next C.legal first history holders slots seats → place < length history
-        → (there : ℕ) × (seat : Held C.State C.Input C.Note) × (get_elem? seats there ≡ some seat) × Contains seat.own place }
+        → (there : ℕ) × (seat : Held C.State C.Input C.Note) × (get_elem? seats there ≡ some seat)
+        × Contains seat.own place }
     ensures others { (first : C.State) (history : List (C.Input × C.Note)) (holders : ℕ)
-        (slots : List (home.Option (Option (Node C C.Input C.Note)))) (seats : List (Held C.State C.Input C.Note))
+        (slots : List (home.Option (Option (Node C C.Input C.Note))))
+        (seats : List (Held C.State C.Input C.Note))
         (there place : ℕ) (seat : Held C.State C.Input C.Note)
-        → Keeps C.state C.next C.legal first history holders slots seats → get_elem? seats there ≡ some seat
+        → Keeps C.state C.next C.legal first history holders slots seats
+        → get_elem? seats there ≡ some seat
         → Contains seat.own place → place < length history }
 {}

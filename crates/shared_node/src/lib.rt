@@ -14,7 +14,7 @@
 //! Its tests: `thread_tests`, module `shared_node_tests`.
 #![tactic(auto)]
 
-pub use answer::{Answer, Closed, Place};
+pub use answer::{Closed, Place, Served};
 pub use ar_seats::SplitFault;
 pub use seat::Seat;
 pub use shared::SharedNode;

@@ -23,8 +23,10 @@ pub(crate) fn answer<C: Core>(
     node: &mut NodeOf<C>,
     input: C::Input,
 ) -> Result<C::Reply, (C::Input, AllocError)>
-    ensures ok { IfOk result (λ reply. AddsCall C.state C.next C.legal node.old input reply node.new) }
-    ensures err { IfErr result (λ refused. (refused.0 ≡ input) × IsAsBefore C.state node.old node.new) }
+    ensures ok { IfOk result (λ reply.
+        AddsCall C.state C.next C.legal node.old input reply node.new) }
+    ensures err { IfErr result (λ refused.
+        (refused.0 ≡ input) × IsAsBefore C.state node.old node.new) }
 {
     if node.history.reserve(1).is_err() {
         return Err((input, AllocError));

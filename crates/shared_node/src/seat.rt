@@ -33,7 +33,8 @@ impl<C: Core> Model for Seat<C> {
       share = s.token.me.0.share;
     } };
 
-    ghost invariant = { λ s. (s.token.me.1 ≡ []) × (s.token.me.0.holds ≡ false) × (s.share ≡ s.token.me.0.share) × (0 < s.share) };
+    ghost invariant = { λ s. (s.token.me.1 ≡ []) × (s.token.me.0.holds ≡ false)
+        × (s.share ≡ s.token.me.0.share) × (0 < s.share) };
 }
 
 impl<C: Core> Seat<C> {

@@ -3,13 +3,13 @@ ghost use Rattle.ar_seats.specs.Shares.{whole};
 ghost use Rattle.ar_seats.specs.Numbers.{HasEachBelow, IsRising};
 ghost use Rattle.ar_base.specs.Prefixes.{BeginsWith};
 ghost use Rattle.node_core.specs.History.{Replays};
-ghost use Rattle.shared_node.specs.Seats.{IsSeatOf, Asked, SeesOn, first_seat, left_seat, given_seat, joined_seat};
+ghost use Rattle.shared_node.specs.Seats.{IsSeatOf, Answered, SeesOn, first_seat, left_seat, given_seat, joined_seat};
 ghost use Rattle.ar_seats.specs.declared.split_fault.SplitFault.TheVariants.{Narrow};
 
 use crate::node::{Node, NodeOf, answer};
 use crate::seat::{HeldOf, Token};
 use crate::steps::{Compare, Count, Enter, Halve, Leave, Look, NodeRule, Unite};
-use crate::{Answer, Closed, Place, Seat, SplitFault};
+use crate::{Closed, Place, Seat, Served, SplitFault};
 use ar_seats::Share;
 use atomic_table::Table;
 use node_core::Core;
@@ -36,9 +36,13 @@ impl<C: Core> Model for SharedNode<C> {
 
     ghost Value = { NodeParts C.State };
 
-    ghost view = { λ node. record { table = node.table.shared.table_id; first = C.state node.table.shared.key.value } };
+    ghost view = { λ node. record {
+      table = node.table.shared.table_id;
+      first = C.state node.table.shared.key.value;
+    } };
 
-    ghost invariant = { λ node. (node.table.shared.table_id.words ≡ 2) × (node.table.shared.table_id.slots ≡ 1) };
+    ghost invariant = { λ node. (node.table.shared.table_id.words ≡ 2)
+        × (node.table.shared.table_id.slots ≡ 1) };
 }
 
 impl<C: Core> SharedNode<C> {
@@ -74,12 +78,20 @@ impl<C: Core> SharedNode<C> {
 
     // Takes the core out, as soon as no seat has it.
     fn take<R: Wait>(&self, rt: &R, token: &mut Token<C>) -> NodeOf<C>
-        requires own { (token.old.table_id ≡ self.now.table) × (token.old.me.0.first ≡ Some self.now.first) }
-        requires free { (token.old.me.1 ≡ []) × (token.old.me.0.holds ≡ false) × (0 < token.old.me.0.share) }
+        requires own { (token.old.table_id ≡ self.now.table)
+            × (token.old.me.0.first ≡ Some self.now.first) }
+        requires free { (token.old.me.1 ≡ []) × (token.old.me.0.holds ≡ false)
+            × (0 < token.old.me.0.share) }
         ensures own { token.new.table_id ≡ token.old.table_id }
-        ensures taken { token.new.me ≡ (record token.old.me.0 { seen = result.history.items; holds = true }, (0, None) ∷ []) }
+        ensures taken { token.new.me
+            ≡ (
+              record token.old.me.0 { seen = result.history.items; holds = true },
+              (0, None)
+                  ∷ [],
+            ) }
         ensures later { BeginsWith result.history.items token.old.me.0.seen }
-        ensures replays { Replays C.next C.legal self.now.first result.history.items (C.state result.core) }
+        ensures replays { Replays C.next C.legal self.now.first result.history.items
+            (C.state result.core) }
     {
         for _ in rt.forever() {
             let holders = self.table.shared.compare_exchange::<Enter>(token, 1, 0, 1);
@@ -95,10 +107,13 @@ impl<C: Core> SharedNode<C> {
 
     // Gives the core back, with the calls beside it.
     fn leave(&self, token: &mut Token<C>, node: NodeOf<C>)
-        requires own { (token.old.table_id ≡ self.now.table) × (token.old.me.0.first ≡ Some self.now.first) }
-        requires has { (token.old.me.1 ≡ (0, None) ∷ []) × (token.old.me.0.holds ≡ true) × (0 < token.old.me.0.share) }
+        requires own { (token.old.table_id ≡ self.now.table)
+            × (token.old.me.0.first ≡ Some self.now.first) }
+        requires has { (token.old.me.1 ≡ (0, None) ∷ []) × (token.old.me.0.holds ≡ true)
+            × (0 < token.old.me.0.share) }
         requires seen { node.history.items ≡ token.old.me.0.seen }
-        requires replays { Replays C.next C.legal self.now.first node.history.items (C.state node.core) }
+        requires replays { Replays C.next C.legal self.now.first node.history.items
+            (C.state node.core) }
         ensures own { token.new.table_id ≡ token.old.table_id }
         ensures left { token.new.me ≡ (record token.old.me.0 { holds = false }, []) }
     {
@@ -108,13 +123,24 @@ impl<C: Core> SharedNode<C> {
 
     // Counts the call that was put behind what the seat had seen, and gives the core back.
     fn count(&self, token: &mut Token<C>, node: NodeOf<C>) -> u64
-        requires own { (token.old.table_id ≡ self.now.table) × (token.old.me.0.first ≡ Some self.now.first) }
-        requires has { (token.old.me.1 ≡ (0, None) ∷ []) × (token.old.me.0.holds ≡ true) × (0 < token.old.me.0.share) }
+        requires own { (token.old.table_id ≡ self.now.table)
+            × (token.old.me.0.first ≡ Some self.now.first) }
+        requires has { (token.old.me.1 ≡ (0, None) ∷ []) × (token.old.me.0.holds ≡ true)
+            × (0 < token.old.me.0.share) }
         requires call { (call : _) × (node.history.items ≡ token.old.me.0.seen ++ call ∷ []) }
-        requires replays { Replays C.next C.legal self.now.first node.history.items (C.state node.core) }
+        requires replays { Replays C.next C.legal self.now.first node.history.items
+            (C.state node.core) }
         ensures own { token.new.table_id ≡ token.old.table_id }
         ensures place { result ≡ length token.old.me.0.seen }
-        ensures left { token.new.me ≡ (record token.old.me.0 { seen = node.history.items; own = token.old.me.0.own ++ result ∷ []; holds = false }, []) }
+        ensures left { token.new.me
+            ≡ (
+              record token.old.me.0 {
+                seen = node.history.items;
+                own = token.old.me.0.own ++ result ∷ [];
+                holds = false;
+              },
+              [],
+            ) }
     {
         self.table.shared.exchange(token, 0, Some(node));
         let place = self.table.shared.fetch_add::<Count>(token, 0, 1);
@@ -133,9 +159,11 @@ impl<C: Core> SharedNode<C> {
         alloc: Global,
         seat: &mut Seat<C>,
         input: C::Input,
-    ) -> Result<Answer<C::Reply>, (C::Input, AllocError)>
+    ) -> Result<Served<C::Reply>, (C::Input, AllocError)>
         requires { IsSeatOf self.now seat.old }
-        ensures ok { IfOk result (λ answer. Asked C.next C.legal self.now.first seat.old input answer.place answer.reply seat.new) }
+        ensures ok { IfOk result (λ answer.
+            Answered C.next C.legal self.now.first seat.old input answer.place answer.reply
+            seat.new) }
         ensures input { IfErr result (λ refused. refused.0 ≡ input) }
         ensures err { OnErr result (SeesOn seat.old seat.new) }
     {
@@ -144,7 +172,7 @@ impl<C: Core> SharedNode<C> {
         match answer(alloc, &mut node, input) {
             Ok(reply) => {
                 let place = Place::new(self.count(&mut seat.token, node));
-                Ok(Answer { place, reply })
+                Ok(Served { place, reply })
             }
             Err(refused) => {
                 self.leave(&mut seat.token, node);
@@ -185,7 +213,8 @@ impl<C: Core> SharedNode<C> {
         requires own { IsSeatOf self.now seat.old }
         requires other { IsSeatOf self.now other }
         ensures joined { seat.new ≡ joined_seat seat.old other }
-        ensures seen { BeginsWith seat.new.seen seat.old.seen × BeginsWith seat.new.seen other.seen }
+        ensures seen { BeginsWith seat.new.seen seat.old.seen
+            × BeginsWith seat.new.seen other.seen }
         ensures rising { IsRising seat.new.own }
     {
         let Seat { token, share } = other;
@@ -199,7 +228,8 @@ impl<C: Core> SharedNode<C> {
     pub fn close(self, seat: Seat<C>) -> Closed<C>
         requires own { IsSeatOf self seat }
         requires all { seat.share ≡ whole }
-        ensures replays { Replays C.next C.legal self.first result.history.items (C.state result.core) }
+        ensures replays { Replays C.next C.legal self.first result.history.items
+            (C.state result.core) }
         ensures seen { BeginsWith result.history.items seat.seen }
         ensures own { HasEachBelow (length result.history.items) seat.own }
     {

@@ -53,9 +53,9 @@ impl<C: Core> Play<Option<NodeOf<C>>, HeldOf<C>> for Count {
 pub(crate) struct Leave;
 
 impl<C: Core> Play<Option<NodeOf<C>>, HeldOf<C>> for Leave {
-    ghost use Rattle.shared_node.specs.Steps.{Leaves};
+    ghost use Rattle.shared_node.specs.Steps.{LeavesSeat};
 
-    ghost then = { λ step. Leaves };
+    ghost then = { λ step. LeavesSeat };
 }
 
 /// A load behind a join.

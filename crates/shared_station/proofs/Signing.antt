@@ -6,7 +6,7 @@ use Rattle.lms_tree.specs.KeyParts.{KeyParts}
 use Rattle.report_text.specs.declared.happening.Code.{Code}
 use Rattle.seat_orders.specs.Carrying.{Serves}
 use Rattle.seat_orders.proofs.CarriesLemmas.{serves_called}
-use Rattle.shared_node.specs.Seats.{Asked, IsSeatOf, NodeParts, SeesOn}
+use Rattle.shared_node.specs.Seats.{Answered, IsSeatOf, NodeParts, SeesOn}
 use Rattle.station.specs.Kept.{CanSign, IsStation, signed_reply}
 use Rattle.station.specs.Station.{IsNoted, StationState, Unfilled, replied_at}
 use Rattle.station.specs.declared.delivery.Delivery.{Delivery}
@@ -14,17 +14,17 @@ use Rattle.station.proofs.Keeping.{signs-after}
 use Rattle.shared_station.specs.Told.{HasBrought, IsTold, StationSeat}
 
 pub can_sign : (keys : List KeyParts) (first : StationState) (old : StationSeat) (input : Delivery) (place : ℕ) (reply : Unfilled) (new : StationSeat) → IsStation first keys
-    → Asked replied_at IsNoted first old input place reply new → CanSign keys reply
+    → Answered replied_at IsNoted first old input place reply new → CanSign keys reply
 can_sign keys first old input place reply new is asked =
     subst (λ r. CanSign keys r) (sym asked.reply_is) (signs-after first keys asked.before input asked.note is asked.legally)
 
 pub is_told : (keys : List KeyParts) (first : StationState) (old : StationSeat) (input : Delivery) (place : ℕ) (reply : Unfilled) (told : Result Sent Code) (new : StationSeat)
-    → Asked replied_at IsNoted first old input place reply new → told ≡ signed_reply keys reply → IsTold keys first old input place told new
+    → Answered replied_at IsNoted first old input place reply new → told ≡ signed_reply keys reply → IsTold keys first old input place told new
 is_told keys first old input place reply told new asked signed = record { reply = reply; asked = asked; signed = signed }
 
 -- the seat is of the same node behind the call
 pub seat_after : (node : NodeParts StationState) (old : StationSeat) (input : Delivery) (place : ℕ) (reply : Unfilled) (new : StationSeat)
-    → IsSeatOf node old → Asked replied_at IsNoted node.first old input place reply new → IsSeatOf node new
+    → IsSeatOf node old → Answered replied_at IsNoted node.first old input place reply new → IsSeatOf node new
 seat_after node old input place reply new own asked = subst (λ (s : StationSeat). IsSeatOf node s) (sym asked.after) own
 
 pub serves_told : (keys : List KeyParts) (first : StationState) (old : StationSeat) (input : Delivery) (place : ℕ) (reply : Result Sent Code) (new : StationSeat) (told told' : List (ℕ × Result Sent Code))
@@ -40,5 +40,5 @@ pub sees_same : (seat : StationSeat) → SeesOn seat seat
 sees_same seat = record { later = begins_itself seat.seen; after = refl }
 
 pub share_after : (first : StationState) (old : StationSeat) (input : Delivery) (place : ℕ) (reply : Unfilled) (new : StationSeat)
-    → Asked replied_at IsNoted first old input place reply new → new.share ≡ old.share
+    → Answered replied_at IsNoted first old input place reply new → new.share ≡ old.share
 share_after first old input place reply new asked = ap (λ (s : StationSeat). s.share) asked.after

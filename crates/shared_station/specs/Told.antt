@@ -5,7 +5,7 @@ use Rattle.lms_tree.specs.KeyParts.{KeyParts}
 use Rattle.owner_check.specs.declared.answer.Outcome.{Outcome}
 use Rattle.report_text.specs.declared.happening.Code.{Code}
 use Rattle.seat_orders.specs.Carrying.{Serves}
-use Rattle.shared_node.specs.Seats.{Asked, SeatParts}
+use Rattle.shared_node.specs.Seats.{Answered, SeatParts}
 use Rattle.station.specs.Kept.{signed_reply}
 use Rattle.station.specs.Station.{IsNoted, StationState, Unfilled, replied_at}
 use Rattle.station.specs.declared.delivery.Delivery.{Delivery}
@@ -18,7 +18,7 @@ StationSeat = SeatParts StationState Delivery (Option Outcome)
 -- told is the reply that the station gives there, signed with these keys.
 pub record IsTold (keys : List KeyParts) (first : StationState) (old : StationSeat) (input : Delivery) (place : ℕ) (told : Result Sent Code) (new : StationSeat) : Type 0 where
   pub reply : Unfilled
-  pub asked : Asked replied_at IsNoted first old input place reply new
+  pub asked : Answered replied_at IsNoted first old input place reply new
   pub signed : told ≡ signed_reply keys reply
 
 -- One more message was brought and told of: where a seat served these, so told, it serves them with that one behind them.

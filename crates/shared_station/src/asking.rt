@@ -7,7 +7,7 @@ use ar_message::Sent;
 use key_roll::KeyRing;
 use owner_check::OwnerCheck;
 use report_text::Code;
-use shared_node::{Answer, Place, Seat, SharedNode};
+use shared_node::{Place, Seat, Served, SharedNode};
 use station::{Delivery, Station, signed};
 use std::alloc::{AllocError, Global};
 use std::sync::Wait;
@@ -38,13 +38,14 @@ pub fn ask<C: OwnerCheck + Send, R: Wait>(
     requires kept { IsStation node.now.first ring.now.keys }
     ensures own { IsSeatOf node.now seat.new }
     ensures share { seat.new.share ≡ seat.old.share }
-    ensures told { IfOk result (λ told. IsTold ring.now.keys node.now.first seat.old input told.place told.reply seat.new) }
+    ensures told { IfOk result (λ told.
+        IsTold ring.now.keys node.now.first seat.old input told.place told.reply seat.new) }
     ensures input { IfErr result (λ refused. refused.0 ≡ input) }
     ensures err { OnErr result (SeesOn seat.old seat.new) }
 {
     match node.ask(rt, alloc, seat, input) {
         Ok(answer) => {
-            let Answer { place, reply } = answer;
+            let Served { place, reply } = answer;
             let reply = signed(ring, reply);
             Ok(Told { place, reply })
         }
@@ -70,7 +71,9 @@ pub fn bring<C: OwnerCheck + Send, R: Wait>(
     requires kept { IsStation node.now.first ring.now.keys }
     ensures own { IsSeatOf node.now seat.new }
     ensures share { seat.new.share ≡ seat.old.share }
-    ensures told { OnOk result (HasBrought ring.now.keys node.now.first seat.old told.old.items input seat.new told.new.items) }
+    ensures told { OnOk result
+        (HasBrought ring.now.keys node.now.first seat.old told.old.items input seat.new
+        told.new.items) }
     ensures err { OnErr result (SeesOn seat.old seat.new × (told.new.items ≡ told.old.items)) }
 {
     told.reserve(1)?;

@@ -3,7 +3,7 @@ use Rattle.std.specs.Prelude.{ℕ, ◌-◌, nat_lt, if◌then◌else◌, List, [
 use Rattle.std.specs.Result.{result_map_both}
 use Rattle.ar_base.specs.Places.{place_of}
 use Rattle.sign_book.specs.Book.{Book}
-use Rattle.sign_book.specs.Due.{DueParts}
+use Rattle.sign_book.specs.Due.{LeafDueParts}
 use Rattle.ar_statement.specs.declared.fault.BookFault.{BookFault}
 use Rattle.ar_statement.specs.declared.fault.BookFault.TheVariants.{Spent}
 
@@ -21,12 +21,12 @@ abbrev pub leaf_of : Book → List ℕ → Result ℕ BookFault
 leaf_of book text = leaf_at book (place_of book.texts text)
 
 -- what is due for a text with this leaf in the book
-abbrev pub due_at : Book → List ℕ → Result ℕ BookFault → Result DueParts BookFault
+abbrev pub due_at : Book → List ℕ → Result ℕ BookFault → Result LeafDueParts BookFault
 due_at book text given =
     result_map_both (λ leaf. record { leaf = leaf; text = text; leaves = book.leaves }) (λ fault. fault) given
 
 -- what entering a text gives, where memory lasts
-abbrev pub due_of : Book → List ℕ → Result DueParts BookFault
+abbrev pub due_of : Book → List ℕ → Result LeafDueParts BookFault
 due_of book text = due_at book text (leaf_of book text)
 
 -- the book with a text at the next place, for which it had room or takes it

@@ -32,9 +32,17 @@ impl Model for SignBook {
 
     ghost Value = { Book };
 
-    ghost view = { λ book. record { texts = book.texts.items; leaves = book.leaves; room = book.room } };
+    ghost view = { λ book. record {
+      texts = book.texts.items;
+      leaves = book.leaves;
+      room = book.room;
+    } };
 
-    ghost invariant = { λ book. IsSound (record { texts = book.texts.items; leaves = book.leaves; room = book.room })
+    ghost invariant = { λ book. IsSound (record {
+      texts = book.texts.items;
+      leaves = book.leaves;
+      room = book.room;
+    })
         × (vec_len book.texts + book.room ≤ vec_capacity book.texts) };
 }
 
@@ -71,7 +79,8 @@ impl SignBook {
     /// allocator is the one that the book was made with.
     pub fn enter(&mut self, _alloc: Global, statement: &Statement) -> Result<Due, BookFault>
         // The leaf, and when none is left.
-        ensures answer { GivesUnless Memory (λ due. due) result (due_of self.old (text_of (claim_of statement.now))) }
+        ensures answer { GivesUnless Memory (λ due.
+            due) result (due_of self.old (text_of (claim_of statement.now))) }
         ensures spent { result ≡ Err Spent ↔ ((length self.old.texts ≡ self.old.leaves)
             × ¬ Contains self.old.texts (text_of (claim_of statement.now))) }
 
@@ -80,7 +89,8 @@ impl SignBook {
             × ¬ Contains self.old.texts (text_of (claim_of statement.now)) }
 
         // What it leaves.
-        ensures ok { OnOk result (self.new ≡ after_entry self.old (text_of (claim_of statement.now))) }
+        ensures ok { OnOk result
+            (self.new ≡ after_entry self.old (text_of (claim_of statement.now))) }
         ensures err { OnErr result (self.new ≡ self.old) }
     {
         let text = Text::of(statement);
@@ -93,7 +103,8 @@ impl SignBook {
     // Gives a new text the next leaf.
     fn append(&mut self, text: Text) -> Result<Due, BookFault>
         requires { place_of self.old.texts text ≡ None }
-        ensures answer { GivesUnless Memory (λ due. due) result (due_at self.old text (next_leaf self.old)) }
+        ensures answer { GivesUnless Memory (λ due.
+            due) result (due_at self.old text (next_leaf self.old)) }
         ensures spent { result ≡ Err Spent ↔ (length self.old.texts ≡ self.old.leaves) }
         ensures memory { result ≡ Err Memory → self.old.room ≡ 0 }
         ensures ok { OnOk result (self.new ≡ with_text self.old text) }

@@ -20,9 +20,9 @@ pub struct Due {
 // Clauses see all parts. The leaf is one of the book's.
 impl Model for Due {
     ghost use Rattle.std.specs.Prelude.{◌<◌};
-    ghost use Rattle.sign_book.specs.Due.{DueParts};
+    ghost use Rattle.sign_book.specs.Due.{LeafDueParts};
 
-    ghost Value = { DueParts };
+    ghost Value = { LeafDueParts };
 
     ghost view = { λ due. record { leaf = due.leaf; text = due.text; leaves = due.leaves } };
 

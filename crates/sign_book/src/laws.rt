@@ -43,7 +43,8 @@ pub fn a_statement_keeps_its_leaf()
 /// No leaf is left exactly where each serves another text.
 pub fn a_book_is_spent_exactly_where_it_is_full()
     ensures { (book : Book) (text : List ℕ) → IsSound book
-        → (leaf_of book text ≡ Err Spent) ↔ ((length book.texts ≡ book.leaves) × ¬ Contains book.texts text) }
+        → (leaf_of book text ≡ Err Spent)
+        ↔ ((length book.texts ≡ book.leaves) × ¬ Contains book.texts text) }
 {}
 
 /// After an entry no text stands twice in the book, and none past its last leaf.

@@ -30,7 +30,7 @@ record IsSigned (keys : List KeyParts) (made : Unfilled × StationState) : Type 
 log-step : (s : log.CoreState) (keys : List KeyParts) (d : Delivery) → IsStation (a_log s) keys → AreBytes d.bytes → IsSigned keys (log_replied s (row s (log.takes d.bytes)))
 log-step s keys d is are = by (row s (log.takes d.bytes)) refl
   where
-    by : (a : log.Answer) → row s (log.takes d.bytes) ≡ a → IsSigned keys (log_replied s a)
+    by : (a : log.LogAnswer) → row s (log.takes d.bytes) ≡ a → IsSigned keys (log_replied s a)
     by (Ok reply) at =
         let keyed = log_signing.plain-signs s (log.takes d.bytes) keys reply.after reply.unsigned is.0 are tt is.1 at in
         record { signs = keyed.fills; stays = (kept-row s (log.takes d.bytes) reply is.0 are at, keyed.stays) }
@@ -43,7 +43,7 @@ authority-step s check keys d note is are = by (authority_reply says s check (me
     says : Outcome
     says = unwrap_or note No
 
-    by : (a : authority.Answer) → authority_reply says s check (message_in d.bytes) ≡ a
+    by : (a : authority.AuthorityAnswer) → authority_reply says s check (message_in d.bytes) ≡ a
         → IsSigned keys (authority_replied s (check_after check (message_in d.bytes) a) a)
     by (Ok made) at =
         let said : Outcome = says_to says check (asked_in (message_in d.bytes)) in

@@ -16,28 +16,29 @@ use Rattle.key_roll.specs.Due.{DueParts}
 use Rattle.key_roll.specs.Entry.{entered}
 use Rattle.ar_statement.specs.declared.fault.BookFault.{BookFault}
 use Rattle.ar_statement.specs.declared.fault.BookFault.TheVariants as book
+use Rattle.authority_core.specs.Checked.{ChecksBy}
 use Rattle.authority_core.specs.EndorseRow.{SaysAsTold, answers_after, asked_of, endorse_due, endorse_row, endorsing, outcome_by}
 use Rattle.authority_core.specs.Record.{AuthorityRecord}
 use Rattle.authority_core.specs.Refusals.{of_book}
 use Rattle.authority_core.specs.Row.{answers_behind, asked_in, message_row, row}
-use Rattle.authority_core.specs.State.{Answer, AuthorityState, StepsBy, if_due}
-use Rattle.authority_core.specs.declared.entries.Asked.{Asked}
+use Rattle.authority_core.specs.State.{AuthorityAnswer, AuthorityState, StepsBy, if_due}
+use Rattle.authority_core.specs.declared.entries.Approved.{Approved}
 use Rattle.authority_core.specs.declared.refusal.AuthorityRefusal.{AuthorityRefusal}
 use Rattle.authority_core.specs.declared.refusal.AuthorityRefusal.TheVariants as refusals
 use Rattle.owner_check.specs.Answers.{Told}
-use Rattle.owner_check.specs.declared.answer.Answer as check
+use Rattle.owner_check.specs.declared.answer.CheckAnswer as check
 use Rattle.owner_check.specs.declared.answer.Outcome.{Outcome}
 use Rattle.owner_check.specs.declared.answer.Outcome.TheVariants.{Failed, No, Yes}
 use Rattle.ar_nodes.specs.Authorities.{authority_reply, check_after, says_to}
 use Rattle.ar_nodes.specs.Codes.{authority_code}
 use Rattle.ar_nodes.specs.Parties.{CheckParts, check_told}
-use Rattle.ar_nodes.proofs.Nodes.{ChecksBy, after-alike, as-told, check-behind, check-waits, none-mapped, said-row}
+use Rattle.ar_nodes.proofs.Nodes.{after-alike, as-told, check-behind, check-waits, none-mapped, said-row}
 use Rattle.station.specs.Station.{IsAnswerOf, an_authority, answered_by, asks_to_endorse, authority_replied, authority_took, coded, note_by}
 
 -- ---- which bytes ask for an endorsement
 
 -- whether a check is asked
-abbrev asks : Option Asked → Bool
+abbrev asks : Option Approved → Bool
 asks None = false
 asks (Some asked) = true
 
@@ -65,7 +66,7 @@ bytes-ask bytes m are at =
 -- ---- what the check answered
 
 -- a call that refuses, and not for want of memory, refuses as the row does
-is-refused : (s s' : AuthorityState) (answer : Answer) (r : AuthorityRefusal) → r ≢ refusals.Memory → StepsBy (Err r) s s' answer → answer ≡ Err r
+is-refused : (s s' : AuthorityState) (answer : AuthorityAnswer) (r : AuthorityRefusal) → r ≢ refusals.Memory → StepsBy (Err r) s s' answer → answer ≡ Err r
 is-refused s s' answer r some steps = elim steps.1 [ inl wants ↦ absurd (some wants) | inr is ↦ is ]
 
 -- behind this refusal of a request to endorse the check was asked
@@ -77,7 +78,7 @@ book-answers (Ok due) r e = absurd cc
 book-answers (Err book.Spent) r e = let is : refusals.Spent ≡ r = cc in subst Answers is refl
 book-answers (Err book.Memory) r e = let is : refusals.Memory ≡ r = cc in subst Answers is refl
 
-due-answers : (me : ℕ) (past : AuthorityRecord) (a : Asked) (said : Outcome) (r : AuthorityRefusal) → endorse_due me past a said ≡ Err r → Answers r
+due-answers : (me : ℕ) (past : AuthorityRecord) (a : Approved) (said : Outcome) (r : AuthorityRefusal) → endorse_due me past a said ≡ Err r → Answers r
 due-answers me past a Failed r e = let is : refusals.CheckFault ≡ r = cc in subst Answers is refl
 due-answers me past a No r e = let is : refusals.NotOwner ≡ r = cc in subst Answers is refl
 due-answers me past a Yes r e = book-answers (entered past.signed (text_of (endorse me a.certificate))) r e
@@ -86,11 +87,11 @@ if-refused : {A : Type 0} (d : Result DueParts AuthorityRefusal) (f : DueParts �
 if-refused (Ok due) f r e = absurd cc
 if-refused (Err x) f r e = let is : x ≡ r = cc in ap (λ (y : AuthorityRefusal). Err y) is
 
-endorsing-refuses : (s : AuthorityState) (owner : ℕ) (a : Asked) (said : Outcome) (r : AuthorityRefusal) → endorsing s owner a said ≡ Err r → Answers r
+endorsing-refuses : (s : AuthorityState) (owner : ℕ) (a : Approved) (said : Outcome) (r : AuthorityRefusal) → endorsing s owner a said ≡ Err r → Answers r
 unfolding endorsing
 endorsing-refuses s owner a said r e = due-answers s.me s.past a said r (if-refused (endorse_due s.me s.past a said) _ r e)
 
-endorsing-answers : (s s' : AuthorityState) (owner : ℕ) (a : Asked) (said : Outcome) (result : Result Unsigned AuthorityRefusal) → result ≢ Err refusals.Memory
+endorsing-answers : (s s' : AuthorityState) (owner : ℕ) (a : Approved) (said : Outcome) (result : Result Unsigned AuthorityRefusal) → result ≢ Err refusals.Memory
     → StepsBy result s s' (endorsing s owner a said) → answered_by result ≡ Some (outcome_by result)
 endorsing-answers s s' owner a said (Ok unsigned) some steps = refl
 endorsing-answers s s' owner a said (Err r) some steps =
@@ -99,7 +100,7 @@ endorsing-answers s s' owner a said (Err r) some steps =
 -- ---- the note
 
 -- what is noted of a check, which is asked where it is there and the message asks it
-abbrev noted : Option Asked → Bool → Outcome → Option Outcome
+abbrev noted : Option Approved → Bool → Outcome → Option Outcome
 noted None retired said = None
 noted (Some a) true said = None
 noted (Some a) false said = Some said
@@ -150,12 +151,12 @@ note-is s s' retired bytes said result are some steps = by (message_in bytes) re
 
 -- ---- a check as contracts see it
 
-module _ {C : Type 0} (told : C → Option Told) (answers : C → List check.Answer) where
+module _ {C : Type 0} (told : C → Option Told) (answers : C → List check.CheckAnswer) where
   abbrev parts : Option C → Option CheckParts
   parts check = option_map (check_told told answers) check
 
   -- what is noted is what the check answered
-  answer-of : (old : Option C) (asked : Option Asked) (result : Result Unsigned AuthorityRefusal) → result ≢ Err refusals.Memory
+  answer-of : (old : Option C) (asked : Option Approved) (result : Result Unsigned AuthorityRefusal) → result ≢ Err refusals.Memory
       → IfSome old (λ o. IfSome asked (λ a. SaysAsTold (told o) (answers o) a result)) → IsAnswerOf (parts old) asked (noted asked (is_none old) (outcome_by result))
   answer-of None None result some h = refl
   answer-of None (Some a) result some h = refl
@@ -163,7 +164,7 @@ module _ {C : Type 0} (told : C → Option Told) (answers : C → List check.Ans
   answer-of (Some o) (Some a) result some h = as-told told answers (Some o) (Some a) result some h
 
   -- and by it a message that asks the check is answered
-  says-so : (old : Option C) (asked : Option Asked) (says : Outcome) → says_to says (parts old) asked ≡ says_to (unwrap_or (noted asked (is_none old) says) No) (parts old) asked
+  says-so : (old : Option C) (asked : Option Approved) (says : Outcome) → says_to says (parts old) asked ≡ says_to (unwrap_or (noted asked (is_none old) says) No) (parts old) asked
   says-so None None says = refl
   says-so None (Some a) says = refl
   says-so (Some o) None says = refl
@@ -192,14 +193,14 @@ module _ {C : Type 0} (told : C → Option Told) (answers : C → List check.Ans
 
 -- ---- a call by its row's answer
 
-alike : (s s' : AuthorityState) (asked : Option Asked) (answer : Answer) (result : Result Unsigned AuthorityRefusal) → result ≢ Err refusals.Memory → StepsBy result s s' answer
-    → (xs : List check.Answer) → answers_behind xs asked answer ≡ answers_behind xs asked result
+alike : (s s' : AuthorityState) (asked : Option Approved) (answer : AuthorityAnswer) (result : Result Unsigned AuthorityRefusal) → result ≢ Err refusals.Memory → StepsBy result s s' answer
+    → (xs : List check.CheckAnswer) → answers_behind xs asked answer ≡ answers_behind xs asked result
 alike s s' None answer result some steps xs = refl
 alike s s' (Some a) answer (Ok unsigned) some steps xs = ap (answers_after xs a) steps
 alike s s' (Some a) answer (Err r) some steps xs =
     ap (answers_after xs a) (is-refused s s' answer r (λ e. some (ap (λ (x : AuthorityRefusal). Err x) e)) steps) ∙ after-alike (AuthorityState × Unsigned) Unsigned xs a r
 
-replied-so : (s s' : AuthorityState) (k : Option CheckParts) (answer : Answer) (result : Result Unsigned AuthorityRefusal) → result ≢ Err refusals.Memory → StepsBy result s s' answer
+replied-so : (s s' : AuthorityState) (k : Option CheckParts) (answer : AuthorityAnswer) (result : Result Unsigned AuthorityRefusal) → result ≢ Err refusals.Memory → StepsBy result s s' answer
     → authority_replied s k answer ≡ (coded result, an_authority s' k)
 replied-so s s' k answer (Ok unsigned) some steps = ap (authority_replied s k) steps
 replied-so s s' k answer (Err r) some steps =
@@ -207,7 +208,7 @@ replied-so s s' k answer (Err r) some steps =
     ∙ ap (λ (l : AuthorityState). (Err (authority_code r), an_authority l k)) (sym steps.0)
 
 -- the whole call
-pub took-so : {C : Type 0} (told : C → Option Told) (answers : C → List check.Answer) (old new : Option C) (s s' : AuthorityState) (bytes : List ℕ) (result : Result Unsigned AuthorityRefusal)
+pub took-so : {C : Type 0} (told : C → Option Told) (answers : C → List check.CheckAnswer) (old new : Option C) (s s' : AuthorityState) (bytes : List ℕ) (result : Result Unsigned AuthorityRefusal)
     → AreBytes bytes → result ≢ Err refusals.Memory → ChecksBy told answers old new (asked_in (message_in bytes)) result
     → StepsBy result s s' (row s (is_none old) (message_in bytes) (outcome_by result))
     → authority_took (unwrap_or (note_by bytes result) No) s (option_map (check_told told answers) old) (message_in bytes)
@@ -215,18 +216,18 @@ pub took-so : {C : Type 0} (told : C → Option Told) (answers : C → List chec
 took-so told answers old new s s' bytes result are some by steps =
     let m : Result Message ℕ = message_in bytes in
     let k : Option CheckParts = option_map (check_told told answers) old in
-    let answer : Answer = row s (is_none old) m (outcome_by result) in
-    ap (λ (a : Answer). authority_replied s (check_after k m a) a) (sym (reply-is told answers old new s s' bytes result are some by steps))
+    let answer : AuthorityAnswer = row s (is_none old) m (outcome_by result) in
+    ap (λ (a : AuthorityAnswer). authority_replied s (check_after k m a) a) (sym (reply-is told answers old new s s' bytes result are some by steps))
     ∙ replied-so s s' (check_after k m answer) answer result some steps
     ∙ ap (λ (c : Option CheckParts). (coded result, an_authority s' c))
     (check-behind told answers old new (asked_in m) answer result by (alike s s' (asked_in m) answer result some steps))
 
 -- where memory is wanting
-pub waits-so : {C : Type 0} (told : C → Option Told) (answers : C → List check.Answer) (old new : Option C) (asked : Option Asked) (result : Result Unsigned AuthorityRefusal)
+pub waits-so : {C : Type 0} (told : C → Option Told) (answers : C → List check.CheckAnswer) (old new : Option C) (asked : Option Approved) (result : Result Unsigned AuthorityRefusal)
     → ChecksBy told answers old new asked result → result ≡ Err refusals.Memory
     → option_map (check_told told answers) new ≡ option_map (check_told told answers) old
 waits-so told answers old new asked result by is = check-waits told answers old new asked (subst (ChecksBy told answers old new asked) is by)
 
-pub stays-so : (s s' : AuthorityState) (answer : Answer) (result : Result Unsigned AuthorityRefusal) → StepsBy result s s' answer → result ≡ Err refusals.Memory → s' ≡ s
+pub stays-so : (s s' : AuthorityState) (answer : AuthorityAnswer) (result : Result Unsigned AuthorityRefusal) → StepsBy result s s' answer → result ≡ Err refusals.Memory → s' ≡ s
 stays-so s s' answer (Ok unsigned) steps is = absurd cc
 stays-so s s' answer (Err r) steps is = steps.0

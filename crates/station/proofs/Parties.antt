@@ -8,7 +8,7 @@ use Rattle.ar_statement.specs.Claims.{authority_party, log_party}
 use Rattle.authority_core.specs.Row as rows
 use Rattle.authority_core.specs.Row.{asked_in}
 use Rattle.authority_core.specs.State as authority
-use Rattle.authority_core.specs.declared.entries.Asked.{Asked}
+use Rattle.authority_core.specs.declared.entries.Approved.{Approved}
 use Rattle.log_core.specs.Row.{row}
 use Rattle.log_core.specs.State as log
 use Rattle.owner_check.specs.Answers.{Told, outcome_of}
@@ -26,7 +26,7 @@ use Rattle.station.specs.declared.delivery.Delivery.{Delivery}
 
 -- ---- logs
 
-log-becomes : (node : LogNode) (message : ℕ) (a : log.Answer) → LogBecomes node message (log_replied node.core a) (log_does node node.keys (events.Take message) a)
+log-becomes : (node : LogNode) (message : ℕ) (a : log.LogAnswer) → LogBecomes node message (log_replied node.core a) (log_does node node.keys (events.Take message) a)
 log-becomes node message (Ok reply) = record { stands = refl; keys = refl; taken = refl; reply = refl }
 log-becomes node message (Err refusal) = record { stands = refl; keys = refl; taken = sym (append-nil node.taken); reply = refl }
 
@@ -52,7 +52,7 @@ log-is pool message number node d _ is = (
 
 -- ---- authorities
 
-authority-becomes : (node : AuthorityNode) (check : Option CheckParts) (a : authority.Answer)
+authority-becomes : (node : AuthorityNode) (check : Option CheckParts) (a : authority.AuthorityAnswer)
     → AuthorityBecomes node (authority_replied node.state check a) (authority_does (record node { check = check }) a)
 authority-becomes node check (Ok made) = record { stands = refl; keys = refl; reply = refl }
 authority-becomes node check (Err refusal) = record { stands = refl; keys = refl; reply = refl }
@@ -69,7 +69,7 @@ pub authority-is : (pool : List Pooled) (message number : ℕ) (node : Authority
     × AuthorityBecomes node (replied_at (an_authority node.state node.check) d note) after
 authority-is pool message number node d note is =
     let says : Outcome = unwrap_or note No in
-    let answer : authority.Answer = authority_reply says node.state node.check (message_in d.bytes) in (
+    let answer : authority.AuthorityAnswer = authority_reply says node.state node.check (message_in d.bytes) in (
       authority_took says node d.bytes,
       authority-acts says pool message number node
           ∙ ap (λ (bytes : List ℕ). acted (noted_in pool message (authority_party number)) (authority_party number) (Take message) (authority_took says node bytes)) (sym is),
@@ -79,12 +79,12 @@ authority-is pool message number node d note is =
 -- ---- whatever a check says
 
 -- the note by what a check says
-abbrev note-of : Outcome → Option CheckParts → Option Asked → Option Outcome
+abbrev note-of : Outcome → Option CheckParts → Option Approved → Option Outcome
 note-of says None asked = None
 note-of says (Some check) None = None
 note-of says (Some check) (Some asked) = Some (check_says says check asked)
 
-may-be : (says : Outcome) (check : Option CheckParts) (asked : Option Asked) → IsAnswerOf check asked (note-of says check asked)
+may-be : (says : Outcome) (check : Option CheckParts) (asked : Option Approved) → IsAnswerOf check asked (note-of says check asked)
 may-be says None asked = refl
 may-be says (Some check) None = refl
 may-be says (Some check) (Some asked) = at check.told where
@@ -93,7 +93,7 @@ may-be says (Some check) (Some asked) = at check.told where
   at (Some t) = refl
 
 -- a check says the same by it
-says-same : (says : Outcome) (check : Option CheckParts) (asked : Option Asked) → says_to says check asked ≡ says_to (unwrap_or (note-of says check asked) No) check asked
+says-same : (says : Outcome) (check : Option CheckParts) (asked : Option Approved) → says_to says check asked ≡ says_to (unwrap_or (note-of says check asked) No) check asked
 says-same says None asked = refl
 says-same says (Some check) None = refl
 says-same says (Some check) (Some asked) = at check.told where
@@ -113,7 +113,7 @@ pub each-is-noted : (says : Outcome) (pool : List Pooled) (message number : ℕ)
     → (note : Option Outcome) × IsNoted (an_authority node.state node.check) d note
     × (authority_delivered says pool message number node ≡ authority_delivered (unwrap_or note No) pool message number node)
 each-is-noted says pool message number node d are is =
-    let asked : Option Asked = asked_in (message_in d.bytes) in
+    let asked : Option Approved = asked_in (message_in d.bytes) in
     let note : Option Outcome = note-of says node.check asked in (
       note,
       (are, may-be says node.check asked),

@@ -9,13 +9,13 @@ use Rattle.ar_message.specs.declared.unsigned.Unsigned.{Unsigned}
 use Rattle.authority_core.specs.EndorseRow.{outcome_by}
 use Rattle.authority_core.specs.Row.{asked_in}
 use Rattle.authority_core.specs.State as authority
-use Rattle.authority_core.specs.declared.entries.Asked.{Asked}
+use Rattle.authority_core.specs.declared.entries.Approved.{Approved}
 use Rattle.authority_core.specs.declared.refusal.AuthorityRefusal.{AuthorityRefusal}
 use Rattle.authority_core.specs.declared.refusal.AuthorityRefusal.TheVariants as refusals
 use Rattle.log_core.specs.Row.{row}
 use Rattle.log_core.specs.State as log
 use Rattle.owner_check.specs.Answers.{Told, outcome_of}
-use Rattle.owner_check.specs.declared.answer.Answer.{Answer}
+use Rattle.owner_check.specs.declared.answer.CheckAnswer.{CheckAnswer}
 use Rattle.owner_check.specs.declared.answer.Outcome.{Outcome}
 use Rattle.owner_check.specs.declared.answer.Outcome.TheVariants.{No}
 use Rattle.report_text.specs.declared.happening.Code.{Code}
@@ -32,7 +32,7 @@ pub data StationState : Type 0 where
   an_authority : (state : authority.AuthorityState) (check : Option CheckParts) → StationState
 
 -- a station as plain data
-abbrev pub station_told : {C : Type 0} → (C → Option Told) → (C → List Answer) → Station C → StationState
+abbrev pub station_told : {C : Type 0} → (C → Option Told) → (C → List CheckAnswer) → Station C → StationState
 station_told told answers (stations.Log core) = a_log core
 station_told told answers (stations.Authority core) = an_authority core.state (option_map (check_told told answers) core.check)
 
@@ -43,12 +43,12 @@ abbrev pub Unfilled : Type 0
 Unfilled = Result Unsigned Code
 
 -- a log by the answer of its row
-abbrev pub log_replied : log.CoreState → log.Answer → Unfilled × StationState
+abbrev pub log_replied : log.CoreState → log.LogAnswer → Unfilled × StationState
 log_replied s (Ok reply) = (Ok reply.unsigned, a_log reply.after)
 log_replied s (Err refusal) = (Err (log_code refusal), a_log s)
 
 -- an authority by the answer of its row, with its check behind that
-abbrev pub authority_replied : authority.AuthorityState → Option CheckParts → authority.Answer → Unfilled × StationState
+abbrev pub authority_replied : authority.AuthorityState → Option CheckParts → authority.AuthorityAnswer → Unfilled × StationState
 authority_replied s check (Ok made) = (Ok made.1, an_authority made.0 check)
 authority_replied s check (Err refusal) = (Err (authority_code refusal), an_authority s check)
 
@@ -67,7 +67,7 @@ replied_at (an_authority s check) d note = authority_took (unwrap_or note No) s 
 
 -- What the history keeps of an authority's step: what the check answered where it was asked, which of a check that tells its
 -- book and failing numbers is by those; and nothing where it was not asked, or the authority had retired.
-abbrev pub IsAnswerOf : Option CheckParts → Option Asked → Option Outcome → Type 0
+abbrev pub IsAnswerOf : Option CheckParts → Option Approved → Option Outcome → Type 0
 IsAnswerOf None asked note = note ≡ None
 IsAnswerOf (Some check) None note = note ≡ None
 IsAnswerOf (Some check) (Some asked) None = ⊥

@@ -18,32 +18,44 @@ ghost use Rattle.station.specs.declared.delivery.Delivery.{Delivery};
 /// Whatever is brought to a station, its keys stay those of its party, and can sign what it replies: so it is after a whole
 /// history too, and whoever brings a message can sign the reply with the ring that the party had at first.
 pub fn what_a_station_replies_can_be_signed()
-    ensures stays { (s : StationState) (keys : List KeyParts) (d : Delivery) (note : Option Outcome) → IsStation s keys → IsNoted s d note
+    ensures stays { (s : StationState) (keys : List KeyParts) (d : Delivery) (note : Option Outcome)
+        → IsStation s keys → IsNoted s d note
         → IsStation (replied_at s d note).1 keys }
-    ensures signs { (s : StationState) (keys : List KeyParts) (d : Delivery) (note : Option Outcome) → IsStation s keys → IsNoted s d note
+    ensures signs { (s : StationState) (keys : List KeyParts) (d : Delivery) (note : Option Outcome)
+        → IsStation s keys → IsNoted s d note
         → CanSign keys (replied_at s d note).0 }
-    ensures after { (s : StationState) (keys : List KeyParts) (calls : List (Delivery × Option Outcome)) → IsStation s keys
+    ensures after { (s : StationState) (keys : List KeyParts)
+        (calls : List (Delivery × Option Outcome)) → IsStation s keys
         → IsLegal replied_at IsNoted s calls → IsStation (state_after replied_at s calls) keys }
-    ensures answered { (s : StationState) (keys : List KeyParts) (before : List (Delivery × Option Outcome)) (d : Delivery) (note : Option Outcome)
-        → IsStation s keys → IsLegal replied_at IsNoted s (before ++ (d, note) ∷ []) → CanSign keys (reply_after replied_at s before d note) }
+    ensures answered { (s : StationState) (keys : List KeyParts)
+        (before : List (Delivery × Option Outcome)) (d : Delivery) (note : Option Outcome)
+        → IsStation s keys → IsLegal replied_at IsNoted s (before ++ (d, note) ∷ [])
+        → CanSign keys (reply_after replied_at s before d note) }
 {}
 
 /// A station is the party of a world: what a delivery of a message makes there of a log or an authority, of the pool and of
 /// what is printed is by the station's step on the bytes of the message, with the party's keys.
 pub fn a_station_is_the_party_of_a_world()
-    ensures log { (pool : List Pooled) (message number : ℕ) (node : LogNode) (d : Delivery) (note : Option Outcome) → d.bytes ≡ bytes_of (numbered pool message)
+    ensures log { (pool : List Pooled) (message number : ℕ) (node : LogNode) (d : Delivery)
+        (note : Option Outcome) → d.bytes ≡ bytes_of (numbered pool message)
         → (after : LogNode × Reply)
-        × (log_delivered pool message number node ≡ acted (noted_in pool message (log_party number)) (log_party number) (Take message) after)
+        × (log_delivered pool message number node
+        ≡ acted (noted_in pool message (log_party number)) (log_party number)
+        (Take message) after)
         × LogBecomes node message (replied_at (a_log node.core) d note) after }
-    ensures authority { (pool : List Pooled) (message number : ℕ) (node : AuthorityNode) (d : Delivery) (note : Option Outcome)
+    ensures authority { (pool : List Pooled) (message number : ℕ) (node : AuthorityNode)
+        (d : Delivery) (note : Option Outcome)
         → d.bytes ≡ bytes_of (numbered pool message)
         → (after : AuthorityNode × Reply)
         × (authority_delivered (unwrap_or note No) pool message number node
-        ≡ acted (noted_in pool message (authority_party number)) (authority_party number) (Take message) after)
+        ≡ acted (noted_in pool message (authority_party number)) (authority_party number)
+        (Take message) after)
         × AuthorityBecomes node (replied_at (an_authority node.state node.check) d note) after }
     // Whatever a check says that tells nothing of itself, the delivery is that of a note which may come there.
-    ensures noted { (says : Outcome) (pool : List Pooled) (message number : ℕ) (node : AuthorityNode) (d : Delivery) → AreBytes d.bytes
+    ensures noted { (says : Outcome) (pool : List Pooled) (message number : ℕ)
+        (node : AuthorityNode) (d : Delivery) → AreBytes d.bytes
         → d.bytes ≡ bytes_of (numbered pool message)
         → (note : Option Outcome) × IsNoted (an_authority node.state node.check) d note
-        × (authority_delivered says pool message number node ≡ authority_delivered (unwrap_or note No) pool message number node) }
+        × (authority_delivered says pool message number node
+        ≡ authority_delivered (unwrap_or note No) pool message number node) }
 {}

@@ -40,7 +40,9 @@ impl<C: OwnerCheck> Station<C> {
 
     /// The station of an authority, and the keys that sign what it replies. It takes no memory.
     pub fn of_authority(authority: Authority<C>) -> (Station<C>, KeyRing)
-        ensures station { station_told C.told C.answers result.0 ≡ an_authority authority.core.state (option_map (check_told C.told C.answers) authority.core.check) }
+        ensures station { station_told C.told C.answers result.0
+            ≡ an_authority authority.core.state
+            (option_map (check_told C.told C.answers) authority.core.check) }
         ensures ring { result.1 ≡ authority.ring }
         ensures kept { IsStation (station_told C.told C.answers result.0) result.1.keys }
     {

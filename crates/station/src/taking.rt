@@ -30,7 +30,8 @@ pub(crate) fn log_takes(
     alloc: Global,
     bytes: &[u8],
 ) -> Result<Unfilled, AllocError>
-    ensures ok { IfOk result (λ reply. log_replied core.old (row core.old (takes bytes.now)) ≡ (reply, a_log core.new)) }
+    ensures ok { IfOk result (λ reply.
+        log_replied core.old (row core.old (takes bytes.now)) ≡ (reply, a_log core.new)) }
     ensures err { OnErr result (core.new ≡ core.old) }
 {
     match core.step(alloc, &LogInput::Take(bytes)) {
@@ -58,11 +59,20 @@ pub(crate) fn authority_takes<C: OwnerCheck>(
     alloc: Global,
     bytes: &[u8],
 ) -> Result<(Unfilled, Option<Outcome>), AllocError>
-    ensures note { IfOk result (λ made. IsAnswerOf (option_map (check_told C.told C.answers) core.old.check) (asked_in (message_in bytes.now)) made.1) }
-    ensures ok { IfOk result (λ made. authority_took (unwrap_or made.1 No) core.old.state (option_map (check_told C.told C.answers) core.old.check) (message_in bytes.now)
-        ≡ (made.0, an_authority core.new.state (option_map (check_told C.told C.answers) core.new.check))) }
+    ensures note { IfOk result (λ made.
+        IsAnswerOf (option_map (check_told C.told C.answers) core.old.check)
+        (asked_in (message_in bytes.now)) made.1) }
+    ensures ok { IfOk result (λ made.
+        authority_took (unwrap_or made.1 No) core.old.state
+        (option_map (check_told C.told C.answers) core.old.check) (message_in bytes.now)
+        ≡ (
+          made.0,
+          an_authority core.new.state
+              (option_map (check_told C.told C.answers) core.new.check),
+        )) }
     ensures state { OnErr result (core.new.state ≡ core.old.state) }
-    ensures check { OnErr result (option_map (check_told C.told C.answers) core.new.check ≡ option_map (check_told C.told C.answers) core.old.check) }
+    ensures check { OnErr result (option_map (check_told C.told C.answers) core.new.check
+        ≡ option_map (check_told C.told C.answers) core.old.check) }
 {
     are_bytes(bytes);
     let answer = core.step(alloc, bytes);

@@ -5,6 +5,8 @@
 #[cfg(test)]
 mod leaf_book_tests;
 #[cfg(test)]
+mod meeting;
+#[cfg(test)]
 mod possession_tests;
 #[cfg(test)]
 mod serve_run_tests;

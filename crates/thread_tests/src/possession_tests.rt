@@ -130,7 +130,8 @@ fn told(connection: &Connection) -> Option<(u64, u64)> {
 fn serve(alloc: Global) -> Result<(Server, LeafSeat, Vec<u8>), Fail>
     ensures own { IfOk result (λ made. made.1.book ≡ made.0.book) }
     ensures share { IfOk result (λ made. made.1.share ≡ whole) }
-    ensures room { IfOk result (λ made. length made.2.items ≡ lms_signature_len_of made.0.key.lms made.0.key.ots) }
+    ensures room { IfOk result (λ made.
+        length made.2.items ≡ lms_signature_len_of made.0.key.lms made.0.key.ots) }
 {
     let key = LmsKey::make(alloc, &[0x5a; 32], 5, 3)?;
     let room = vec![in alloc; 7u8; key.signature_len()]?;

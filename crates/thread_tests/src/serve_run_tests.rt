@@ -1,54 +1,16 @@
+use crate::meeting::Meeting;
 use ar_io::{MemSink, QuietSource};
 use serve_run::{Gate, crowd_main};
 use std::alloc::{AllocError, Global};
-use std::sync::atomic::{AtomicBool, AtomicU64, Ordering};
+use std::sync::atomic::{AtomicU64, Ordering};
 use std::test::Fail;
 use std::thread::Threads;
-
-// How often a worker looks for the other one before it goes on alone.
-const MOST_TURNS: u32 = 200_000_000;
-
-// A gate for two challenges at which two workers have to meet: who comes to it sets a flag, and waits for the other's.
-#[derive(Drop)]
-struct Meeting {
-    first: AtomicBool,
-    second: AtomicBool,
-    missed: AtomicBool,
-}
-
-impl Meeting {
-    fn new() -> Meeting {
-        Meeting {
-            first: AtomicBool::new(false),
-            second: AtomicBool::new(false),
-            missed: AtomicBool::new(false),
-        }
-    }
-
-    // Whether each found the other.
-    fn is_met(&self) -> bool {
-        self.first.load(Ordering::SeqCst)
-            && self.second.load(Ordering::SeqCst)
-            && !self.missed.load(Ordering::SeqCst)
-    }
-}
 
 impl Gate for Meeting {
     ghost passed = { λ _ _. Unit {0} };
 
     fn before(&self, number: u64) {
-        let (own, other) = if number == 0 {
-            (&self.first, &self.second)
-        } else {
-            (&self.second, &self.first)
-        };
-        own.store(true, Ordering::SeqCst);
-        for _ in 0..MOST_TURNS {
-            if other.load(Ordering::SeqCst) {
-                return;
-            }
-        }
-        self.missed.store(true, Ordering::SeqCst);
+        self.meet(number);
     }
 }
 

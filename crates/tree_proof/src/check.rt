@@ -49,7 +49,8 @@ fn has_none(key: &[u8; 32], bottom: &Bottom, steps: &[u8], root: &[u8; 32]) -> b
 
 // Whether at most 256 steps lead from a digest to the root.
 fn leads_to(key: &[u8; 32], foot: [u8; 32], steps: &[[u8; 32]], root: &[u8; 32]) -> bool
-    ensures { IsTrue result ↔ ((length steps.now ≤ 256) × (path_value key.now foot steps.now ≡ root.now)) }
+    ensures { IsTrue result
+        ↔ ((length steps.now ≤ 256) × (path_value key.now foot steps.now ≡ root.now)) }
 {
     steps.len() <= 256 && led_up(key, foot, steps) == *root
 }

@@ -28,14 +28,16 @@ pub fn made_absence_is_accepted()
 
 /// Steps that show a value under the root of a set of entries show the key's value in it.
 pub fn presence_binds()
-    ensures { (m : Entries) (key value : List ℕ) (steps : List (List ℕ)) → HoldsDigests m → IsDigest key
+    ensures { (m : Entries) (key value : List ℕ) (steps : List (List ℕ)) → HoldsDigests m
+        → IsDigest key
         → IsTrue (none_collide (strings_of m ++ path_strings key (entry_string key value) steps))
         → On key value steps (root m) → get m key ≡ Some value }
 {}
 
 /// Steps that show absence under the root of a set of entries show that the key has no value in it.
 pub fn absence_binds()
-    ensures { (m : Entries) (key : List ℕ) (bottom : Bottom) (steps : List (List ℕ)) → HoldsDigests m
+    ensures { (m : Entries) (key : List ℕ) (bottom : Bottom) (steps : List (List ℕ))
+        → HoldsDigests m
         → IsDigest key → HasDigestKey bottom
         → IsTrue (none_collide (strings_of m ++ path_strings key (bottom_string bottom) steps))
         → Off key bottom steps (root m) → get m key ≡ None }
@@ -49,7 +51,8 @@ pub fn equal_roots_bind()
 
 /// The test `is_on` tells whether bytes show that a key has a value.
 pub fn presence_is_tested()
-    ensures { (key value bytes root : List ℕ) → IsTrue (is_on key value bytes root) ↔ OnBytes key value bytes root }
+    ensures { (key value bytes root : List ℕ)
+        → IsTrue (is_on key value bytes root) ↔ OnBytes key value bytes root }
 {}
 
 /// The test `is_off` tells whether bytes show that a key has no value.

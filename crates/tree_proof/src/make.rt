@@ -58,8 +58,11 @@ fn walk(
     requires ascending { HasAscendingKeys entries.now }
     requires agreed { AgreeAmong depth (entries_of entries.now) }
     requires in_key { depth ≤ 256 }
-    ensures bottom { IfOk result (λ bottom. bottom ≡ bottom_below (256 - depth) key.now (entries_of entries.now)) }
-    ensures steps { IfOk result (λ _. steps.new.items ≡ steps.old.items ++ steps_below (256 - depth) key.now (entries_of entries.now)) }
+    ensures bottom { IfOk result (λ bottom.
+        bottom ≡ bottom_below (256 - depth) key.now (entries_of entries.now)) }
+    ensures steps { IfOk result (λ _.
+        steps.new.items ≡ steps.old.items
+        ++ steps_below (256 - depth) key.now (entries_of entries.now)) }
 {
     match entries {
         [] => Ok(Bottom::Empty),

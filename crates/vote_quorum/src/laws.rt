@@ -41,7 +41,8 @@ pub fn a_list_shares_all_with_itself()
 
 /// At least q of the numbers below n pass a test exactly where q of them are counted.
 pub fn at_least_is_a_count()
-    ensures { (q n : ℕ) (test : ℕ → Bool) → AtLeast q n (λ k. IsTrue (test k)) ↔ (q ≤ count_below n test) }
+    ensures { (q n : ℕ) (test : ℕ → Bool)
+        → AtLeast q n (λ k. IsTrue (test k)) ↔ (q ≤ count_below n test) }
 {}
 
 /// Of two quorums of q among n logs, where 2q > n + 2, a log beside any two that are named is in both.
@@ -64,12 +65,14 @@ pub fn an_excluded_root_gets_no_quorum()
 /// Statuses exclude each root exactly where the sums say so, without a difference.
 pub fn exclusion_is_by_sums()
     ensures { (n q : ℕ) (statuses : List Status) → AreStatuses n statuses
-        → Excludes n q statuses ↔ ((root : List ℕ) → report_count root statuses + n + 2 < q + length statuses) }
+        → Excludes n q statuses
+        ↔ ((root : List ℕ) → report_count root statuses + n + 2 < q + length statuses) }
 {}
 
 /// Where 2q > n + 2, the statuses of q logs of which none reports a ballot exclude each root.
 pub fn a_silent_quorum_excludes_each_root()
-    ensures { (n q : ℕ) (statuses : List Status) → n + 2 < 2 * q → AreStatuses n statuses → q ≤ length statuses
+    ensures { (n q : ℕ) (statuses : List Status) → n + 2 < 2 * q → AreStatuses n statuses
+        → q ≤ length statuses
         → All (λ s. s.1 ≡ None) statuses → Excludes n q statuses }
 {}
 
@@ -80,18 +83,21 @@ pub fn each_status_is_of_one_log()
         → distinct_count (logs_of statuses) ≡ length statuses }
     ensures few { (n : ℕ) (statuses : List Status) → AreStatuses n statuses → length statuses ≤ n }
     ensures reports { (root : List ℕ) (statuses : List Status)
-        → distinct_count (logs_of (filter (λ s. is_for root s.1) statuses)) ≤ report_count root statuses }
+        → distinct_count (logs_of (filter (λ s. is_for root s.1) statuses))
+        ≤ report_count root statuses }
 {}
 
 /// At most one root is the one that is reported most often.
 pub fn one_root_is_reported_most()
     ensures { (statuses : List Status) (one other : Option (List ℕ)) (count others : ℕ)
-        → IsMostReported statuses one count → IsMostReported statuses other others → (one ≡ other) × (count ≡ others) }
+        → IsMostReported statuses one count → IsMostReported statuses other others
+        → (one ≡ other) × (count ≡ others) }
 {}
 
 /// A count grows by one exactly with a new ballot for the value, and another value's count stays.
 pub fn a_count_grows_with_a_new_ballot()
-    ensures new { (ballots : List Ballot) (log : ℕ) (value : Value) → (Contains ballots (log, value) → ⊥)
+    ensures new { (ballots : List Ballot) (log : ℕ) (value : Value)
+        → (Contains ballots (log, value) → ⊥)
         → log_count (with_ballot ballots (log, value)) value ≡ log_count ballots value + 1 }
     ensures again { (ballots : List Ballot) (ballot : Ballot) → Contains ballots ballot
         → with_ballot ballots ballot ≡ ballots }
@@ -101,7 +107,8 @@ pub fn a_count_grows_with_a_new_ballot()
 
 /// The value with a quorum has as many logs; where there is none, no value has.
 pub fn a_quorum_is_of_distinct_logs()
-    ensures found { (ballots : List Ballot) (q : ℕ) (value : Value) → quorum_of ballots q ≡ Some value
+    ensures found { (ballots : List Ballot) (q : ℕ) (value : Value)
+        → quorum_of ballots q ≡ Some value
         → q ≤ log_count ballots value }
     ensures none { (ballots : List Ballot) (q : ℕ) → 0 < q → quorum_of ballots q ≡ None
         → (value : Value) → log_count ballots value < q }
@@ -110,5 +117,6 @@ pub fn a_quorum_is_of_distinct_logs()
 /// The tests that the definitions make say that two values, or two ballots, are equal.
 pub fn tests_are_equalities()
     ensures values { (value other : Value) → IsTrue (is_same value other) ↔ (value ≡ other) }
-    ensures ballots { (ballots : List Ballot) (ballot : Ballot) → IsTrue (has_ballot ballots ballot) ↔ Contains ballots ballot }
+    ensures ballots { (ballots : List Ballot) (ballot : Ballot)
+        → IsTrue (has_ballot ballots ballot) ↔ Contains ballots ballot }
 {}

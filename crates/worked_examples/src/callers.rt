@@ -58,7 +58,8 @@ pub fn has_signed(
     statement: &Statement,
     signature: &[u8],
 ) -> bool
-    ensures { result ≡ is_ok (verified directory.now party (text_of (claim_of statement.now)) signature.now) }
+    ensures { result ≡ is_ok
+        (verified directory.now party (text_of (claim_of statement.now)) signature.now) }
 {
     directory
         .verify(party, Text::of(statement).as_bytes(), signature)
@@ -73,8 +74,15 @@ pub fn key_to_trust(
     now: u64,
     age: u64,
 ) -> Option<LmsPublic>
-    ensures { IfSome result (λ key. (certificate : Certificate) × (digest : List ℕ) × (epoch : ℕ) × (root : List ℕ)
-        × (judgement (record { keys = directory.now; name = name.now; epoch = now; age = age }) confirmation.now ≡ Accepted certificate digest epoch root) × (key ≡ certificate.subject)) }
+    ensures { IfSome result (λ key.
+        (certificate : Certificate) × (digest : List ℕ) × (epoch : ℕ) × (root : List ℕ)
+        × (judgement (record {
+          keys = directory.now;
+          name = name.now;
+          epoch = now;
+          age = age;
+        }) confirmation.now ≡ Accepted certificate digest epoch root)
+        × (key ≡ certificate.subject)) }
 {
     match judge(directory, name, confirmation, now, age) {
         Judgement::Accepted { certificate, .. } => Some(certificate.subject()),
@@ -103,7 +111,8 @@ pub fn hand_over(
 ) -> Result<(), BookFault>
     requires leaves { book.old.leaves ≡ leaves_of key.now.lms }
     requires room { length out.old ≡ lms_signature_len_of key.now.lms key.now.ots }
-    ensures { OnOk result (IfOk (due_of book.old (text_of (handover certificate.now))) (λ due. out.new ≡ signature_of key.now due.leaf due.text)) }
+    ensures { OnOk result (IfOk (due_of book.old (text_of (handover certificate.now))) (λ due.
+        out.new ≡ signature_of key.now due.leaf due.text)) }
 {
     let statement = Statement::Handover {
         certificate: *certificate,

@@ -1,6 +1,6 @@
 use Rattle.std.proofs.Common.{take}
 use Rattle.std.specs.Prelude.{All, IfSome}
-use Rattle.ar_council.specs.Values.{IsValue}
+use Rattle.ar_statement.specs.Ranges.{IsValue}
 use Rattle.epoch_log.specs.State.{reports_of}
 use Rattle.epoch_log.specs.Telling.{statuses_in}
 use Rattle.epoch_log.proofs.skipping.statuses_told.Given as goal

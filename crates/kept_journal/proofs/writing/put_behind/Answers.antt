@@ -14,80 +14,80 @@ write_at-requires g c = omega (arith, c.requires.last)
 
 pub returns-in_err-write_at-clause-any_moment : goal.returns-in_err-write_at-clause-any_moment
 returns-in_err-write_at-clause-any_moment g c =
-    let one = first g.K.Disk.seen g.K.Disk.may_leave g.K.Disk.moment g.K.Disk.left_since g.met.K.Disk.only_now c.args.standing.now.mark c.args.standing.now.end c.args.standing.now.count c.args.record.now c.bytes.result.now c.bytes.ensures.short c.bytes.ensures.bytes c.args.disk.now c.requires c.write_at.new.self c.write_at.ensures.crash c.write_at.ensures.time in
+    let one = first g.K.Disk.seen g.K.Disk.may_leave g.K.Disk.moment g.K.Disk.left_since g.met.K.Disk.only_now c.args.standing.now.mark c.args.standing.now.end c.args.standing.now.count c.args.text.now c.bytes.result.now c.bytes.ensures.short c.bytes.ensures.bytes c.args.disk.now c.requires c.write_at.new.self c.write_at.ensures.crash c.write_at.ensures.time in
     one
 
 pub returns-in_err-sync-clause-any_moment : goal.returns-in_err-sync-clause-any_moment
 returns-in_err-sync-clause-any_moment g c =
-    let one = first g.K.Disk.seen g.K.Disk.may_leave g.K.Disk.moment g.K.Disk.left_since g.met.K.Disk.only_now c.args.standing.now.mark c.args.standing.now.end c.args.standing.now.count c.args.record.now c.bytes.result.now c.bytes.ensures.short c.bytes.ensures.bytes c.args.disk.now c.requires c.write_at.new.self c.write_at.ensures.crash c.write_at.ensures.time in
-    let two = second g.K.Disk.seen g.K.Disk.may_leave g.K.Disk.moment g.K.Disk.left_since g.met.K.Disk.only_now c.args.standing.now.mark c.args.standing.now.end c.args.standing.now.count c.args.record.now c.bytes.result.now c.bytes.ensures.short c.bytes.ensures.bytes c.args.disk.now c.requires c.write_at.new.self c.sync.new.self one c.write_at.ensures.crash c.sync.ensures.crash c.sync.ensures.time in
+    let one = first g.K.Disk.seen g.K.Disk.may_leave g.K.Disk.moment g.K.Disk.left_since g.met.K.Disk.only_now c.args.standing.now.mark c.args.standing.now.end c.args.standing.now.count c.args.text.now c.bytes.result.now c.bytes.ensures.short c.bytes.ensures.bytes c.args.disk.now c.requires c.write_at.new.self c.write_at.ensures.crash c.write_at.ensures.time in
+    let two = second g.K.Disk.seen g.K.Disk.may_leave g.K.Disk.moment g.K.Disk.left_since g.met.K.Disk.only_now c.args.standing.now.mark c.args.standing.now.end c.args.standing.now.count c.args.text.now c.bytes.result.now c.bytes.ensures.short c.bytes.ensures.bytes c.args.disk.now c.requires c.write_at.new.self c.sync.new.self one c.write_at.ensures.crash c.sync.ensures.crash c.sync.ensures.time in
     two
 
 pub returns-in_err-write_at-2-clause-any_moment : goal.returns-in_err-write_at-2-clause-any_moment
 returns-in_err-write_at-2-clause-any_moment g c =
-    let one = first g.K.Disk.seen g.K.Disk.may_leave g.K.Disk.moment g.K.Disk.left_since g.met.K.Disk.only_now c.args.standing.now.mark c.args.standing.now.end c.args.standing.now.count c.args.record.now c.bytes.result.now c.bytes.ensures.short c.bytes.ensures.bytes c.args.disk.now c.requires c.write_at.new.self c.write_at.ensures.crash c.write_at.ensures.time in
-    let staged = is_staged g.K.Disk.seen g.K.Disk.may_leave g.K.Disk.moment g.K.Disk.left_since g.met.K.Disk.only_now c.args.standing.now.mark c.args.standing.now.end c.args.standing.now.count c.args.record.now c.bytes.result.now c.bytes.ensures.short c.bytes.ensures.bytes c.args.disk.now c.requires c.write_at.new.self c.in_ok-write_at.ensures.written in
-    let two = second g.K.Disk.seen g.K.Disk.may_leave g.K.Disk.moment g.K.Disk.left_since g.met.K.Disk.only_now c.args.standing.now.mark c.args.standing.now.end c.args.standing.now.count c.args.record.now c.bytes.result.now c.bytes.ensures.short c.bytes.ensures.bytes c.args.disk.now c.requires c.write_at.new.self c.sync.new.self one c.write_at.ensures.crash c.sync.ensures.crash c.sync.ensures.time in
-    let three = third g.K.Disk.seen g.K.Disk.may_leave g.K.Disk.moment g.K.Disk.left_since g.met.K.Disk.only_now c.args.standing.now.mark c.args.standing.now.end c.args.standing.now.count c.args.record.now c.bytes.result.now c.bytes.ensures.short c.bytes.ensures.bytes c.args.disk.now c.requires c.write_at.new.self c.sync.new.self c.write_at-2.new.self two staged c.in_ok-sync.ensures.durable c.write_at-2.ensures.crash c.write_at-2.ensures.time in
+    let one = first g.K.Disk.seen g.K.Disk.may_leave g.K.Disk.moment g.K.Disk.left_since g.met.K.Disk.only_now c.args.standing.now.mark c.args.standing.now.end c.args.standing.now.count c.args.text.now c.bytes.result.now c.bytes.ensures.short c.bytes.ensures.bytes c.args.disk.now c.requires c.write_at.new.self c.write_at.ensures.crash c.write_at.ensures.time in
+    let staged = is_staged g.K.Disk.seen g.K.Disk.may_leave g.K.Disk.moment g.K.Disk.left_since g.met.K.Disk.only_now c.args.standing.now.mark c.args.standing.now.end c.args.standing.now.count c.args.text.now c.bytes.result.now c.bytes.ensures.short c.bytes.ensures.bytes c.args.disk.now c.requires c.write_at.new.self c.in_ok-write_at.ensures.written in
+    let two = second g.K.Disk.seen g.K.Disk.may_leave g.K.Disk.moment g.K.Disk.left_since g.met.K.Disk.only_now c.args.standing.now.mark c.args.standing.now.end c.args.standing.now.count c.args.text.now c.bytes.result.now c.bytes.ensures.short c.bytes.ensures.bytes c.args.disk.now c.requires c.write_at.new.self c.sync.new.self one c.write_at.ensures.crash c.sync.ensures.crash c.sync.ensures.time in
+    let three = third g.K.Disk.seen g.K.Disk.may_leave g.K.Disk.moment g.K.Disk.left_since g.met.K.Disk.only_now c.args.standing.now.mark c.args.standing.now.end c.args.standing.now.count c.args.text.now c.bytes.result.now c.bytes.ensures.short c.bytes.ensures.bytes c.args.disk.now c.requires c.write_at.new.self c.sync.new.self c.write_at-2.new.self two staged c.in_ok-sync.ensures.durable c.write_at-2.ensures.crash c.write_at-2.ensures.time in
     three
 
 pub returns-in_err-sync-2-clause-any_moment : goal.returns-in_err-sync-2-clause-any_moment
 returns-in_err-sync-2-clause-any_moment g c =
-    let one = first g.K.Disk.seen g.K.Disk.may_leave g.K.Disk.moment g.K.Disk.left_since g.met.K.Disk.only_now c.args.standing.now.mark c.args.standing.now.end c.args.standing.now.count c.args.record.now c.bytes.result.now c.bytes.ensures.short c.bytes.ensures.bytes c.args.disk.now c.requires c.write_at.new.self c.write_at.ensures.crash c.write_at.ensures.time in
-    let staged = is_staged g.K.Disk.seen g.K.Disk.may_leave g.K.Disk.moment g.K.Disk.left_since g.met.K.Disk.only_now c.args.standing.now.mark c.args.standing.now.end c.args.standing.now.count c.args.record.now c.bytes.result.now c.bytes.ensures.short c.bytes.ensures.bytes c.args.disk.now c.requires c.write_at.new.self c.in_ok-write_at.ensures.written in
-    let two = second g.K.Disk.seen g.K.Disk.may_leave g.K.Disk.moment g.K.Disk.left_since g.met.K.Disk.only_now c.args.standing.now.mark c.args.standing.now.end c.args.standing.now.count c.args.record.now c.bytes.result.now c.bytes.ensures.short c.bytes.ensures.bytes c.args.disk.now c.requires c.write_at.new.self c.sync.new.self one c.write_at.ensures.crash c.sync.ensures.crash c.sync.ensures.time in
-    let three = third g.K.Disk.seen g.K.Disk.may_leave g.K.Disk.moment g.K.Disk.left_since g.met.K.Disk.only_now c.args.standing.now.mark c.args.standing.now.end c.args.standing.now.count c.args.record.now c.bytes.result.now c.bytes.ensures.short c.bytes.ensures.bytes c.args.disk.now c.requires c.write_at.new.self c.sync.new.self c.write_at-2.new.self two staged c.in_ok-sync.ensures.durable c.write_at-2.ensures.crash c.write_at-2.ensures.time in
-    let four = fourth g.K.Disk.seen g.K.Disk.may_leave g.K.Disk.moment g.K.Disk.left_since g.met.K.Disk.only_now c.args.standing.now.mark c.args.standing.now.end c.args.standing.now.count c.args.record.now c.bytes.result.now c.bytes.ensures.short c.bytes.ensures.bytes c.args.disk.now c.requires c.write_at.new.self c.sync.new.self c.write_at-2.new.self c.sync-2.new.self three staged c.in_ok-sync.ensures.durable c.write_at-2.ensures.crash c.sync-2.ensures.crash c.sync-2.ensures.time in
+    let one = first g.K.Disk.seen g.K.Disk.may_leave g.K.Disk.moment g.K.Disk.left_since g.met.K.Disk.only_now c.args.standing.now.mark c.args.standing.now.end c.args.standing.now.count c.args.text.now c.bytes.result.now c.bytes.ensures.short c.bytes.ensures.bytes c.args.disk.now c.requires c.write_at.new.self c.write_at.ensures.crash c.write_at.ensures.time in
+    let staged = is_staged g.K.Disk.seen g.K.Disk.may_leave g.K.Disk.moment g.K.Disk.left_since g.met.K.Disk.only_now c.args.standing.now.mark c.args.standing.now.end c.args.standing.now.count c.args.text.now c.bytes.result.now c.bytes.ensures.short c.bytes.ensures.bytes c.args.disk.now c.requires c.write_at.new.self c.in_ok-write_at.ensures.written in
+    let two = second g.K.Disk.seen g.K.Disk.may_leave g.K.Disk.moment g.K.Disk.left_since g.met.K.Disk.only_now c.args.standing.now.mark c.args.standing.now.end c.args.standing.now.count c.args.text.now c.bytes.result.now c.bytes.ensures.short c.bytes.ensures.bytes c.args.disk.now c.requires c.write_at.new.self c.sync.new.self one c.write_at.ensures.crash c.sync.ensures.crash c.sync.ensures.time in
+    let three = third g.K.Disk.seen g.K.Disk.may_leave g.K.Disk.moment g.K.Disk.left_since g.met.K.Disk.only_now c.args.standing.now.mark c.args.standing.now.end c.args.standing.now.count c.args.text.now c.bytes.result.now c.bytes.ensures.short c.bytes.ensures.bytes c.args.disk.now c.requires c.write_at.new.self c.sync.new.self c.write_at-2.new.self two staged c.in_ok-sync.ensures.durable c.write_at-2.ensures.crash c.write_at-2.ensures.time in
+    let four = fourth g.K.Disk.seen g.K.Disk.may_leave g.K.Disk.moment g.K.Disk.left_since g.met.K.Disk.only_now c.args.standing.now.mark c.args.standing.now.end c.args.standing.now.count c.args.text.now c.bytes.result.now c.bytes.ensures.short c.bytes.ensures.bytes c.args.disk.now c.requires c.write_at.new.self c.sync.new.self c.write_at-2.new.self c.sync-2.new.self three staged c.in_ok-sync.ensures.durable c.write_at-2.ensures.crash c.sync-2.ensures.crash c.sync-2.ensures.time in
     four
 
 pub returns-clause-any_moment : goal.returns-clause-any_moment
 returns-clause-any_moment g c =
-    let one = first g.K.Disk.seen g.K.Disk.may_leave g.K.Disk.moment g.K.Disk.left_since g.met.K.Disk.only_now c.args.standing.now.mark c.args.standing.now.end c.args.standing.now.count c.args.record.now c.bytes.result.now c.bytes.ensures.short c.bytes.ensures.bytes c.args.disk.now c.requires c.write_at.new.self c.write_at.ensures.crash c.write_at.ensures.time in
-    let staged = is_staged g.K.Disk.seen g.K.Disk.may_leave g.K.Disk.moment g.K.Disk.left_since g.met.K.Disk.only_now c.args.standing.now.mark c.args.standing.now.end c.args.standing.now.count c.args.record.now c.bytes.result.now c.bytes.ensures.short c.bytes.ensures.bytes c.args.disk.now c.requires c.write_at.new.self c.in_ok-write_at.ensures.written in
-    let two = second g.K.Disk.seen g.K.Disk.may_leave g.K.Disk.moment g.K.Disk.left_since g.met.K.Disk.only_now c.args.standing.now.mark c.args.standing.now.end c.args.standing.now.count c.args.record.now c.bytes.result.now c.bytes.ensures.short c.bytes.ensures.bytes c.args.disk.now c.requires c.write_at.new.self c.sync.new.self one c.write_at.ensures.crash c.sync.ensures.crash c.sync.ensures.time in
-    let three = third g.K.Disk.seen g.K.Disk.may_leave g.K.Disk.moment g.K.Disk.left_since g.met.K.Disk.only_now c.args.standing.now.mark c.args.standing.now.end c.args.standing.now.count c.args.record.now c.bytes.result.now c.bytes.ensures.short c.bytes.ensures.bytes c.args.disk.now c.requires c.write_at.new.self c.sync.new.self c.write_at-2.new.self two staged c.in_ok-sync.ensures.durable c.write_at-2.ensures.crash c.write_at-2.ensures.time in
-    let four = fourth g.K.Disk.seen g.K.Disk.may_leave g.K.Disk.moment g.K.Disk.left_since g.met.K.Disk.only_now c.args.standing.now.mark c.args.standing.now.end c.args.standing.now.count c.args.record.now c.bytes.result.now c.bytes.ensures.short c.bytes.ensures.bytes c.args.disk.now c.requires c.write_at.new.self c.sync.new.self c.write_at-2.new.self c.sync-2.new.self three staged c.in_ok-sync.ensures.durable c.write_at-2.ensures.crash c.sync-2.ensures.crash c.sync-2.ensures.time in
+    let one = first g.K.Disk.seen g.K.Disk.may_leave g.K.Disk.moment g.K.Disk.left_since g.met.K.Disk.only_now c.args.standing.now.mark c.args.standing.now.end c.args.standing.now.count c.args.text.now c.bytes.result.now c.bytes.ensures.short c.bytes.ensures.bytes c.args.disk.now c.requires c.write_at.new.self c.write_at.ensures.crash c.write_at.ensures.time in
+    let staged = is_staged g.K.Disk.seen g.K.Disk.may_leave g.K.Disk.moment g.K.Disk.left_since g.met.K.Disk.only_now c.args.standing.now.mark c.args.standing.now.end c.args.standing.now.count c.args.text.now c.bytes.result.now c.bytes.ensures.short c.bytes.ensures.bytes c.args.disk.now c.requires c.write_at.new.self c.in_ok-write_at.ensures.written in
+    let two = second g.K.Disk.seen g.K.Disk.may_leave g.K.Disk.moment g.K.Disk.left_since g.met.K.Disk.only_now c.args.standing.now.mark c.args.standing.now.end c.args.standing.now.count c.args.text.now c.bytes.result.now c.bytes.ensures.short c.bytes.ensures.bytes c.args.disk.now c.requires c.write_at.new.self c.sync.new.self one c.write_at.ensures.crash c.sync.ensures.crash c.sync.ensures.time in
+    let three = third g.K.Disk.seen g.K.Disk.may_leave g.K.Disk.moment g.K.Disk.left_since g.met.K.Disk.only_now c.args.standing.now.mark c.args.standing.now.end c.args.standing.now.count c.args.text.now c.bytes.result.now c.bytes.ensures.short c.bytes.ensures.bytes c.args.disk.now c.requires c.write_at.new.self c.sync.new.self c.write_at-2.new.self two staged c.in_ok-sync.ensures.durable c.write_at-2.ensures.crash c.write_at-2.ensures.time in
+    let four = fourth g.K.Disk.seen g.K.Disk.may_leave g.K.Disk.moment g.K.Disk.left_since g.met.K.Disk.only_now c.args.standing.now.mark c.args.standing.now.end c.args.standing.now.count c.args.text.now c.bytes.result.now c.bytes.ensures.short c.bytes.ensures.bytes c.args.disk.now c.requires c.write_at.new.self c.sync.new.self c.write_at-2.new.self c.sync-2.new.self three staged c.in_ok-sync.ensures.durable c.write_at-2.ensures.crash c.sync-2.ensures.crash c.sync-2.ensures.time in
     four
 
 -- ---- what stands then
 
 pub returns-clause-texts : goal.returns-clause-texts
 returns-clause-texts g c =
-    let staged = is_staged g.K.Disk.seen g.K.Disk.may_leave g.K.Disk.moment g.K.Disk.left_since g.met.K.Disk.only_now c.args.standing.now.mark c.args.standing.now.end c.args.standing.now.count c.args.record.now c.bytes.result.now c.bytes.ensures.short c.bytes.ensures.bytes c.args.disk.now c.requires c.write_at.new.self c.in_ok-write_at.ensures.written in
+    let staged = is_staged g.K.Disk.seen g.K.Disk.may_leave g.K.Disk.moment g.K.Disk.left_since g.met.K.Disk.only_now c.args.standing.now.mark c.args.standing.now.end c.args.standing.now.count c.args.text.now c.bytes.result.now c.bytes.ensures.short c.bytes.ensures.bytes c.args.disk.now c.requires c.write_at.new.self c.in_ok-write_at.ensures.written in
     let holds = subst (λ f. Holds f c.args.standing.now.end (1 ∷ []) (g.K.Disk.seen c.write_at-2.new.self)) c.sync.ensures.seen c.in_ok-write_at-2.ensures.written in
-    texts_more g.K.Disk.seen g.K.Disk.may_leave g.K.Disk.moment g.K.Disk.left_since g.met.K.Disk.only_now c.args.standing.now.mark c.args.standing.now.end c.args.standing.now.count c.args.record.now c.bytes.result.now c.bytes.ensures.short c.bytes.ensures.bytes c.args.disk.now c.requires c.write_at.new.self c.write_at-2.new.self c.sync-2.new.self staged holds c.sync-2.ensures.seen
+    texts_more g.K.Disk.seen g.K.Disk.may_leave g.K.Disk.moment g.K.Disk.left_since g.met.K.Disk.only_now c.args.standing.now.mark c.args.standing.now.end c.args.standing.now.count c.args.text.now c.bytes.result.now c.bytes.ensures.short c.bytes.ensures.bytes c.args.disk.now c.requires c.write_at.new.self c.write_at-2.new.self c.sync-2.new.self staged holds c.sync-2.ensures.seen
 
 pub returns-clause-ok : goal.returns-clause-ok
 returns-clause-ok g c =
-    let staged = is_staged g.K.Disk.seen g.K.Disk.may_leave g.K.Disk.moment g.K.Disk.left_since g.met.K.Disk.only_now c.args.standing.now.mark c.args.standing.now.end c.args.standing.now.count c.args.record.now c.bytes.result.now c.bytes.ensures.short c.bytes.ensures.bytes c.args.disk.now c.requires c.write_at.new.self c.in_ok-write_at.ensures.written in
+    let staged = is_staged g.K.Disk.seen g.K.Disk.may_leave g.K.Disk.moment g.K.Disk.left_since g.met.K.Disk.only_now c.args.standing.now.mark c.args.standing.now.end c.args.standing.now.count c.args.text.now c.bytes.result.now c.bytes.ensures.short c.bytes.ensures.bytes c.args.disk.now c.requires c.write_at.new.self c.in_ok-write_at.ensures.written in
     let holds = subst (λ f. Holds f c.args.standing.now.end (1 ∷ []) (g.K.Disk.seen c.write_at-2.new.self)) c.sync.ensures.seen c.in_ok-write_at-2.ensures.written in
-    settles g.K.Disk.seen g.K.Disk.may_leave g.K.Disk.moment g.K.Disk.left_since g.met.K.Disk.only_now c.args.standing.now.mark c.args.standing.now.end c.args.standing.now.count c.args.record.now c.bytes.result.now c.bytes.ensures.short c.bytes.ensures.bytes c.args.disk.now c.requires c.write_at.new.self c.write_at-2.new.self c.sync-2.new.self staged holds c.sync-2.ensures.seen c.in_ok-sync-2.ensures.durable c.in_ok-write_at.ensures.fits
+    settles g.K.Disk.seen g.K.Disk.may_leave g.K.Disk.moment g.K.Disk.left_since g.met.K.Disk.only_now c.args.standing.now.mark c.args.standing.now.end c.args.standing.now.count c.args.text.now c.bytes.result.now c.bytes.ensures.short c.bytes.ensures.bytes c.args.disk.now c.requires c.write_at.new.self c.write_at-2.new.self c.sync-2.new.self staged holds c.sync-2.ensures.seen c.in_ok-sync-2.ensures.durable c.in_ok-write_at.ensures.fits
 
 pub write_at-requires-2 : goal.write_at-requires-2
 write_at-requires-2 g c =
-    let staged = is_staged g.K.Disk.seen g.K.Disk.may_leave g.K.Disk.moment g.K.Disk.left_since g.met.K.Disk.only_now c.args.standing.now.mark c.args.standing.now.end c.args.standing.now.count c.args.record.now c.bytes.result.now c.bytes.ensures.short c.bytes.ensures.bytes c.args.disk.now c.requires c.write_at.new.self c.in_ok-write_at.ensures.written in
-    let long = staged_long g.K.Disk.seen g.K.Disk.may_leave g.K.Disk.moment g.K.Disk.left_since g.met.K.Disk.only_now c.args.standing.now.mark c.args.standing.now.end c.args.standing.now.count c.args.record.now c.bytes.result.now c.bytes.ensures.short c.bytes.ensures.bytes c.args.disk.now c.requires c.write_at.new.self staged in
+    let staged = is_staged g.K.Disk.seen g.K.Disk.may_leave g.K.Disk.moment g.K.Disk.left_since g.met.K.Disk.only_now c.args.standing.now.mark c.args.standing.now.end c.args.standing.now.count c.args.text.now c.bytes.result.now c.bytes.ensures.short c.bytes.ensures.bytes c.args.disk.now c.requires c.write_at.new.self c.in_ok-write_at.ensures.written in
+    let long = staged_long g.K.Disk.seen g.K.Disk.may_leave g.K.Disk.moment g.K.Disk.left_since g.met.K.Disk.only_now c.args.standing.now.mark c.args.standing.now.end c.args.standing.now.count c.args.text.now c.bytes.result.now c.bytes.ensures.short c.bytes.ensures.bytes c.args.disk.now c.requires c.write_at.new.self staged in
     omega (arith, ap length c.sync.ensures.seen, long)
 
 pub returns-in_err-write_at-clause-held : goal.returns-in_err-write_at-clause-held
 returns-in_err-write_at-clause-held g c =
-    let here = stands_now g.K.Disk.seen g.K.Disk.may_leave g.K.Disk.moment g.K.Disk.left_since g.met.K.Disk.only_now c.args.standing.now.mark c.args.standing.now.end c.args.standing.now.count c.args.record.now c.bytes.result.now c.bytes.ensures.short c.bytes.ensures.bytes c.args.disk.now c.requires (g.K.Disk.held c.args.disk.now) (g.met.K.Disk.held_now c.args.disk.now) in
+    let here = stands_now g.K.Disk.seen g.K.Disk.may_leave g.K.Disk.moment g.K.Disk.left_since g.met.K.Disk.only_now c.args.standing.now.mark c.args.standing.now.end c.args.standing.now.count c.args.text.now c.bytes.result.now c.bytes.ensures.short c.bytes.ensures.bytes c.args.disk.now c.requires (g.K.Disk.held c.args.disk.now) (g.met.K.Disk.held_now c.args.disk.now) in
     on_err c.from_residual.result (subst (λ f. Stands c.args.standing.now.mark (recovered (g.K.Disk.seen c.args.disk.now)) f) (sym (c.write_at.ensures.held)) here)
 
 pub returns-in_err-sync-clause-held : goal.returns-in_err-sync-clause-held
 returns-in_err-sync-clause-held g c =
-    let here = stands_now g.K.Disk.seen g.K.Disk.may_leave g.K.Disk.moment g.K.Disk.left_since g.met.K.Disk.only_now c.args.standing.now.mark c.args.standing.now.end c.args.standing.now.count c.args.record.now c.bytes.result.now c.bytes.ensures.short c.bytes.ensures.bytes c.args.disk.now c.requires (g.K.Disk.held c.args.disk.now) (g.met.K.Disk.held_now c.args.disk.now) in
+    let here = stands_now g.K.Disk.seen g.K.Disk.may_leave g.K.Disk.moment g.K.Disk.left_since g.met.K.Disk.only_now c.args.standing.now.mark c.args.standing.now.end c.args.standing.now.count c.args.text.now c.bytes.result.now c.bytes.ensures.short c.bytes.ensures.bytes c.args.disk.now c.requires (g.K.Disk.held c.args.disk.now) (g.met.K.Disk.held_now c.args.disk.now) in
     on_err c.from_residual-in_err-sync.result (subst (λ f. Stands c.args.standing.now.mark (recovered (g.K.Disk.seen c.args.disk.now)) f) (sym (c.in_err-sync.ensures.held ∙ c.write_at.ensures.held)) here)
 
 pub returns-in_err-write_at-2-clause-held : goal.returns-in_err-write_at-2-clause-held
 returns-in_err-write_at-2-clause-held g c =
-    let staged = is_staged g.K.Disk.seen g.K.Disk.may_leave g.K.Disk.moment g.K.Disk.left_since g.met.K.Disk.only_now c.args.standing.now.mark c.args.standing.now.end c.args.standing.now.count c.args.record.now c.bytes.result.now c.bytes.ensures.short c.bytes.ensures.bytes c.args.disk.now c.requires c.write_at.new.self c.in_ok-write_at.ensures.written in
-    on_err c.from_residual-in_err-write_at-2.result (staged_stands g.K.Disk.seen g.K.Disk.may_leave g.K.Disk.moment g.K.Disk.left_since g.met.K.Disk.only_now c.args.standing.now.mark c.args.standing.now.end c.args.standing.now.count c.args.record.now c.bytes.result.now c.bytes.ensures.short c.bytes.ensures.bytes c.args.disk.now c.requires c.write_at.new.self (g.K.Disk.held c.write_at-2.new.self) staged (c.write_at-2.ensures.held ∙ c.in_ok-sync.ensures.kept))
+    let staged = is_staged g.K.Disk.seen g.K.Disk.may_leave g.K.Disk.moment g.K.Disk.left_since g.met.K.Disk.only_now c.args.standing.now.mark c.args.standing.now.end c.args.standing.now.count c.args.text.now c.bytes.result.now c.bytes.ensures.short c.bytes.ensures.bytes c.args.disk.now c.requires c.write_at.new.self c.in_ok-write_at.ensures.written in
+    on_err c.from_residual-in_err-write_at-2.result (staged_stands g.K.Disk.seen g.K.Disk.may_leave g.K.Disk.moment g.K.Disk.left_since g.met.K.Disk.only_now c.args.standing.now.mark c.args.standing.now.end c.args.standing.now.count c.args.text.now c.bytes.result.now c.bytes.ensures.short c.bytes.ensures.bytes c.args.disk.now c.requires c.write_at.new.self (g.K.Disk.held c.write_at-2.new.self) staged (c.write_at-2.ensures.held ∙ c.in_ok-sync.ensures.kept))
 
 pub returns-in_err-sync-2-clause-held : goal.returns-in_err-sync-2-clause-held
 returns-in_err-sync-2-clause-held g c =
-    let staged = is_staged g.K.Disk.seen g.K.Disk.may_leave g.K.Disk.moment g.K.Disk.left_since g.met.K.Disk.only_now c.args.standing.now.mark c.args.standing.now.end c.args.standing.now.count c.args.record.now c.bytes.result.now c.bytes.ensures.short c.bytes.ensures.bytes c.args.disk.now c.requires c.write_at.new.self c.in_ok-write_at.ensures.written in
-    on_err c.from_residual-in_err-sync-2.result (staged_stands g.K.Disk.seen g.K.Disk.may_leave g.K.Disk.moment g.K.Disk.left_since g.met.K.Disk.only_now c.args.standing.now.mark c.args.standing.now.end c.args.standing.now.count c.args.record.now c.bytes.result.now c.bytes.ensures.short c.bytes.ensures.bytes c.args.disk.now c.requires c.write_at.new.self (g.K.Disk.held c.sync-2.new.self) staged (c.in_err-sync-2.ensures.held ∙ c.write_at-2.ensures.held ∙ c.in_ok-sync.ensures.kept))
+    let staged = is_staged g.K.Disk.seen g.K.Disk.may_leave g.K.Disk.moment g.K.Disk.left_since g.met.K.Disk.only_now c.args.standing.now.mark c.args.standing.now.end c.args.standing.now.count c.args.text.now c.bytes.result.now c.bytes.ensures.short c.bytes.ensures.bytes c.args.disk.now c.requires c.write_at.new.self c.in_ok-write_at.ensures.written in
+    on_err c.from_residual-in_err-sync-2.result (staged_stands g.K.Disk.seen g.K.Disk.may_leave g.K.Disk.moment g.K.Disk.left_since g.met.K.Disk.only_now c.args.standing.now.mark c.args.standing.now.end c.args.standing.now.count c.args.text.now c.bytes.result.now c.bytes.ensures.short c.bytes.ensures.bytes c.args.disk.now c.requires c.write_at.new.self (g.K.Disk.held c.sync-2.new.self) staged (c.in_err-sync-2.ensures.held ∙ c.write_at-2.ensures.held ∙ c.in_ok-sync.ensures.kept))
 
 -- ---- what it takes of the disk
 
@@ -97,26 +97,26 @@ returns-clause-spends g c =
     let one = one_more_spent (g.K.Disk.fuel c.args.disk.now) (g.K.Disk.fuel c.args.disk.now) (g.K.Disk.fuel c.write_at.new.self) 0 0 0 (length c.bytes.result.now) 1 1 (length c.bytes.result.now) 1 start c.in_ok-write_at.ensures.spends refl (omega arith) refl in
     let two = one_more_spent (g.K.Disk.fuel c.args.disk.now) (g.K.Disk.fuel c.write_at.new.self) (g.K.Disk.fuel c.sync.new.self) 1 (length c.bytes.result.now) 1 0 1 2 (length c.bytes.result.now) 2 one c.in_ok-sync.ensures.spends refl (omega arith) refl in
     let three = one_more_spent (g.K.Disk.fuel c.args.disk.now) (g.K.Disk.fuel c.sync.new.self) (g.K.Disk.fuel c.write_at-2.new.self) 2 (length c.bytes.result.now) 2 1 1 3 ((length c.bytes.result.now) + 1) 3 two c.in_ok-write_at-2.ensures.spends refl refl refl in
-    let four = one_more_spent (g.K.Disk.fuel c.args.disk.now) (g.K.Disk.fuel c.write_at-2.new.self) (g.K.Disk.fuel c.sync-2.new.self) 3 ((length c.bytes.result.now) + 1) 3 0 1 4 (length (staged_text c.args.record.now) + 1) 4 three c.in_ok-sync-2.ensures.spends refl (omega (arith, ap length c.bytes.ensures.bytes)) refl in
+    let four = one_more_spent (g.K.Disk.fuel c.args.disk.now) (g.K.Disk.fuel c.write_at-2.new.self) (g.K.Disk.fuel c.sync-2.new.self) 3 ((length c.bytes.result.now) + 1) 3 0 1 4 (length (staged_text c.args.text.now) + 1) 4 three c.in_ok-sync-2.ensures.spends refl (omega (arith, ap length c.bytes.ensures.bytes)) refl in
     four
 
 pub returns-in_err-write_at-clause-wants : goal.returns-in_err-write_at-clause-wants
 returns-in_err-write_at-clause-wants g c =
     let start = none_spent (g.K.Disk.fuel c.args.disk.now) in
-    on_err c.from_residual.result (wants_behind (g.K.Disk.fuel c.args.disk.now) (g.K.Disk.fuel c.args.disk.now) 0 0 0 (length c.bytes.result.now) 1 4 (length (staged_text c.args.record.now) + 1) 4 start c.in_err-write_at.ensures.wants (omega arith) (omega (arith, ap length c.bytes.ensures.bytes)) (omega arith))
+    on_err c.from_residual.result (wants_behind (g.K.Disk.fuel c.args.disk.now) (g.K.Disk.fuel c.args.disk.now) 0 0 0 (length c.bytes.result.now) 1 4 (length (staged_text c.args.text.now) + 1) 4 start c.in_err-write_at.ensures.wants (omega arith) (omega (arith, ap length c.bytes.ensures.bytes)) (omega arith))
 
 pub returns-in_err-sync-clause-wants : goal.returns-in_err-sync-clause-wants
 returns-in_err-sync-clause-wants g c =
     let start = none_spent (g.K.Disk.fuel c.args.disk.now) in
     let one = one_more_spent (g.K.Disk.fuel c.args.disk.now) (g.K.Disk.fuel c.args.disk.now) (g.K.Disk.fuel c.write_at.new.self) 0 0 0 (length c.bytes.result.now) 1 1 (length c.bytes.result.now) 1 start c.in_ok-write_at.ensures.spends refl (omega arith) refl in
-    on_err c.from_residual-in_err-sync.result (wants_behind (g.K.Disk.fuel c.args.disk.now) (g.K.Disk.fuel c.write_at.new.self) 1 (length c.bytes.result.now) 1 0 1 4 (length (staged_text c.args.record.now) + 1) 4 one c.in_err-sync.ensures.wants (omega arith) (omega (arith, ap length c.bytes.ensures.bytes)) (omega arith))
+    on_err c.from_residual-in_err-sync.result (wants_behind (g.K.Disk.fuel c.args.disk.now) (g.K.Disk.fuel c.write_at.new.self) 1 (length c.bytes.result.now) 1 0 1 4 (length (staged_text c.args.text.now) + 1) 4 one c.in_err-sync.ensures.wants (omega arith) (omega (arith, ap length c.bytes.ensures.bytes)) (omega arith))
 
 pub returns-in_err-write_at-2-clause-wants : goal.returns-in_err-write_at-2-clause-wants
 returns-in_err-write_at-2-clause-wants g c =
     let start = none_spent (g.K.Disk.fuel c.args.disk.now) in
     let one = one_more_spent (g.K.Disk.fuel c.args.disk.now) (g.K.Disk.fuel c.args.disk.now) (g.K.Disk.fuel c.write_at.new.self) 0 0 0 (length c.bytes.result.now) 1 1 (length c.bytes.result.now) 1 start c.in_ok-write_at.ensures.spends refl (omega arith) refl in
     let two = one_more_spent (g.K.Disk.fuel c.args.disk.now) (g.K.Disk.fuel c.write_at.new.self) (g.K.Disk.fuel c.sync.new.self) 1 (length c.bytes.result.now) 1 0 1 2 (length c.bytes.result.now) 2 one c.in_ok-sync.ensures.spends refl (omega arith) refl in
-    on_err c.from_residual-in_err-write_at-2.result (wants_behind (g.K.Disk.fuel c.args.disk.now) (g.K.Disk.fuel c.sync.new.self) 2 (length c.bytes.result.now) 2 1 1 4 (length (staged_text c.args.record.now) + 1) 4 two c.in_err-write_at-2.ensures.wants (omega arith) (omega (arith, ap length c.bytes.ensures.bytes)) (omega arith))
+    on_err c.from_residual-in_err-write_at-2.result (wants_behind (g.K.Disk.fuel c.args.disk.now) (g.K.Disk.fuel c.sync.new.self) 2 (length c.bytes.result.now) 2 1 1 4 (length (staged_text c.args.text.now) + 1) 4 two c.in_err-write_at-2.ensures.wants (omega arith) (omega (arith, ap length c.bytes.ensures.bytes)) (omega arith))
 
 pub returns-in_err-sync-2-clause-wants : goal.returns-in_err-sync-2-clause-wants
 returns-in_err-sync-2-clause-wants g c =
@@ -124,4 +124,4 @@ returns-in_err-sync-2-clause-wants g c =
     let one = one_more_spent (g.K.Disk.fuel c.args.disk.now) (g.K.Disk.fuel c.args.disk.now) (g.K.Disk.fuel c.write_at.new.self) 0 0 0 (length c.bytes.result.now) 1 1 (length c.bytes.result.now) 1 start c.in_ok-write_at.ensures.spends refl (omega arith) refl in
     let two = one_more_spent (g.K.Disk.fuel c.args.disk.now) (g.K.Disk.fuel c.write_at.new.self) (g.K.Disk.fuel c.sync.new.self) 1 (length c.bytes.result.now) 1 0 1 2 (length c.bytes.result.now) 2 one c.in_ok-sync.ensures.spends refl (omega arith) refl in
     let three = one_more_spent (g.K.Disk.fuel c.args.disk.now) (g.K.Disk.fuel c.sync.new.self) (g.K.Disk.fuel c.write_at-2.new.self) 2 (length c.bytes.result.now) 2 1 1 3 ((length c.bytes.result.now) + 1) 3 two c.in_ok-write_at-2.ensures.spends refl refl refl in
-    on_err c.from_residual-in_err-sync-2.result (wants_behind (g.K.Disk.fuel c.args.disk.now) (g.K.Disk.fuel c.write_at-2.new.self) 3 ((length c.bytes.result.now) + 1) 3 0 1 4 (length (staged_text c.args.record.now) + 1) 4 three c.in_err-sync-2.ensures.wants (omega arith) (omega (arith, ap length c.bytes.ensures.bytes)) (omega arith))
+    on_err c.from_residual-in_err-sync-2.result (wants_behind (g.K.Disk.fuel c.args.disk.now) (g.K.Disk.fuel c.write_at-2.new.self) 3 ((length c.bytes.result.now) + 1) 3 0 1 4 (length (staged_text c.args.text.now) + 1) 4 three c.in_err-sync-2.ensures.wants (omega arith) (omega (arith, ap length c.bytes.ensures.bytes)) (omega arith))

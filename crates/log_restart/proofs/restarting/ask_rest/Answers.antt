@@ -1,4 +1,5 @@
 use Rattle.std.proofs.Common.{rules, ◌-◌, List, ℕ, ◌++◌, None, length, take, drop, subst, sym}
+use Rattle.kept_disk.specs.Memory.{synced}
 use Rattle.kept_journal.specs.Journal.{Stands}
 use Rattle.kept_journal.specs.Replays.{Replays}
 use Rattle.log_journal.specs.Inputs.{mark}
@@ -35,3 +36,9 @@ pub returns-clause-stands : goal.returns-clause-stands
 returns-clause-stands c =
     let all = c.in_ok-ask_all.ensures.took (search rules) in
     subst (λ (ts : List (List ℕ)). Stands mark (c.args.kept.now.journal.texts ++ ts) c.ask_all.new.kept.journal.disk.seen) (rest-whole c.args.inputs.now c.args.from) all.whole
+
+pub returns-clause-lasts : goal.returns-clause-lasts
+returns-clause-lasts c =
+    let all = c.in_ok-ask_all.ensures.took (search rules) in
+    let disk = c.ask_all.new.kept.journal.disk in
+    subst (λ (ts : List (List ℕ)). Stands mark (c.args.kept.now.journal.texts ++ ts) (synced disk.seen disk.events)) (rest-whole c.args.inputs.now c.args.from) all.kept

@@ -22,4 +22,4 @@ returns-clause-disks c =
     let last = c.requires.replays.0 in
     let mine = subst (λ (s : LogStanding). Replays takes s (texts_of inputs) last) (sym (same_new c.args.number c.args.again c.args.first c.requires.same)) c.requires.replays.1 in
     let again = c.in_ok-told.ensures (recovered_of (length (texts_of inputs)) c.args.calls) last (few_recovered inputs c.args.calls) ran.lost mine in
-    record { first = ran; second = again.stands }
+    record { first = ran; second = again.stands; lasts = again.lasts }

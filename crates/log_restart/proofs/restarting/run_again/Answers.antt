@@ -65,6 +65,10 @@ returns c = λ many last few stood replays.
       tells = told_same c.in_ok-told.told r many (length inputs) (length (texts_of inputs)) _ last.core.log.past.signed c.in_ok-told.ensures is (sym (length-map inputs text_of))
           (ap (λ (p : LogRecord). p.signed) c.record.ensures.value ∙ ap (λ (s : LogStanding). s.core.log.past.signed) ends);
       stands = all_stand inputs r c.in_ok-lost.lost image within c.in_ok-lost.ensures stands new c.args.total c.requires.total c.in_ok-kept.kept c.in_ok-kept.ensures
-          c.into_disk.result
+          c.into_disk.result.seen
           (subst (λ (d : DiskState). Stands mark (c.in_ok-kept.kept.journal.texts ++ texts_of (drop r inputs)) d.seen) (sym c.into_disk.ensures) c.in_ok-ask_rest.ensures.stands);
+      lasts = all_stand inputs r c.in_ok-lost.lost image within c.in_ok-lost.ensures stands new c.args.total c.requires.total c.in_ok-kept.kept c.in_ok-kept.ensures
+          (synced c.into_disk.result.seen c.into_disk.result.events)
+          (subst (λ (d : DiskState). Stands mark (c.in_ok-kept.kept.journal.texts ++ texts_of (drop r inputs)) (synced d.seen d.events)) (sym c.into_disk.ensures)
+          c.in_ok-ask_rest.ensures.lasts);
     }

@@ -2,7 +2,7 @@ use Rattle.std.proofs.Common.{◌≡◌, true, false, ap, Err}
 use Rattle.log_core.specs.Inputs.{input_of}
 use Rattle.log_journal.specs.declared.refusal.KeptRefusal.TheVariants as refusals
 use Rattle.log_restart.specs.Inputs.{text_of}
-use Rattle.log_restart.proofs.Stepping.{fails_one, not_refused, own_here, took_one}
+use Rattle.log_restart.proofs.Stepping.{fails_one, given_now, not_refused, own_here, took_one}
 use Rattle.log_restart.proofs.running.ask.Goals as goal
 
 pub step-requires : goal.step-requires
@@ -24,4 +24,7 @@ returns-in-Err-clause-failed g c = λ is.
     let disk = ap Err (c.stopped_by.ensures.disk is) in
     let fault = c.in-Err.ensures.fault disk in
     fails_one g.K.Disk.seen g.K.Disk.held g.K.Disk.may_leave g.K.Disk.fuel g.K.Disk.faults c.args.kept.now c.step.new.self (text_of c.args.input.now)
-    fault.2 (c.in-Err.ensures.wants disk) fault.1
+    fault.2
+    (given_now g.K.Disk.seen g.K.Disk.held g.K.Disk.may_leave g.K.Disk.fuel g.K.Disk.faults g.K.Disk.moment g.K.Disk.left_since c.args.kept.now c.step.new.self
+    (text_of c.args.input.now) c.told.ensures.crash c.step.ensures.any_moment g.met.K.Disk.counts_now (g.met.K.Disk.seen_now c.step.new.self.journal.disk))
+    (c.in-Err.ensures.wants disk) fault.1

@@ -1,8 +1,6 @@
 use Rattle.std.proofs.Common.{◌≡◌, ◌∙◌, ◌-◌, ◌≤◌, ◌∷◌, ◌++◌, List, [], ap, append_assoc, arith, drop, get_or, length, map, take}
 use Rattle.std.proofs.Math.Seq.{take-length}
 use Rattle.std.specs.Prelude.{unwrap_or}
-use Rattle.std.specs.Option.{option_map}
-use Rattle.ar_council.specs.Values.{roots_of}
 use Rattle.ar_message.specs.Filling.{zeros}
 use Rattle.ar_message.specs.declared.lists.LogStatus.{LogStatus}
 use Rattle.epoch_log.specs.State.{CountedStatus}
@@ -21,9 +19,8 @@ pub returns-in_ok-add_statuses : goal.returns-in_ok-add_statuses
 returns-in_ok-add_statuses t c =
     let rest : List LogStatus = map (sent_status c.args.len) (take (length c.args.statuses.now - 1) (drop 1 c.args.statuses.now)) in
     let before : List LogStatus = c.args.sent.now.items in
-    let value : c.roots_of.result ≡ option_map roots_of c.status-item.result.1 = c.roots_of.ensures in
     let signature : c.in_ok-signature.signature ≡ unwrap_or c.status-item.result.2 (zeros c.args.len) = c.in_ok-signature.ensures in
     c.in_ok-add_statuses.ensures ∙ ap (λ (l : List LogStatus). l ++ rest) c.in_ok-push.ensures.items
-    ∙ (λ i. (before ++ record { log = c.status-item.result.0; value = value i; signature = signature i } ∷ []) ++ rest)
+    ∙ (λ i. (before ++ record { log = c.status-item.result.0; value = c.status-item.result.1; signature = signature i } ∷ []) ++ rest)
     ∙ append_assoc before (sent_status c.args.len c.status-item.result ∷ []) rest
     ∙ ap (λ (l : List LogStatus). before ++ l) (each (sent_status c.args.len) c.args.statuses.now c.status-item.result c.in-len1-up.len_at_least c.status-item.is)

@@ -7,9 +7,6 @@ pub returns-in_default : goal.returns-in_default
 unfolding message_row
 returns-in_default g c = record {
   row = search rules;
-  retired = refl;
-  answers = search rules;
-  told = search rules;
-  by = search rules;
+  checks = record { retired = refl; kept = search rules; same = search rules; by = search rules };
   fault = λ e. absurd (stepped_no_fault c.take.result _ _ _ c.take.ensures (retired_row _ _ _) e);
 }

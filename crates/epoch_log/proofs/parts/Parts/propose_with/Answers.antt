@@ -2,7 +2,7 @@ use Rattle.std.proofs.Common.{◌≡◌, ap, subst, sym, ◌∙◌, ℕ, List, N
 use Rattle.std.specs.Prelude.{All}
 use Rattle.ar_cert.specs.Changes.{Change}
 use Rattle.domain_table.specs.Tables.{Table}
-use Rattle.epoch_log.specs.Calls.{casting, proposing, vote_of, with_ballot, with_vote}
+use Rattle.epoch_log.specs.Calls.{casting, proposing, vote_of, log_with_ballot, with_vote}
 use Rattle.epoch_log.specs.Log.{LogParts, moved, parts_of, state_in}
 use Rattle.epoch_log.specs.Plans.{IsPlan, IsPlanIn}
 use Rattle.epoch_log.specs.Right.{SawEndorsements}
@@ -20,18 +20,20 @@ pub finish-requires-clause-plan : goal.finish-requires-clause-plan
 finish-requires-clause-plan c =
     let s : LogState = state_in c.args.self.now in
     let vote : Voted = vote_of s c.args.value c.args.changes.items in
-    let counted : LogState = with_ballot (casting (proposing s c.args.value) vote) c.args.self.now.number c.args.value None in
+    let told_by : Voted = record { epoch = c.epoch.result; base = c.args.value.base; changes = c.from_vec.result; root = c.args.value.root } in
+    let same : told_by ≡ vote =
+    ap (λ (e : ℕ). record { epoch = e; base = c.args.value.base; changes = c.from_vec.result; root = c.args.value.root }) c.epoch.ensures
+    ∙ ap (λ (cs : List Change). vote_of s c.args.value cs) c.from_vec.ensures in
+    let counted : LogState = log_with_ballot (casting (proposing s c.args.value) vote) c.args.self.now.number c.args.value None in
     let there : parts_of c.take_ballot.new.self ≡ moved (parts_of c.args.self.now) counted =
-    c.take_ballot.ensures.parts ∙ ap (λ (l : LogParts). moved l (with_ballot l.state c.args.self.now.number c.args.value None)) c.take_proposal-due.ensures.parts
-    ∙ ap (λ (l : LogParts). moved l (with_ballot (casting (proposing l.state c.args.value) (vote_of l.state c.args.value c.from_vec.result)) c.args.self.now.number c.args.value None)) c.in_ok-reserve.ensures.same
-    ∙ ap (λ (cs : List Change). moved (parts_of c.args.self.now) (with_ballot (casting (proposing s c.args.value) (vote_of s c.args.value cs)) c.args.self.now.number c.args.value None)) c.from_vec.ensures in
+    c.take_ballot.ensures.counted.parts ∙ ap (λ (l : LogParts). moved l (log_with_ballot l.state c.args.self.now.number c.args.value None)) c.take_proposal-due.ensures.signed.parts
+    ∙ ap (λ (l : LogParts). moved l (log_with_ballot (casting (proposing l.state c.args.value) told_by) c.args.self.now.number c.args.value None)) c.in_ok-reserve.ensures.same
+    ∙ ap (λ (v : Voted). moved (parts_of c.args.self.now) (log_with_ballot (casting (proposing s c.args.value) v) c.args.self.now.number c.args.value None)) same in
     let planned : IsPlan s.council (epoch_of s) c.args.self.now.table (Some vote) (ballots_of (with_vote s.votes (s.me, c.args.value, None))) (reports_of s.statuses) c.in_ok-plan.plan =
     subst (λ (v : Voted). IsPlan s.council (epoch_of s) c.args.self.now.table (Some v) (ballots_of (with_vote s.votes (s.me, c.args.value, None))) (reports_of s.statuses) c.in_ok-plan.plan)
-    (ap (λ (e : ℕ). record { epoch = e; base = c.args.value.base; changes = c.from_vec.result; root = c.args.value.root }) c.epoch.ensures
-    ∙ ap (λ (cs : List Change). vote_of s c.args.value cs) c.from_vec.ensures)
-    c.in_ok-plan.ensures in
+    same c.in_ok-plan.ensures in
     let told : IsPlanIn counted c.args.self.now.table c.in_ok-plan.plan =
     subst (λ (o : Option Voted). IsPlan s.council (epoch_of s) c.args.self.now.table o (ballots_of (with_vote s.votes (s.me, c.args.value, None))) (reports_of s.statuses) c.in_ok-plan.plan)
     (sym (own-told s.past.voted vote c.requires.may.open_to.not_voted)) planned in
     subst (λ (x : LogState). IsPlanIn x c.take_ballot.new.self.table c.in_ok-plan.plan) (sym (ap (λ (l : LogParts). l.state) there))
-    (subst (λ (t : Table). IsPlanIn counted t c.in_ok-plan.plan) (sym (c.take_ballot.ensures.table ∙ c.take_proposal-due.ensures.table ∙ c.in_ok-reserve.ensures.table)) told)
+    (subst (λ (t : Table). IsPlanIn counted t c.in_ok-plan.plan) (sym (c.take_ballot.ensures.counted.table ∙ c.take_proposal-due.ensures.signed.table ∙ c.in_ok-reserve.ensures.table)) told)

@@ -1,6 +1,6 @@
 use Rattle.std.proofs.Common.{ap, subst, List, ◌∙◌}
 use Rattle.std.specs.Prelude.{All, IfSome}
-use Rattle.ar_council.specs.Values.{IsValue}
+use Rattle.ar_statement.specs.Ranges.{IsValue}
 use Rattle.vote_quorum.specs.Statuses.{Status}
 use Rattle.epoch_log.specs.Calls.{SignedStatus, after_skip}
 use Rattle.epoch_log.specs.State.{reports_of}

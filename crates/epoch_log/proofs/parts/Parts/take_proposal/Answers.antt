@@ -11,6 +11,6 @@ returns-clause-kept c =
     log-moved c.args.self.now c.put_proposal.new.self (casting (proposing (state_in c.args.self.now) (value_of c.args.vote)) (vote_of (state_in c.args.self.now) (value_of c.args.vote) c.args.vote.changes))
     (c.put_proposal.ensures.parts
     ∙ ap (λ (e : ℕ). moved (parts_of c.args.self.now) (casting (proposing (state_in c.args.self.now) (value_of c.args.vote)) (record { epoch = e; base = c.args.vote.base; changes = c.args.vote.changes; root = c.args.vote.root })))
-    c.requires.epoch)
+    c.requires.can.epoch)
     c.put_proposal.ensures.table c.requires.kept
-    (kept-proposed (state_in c.args.self.now) (value_of c.args.vote) c.args.vote.changes c.requires.kept.kept c.requires.may c.requires.endorsed c.requires.leaves) refl
+    (kept-proposed (state_in c.args.self.now) (value_of c.args.vote) c.args.vote.changes c.requires.kept.kept c.requires.may c.requires.endorsed c.requires.can.leaves) refl

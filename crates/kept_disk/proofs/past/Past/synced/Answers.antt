@@ -1,8 +1,8 @@
 use Rattle.std.proofs.Common.{rules, ◌≡◌, ◌≢◌, ◌-◌, ◌≤◌, ◌++◌, [], ◌∷◌, List, ℕ, length, take, drop, reverse, sym, ◌∙◌, ap, subst, arith, length-drop}
 use Rattle.std.proofs.lemmas.List.{take_all}
 use Rattle.kept_disk.specs.Memory.{over_in, over_of, synced, undone, with_bytes}
-use Rattle.kept_disk.specs.declared.past.Change.{Change}
-use Rattle.kept_disk.specs.declared.past.Change.TheVariants.{Synced}
+use Rattle.kept_disk.specs.declared.past.DiskChange.{DiskChange}
+use Rattle.kept_disk.specs.declared.past.DiskChange.TheVariants.{Synced}
 use Rattle.kept_disk.proofs.Events.{last-fits, not-synced, split-back}
 use Rattle.kept_disk.proofs.past.Past.synced.Goals as goal
 
@@ -14,7 +14,7 @@ returns-then-is_sync c =
     let from = length c.loop-change.over.now - over_of c.in-Some.change.now in
     let here : synced c.loop-change.image.items (reverse (with_bytes c.loop-change.changes.now c.loop-change.over.now)) ≡ c.loop-change.image.items =
     ap (synced c.loop-change.image.items) split.1
-    ∙ ap (λ (x : Change). synced c.loop-change.image.items ((x, drop from c.loop-change.over.now) ∷ reverse (with_bytes c.in-Some.earlier.now (take from c.loop-change.over.now)))) is in
+    ∙ ap (λ (x : DiskChange). synced c.loop-change.image.items ((x, drop from c.loop-change.over.now) ∷ reverse (with_bytes c.in-Some.earlier.now (take from c.loop-change.over.now)))) is in
     sym here ∙ c.loop-change.invariant.image
 
 pub overflow_sub-from : goal.overflow_sub-from

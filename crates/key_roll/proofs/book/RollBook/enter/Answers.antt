@@ -4,7 +4,7 @@ use Rattle.ar_base.specs.Gives.{GivesOrWants}
 use Rattle.ar_base.specs.Places.{place_of}
 use Rattle.ar_base.proofs.Places.{contained, not-contained}
 use Rattle.ar_statement.specs.Claims.{claim_of, text_of}
-use Rattle.key_roll.specs.declared.signed.Signed.{Signed}
+use Rattle.key_roll.specs.declared.signed.SignedText.{SignedText}
 use Rattle.ar_statement.specs.declared.fault.BookFault.TheVariants as book_fault
 use Rattle.key_roll.specs.Book.{IsRollBook, texts_of}
 use Rattle.key_roll.specs.Entry.{entered_new}
@@ -16,7 +16,7 @@ pub append-requires-clause-plain : goal.append-requires-clause-plain
 append-requires-clause-plain c =
     let text = text_of (claim_of c.args.statement.now) in
     let texts = texts_of c.args.self.now.book in
-    let texts-are = ap (map (λ (s : Signed). s.text)) c.deref.ensures.value ∙ ap (λ k. texts_of k.book) c.self.view_is in
+    let texts-are = ap (map (λ (s : SignedText). s.text)) c.deref.ensures.value ∙ ap (λ k. texts_of k.book) c.self.view_is in
     let at : place_of texts text ≡ None =
     sym (ap (place_of texts) c.of-text.ensures) ∙ (sym (ap (λ (l : List (List ℕ)). place_of l c.of-text.result) texts-are)
     ∙ (sym c.place_of.ensures ∙ c.in-None.is)) in
@@ -29,7 +29,7 @@ pub returns-in-Some-clause-spent : goal.returns-in-Some-clause-spent
 returns-in-Some-clause-spent c =
     let text = text_of (claim_of c.args.statement.now) in
     let texts = texts_of c.args.self.now.book in
-    let texts-are = ap (map (λ (s : Signed). s.text)) c.deref.ensures.value ∙ ap (λ k. texts_of k.book) c.self.view_is in
+    let texts-are = ap (map (λ (s : SignedText). s.text)) c.deref.ensures.value ∙ ap (λ k. texts_of k.book) c.self.view_is in
     let at : place_of texts text ≡ Some c.in-Some.place =
     sym (ap (place_of texts) c.of-text.ensures) ∙ (sym (ap (λ (l : List (List ℕ)). place_of l c.of-text.result) texts-are)
     ∙ (sym c.place_of.ensures ∙ c.in-Some.is)) in
@@ -39,7 +39,7 @@ pub returns-in-None-clause-answer : goal.returns-in-None-clause-answer
 returns-in-None-clause-answer c =
     let text = text_of (claim_of c.args.statement.now) in
     let texts = texts_of c.args.self.now.book in
-    let texts-are = ap (map (λ (s : Signed). s.text)) c.deref.ensures.value ∙ ap (λ k. texts_of k.book) c.self.view_is in
+    let texts-are = ap (map (λ (s : SignedText). s.text)) c.deref.ensures.value ∙ ap (λ k. texts_of k.book) c.self.view_is in
     let at : place_of texts text ≡ None =
     sym (ap (place_of texts) c.of-text.ensures) ∙ (sym (ap (λ (l : List (List ℕ)). place_of l c.of-text.result) texts-are)
     ∙ (sym c.place_of.ensures ∙ c.in-None.is)) in
@@ -55,7 +55,7 @@ pub returns-in-None-clause-spent : goal.returns-in-None-clause-spent
 returns-in-None-clause-spent c =
     let text = text_of (claim_of c.args.statement.now) in
     let texts = texts_of c.args.self.now.book in
-    let texts-are = ap (map (λ (s : Signed). s.text)) c.deref.ensures.value ∙ ap (λ k. texts_of k.book) c.self.view_is in
+    let texts-are = ap (map (λ (s : SignedText). s.text)) c.deref.ensures.value ∙ ap (λ k. texts_of k.book) c.self.view_is in
     let at : place_of texts text ≡ None =
     sym (ap (place_of texts) c.of-text.ensures) ∙ (sym (ap (λ (l : List (List ℕ)). place_of l c.of-text.result) texts-are)
     ∙ (sym c.place_of.ensures ∙ c.in-None.is)) in
@@ -65,7 +65,7 @@ pub returns-in-None-clause-memory : goal.returns-in-None-clause-memory
 returns-in-None-clause-memory c =
     let text = text_of (claim_of c.args.statement.now) in
     let texts = texts_of c.args.self.now.book in
-    let texts-are = ap (map (λ (s : Signed). s.text)) c.deref.ensures.value ∙ ap (λ k. texts_of k.book) c.self.view_is in
+    let texts-are = ap (map (λ (s : SignedText). s.text)) c.deref.ensures.value ∙ ap (λ k. texts_of k.book) c.self.view_is in
     let at : place_of texts text ≡ None =
     sym (ap (place_of texts) c.of-text.ensures) ∙ (sym (ap (λ (l : List (List ℕ)). place_of l c.of-text.result) texts-are)
     ∙ (sym c.place_of.ensures ∙ c.in-None.is)) in

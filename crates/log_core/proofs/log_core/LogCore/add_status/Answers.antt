@@ -1,8 +1,6 @@
 use Rattle.std.proofs.Common.{◌≡◌, ◌∙◌, ◌+◌, ap, subst, sym}
 use Rattle.std.specs.Prelude.{OnOk}
-use Rattle.std.specs.Option.{option_map}
 use Rattle.ar_council.specs.Council.{council_of}
-use Rattle.ar_council.specs.Values.{roots_of}
 use Rattle.ar_message.specs.declared.address.Address.TheVariants.{One}
 use Rattle.ar_message.specs.declared.message.Message.TheVariants.{StatusNote}
 use Rattle.ar_message.specs.Filling.{zeros}
@@ -12,7 +10,7 @@ use Rattle.epoch_log.specs.State.{epoch_of}
 use Rattle.log_core.specs.Passing.{status_draft}
 use Rattle.log_core.specs.State.{CoreState}
 use Rattle.log_sending.specs.Checks.{turn_of}
-use Rattle.log_sending.specs.Sending.{Draft, draft_with, with_draft}
+use Rattle.log_sending.specs.Sending.{DraftMessage, draft_with, with_draft}
 use Rattle.log_core.proofs.log_core.LogCore.add_status.Goals as goal
 
 pub returns : goal.returns
@@ -24,10 +22,10 @@ returns c =
     c.party.ensures ∙ ap log_party (c.turn_of-next.ensures ∙ (λ i. turn_of (same i) (now i + 1))) in
     let me : c.number.result ≡ was.log.me = c.number.ensures in
     let epoch : c.epoch-2.result ≡ epoch_of was.log = c.epoch-2.ensures in
-    let value : c.roots_of.result ≡ option_map roots_of (own_value was.log) = c.roots_of.ensures ∙ ap (option_map roots_of) c.own_value.ensures in
+    let value : c.own_value.result ≡ own_value was.log = c.own_value.ensures in
     let blank : c.in_ok-zeros.field-0 ≡ zeros was.signature_len = c.in_ok-zeros.ensures in
     let text : text_of (claim_of c.own_status.result) ≡ own_status_text was.log = c.own_status.ensures in
     subst (λ (s : CoreState). OnOk c.add.result (c.add.new.self ≡ with_draft c.args.drafts.now (status_draft s))) c.self.view_is
-    (subst (λ (d : Draft). OnOk c.add.result (c.add.new.self ≡ with_draft c.args.drafts.now d))
+    (subst (λ (d : DraftMessage). OnOk c.add.result (c.add.new.self ≡ with_draft c.args.drafts.now d))
     (λ i. draft_with (One (to i)) (StatusNote (me i) (epoch i) (value i) (blank i)) was.signature_len 0 (text i))
     c.add.ensures)

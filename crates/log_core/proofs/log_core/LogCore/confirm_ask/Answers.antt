@@ -1,6 +1,6 @@
 use Rattle.std.proofs.Common.{◌≡◌, ◌∙◌, ap, Ok, Err, Result, subst, sym}
 use Rattle.ar_message.specs.declared.unsigned.Unsigned.{Unsigned}
-use Rattle.log_core.specs.Confirming.{Asked, confirm_row, confirmation_prepared}
+use Rattle.log_core.specs.Confirming.{ConfirmQuestion, confirm_row, confirmation_prepared}
 use Rattle.log_core.specs.State.{CoreState}
 use Rattle.log_core.specs.Steps.{IsStep}
 use Rattle.log_sending.specs.declared.refusal.LogRefusal.{LogRefusal}
@@ -11,27 +11,27 @@ use Rattle.log_core.proofs.log_core.LogCore.confirm_ask.Goals.{in-Ok-confirm, in
 
 pub returns-in-Err : goal.returns-in-Err
 returns-in-Err c =
-    let asked : Asked = record { client = c.args.client; name = c.args.name.now; first = c.args.first; second = c.args.second } in
+    let asked : ConfirmQuestion = record { client = c.args.client; name = c.args.name.now; first = c.args.first; second = c.args.second } in
     confirm-refused c.args.self.now asked c.in-Err.refusal c.in-Err.ensures
 
 pub confirm-requires : goal.confirm-requires
 confirm-requires c =
     let was : CoreState = record { log = c.self.inside.log.state; keys = c.self.inside.log.keys; queue = c.self.inside.queue.items; signature_len = c.self.inside.signature_len } in
-    let asked : Asked = record { client = c.args.client; name = c.args.name.now; first = c.args.first; second = c.args.second } in
+    let asked : ConfirmQuestion = record { client = c.args.client; name = c.args.name.now; first = c.args.first; second = c.args.second } in
     let prepared : confirmation_prepared was asked ≡ Ok c.in-Ok.ready = subst (λ (s : CoreState). confirmation_prepared s asked ≡ Ok c.in-Ok.ready) (sym c.self.view_is) c.in-Ok.ensures in
     has-newest was asked c.in-Ok.ready prepared
 
 pub invariant_of-self : goal.invariant_of-self
 invariant_of-self c =
     let was : CoreState = record { log = c.self.inside.log.state; keys = c.self.inside.log.keys; queue = c.self.inside.queue.items; signature_len = c.self.inside.signature_len } in
-    let asked : Asked = record { client = c.args.client; name = c.args.name.now; first = c.args.first; second = c.args.second } in
+    let asked : ConfirmQuestion = record { client = c.args.client; name = c.args.name.now; first = c.args.first; second = c.args.second } in
     let prepared : confirmation_prepared was asked ≡ Ok c.in-Ok.ready = subst (λ (s : CoreState). confirmation_prepared s asked ≡ Ok c.in-Ok.ready) (sym c.self.view_is) c.in-Ok.ensures in
     confirm-keeps was asked c.in-Ok.ready c.confirm.result c.confirm.new.self c.self.invariant c.text-text.ensures.name prepared c.confirm.ensures.answer c.confirm.ensures.ok c.confirm.ensures.err
 
 pub returns : goal.returns
 returns c =
     let was : CoreState = record { log = c.self.inside.log.state; keys = c.self.inside.log.keys; queue = c.self.inside.queue.items; signature_len = c.self.inside.signature_len } in
-    let asked : Asked = record { client = c.args.client; name = c.args.name.now; first = c.args.first; second = c.args.second } in
+    let asked : ConfirmQuestion = record { client = c.args.client; name = c.args.name.now; first = c.args.first; second = c.args.second } in
     let prepared : confirmation_prepared was asked ≡ Ok c.in-Ok.ready = subst (λ (s : CoreState). confirmation_prepared s asked ≡ Ok c.in-Ok.ready) (sym c.self.view_is) c.in-Ok.ensures in
     let step : IsStep c.match-confirm.result was (core-with was c.confirm.new.self) (confirm_row was asked) = elim c.match-confirm.branch [
       | in-Ok-confirm w ↦

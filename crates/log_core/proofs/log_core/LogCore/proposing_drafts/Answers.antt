@@ -9,7 +9,7 @@ use Rattle.vote_quorum.specs.declared.value.Value.{Value}
 use Rattle.epoch_log.specs.Calls.{after_propose}
 use Rattle.log_sending.specs.Closings.{closing_drafts}
 use Rattle.log_core.specs.Proposing.{proposal_draft, proposing_judged}
-use Rattle.log_sending.specs.Sending.{Draft, draft_with, none_composed, with_draft, with_drafts}
+use Rattle.log_sending.specs.Sending.{DraftMessage, draft_with, none_composed, with_draft, with_drafts}
 use Rattle.log_core.specs.State.{CoreState}
 use Rattle.log_core.proofs.Proposals.{may-propose, propose-told, ready-composed}
 use Rattle.log_core.proofs.log_core.LogCore.proposing_drafts.Goals as goal
@@ -41,7 +41,7 @@ returns c =
     let value : Value = c.args.value.now in
     let changes : List Change = c.args.changes.now in
     let len : ℕ = c.self.inside.signature_len in
-    let draft : ℕ → ℕ → Draft = λ n e. draft_with Logs (Propose n e value.base value.root changes (zeros len)) len 0 (text_of (propose n e value.base value.root)) in
+    let draft : ℕ → ℕ → DraftMessage = λ n e. draft_with Logs (Propose n e value.base value.root changes (zeros len)) len 0 (text_of (propose n e value.base value.root)) in
     let drafted : draft c.number.result c.epoch.result ≡ proposal_draft was value changes =
     ap (λ (n : ℕ). draft n c.epoch.result) c.number.ensures ∙ ap (λ (e : ℕ). draft was.log.me e) c.epoch.ensures in
     subst (λ (s : CoreState). IfOk c.ready.result (λ ready. ready ≡ with_drafts none_composed (proposal_draft s value changes

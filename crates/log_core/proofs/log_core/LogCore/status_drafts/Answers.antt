@@ -9,4 +9,4 @@ add_closing-requires c =
     let member = subst (λ (s : CoreState). c.args.log < s.log.council.logs) (sym c.self.view_is) c.requires.log in
     told-can c.self.inside.signature_len c.self.inside.log.state.council.logs (after_status_seen c.self.inside.log.state c.args.log c.args.value.now (Some c.args.signature.now)) c.in_ok-foreseen.foreseen
     c.self.invariant.len c.self.invariant.sendable.logs
-    (status-seen-can c.self.inside.log.state c.args.log c.args.value.now (Some c.args.signature.now) c.self.invariant.sendable member c.ballot_told.ensures c.requires.signature) c.in_ok-foreseen.ensures
+    (status-seen-can c.self.inside.log.state c.args.log c.args.value.now (Some c.args.signature.now) c.self.invariant.sendable member c.optional_value_told.ensures c.requires.signature) c.in_ok-foreseen.ensures

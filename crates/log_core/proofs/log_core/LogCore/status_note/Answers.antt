@@ -40,7 +40,7 @@ invariant_of-self c =
     let step = status-step was c.args.log c.args.epoch c.args.value signature c.in_ok-ready.ready c.close.result c.status_seen.new.self c.close.new.queue.items c.in-Ok-status_seen.closing
     judged ready c.in-Ok-status_seen.ensures.answer c.in-Ok-status_seen.ensures.ok c.close.ensures.queue c.close.ensures.sent in
     kept-status_row was c.args.log c.args.epoch c.args.value signature (record { unsigned = c.close.result; after = core-of was c.status_seen.new.self c.close.new.queue.items })
-    c.self.invariant c.ballot_told.ensures (subst IsSignature (sym c.as_slice-signature.ensures.bytes) c.as_slice-signature.ensures.few) step
+    c.self.invariant c.optional_value_told.ensures (subst IsSignature (sym c.as_slice-signature.ensures.bytes) c.as_slice-signature.ensures.few) step
 
 pub returns-in-Ok-status_seen : goal.returns-in-Ok-status_seen
 returns-in-Ok-status_seen c =

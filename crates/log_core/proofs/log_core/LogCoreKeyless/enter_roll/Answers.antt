@@ -1,11 +1,8 @@
-use Rattle.log_core.proofs.Keyed.{roll-few, roll-keeps, roll-sends, roll-signs}
+use Rattle.log_core.proofs.Keyed.{roll-few, roll-sends, roll-signs}
 use Rattle.log_core.proofs.log_core.LogCoreKeyless.enter_roll.Goals as goal
 
 pub returns-clause-row : goal.returns-clause-row
 returns-clause-row c keys = roll-sends keys c.roll.result c.args.self.now c.roll.new.self c.args.next.now c.roll.ensures
-
-pub returns-clause-keeps : goal.returns-clause-keeps
-returns-clause-keeps c = roll-keeps c.roll.result c.args.self.now c.roll.new.self c.args.next.now c.roll.ensures
 
 pub returns-clause-few : goal.returns-clause-few
 returns-clause-few c = roll-few c.roll.result c.args.self.now c.roll.new.self c.args.next.now c.roll.ensures

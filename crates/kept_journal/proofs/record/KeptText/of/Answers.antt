@@ -3,7 +3,7 @@ use Rattle.std.specs.Int.{w32}
 use Rattle.ar_bytes.specs.RoundTrip.{number_text}
 use Rattle.kept_journal.specs.Appending.{staged_text, text_of_staged}
 use Rattle.kept_journal.proofs.Spelled.{short_staged, staged_made, text_again}
-use Rattle.kept_journal.proofs.record.Record.of.Goals as goal
+use Rattle.kept_journal.proofs.record.KeptText.of.Goals as goal
 
 pub invariant_of-result : goal.invariant_of-result
 invariant_of-result c =

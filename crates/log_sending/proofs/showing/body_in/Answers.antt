@@ -1,6 +1,6 @@
 use Rattle.std.proofs.Common.{◌≤◌, List, ℕ, length, subst, sym}
 use Rattle.hash_tree.proofs.Kept.{steps-most}
-use Rattle.log_sending.proofs.showing.body_of.Goals as goal
+use Rattle.log_sending.proofs.showing.body_in.Goals as goal
 
 pub body_by-requires : goal.body_by-requires
 body_by-requires c =
