@@ -253,14 +253,42 @@ HEADS = {
     "sign": r"message (\d+) Raw from {1} to none .*|{1} sign refused", "inject": r"message (\d+) Raw from none to {1} .*",
 }
 
+# The lines that make so many parties, and the letter of these.
+COUNTED = {"logs": "L", "authorities": "A"}
+
 # What a line of a script may write behind its first line.
 FOLLOWS = re.compile(r"party [LA]\d+ |[LAD]\d+ take |[LA]\d+ ended |message \d+ (?!Raw )|order ")
 
 
+# The first words that a line of a script may have.
+WORDS = {*HEADS, "secret", "keys", "flush", "burst", "end"}
+
+
 def refused_line(run):
-    """The number of the script's line that was refused, or 0."""
-    found = re.match(r"line (\d+): ", run.lines[-1]) if run.lines else None
-    return int(found.group(1)) if found else 0
+    """The number of the script's line that was refused, and why; 0 where none was."""
+    found = re.match(r"line (\d+): (.+)", run.lines[-1]) if run.lines else None
+    return (int(found.group(1)), found.group(2)) if found else (0, "")
+
+
+def may_be_refused(line, reason):
+    """Whether a line may be refused for this reason, as far as its first word and the number of its words tell."""
+    words, is_text = line.split(" "), re.fullmatch("[ -~]*", line)
+    name, *place = reason.split(" ")
+    if not line or line.startswith("#"):
+        return name == "limit"
+    if name in ("text", "word"):
+        return not is_text if name == "text" else is_text and words[0] not in WORDS
+    return name == "limit" or is_text and words[0] in WORDS and all(int(word) < len(words) for word in place)
+
+
+def read_script(path):
+    """The text of a script, whatever its bytes, with its line ends as they are."""
+    return path.read_bytes().decode(errors="replace")
+
+
+def script_lines(text):
+    """The lines of a script: a newline ends one, and nothing else."""
+    return text.removesuffix("\n").split("\n")
 
 
 class Script:
@@ -271,15 +299,20 @@ class Script:
 
     def __init__(self, text, run):
         self.comments, self.names, self.place, self.places, self.in_burst = {}, {}, 0, {}, False
-        self.refused = refused_line(run)
+        self.refused, reason = refused_line(run)
         waiting = []
-        for number, line in enumerate(text.splitlines(), 1):
+        lines = script_lines(text)
+        if self.refused > len(lines):
+            raise NoRun(f"this is no run of the script: it has no line {self.refused}")
+        for number, line in enumerate(lines, 1):
             if line.startswith("#"):
                 waiting.append(line[1:].strip())
             elif number != self.refused and self.find(number, line.split(" "), run):
                 self.comments.setdefault(self.place - 1, []).extend(waiting)
                 waiting = []
             if number == self.refused:
+                if not may_be_refused(line, reason):
+                    raise NoRun(f"this is no run of the script: its line {number} is not refused by `{reason}`: {line[:60]}")
                 break
         self.passes(len(run.lines) - bool(self.refused), run, "the end of the script")
         if not self.refused:
@@ -292,6 +325,8 @@ class Script:
         # What is brought in a burst is printed party by party, and not line by line.
         if words[0] not in HEADS or self.in_burst:
             return False
+        if words[0] in COUNTED and [party[0] for party in run.parties].count(COUNTED[words[0]]) != int(words[1]):
+            raise NoRun(f"this is no run of the script: it has other {words[0]} than line {number}: {' '.join(words)[:60]}")
         form = re.compile(HEADS[words[0]].format(*map(re.escape, words), *[""] * 6))
         for place in range(self.place, len(run.lines)):
             found = form.fullmatch(run.lines[place])

@@ -40,7 +40,7 @@ def rows():
               f"{whole(changes * HOUR)} with epochs of an hour"),
         Limit("changes that wait at a log", "log_sending/specs/Checks.antt", "most_queued", CHOICE,
               "`L13`: the owner submits it again when others have gone; they are four full proposals"),
-        Limit("bytes of the changes of a proposal", "log_sending/specs/Walk.antt", "most_bytes", CHOICE,
+        Limit("bytes of the changes of a proposal", "log_sending/specs/Walk.antt", "most_change_bytes", CHOICE,
               "the walk stops in front of the change; with signatures as long as here it never does"),
         Limit("bytes of a message", "ar_message/specs/Messages.antt", "longest", FORMAT, "it is not read"),
         Limit("logs of a table, and authorities", "ar_statement/specs/Claims.antt", "most_parties", FORMAT,
