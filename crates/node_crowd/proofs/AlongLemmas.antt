@@ -2,6 +2,7 @@
 use Rattle.std.proofs.Common.{◌≡◌, ℕ, zero, suc, ◌+◌, ◌<◌, ◌≤◌, List, [], ◌∷◌, ◌++◌, length, take, drop, get_or, set, refl, sym, ap, ◌∙◌, subst, append_assoc, arith}
 use Rattle.std.proofs.lemmas.List.{append-nil, drop-set-lt, drop_all, drop_more, length-drop, take_all, take_more_set}
 use Rattle.std.specs.List.{AllByRecursion, AllZip}
+use Rattle.ar_base.proofs.Lists.{both-lists}
 use Rattle.node_crowd.specs.Along.{Along, EachFrom}
 
 -- ---- what is left of two lists
@@ -172,3 +173,27 @@ module _ {A B : Type 0} (R : A → B → Type 0) where
 module _ {A B D : Type 0} (R : A → B → B → D → Type 0) where
   pub deals_start : (hs : List A) (old : List B) (ds : List D) → ds ≡ [] → StillDeals R hs old old ds 0
   deals_start hs old ds none news more along = subst (λ l. Along R hs old news (l ++ more)) (sym none) along
+
+-- ---- a vector that was lent as a slice
+
+pub refilled : {A : Type 0} (n : ℕ) (old new : List A) → n ≡ length old → length new ≡ length old → take n (new ++ drop (length new) old) ≡ new
+refilled n old new many long =
+    ap (λ l. take n (new ++ l)) (drop_all (length new) old (omega (arith, long))) ∙ ap (take n) (append-nil new) ∙ take_all n new (omega (arith, many, long))
+
+-- ---- one item more of a list
+
+pub all_more : {A : Type 0} (P : A → Type 0) (xs ys : List A) (x : A) → ys ≡ xs ++ x ∷ [] → P x → AllByRecursion P xs → AllByRecursion P ys
+all_more P xs ys x is here all = subst (λ l. AllByRecursion P l) (sym is) (both-lists P xs (x ∷ []) all (here, tt))
+
+-- ---- what is left of one list
+
+module _ {A : Type 0} (P : A → Type 0) where
+  -- the first of what is left
+  pub left_here : (bs : List A) (place : ℕ) (b : A) → place < length bs → AllByRecursion P (drop place bs) → P (get_or bs place b)
+  left_here bs place b lt all = (subst (λ l. AllByRecursion P l) (drop_more bs place b lt) all).0
+
+  -- what is left behind it, where its place is written
+  pub left_behind : (bs bs' : List A) (place : ℕ) (b new : A) → place < length bs → bs' ≡ set bs place new → AllByRecursion P (drop place bs) → AllByRecursion P (drop (place + 1) bs')
+  left_behind bs bs' place b new lt is all =
+      subst (λ l. AllByRecursion P l) (sym (ap (drop (place + 1)) is ∙ drop-set-lt (place + 1) bs place new (omega arith)))
+      (subst (λ l. AllByRecursion P l) (drop_more bs place b lt) all).1

@@ -1,4 +1,12 @@
+pub mod AbreastLemmas
 pub mod AlongLemmas
+pub mod BringingLemmas
+pub mod BroughtLemmas
+pub mod ClosingLemmas
+pub mod CrowdLemmas
+pub mod LayingLemmas
 pub mod OneLemmas
 pub mod RowsLemmas
+pub mod SharingLemmas
 pub mod StallsLemmas
+pub mod WorkingLemmas

@@ -1,5 +1,5 @@
 -- One stall: split, joined with another, and one call more.
-use Rattle.std.proofs.Common.{◌≡◌, ℕ, ◌+◌, List, [], ◌∷◌, ◌++◌, sym, ap, ◌∙◌, subst, arith}
+use Rattle.std.proofs.Common.{◌≡◌, ℕ, ◌+◌, ◌≤◌, List, [], ◌∷◌, ◌++◌, sym, ap, ◌∙◌, subst, arith}
 use Rattle.ar_base.specs.Prefixes.{BeginsWith}
 use Rattle.ar_seats.specs.Numbers.{times}
 use Rattle.ar_seats.specs.Shares.{given_of, left_of}
@@ -11,6 +11,9 @@ use Rattle.node_crowd.specs.Stalls.{HasServed, IsIdle, IsJoined, IsSplit, StallP
 
 halves : (share : ℕ) → left_of share + given_of share ≡ share
 halves share = omega arith
+
+lesser : (share : ℕ) → given_of share ≤ left_of share
+lesser share = omega arith
 
 module _ {S I N T : Type 0} where
   pub is_split : (node : NodeParts S) (old new given : StallParts S I N T) → IsIdle node old → new.seat ≡ left_seat old.seat → new.told ≡ old.told
@@ -30,6 +33,7 @@ module _ {S I N T : Type 0} where
           untold = none;
         };
         shares = omega (arith, left_share, given_share, halves old.seat.share);
+        half = omega (arith, left_share, given_share, lesser old.seat.share);
       }
 
   module _ {R : Type 0} (next : S → I → N → R × S) where

@@ -9,7 +9,8 @@ use Rattle.shared_node.specs.Seats.{NodeParts}
 use Rattle.seat_orders.specs.Carrying.{Carries}
 use Rattle.seat_orders.proofs.CarriesLemmas.{carries_none}
 use Rattle.node_crowd.specs.Along.{Along, EachFrom}
-use Rattle.node_crowd.specs.Stalls.{HasGathered, HasServed, IsIdle, IsJoined, IsSplit, StallParts, share_at}
+use Rattle.node_crowd.specs.Stalls.{HasGathered, IsIdle, IsJoined, IsSplit, StallParts, share_at}
+use Rattle.node_crowd.specs.Working.{Gathers, RowServes}
 use Rattle.node_crowd.proofs.AlongLemmas.{each_then, zip_unlast}
 use Rattle.node_crowd.proofs.StallsLemmas.{joined_gathers, joined_shares, split_shares}
 
@@ -53,15 +54,6 @@ module _ {S I N T B Row : Type 0} (node_of : B → NodeParts S) (stalls_of : Row
         omega (arith, sum, join, before)
 
     module _ (finish_of : B → R → T) where
-      -- what a row served, by what its worker brought to each place
-      abbrev pub RowServes : List B → Row → (ℕ → List I) → Type 0
-      RowServes booths row list = EachFrom (λ place b s. HasServed next (node_of b) (finish_of b) s (list place)) 0 booths (stalls_of row)
-
-      -- what the base gathered of these rows
-      abbrev pub Gathers : List B → List (StallParts S I N T) → List Row → Type 0
-      Gathers booths base rows = (lists : List (ℕ → List I)) → AllZip (RowServes booths) rows lists
-          → EachFrom (λ place b s. HasGathered next (node_of b) (finish_of b) s (map (λ list. list place) lists)) 0 booths base
-
       idle_gathers : (from : ℕ) (booths : List B) (base : List (StallParts S I N T)) → AllZip (λ b s. IsIdle (node_of b) s) booths base
           → EachFrom (λ place b s. HasGathered next (node_of b) (finish_of b) s []) from booths base
       idle_gathers from [] [] idle = tt
@@ -77,18 +69,18 @@ module _ {S I N T B Row : Type 0} (node_of : B → NodeParts S) (stalls_of : Row
             idle_gathers (from + 1) booths base idle.1,
           )
 
-      pub gathers_none : (booths : List B) (base : List (StallParts S I N T)) → AllZip (λ b s. IsIdle (node_of b) s) booths base → Gathers booths base []
+      pub gathers_none : (booths : List B) (base : List (StallParts S I N T)) → AllZip (λ b s. IsIdle (node_of b) s) booths base → Gathers node_of next finish_of stalls_of booths base []
       gathers_none booths base idle = none
         where
-          none : (lists : List (ℕ → List I)) → AllZip (RowServes booths) [] lists
+          none : (lists : List (ℕ → List I)) → AllZip (λ row list. RowServes node_of next finish_of booths (stalls_of row) list) [] lists
               → EachFrom (λ place b s. HasGathered next (node_of b) (finish_of b) s (map (λ list. list place) lists)) 0 booths base
           none [] all = idle_gathers 0 booths base idle
           none (list ∷ lists) all = absurd all
 
       pub gathers_next : (booths : List B) (base new : List (StallParts S I N T)) (rows : List Row) (row : Row)
-          → Along (λ b o e n. IsJoined next (node_of b) o e n) booths base (stalls_of row) new → Gathers booths base rows → Gathers booths new (rows ++ row ∷ [])
+          → Along (λ b o e n. IsJoined next (node_of b) o e n) booths base (stalls_of row) new → Gathers node_of next finish_of stalls_of booths base rows → Gathers node_of next finish_of stalls_of booths new (rows ++ row ∷ [])
       gathers_next booths base new rows row along gathers lists all =
-          let parts = zip_unlast (RowServes booths) rows row lists all in
+          let parts = zip_unlast (λ row list. RowServes node_of next finish_of booths (stalls_of row) list) rows row lists all in
           let front = parts.0 in
           let last = parts.1 in
           let joined = joined_gathers node_of next finish_of 0 (λ place. map (λ list. list place) front) last booths base (stalls_of row) new along (gathers front parts.3) parts.4 in
@@ -99,3 +91,8 @@ module _ {S I N T B Row : Type 0} (node_of : B → NodeParts S) (stalls_of : Row
           (λ place b s le has. subst (λ l. HasGathered next (node_of b) (finish_of b) s l) (sym (map_push (λ (list : ℕ → List I). list place) front last)) has)
           joined in
           subst (λ l. EachFrom (λ place b s. HasGathered next (node_of b) (finish_of b) s (map (λ list. list place) l)) 0 booths new) (sym parts.2) whole
+
+-- where there are no rows yet; the list that there will be says what a row is
+pub gathers_start : {S I N T B Row R : Type 0} (rows : List Row) (node_of : B → NodeParts S) (stalls_of : Row → List (StallParts S I N T)) (next : S → I → N → R × S) (finish_of : B → R → T) (booths : List B)
+    (base : List (StallParts S I N T)) → AllZip (λ b s. IsIdle (node_of b) s) booths base → Gathers node_of next finish_of stalls_of booths base []
+gathers_start rows node_of stalls_of next finish_of booths base idle = gathers_none node_of stalls_of next finish_of booths base idle

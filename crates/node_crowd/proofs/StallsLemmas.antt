@@ -1,10 +1,24 @@
 -- Rows of stalls: what a row that is dealt leaves, and what a row that is joined brings.
-use Rattle.std.proofs.Common.{◌≡◌, ℕ, zero, suc, ◌+◌, List, [], ◌∷◌, ◌++◌, refl, sym, subst}
+use Rattle.std.proofs.Common.{◌≡◌, ℕ, zero, suc, ◌+◌, ◌-◌, ◌^◌, ◌<◌, ◌≤◌, List, [], ◌∷◌, ◌++◌, refl, sym, subst, arith}
 use Rattle.std.specs.List.{AllZip}
+use Rattle.std.proofs.lemmas.Grind.{pow_more}
+use Rattle.std.proofs.lemmas.Nat.{pow_below}
 use Rattle.seat_orders.proofs.CarriesLemmas.{carries_one}
 use Rattle.shared_node.specs.Seats.{NodeParts}
 use Rattle.node_crowd.specs.Along.{Along, EachFrom}
-use Rattle.node_crowd.specs.Stalls.{HasGathered, HasServed, IsIdle, IsJoined, IsSplit, IsStallOf, StallParts, share_at}
+use Rattle.node_crowd.specs.Stalls.{CanBeSplit, HasGathered, HasServed, IsIdle, IsJoined, IsSplit, IsStallOf, StallParts, share_at}
+
+two_at_least : (many : ℕ) → 0 < many → 2 ^ 1 ≤ 2 ^ many
+two_at_least many some = let below = pow_below 0 many some in omega (arith, below)
+
+halved : (many old new given : ℕ) → new + given ≡ old → given ≤ new → 2 ^ (many + 1) ≤ old → 2 ^ many ≤ new
+halved many old new given sum half wide = let more = pow_more 2 many in omega (arith, sum, half, wide, more)
+
+module _ {S I N T : Type 0} where
+  -- what can be split some times can be split once
+  pub wide_once : (many : ℕ) (row : List (StallParts S I N T)) → 0 < many → CanBeSplit many row → CanBeSplit 1 row
+  wide_once many [] some wide = tt
+  wide_once many (s ∷ row) some wide = ((let two = two_at_least many some in let here = wide.0 in omega (arith, two, here)), wide_once many row some wide.1)
 
 module _ {S I N T B : Type 0} (node_of : B → NodeParts S) where
   -- ---- a row that is dealt
@@ -38,6 +52,30 @@ module _ {S I N T B : Type 0} (node_of : B → NodeParts S) where
   split_shares (b ∷ booths) (o ∷ old) (n ∷ new) [] place along = absurd along
   split_shares (b ∷ booths) (o ∷ old) (n ∷ new) (g ∷ row) zero along = let here = along.0 in here.shares
   split_shares (b ∷ booths) (o ∷ old) (n ∷ new) (g ∷ row) (suc place) along = split_shares booths old new row place along.1
+
+  -- what is left of a row that could be split once more
+  pub split_wide : (many : ℕ) (booths : List B) (old new row : List (StallParts S I N T)) → Along (λ b o n g. IsSplit (node_of b) o n g) booths old new row
+      → CanBeSplit (many + 1) old → CanBeSplit many new
+  split_wide many [] old new row along wide = subst (λ l. CanBeSplit {S = S} {I = I} {N = N} {T = T} many l) (sym along.1) tt
+  split_wide many (b ∷ booths) [] new row along wide = absurd along
+  split_wide many (b ∷ booths) (o ∷ old) [] row along wide = absurd along
+  split_wide many (b ∷ booths) (o ∷ old) (n ∷ new) [] along wide = absurd along
+  split_wide many (b ∷ booths) (o ∷ old) (n ∷ new) (g ∷ row) along wide =
+      let here = along.0 in (halved many o.seat.share n.seat.share g.seat.share here.shares here.half wide.0, split_wide many booths old new row along.1 wide.1)
+
+  -- the same of a loop that has dealt so many rows
+  pub split_left : (workers done : ℕ) (booths : List B) (old new row : List (StallParts S I N T)) → done < workers → Along (λ b o n g. IsSplit (node_of b) o n g) booths old new row
+      → CanBeSplit (workers - done) old → CanBeSplit (workers - (done + 1)) new
+  split_left workers done booths old new row lt along wide =
+      let more : workers - done ≡ workers - (done + 1) + 1 = omega (arith, lt) in
+      split_wide (workers - (done + 1)) booths old new row along (subst (λ n. CanBeSplit n old) more wide)
+
+  -- where nothing was done, each stall is one of its node
+  pub idle_own : (booths : List B) (base : List (StallParts S I N T)) → AllZip (λ b s. IsIdle (node_of b) s) booths base → AllZip (λ b s. IsStallOf (node_of b) s) booths base
+  idle_own [] [] idle = tt
+  idle_own [] (s ∷ base) idle = idle
+  idle_own (b ∷ booths) [] idle = idle
+  idle_own (b ∷ booths) (s ∷ base) idle = let here = idle.0 in (here.own, idle_own booths base idle.1)
 
   -- ---- a row that is joined
 

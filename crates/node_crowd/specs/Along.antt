@@ -10,6 +10,14 @@ module _ {A B C D : Type 0} (R : A → B → C → D → Type 0) where
   Along (a ∷ hs) (b ∷ bs) (c ∷ cs) [] = ⊥
   Along (a ∷ hs) (b ∷ bs) (c ∷ cs) (d ∷ ds) = R a b c d × Along hs bs cs ds
 
+module _ {A B C : Type 0} (R : A → B → C → Type 0) where
+  -- three lists are as long as one another, and R holds of what they have at each place
+  abbrev pub Abreast : List A → List B → List C → Type 0
+  Abreast [] bs cs = (bs ≡ []) × (cs ≡ [])
+  Abreast (a ∷ hs) [] cs = ⊥
+  Abreast (a ∷ hs) (b ∷ bs) [] = ⊥
+  Abreast (a ∷ hs) (b ∷ bs) (c ∷ cs) = R a b c × Abreast hs bs cs
+
 module _ {A B : Type 0} (R : ℕ → A → B → Type 0) where
   -- two lists are as long as one another, and R holds of each place and what they have there, where the first place has this number
   abbrev pub EachFrom : ℕ → List A → List B → Type 0

@@ -1,6 +1,9 @@
 -- What workers bring to several nodes, and what is replied to it.
-use Rattle.std.specs.Prelude.{◌≡◌, ℕ, ◌+◌, ◌%◌, ◌==◌, Bool, if◌then◌else◌, List, [], ◌∷◌, ◌++◌}
+use Rattle.std.specs.Prelude.{◌≡◌, ℕ, ◌+◌, ◌%◌, ◌==◌, Bool, if◌then◌else◌, List, [], ◌∷◌, ◌++◌, Some, map, slice_get}
+use Rattle.std.specs.List.{AllByRecursion}
 use Rattle.node_core.specs.History.{IsLegal, reply_after}
+use Rattle.seat_orders.specs.Dealing.{dealt_lists}
+use Rattle.seat_orders.specs.Orders.{IsInterleaving}
 use Rattle.node_crowd.specs.declared.errand.Errand.{Errand}
 
 module _ {S I N R : Type 0} (next : S → I → N → R × S) (legal : S → I → N → Type 0) where
@@ -34,3 +37,16 @@ module _ {I : Type 0} where
   abbrev pub AreNumbered : (I → ℕ) → ℕ → List (Errand I) → Type 0
   AreNumbered number from [] = Unit {0}
   AreNumbered number from (errand ∷ errands) = (errand.number ≡ from) × (number errand.input ≡ from) × AreNumbered number (from + 1) errands
+
+  -- an input is that of the errand of its number, which goes to the node of this place
+  pub record IsOfErrand (number : I → ℕ) (errands : List (Errand I)) (place : ℕ) (input : I) : Type 0 where
+    pub errand : Errand I
+    pub there : slice_get errands (number input) ≡ Some errand
+    pub goes : errand.place ≡ place
+    pub input_is : errand.input ≡ input
+
+  -- The node of this place took these inputs: they stand in an order that is an interleaving of what was dealt to the workers, and
+  -- each is the input of its errand.
+  pub record TakesDealt (number : I → ℕ) (workers : ℕ) (errands : List (Errand I)) (place : ℕ) (inputs : List I) : Type 0 where
+    pub order : IsInterleaving (map number inputs) (dealt_lists workers (goes_to place) errands)
+    pub inputs_are : AllByRecursion (IsOfErrand number errands place) inputs

@@ -1,5 +1,6 @@
 -- Stalls of workers at nodes: a stall is a seat with what was told there.
-use Rattle.std.specs.Prelude.{◌≡◌, ℕ, ◌+◌, List, [], ◌++◌, map, get_or}
+use Rattle.std.specs.Prelude.{◌≡◌, ℕ, ◌+◌, ◌≤◌, ◌^◌, List, [], ◌++◌, map, get_or}
+use Rattle.std.specs.List.{AllByRecursion}
 use Rattle.seat_orders.specs.Carrying.{Carries, Serves}
 use Rattle.shared_node.specs.Seats.{IsSeatOf, NodeParts, SeatParts}
 
@@ -23,11 +24,16 @@ module _ {S I N T : Type 0} where
   abbrev pub share_at : ℕ → List (StallParts S I N T) → ℕ
   share_at place row = get_or (map (λ stall. stall.seat.share) row) place 0
 
-  -- a stall is split: both are idle, and have the share together
+  -- each stall of a row can be split so many times, one after another, where what is kept is not the lesser half
+  abbrev pub CanBeSplit : ℕ → List (StallParts S I N T) → Type 0
+  CanBeSplit many row = AllByRecursion (λ stall. 2 ^ many ≤ stall.seat.share) row
+
+  -- a stall is split: both are idle, and have the share together, of which the new one has no more than is kept
   pub record IsSplit (node : NodeParts S) (old new given : StallParts S I N T) : Type 0 where
     pub kept : IsIdle node new
     pub idle : IsIdle node given
     pub shares : new.seat.share + given.seat.share ≡ old.seat.share
+    pub half : given.seat.share ≤ new.seat.share
 
   module _ {R : Type 0} (next : S → I → N → R × S) where
     -- a stall took in another: it has the share of both, and carries what both carried

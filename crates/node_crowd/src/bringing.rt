@@ -56,6 +56,7 @@ pub(crate) fn bring<C: Core, F: Finish<C, T>, T: Drop, R: Wait, G: Gate>(
         → HasServed C.next booth.now.node (F.finished booth.now.finish) stall.old brought
         → HasServed C.next booth.now.node (F.finished booth.now.finish) stall.new
         (brought ++ input ∷ [])) }
+    ensures passed { OnOk result (G.passed gate.now number) }
     ensures noted { OnOk result ((place : ℕ)
         × (stall.new.seat.own ≡ stall.old.seat.own ++ place ∷ [])
         × G.noted gate.now number place) }

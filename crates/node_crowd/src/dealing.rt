@@ -1,8 +1,9 @@
-ghost use Rattle.std.specs.Prelude.{◌≡◌, ◌+◌, ℕ, IfOk, OnOk, length};
+ghost use Rattle.std.specs.Prelude.{◌≡◌, ◌+◌, ℕ, IfErr, IfOk, OnOk, length};
 ghost use Rattle.std.specs.List.{AllByRecursion, AllZip};
 ghost use Rattle.ar_seats.specs.Totals.{total};
+ghost use Rattle.ar_seats.specs.declared.split_fault.SplitFault.TheVariants.{Memory};
 ghost use Rattle.node_crowd.specs.Along.{Along};
-ghost use Rattle.node_crowd.specs.Stalls.{IsIdle, IsSplit, share_at};
+ghost use Rattle.node_crowd.specs.Stalls.{CanBeSplit, IsIdle, IsSplit, share_at};
 
 use crate::booth::Booth;
 use crate::row::Row;
@@ -18,9 +19,10 @@ fn deal_row<C: Core, F, T: Drop>(
     base: &mut [Stall<C, T>],
 ) -> Result<Row<C, T>, SplitFault>
     requires { AllZip (λ booth stall. IsIdle booth.node stall) booths.now base.old }
-    ensures { IfOk result (λ row.
+    ensures split { IfOk result (λ row.
         Along (λ booth old new given.
         IsSplit booth.node old new given) booths.now base.old base.new row.stalls.items) }
+    ensures narrow { CanBeSplit 1 base.old → IfErr result (λ error. error ≡ Memory) }
 {
     let mut stalls = Vec::new(alloc);
     for place in 0..booths.len() {
@@ -41,7 +43,7 @@ pub fn deal<C: Core, F, T: Drop>(
     base: &mut [Stall<C, T>],
     workers: usize,
 ) -> Result<Vec<Row<C, T>>, SplitFault>
-    requires { AllZip (λ booth stall. IsIdle booth.node stall) booths.now base.old }
+    requires idle { AllZip (λ booth stall. IsIdle booth.node stall) booths.now base.old }
     ensures base { OnOk result (AllZip (λ booth stall.
         IsIdle booth.node stall) booths.now base.new) }
     ensures many { IfOk result (λ rows. length rows.items ≡ workers) }
@@ -52,6 +54,7 @@ pub fn deal<C: Core, F, T: Drop>(
     ensures shares { IfOk result (λ rows. (place : ℕ)
         → share_at place base.new + total (λ row.
         share_at place row.stalls.items) rows.items ≡ share_at place base.old) }
+    ensures narrow { CanBeSplit workers base.old → IfErr result (λ error. error ≡ Memory) }
 {
     let mut rows = Vec::new(alloc);
     for _ in 0..workers {

@@ -1,27 +1,38 @@
-//! Rows of seats at several nodes, one row for each worker of a crowd.
+//! Several workers bring errands to several cores, each from a thread of its own.
 //!
-//! A stall is a seat of a node with what was told there, and a row has a stall at each node. `deal` splits a row for each worker off the
-//! base row, and `join_row` joins a row into the base again. The share at a node is a function of the node's place: what is left in the
-//! base and what all rows have there are together what the base had. What a joined stall gathered is what both had (`specs/Stalls.antt`).
+//! `crowd` makes a node of each core, with what finishes the replies of the core outside of the node's lock, and a base row of
+//! stalls: a stall is a seat of a node with what was told there. It deals a row to each worker, whose shares are split off
+//! those of the base; each worker brings its errands in their order; the rows are joined into the base again, which has
+//! gathered what each of them served; and the nodes are closed. The share at a node is a function of the node's place: what is
+//! left in the base and what all rows have there are together what the base had.
 //!
-//! Its tests: none yet.
+//! `specs/Bringing.antt` says which errands are a worker's, `specs/Stalls.antt` what one stall did, `specs/Working.antt` what a
+//! row and what all rows did, and what is taken of a node that is closed.
+//!
+//! Its tests: `thread_tests`, module `node_crowd_tests`.
 #![tactic(auto)]
 
 mod booth;
 mod bringing;
+mod closing;
+mod crowds;
 mod dealing;
+mod desk;
 mod errand;
 mod finish;
 mod gate;
+mod gathering;
 mod joining;
+mod laying;
+mod opening;
 mod row;
+mod serving;
+mod sharing;
 mod stall;
+mod working;
 
-pub use booth::Booth;
-pub use dealing::deal;
+pub use crowds::crowd;
+pub use desk::{Desk, Taken};
 pub use errand::Errand;
 pub use finish::Finish;
 pub use gate::{Gate, OpenGate};
-pub use joining::join_row;
-pub use row::Row;
-pub use stall::Stall;

@@ -3,6 +3,6 @@ use node_core::Core;
 
 /// A stall at each node: what a worker has.
 #[derive(Drop)]
-pub struct Row<C: Core, T> {
+pub(crate) struct Row<C: Core, T> {
     pub(crate) stalls: Vec<Stall<C, T>>,
 }

@@ -4,22 +4,31 @@ ghost use Rattle.shared_node.specs.Seats.{IsSeatOf};
 ghost use Rattle.node_crowd.specs.Stalls.{IsIdle, IsJoined, IsSplit};
 
 use node_core::Core;
-use shared_node::{Seat, SharedNode, SplitFault};
+use shared_node::{SeatOf, SharedNode, SplitFault};
 use std::alloc::{AllocError, Global};
 use std::marker::Model;
 
 /// A seat of a node, with the place and the finished reply of each of its calls.
+pub(crate) type Stall<C, T> = StallOf<
+    C,
+    <C as Core>::Input,
+    <C as Core>::Note,
+    <C as Core>::State,
+    T,
+>;
+
+/// The same by the types of the core, of its inputs, of its notes and of its states, so that it can be moved to a thread.
 #[derive(Drop)]
-pub struct Stall<C: Core, T> {
-    pub(crate) seat: Seat<C>,
+pub(crate) struct StallOf<C, I, N, S, T> {
+    pub(crate) seat: SeatOf<C, I, N, S>,
     pub(crate) told: Vec<(u64, T)>,
 }
 
 // Clauses see the seat and what was told.
-impl<C: Core, T> Model for Stall<C, T> {
+impl<C, I, N, S, T> Model for StallOf<C, I, N, S, T> {
     ghost use Rattle.node_crowd.specs.Stalls.{StallParts};
 
-    ghost Value = { StallParts C.State C.Input C.Note T };
+    ghost Value = { StallParts S I N T };
 
     ghost view = { λ s. record { seat = s.seat; told = s.told.items } };
 }
@@ -38,7 +47,7 @@ pub(crate) fn split<C: Core, T>(
     ensures err { OnErr result (stall.new ≡ stall.old) }
 {
     let seat = node.split(alloc, &mut stall.seat)?;
-    Ok(Stall {
+    Ok(StallOf {
         seat,
         told: Vec::new(alloc),
     })
@@ -54,7 +63,7 @@ pub(crate) fn join<C: Core, T: Drop>(
     requires other { IsSeatOf node.now other.seat }
     ensures { OnOk result (IsJoined C.next node.now stall.old other stall.new) }
 {
-    let Stall { seat, mut told } = other;
+    let StallOf { seat, mut told } = other;
     stall.told.append(&mut told)?;
     node.join(&mut stall.seat, seat);
     Ok(())

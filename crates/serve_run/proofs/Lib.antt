@@ -6,5 +6,4 @@ pub mod Printed
 pub mod Rows
 pub mod Served
 pub mod Turns
-pub mod Words
 pub mod Working

@@ -1,14 +1,11 @@
--- What the program `arpki_crowd` answers to words and an input: the lines that it writes, and its status.
-use Rattle.std.specs.Prelude.{ℕ, ◌≡◌, ◌+◌, nat_lt, MatchBool, List, [], ◌∷◌, ◌++◌, codes, length, map, Option, Some, None, Result, Ok, Err, String, string_bytes, if◌then◌else◌}
+-- What `serve` answers to an input: the lines that it writes, and its status.
+use Rattle.std.specs.Prelude.{ℕ, ◌≡◌, ◌+◌, nat_lt, MatchBool, List, [], ◌∷◌, ◌++◌, codes, length, Option, Result, Ok, Err}
 use Rattle.std.specs.Fmt.{decimal}
-use Rattle.std.specs.Str.{bytes_eq}
-use Rattle.std.specs.declared.alloc.Global.{Global}
 use Rattle.hex.specs.Hex.{encode_lower}
-use Rattle.ar_io.specs.Wrote.{Appended, AppendedFront, Unchanged}
-use Rattle.ar_lines.specs.Forms.{number_in}
+use Rattle.ar_io.specs.Wrote.{Appended, AppendedFront}
 use Rattle.ar_lines.specs.Readings.{start_of_lines}
 use Rattle.ar_lines.specs.declared.refusal.Refusal.{Refusal}
-use Rattle.ar_run.specs.Answers.{Answer, one_line, written_of}
+use Rattle.ar_run.specs.Answers.{Answer, written_of}
 use Rattle.ar_run.specs.Runs.{TakesAll, most_read_bytes}
 use Rattle.arpki_ask.specs.Answers.{refused_line, too_long}
 use Rattle.lms_tree.specs.Key.{public_of}
@@ -17,23 +14,6 @@ use Rattle.serve_run.specs.Reading.{Service, service_at}
 use Rattle.serve_run.specs.Serving.{IsServed, serving_key}
 use Rattle.serve_run.specs.declared.reply.Reply.{Reply}
 use Rattle.serve_run.specs.declared.reply.Reply.TheVariants.{Signed, Exhausted}
-
--- ---- words
-
--- how many workers the words ask for, from 1 to 16, behind the word `serve`
-abbrev pub workers_of : List (List ℕ) → Option ℕ
-workers_of [] = None
-workers_of (name ∷ []) = None
-workers_of (name ∷ number ∷ []) = if bytes_eq name (codes "serve") then number_in 1 16 number else None
-workers_of (name ∷ number ∷ next ∷ more) = None
-
--- the bytes of each word
-abbrev pub texts : List (String Global) → List (List ℕ)
-texts words = map string_bytes words
-
--- the words are of no form: the usage line
-abbrev pub usage : Answer
-usage = one_line (codes "usage: arpki_crowd crowd|serve <workers>") 2
 
 -- ---- lines
 
@@ -90,13 +70,3 @@ pub record ServesFront {K : Type 0} (workers : ℕ) (old new : Option (List ℕ)
   pub taken : TakesAll old new input
   pub is_answer : IsAnswer workers input answer
   pub front : AppendedFront wrote sink written (written_of answer)
-
--- What was written whole: an answer of the workers that the words ask for to the input that was taken, or the usage line.
-abbrev pub Answers : {K : Type 0} → Option ℕ → Option (List ℕ) → Option (List ℕ) → (K → List ℕ → Type 0) → K → K → ℕ → Type 0
-Answers (Some workers) old new wrote sink written status = ServesWhole workers old new wrote sink written status
-Answers None old new wrote sink written status = (status ≡ 2) × Appended wrote sink written (written_of usage)
-
--- What a front was written of, and not all: such an answer, or the usage line.
-abbrev pub BreaksOff : {K : Type 0} → Option ℕ → Option (List ℕ) → Option (List ℕ) → (K → List ℕ → Type 0) → K → K → Type 0
-BreaksOff (Some workers) old new wrote sink written = ServesFront workers old new wrote sink written
-BreaksOff None old new wrote sink written = AppendedFront wrote sink written (written_of usage)

@@ -9,18 +9,16 @@
 //! one run. Two runs with one secret sign by each leaf twice, and then anybody can forge with that key. A server of a real domain
 //! makes one `Server` for each start of its process, with a new key, to which `Server::handover` hands the name over.
 //!
-//! The program `arpki_crowd` makes the call `crowd_main`.
+//! The call is `serve`. The gate of `node_crowd` is passed before each answer.
 //!
 //! In `specs/`, `Reading` says what is asked, `Serving` what is replied, `Workers` what a worker does, and `Answers` what the
-//! program writes, and with which status.
+//! command writes, and with which status.
 //!
 //! Its tests: `thread_tests`, module `serve_run_tests`, and `examples/serve`.
 #![tactic(auto)]
 
-pub use gate::{Gate, OpenGate};
-pub use program::crowd_main;
+pub use program::serve;
 
-mod gate;
 mod printing;
 mod program;
 mod reading;

@@ -6,7 +6,6 @@ ghost use Rattle.serve_run.specs.Answers.{Serves};
 ghost use Rattle.serve_run.specs.Serving.{IsServed, IsServerOf, serving_key};
 ghost use Rattle.serve_run.specs.Workers.{Brings, IsFresh, MayTell, Post as PostValue, Posted, Tells, Told as ToldValue, joined_all};
 
-use crate::gate::Gate;
 use crate::printing::answer;
 use crate::reading::Service;
 use crate::reply::Reply;
@@ -15,6 +14,7 @@ use crate::worker::{Post, Told, work};
 use ar_run::Answer;
 use ar_statement::Role;
 use lms_tree::{KeyFault, LmsKey};
+use node_crowd::Gate;
 use party_keys::party_seed;
 use possession::{LeafSeat, Server};
 use std::alloc::{AllocError, Global};

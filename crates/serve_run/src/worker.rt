@@ -3,9 +3,9 @@ ghost use Rattle.lms_tree.specs.Signature.{lms_signature_len_of};
 ghost use Rattle.serve_run.specs.Serving.{IsReply, IsServerOf};
 ghost use Rattle.serve_run.specs.Workers.{Draws_for, IsFresh, Tells};
 
-use crate::gate::Gate;
 use crate::reading::Service;
 use crate::reply::Reply;
+use node_crowd::Gate;
 use possession::{LeafSeat, Server};
 use sha2::{Digest, Sha256};
 use std::alloc::{AllocError, Global};

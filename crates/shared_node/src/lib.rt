@@ -16,7 +16,7 @@
 
 pub use answer::{Closed, Place, Served};
 pub use ar_seats::SplitFault;
-pub use seat::Seat;
+pub use seat::{Seat, SeatOf};
 pub use shared::SharedNode;
 
 mod answer;

@@ -2,7 +2,7 @@ ghost use Rattle.std.specs.Prelude.{◌≡◌, ◌<◌, ◌≤◌};
 ghost use Rattle.ar_seats.specs.Shares.{whole};
 
 use crate::held::Held;
-use crate::node::NodeOf;
+use crate::node::{Node, NodeOf};
 use ar_seats::Share;
 use node_core::Core;
 use std::marker::Model;
@@ -12,18 +12,22 @@ pub(crate) type HeldOf<C> = Held<<C as Core>::State, <C as Core>::Input, <C as C
 pub(crate) type Token<C> = atomic_table::Seat<Option<NodeOf<C>>, HeldOf<C>>;
 
 /// A seat of a node, with which one thread asks.
+pub type Seat<C> = SeatOf<C, <C as Core>::Input, <C as Core>::Note, <C as Core>::State>;
+
+/// A seat, by the types of the node's core, of its inputs, of its notes and of its states. It is named without the core's trait, so
+/// that seats of a core that is a type parameter can be moved to threads.
 #[derive(Drop)]
-pub struct Seat<C: Core> {
-    pub(crate) token: Token<C>,
+pub struct SeatOf<C, I, N, S> {
+    pub(crate) token: atomic_table::Seat<Option<Node<C, I, N>>, Held<S, I, N>>,
     pub(crate) share: Share,
 }
 
 // Clauses see the seat's node and what the seat knows. The share that it keeps is that of its view.
-impl<C: Core> Model for Seat<C> {
+impl<C, I, N, S> Model for SeatOf<C, I, N, S> {
     ghost use Rattle.std.specs.Prelude.{◌≡◌, ◌<◌, [], false};
     ghost use Rattle.shared_node.specs.Seats.{SeatParts};
 
-    ghost Value = { SeatParts C.State C.Input C.Note };
+    ghost Value = { SeatParts S I N };
 
     ghost view = { λ s. record {
       table = s.token.table_id;
@@ -37,7 +41,7 @@ impl<C: Core> Model for Seat<C> {
         × (s.share ≡ s.token.me.0.share) × (0 < s.share) };
 }
 
-impl<C: Core> Seat<C> {
+impl<C, I, N, S> SeatOf<C, I, N, S> {
     /// The seat's share, a number from 1 to 2^32.
     pub fn share(&self) -> u64
         ensures share { result ≡ self.now.share }

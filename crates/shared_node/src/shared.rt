@@ -9,7 +9,7 @@ ghost use Rattle.ar_seats.specs.declared.split_fault.SplitFault.TheVariants.{Nar
 use crate::node::{Node, NodeOf, answer};
 use crate::seat::{HeldOf, Token};
 use crate::steps::{Compare, Count, Enter, Halve, Leave, Look, NodeRule, Unite};
-use crate::{Closed, Place, Seat, Served, SplitFault};
+use crate::{Closed, Place, Seat, SeatOf, Served, SplitFault};
 use ar_seats::Share;
 use atomic_table::Table;
 use node_core::Core;
@@ -67,7 +67,7 @@ impl<C: Core> SharedNode<C> {
             Ok((table, token)) => {
                 let lock = Mutex::new(());
                 let share = Share::whole();
-                Ok((SharedNode { table, lock }, Seat { token, share }))
+                Ok((SharedNode { table, lock }, SeatOf { token, share }))
             }
             Err(mut refused) => match refused.slots.pop() {
                 Some(Some(node)) => Err((node.core, AllocError)),
@@ -204,7 +204,7 @@ impl<C: Core> SharedNode<C> {
             return Err(SplitFault::Narrow);
         };
         let token = self.table.shared.split_seat::<Halve>(&mut seat.token);
-        Ok(Seat { token, share })
+        Ok(SeatOf { token, share })
     }
 
     /// Takes in another seat of the node, with its share and its calls. The seat has then seen what
@@ -217,7 +217,7 @@ impl<C: Core> SharedNode<C> {
             × BeginsWith seat.new.seen other.seen }
         ensures rising { IsRising seat.new.own }
     {
-        let Seat { token, share } = other;
+        let SeatOf { token, share } = other;
         self.table.shared.join_seat::<Unite>(&mut seat.token, token);
         self.table.shared.load::<Compare>(&mut seat.token, 0);
         seat.share.join(share);
@@ -234,7 +234,7 @@ impl<C: Core> SharedNode<C> {
         ensures own { HasEachBelow (length result.history.items) seat.own }
     {
         let SharedNode { table, lock: _ } = self;
-        let Seat { token, share: _ } = seat;
+        let SeatOf { token, share: _ } = seat;
         let mut closed = table.close_with(token);
         let slot = closed.take(0);
         closed.free();

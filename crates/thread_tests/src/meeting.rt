@@ -1,3 +1,5 @@
+use crowd_run::Gate;
+use shared_node::Place;
 use std::sync::atomic::{AtomicBool, Ordering};
 
 // How often a thread looks for the other one before it goes on alone.
@@ -43,4 +45,16 @@ impl Meeting {
         }
         self.missed.store(true, Ordering::SeqCst);
     }
+}
+
+impl Gate for Meeting {
+    ghost passed = { λ _ _. Unit {0} };
+
+    ghost noted = { λ _ _ _. Unit {0} };
+
+    fn before(&self, number: u64) {
+        self.meet(number);
+    }
+
+    fn after(&self, _number: u64, _place: &Place) {}
 }

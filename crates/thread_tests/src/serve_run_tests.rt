@@ -1,18 +1,13 @@
 use crate::meeting::Meeting;
 use ar_io::{MemSink, QuietSource};
-use serve_run::{Gate, crowd_main};
+use crowd_run::{Gate, crowd_main};
+use owner_check::empty_books;
+use shared_node::Place;
 use std::alloc::{AllocError, Global};
+use std::sync::Wait;
 use std::sync::atomic::{AtomicU64, Ordering};
 use std::test::Fail;
 use std::thread::Threads;
-
-impl Gate for Meeting {
-    ghost passed = { λ _ _. Unit {0} };
-
-    fn before(&self, number: u64) {
-        self.meet(number);
-    }
-}
 
 // A gate that notes which challenges it was passed for: how many times in all, and the sum of a power of two for each.
 #[derive(Drop)]
@@ -24,12 +19,16 @@ struct Tally {
 impl Gate for Tally {
     ghost passed = { λ _ _. Unit {0} };
 
+    ghost noted = { λ _ _ _. Unit {0} };
+
     fn before(&self, number: u64) {
         self.times.fetch_add(1, Ordering::SeqCst);
         if number < 64 {
             self.powers.fetch_add(1 << number, Ordering::SeqCst);
         }
     }
+
+    fn after(&self, _number: u64, _place: &Place) {}
 }
 
 // The words `serve` and a number of workers.
@@ -59,7 +58,7 @@ certificate 1111111111111111111111111111111111111111111111111111111111111111
 }
 
 // The status of a run of so many workers over so many challenges, and what it wrote.
-fn serve<R: Threads + Sync, G: Gate>(
+fn serve<R: Threads + Wait + Sync, G: Gate>(
     rt: &R,
     alloc: Global,
     workers: &str,
@@ -71,7 +70,8 @@ fn serve<R: Threads + Sync, G: Gate>(
     let mut source = QuietSource::new(input.into_bytes());
     let mut sink = MemSink::new(alloc, Vec::new(alloc));
     sink.reserve(alloc, 8192)?;
-    let status = crowd_main(rt, alloc, &words, &mut source, &mut sink, gate);
+    let checks = empty_books(alloc, 0)?;
+    let status = crowd_main(rt, alloc, &words, &mut source, &mut sink, checks, gate);
     Ok((status, sink))
 }
 

@@ -1,0 +1,17 @@
+pub mod Among
+pub mod BurstLemmas
+pub mod Dealt
+pub mod Gathered
+pub mod JoiningLemmas
+pub mod LayingLemmas
+pub mod Leaving
+pub mod PartingLemmas
+pub mod PlainOrders
+pub mod Returning
+pub mod SettlingLemmas
+pub mod Signing
+pub mod SomeOrders
+pub mod StationsLemmas
+pub mod Together
+pub mod Turns
+pub mod Visits

@@ -1,0 +1,4 @@
+pub mod Bursts
+pub mod Laying
+pub mod Stations
+pub mod Visiting

@@ -1,0 +1,3 @@
+pub mod Passing
+pub mod Program
+pub mod Scripts
