@@ -8,7 +8,8 @@
 //! `specs/Gives.antt` that a call answers, or steps, as its definition says, also where it takes memory, and
 //! `specs/Apart.antt` that no two strings of a list have one digest under SHA-256.
 //! `specs/Places.antt` says where a text stands in a list, `specs/Adding.antt` what a list is with one more,
-//! behind the others or in its place, and `specs/Prefixes.antt` when a list begins with another.
+//! behind the others or in its place, `specs/Appending.antt` what it is that a call appends a text to a vector, and
+//! `specs/Prefixes.antt` when a list begins with another.
 //!
 //! Its tests: those of the crates above it.
 #![tactic(auto)]

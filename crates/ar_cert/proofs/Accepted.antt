@@ -18,7 +18,7 @@ use Rattle.cert_policy.specs.Clauses.{registration_answer, update_answer, in_man
 use Rattle.cert_policy.proofs.Meaning.{registration_facts, update_facts, update_succeeds}
 use Rattle.ar_cert.specs.Certificate.{Certificate, digest_of}
 use Rattle.ar_cert.specs.Changes.{Change}
-use Rattle.ar_cert.specs.Judging.{cert_terms_of, endorsers_of, is_handed_over, judgement, by_objection, with_fourth_failed, is_pending, objection_clauses, update_judgement, IsRegistration, IsObjection, IsTaken, IsAccepted, IsChain}
+use Rattle.ar_cert.specs.Judging.{cert_terms_of, endorsers_of, is_handed_over, change_judgement, by_objection, with_fourth_failed, is_pending, objection_clauses, update_judgement, IsRegistration, IsObjection, IsTakenIn, IsAccepted, IsChain}
 
 none_test : (o : Option (List ℕ)) → IsNone o → is_some o ≡ false
 none_test None h = refl
@@ -37,7 +37,7 @@ plain_answer old pending change plain =
 
 -- what an update that is taken says
 pub taken_facts : (manner : Manner) (old : Certificate) (pending : Option (List ℕ)) (change : Change)
-    → IsTaken manner old (is_some pending) change → update_judgement old pending change ≡ Ok manner
+    → IsTakenIn manner old (is_some pending) change → update_judgement old pending change ≡ Ok manner
 taken_facts manner old pending change taken =
     plain_answer old pending change taken.plain
     ∙ (update_facts manner (cert_terms_of old) (cert_terms_of change.cert) (endorsers_of change) (is_handed_over old change) (is_some pending)).1 taken.updates
@@ -45,10 +45,10 @@ taken_facts manner old pending change taken =
 -- an answer of the rule of updates
 accepted_by : (old : Certificate) (change : Change) (answer : Result Manner PolicyRefusal)
     → answer ≡ update_answer (cert_terms_of old) (cert_terms_of change.cert) (endorsers_of change) (is_handed_over old change) false
-    → IsNone change.objection → is_ok answer ≡ true → IsTaken Full old false change ⊎ IsTaken Recovery old false change
+    → IsNone change.objection → is_ok answer ≡ true → IsTakenIn Full old false change ⊎ IsTakenIn Recovery old false change
 accepted_by old change (Ok manner) is plain ok =
     one manner ((update_facts manner (cert_terms_of old) (cert_terms_of change.cert) (endorsers_of change) (is_handed_over old change) false).0 (sym is)) where
-      one : (m : Manner) → IsUpdate m (cert_terms_of old) (cert_terms_of change.cert) (endorsers_of change) (is_handed_over old change) false → IsTaken Full old false change ⊎ IsTaken Recovery old false change
+      one : (m : Manner) → IsUpdate m (cert_terms_of old) (cert_terms_of change.cert) (endorsers_of change) (is_handed_over old change) false → IsTakenIn Full old false change ⊎ IsTakenIn Recovery old false change
       one Full updates = inl (record { plain = plain; updates = updates })
       one Recovery updates = inr (record { plain = plain; updates = updates })
       one Objected updates = absurd updates
@@ -59,17 +59,17 @@ pub next_facts : (old : Certificate) (change : Change) → (is_ok (update_judgem
 unfolding IsAccepted
 next_facts old change = (
   λ ok.
-      elim (is_some change.objection) as (λ b. is_some change.objection ≡ b → is_ok (cond {A = Result Manner PolicyRefusal} b (in_manner Objected (first_failing (objection_clauses old None change))) (update_answer (cert_terms_of old) (cert_terms_of change.cert) (endorsers_of change) (is_handed_over old change) false)) ≡ true → IsTaken Full old false change ⊎ IsTaken Recovery old false change) [
+      elim (is_some change.objection) as (λ b. is_some change.objection ≡ b → is_ok (cond {A = Result Manner PolicyRefusal} b (in_manner Objected (first_failing (objection_clauses old None change))) (update_answer (cert_terms_of old) (cert_terms_of change.cert) (endorsers_of change) (is_handed_over old change) false)) ≡ true → IsTakenIn Full old false change ⊎ IsTakenIn Recovery old false change) [
         | true ↦ λ _ ok. absurd (cc)
         | false ↦ λ e ok. accepted_by old change _ refl (none_from change.objection e) ok
       ] refl ok,
   λ accepted.
-      ⊎_elim (λ (full : IsTaken Full old false change). ap is_ok (taken_facts Full old None change full))
-      (λ (recovery : IsTaken Recovery old false change). ap is_ok (taken_facts Recovery old None change recovery)) accepted,
+      ⊎_elim (λ (full : IsTakenIn Full old false change). ap is_ok (taken_facts Full old None change full))
+      (λ (recovery : IsTakenIn Recovery old false change). ap is_ok (taken_facts Recovery old None change recovery)) accepted,
 )
 
 -- where there is no certificate
-pub first_facts : (change : Change) → (is_ok (judgement None change) ≡ true) ↔ IsAccepted None change
+pub first_facts : (change : Change) → (is_ok (change_judgement None change) ≡ true) ↔ IsAccepted None change
 unfolding IsAccepted
 first_facts change = (
   λ ok. from change.objection refl ok,
@@ -98,8 +98,8 @@ first_facts change = (
 pub accepted_succeeds : (old : Certificate) (change : Change) → IsAccepted (Some old) change → Succeeds (cert_terms_of old) (cert_terms_of change.cert) (endorsers_of change)
 unfolding IsAccepted
 accepted_succeeds old change accepted =
-    ⊎_elim (λ (full : IsTaken Full old false change). update_succeeds Full (cert_terms_of old) (cert_terms_of change.cert) (endorsers_of change) (is_handed_over old change) false full.updates)
-    (λ (recovery : IsTaken Recovery old false change). update_succeeds Recovery (cert_terms_of old) (cert_terms_of change.cert) (endorsers_of change) (is_handed_over old change) false recovery.updates) accepted
+    ⊎_elim (λ (full : IsTakenIn Full old false change). update_succeeds Full (cert_terms_of old) (cert_terms_of change.cert) (endorsers_of change) (is_handed_over old change) false full.updates)
+    (λ (recovery : IsTakenIn Recovery old false change). update_succeeds Recovery (cert_terms_of old) (cert_terms_of change.cert) (endorsers_of change) (is_handed_over old change) false recovery.updates) accepted
 
 registered : (change : Change) → IsAccepted None change → Registers (cert_terms_of change.cert) (endorsers_of change)
 unfolding IsAccepted
@@ -171,7 +171,7 @@ objection_facts old pending change objects = (
 
 -- a change without an objection, in a manner
 pub plain_facts : (manner : Manner) (old : Certificate) (pending : Option (List ℕ)) (change : Change) → IsNone change.objection
-    → (update_judgement old pending change ≡ Ok manner) ↔ IsTaken manner old (is_some pending) change
+    → (update_judgement old pending change ≡ Ok manner) ↔ IsTakenIn manner old (is_some pending) change
 plain_facts manner old pending change plain = (
   λ h. record {
     plain = plain;

@@ -6,3 +6,4 @@ pub mod Lengths
 pub mod FieldLaws
 pub mod CertificateLaws
 pub mod ChangeLaws
+pub mod SameChange

@@ -60,9 +60,9 @@ by_objection (Some objection) answer = with_fourth_failed answer
 
 -- Whether a change registers its name, where there is no old certificate, or else follows the old one; or
 -- the least clause that fails.
-abbrev pub judgement : Option Certificate → Change → Result (Unit {0}) PolicyRefusal
-judgement None change = by_objection change.objection (registration_answer (cert_terms_of change.cert) (endorsers_of change))
-judgement (Some old) change = by_objection change.objection (follow_answer (cert_terms_of old) (cert_terms_of change.cert) (endorsers_of change) (is_handed_over old change))
+abbrev pub change_judgement : Option Certificate → Change → Result (Unit {0}) PolicyRefusal
+change_judgement None change = by_objection change.objection (registration_answer (cert_terms_of change.cert) (endorsers_of change))
+change_judgement (Some old) change = by_objection change.objection (follow_answer (cert_terms_of old) (cert_terms_of change.cert) (endorsers_of change) (is_handed_over old change))
 
 -- what it is that a change registers its name
 pub record IsRegistration (change : Change) : Type 0 where
@@ -96,7 +96,7 @@ pub record IsObjection (old : Certificate) (pending : Option (List ℕ)) (change
   pub valid : IsTrue (is_objected_to old change)
 
 -- what it is that a change without an objection is taken in a manner
-pub record IsTaken (manner : Manner) (old : Certificate) (pending : Bool) (change : Change) : Type 0 where
+pub record IsTakenIn (manner : Manner) (old : Certificate) (pending : Bool) (change : Change) : Type 0 where
   pub plain : IsNone change.objection
   pub updates : IsUpdate manner (cert_terms_of old) (cert_terms_of change.cert) (endorsers_of change) (is_handed_over old change) pending
 
@@ -104,7 +104,7 @@ pub record IsTaken (manner : Manner) (old : Certificate) (pending : Bool) (chang
 -- as a recovery with nothing pending
 unfoldable pub IsAccepted : Option Certificate → Change → Type 0
 IsAccepted None change = IsRegistration change
-IsAccepted (Some old) change = IsTaken Full old false change ⊎ IsTaken Recovery old false change
+IsAccepted (Some old) change = IsTakenIn Full old false change ⊎ IsTakenIn Recovery old false change
 
 -- ---- chains
 

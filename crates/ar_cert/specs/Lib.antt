@@ -3,3 +3,4 @@ pub mod Certificate
 pub mod Changes
 pub mod Views
 pub mod Judging
+pub mod Same

@@ -60,7 +60,7 @@ impl Endorsement {
 
 /// Copies of all, in their order.
 /// The only error is want of memory.
-pub fn copy_endorsements(
+fn copy_endorsements(
     alloc: Global,
     endorsements: &[Endorsement],
 ) -> Result<Vec<Endorsement>, AllocError>

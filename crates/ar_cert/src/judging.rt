@@ -7,7 +7,7 @@ ghost use Rattle.cert_policy.specs.Clauses.{follow_answer, in_manner};
 ghost use Rattle.cert_policy.specs.Terms.{cert_terms};
 ghost use Rattle.cert_policy.specs.declared.manner.Manner.TheVariants.{Objected};
 ghost use Rattle.cert_policy.specs.declared.refusal.PolicyRefusal.TheVariants.{NotPending, Objection};
-ghost use Rattle.ar_cert.specs.Judging.{cert_terms_of, endorsers_of, is_handed_over, is_pending, is_signed, judgement, update_judgement, with_fourth_failed, EachFollows, IsAccepted, IsChain};
+ghost use Rattle.ar_cert.specs.Judging.{cert_terms_of, endorsers_of, is_handed_over, is_pending, is_signed, change_judgement, update_judgement, with_fourth_failed, EachFollows, IsAccepted, IsChain};
 
 use crate::cert::Cert;
 use crate::change::{Change, Endorsement};
@@ -134,7 +134,8 @@ fn with_fourth_failed(answer: Result<(), PolicyRefusal>) -> Result<(), PolicyRef
 /// for the statement that hands over to the new certificate; this is verified only where the old policy
 /// is keyed. It takes no memory.
 pub fn judge_change(old: Option<&Cert>, change: &Change) -> Result<(), PolicyRefusal>
-    ensures answer { result ≡ judgement (option_map (λ cert. cert.now) old.entry) change.now }
+    ensures answer { result ≡ change_judgement
+        (option_map (λ cert. cert.now) old.entry) change.now }
 {
     let numbers = authorities(change.endorsements.as_slice());
     let endorsers = &numbers[..change.endorsements.len()];

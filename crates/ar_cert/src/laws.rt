@@ -7,7 +7,7 @@ ghost use Rattle.ar_base.specs.Bytes.{AreBytes};
 ghost use Rattle.ar_bytes.specs.RoundTrip.{ReadsBack, IsSpelledBy, counted_text};
 ghost use Rattle.ar_cert.specs.Certificate.{Certificate, IsCertificate, certificate_at, counted_certificate_at, certificate_text};
 ghost use Rattle.ar_cert.specs.Changes.{Change, IsChange, change_at, change_text};
-ghost use Rattle.ar_cert.specs.Judging.{IsAccepted, IsChain, IsObjection, IsTaken, judgement, update_judgement};
+ghost use Rattle.ar_cert.specs.Judging.{IsAccepted, IsChain, IsObjection, IsTakenIn, change_judgement, update_judgement};
 ghost use Rattle.cert_policy.specs.declared.manner.Manner.{Manner};
 ghost use Rattle.cert_policy.specs.declared.manner.Manner.TheVariants.{Objected};
 
@@ -57,7 +57,7 @@ pub fn a_change_is_taken_where_its_facts_hold()
     ensures plain { (manner : Manner) (old : Certificate) (pending : Option (List ℕ))
         (change : Change) → IsNone change.objection
         → (update_judgement old pending change ≡ Ok manner)
-        ↔ IsTaken manner old (is_some pending) change }
+        ↔ IsTakenIn manner old (is_some pending) change }
     ensures objections { (old : Certificate) (pending : Option (List ℕ)) (change : Change)
         → IsSome change.objection
         → (update_judgement old pending change ≡ Ok Objected) ↔ IsObjection old pending change }
@@ -67,7 +67,7 @@ pub fn a_change_is_taken_where_its_facts_hold()
 /// behind the certificate before it, with nothing pending.
 pub fn a_change_is_accepted_where_it_is_judged_so()
     ensures first { (change : Change)
-        → IsTrue (is_ok (judgement None change)) ↔ IsAccepted None change }
+        → IsTrue (is_ok (change_judgement None change)) ↔ IsAccepted None change }
     ensures next { (old : Certificate) (change : Change)
         → IsTrue (is_ok (update_judgement old None change)) ↔ IsAccepted (Some old) change }
 {}

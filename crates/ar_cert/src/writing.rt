@@ -1,5 +1,7 @@
 ghost use Rattle.std.specs.Prelude.{◌≡◌, ◌+◌, ◌*◌, ◌≤◌, ◌++◌, length, take, is_some, vec_len, vec_capacity, OnErr, IfSome};
 ghost use Rattle.std.specs.List.{flat_map};
+ghost use Rattle.std.specs.Option.{option_map};
+ghost use Rattle.std.specs.Str.{bytes_eq};
 ghost use Rattle.ar_base.specs.Appending.{Appends};
 ghost use Rattle.ar_bytes.specs.RoundTrip.{counted_text, number_text};
 ghost use Rattle.std.specs.Int.{w8};
@@ -9,6 +11,7 @@ ghost use Rattle.ar_cert.specs.Changes.{endorsement_text, consent_text, change_t
 
 use crate::cert::{Cert, Policy};
 use crate::change::{Change, Endorsement};
+use crate::parts::ChangeParts;
 use ar_base::Items;
 use ar_bytes::{write_bytes, write_u8, write_u16, write_u32, write_u64};
 use hash_tree::value_digest;
@@ -128,6 +131,19 @@ impl Cert {
         value_digest(self.serial, &self.digest())
     }
 
+    /// Whether both have one text.
+    pub(crate) fn has_text_of(&self, other: &Cert) -> bool
+        ensures { result ≡ bytes_eq (certificate_text self.now) (certificate_text other.now) }
+    {
+        let mut own = [0; TEXT_LEN];
+        let own_len = self.put(&mut own);
+        let mut others = [0; TEXT_LEN];
+        let others_len = other.put(&mut others);
+        let text = &own[..own_len];
+        let other_text = &others[..others_len];
+        text == other_text
+    }
+
     /// Appends the text. The one error is want of memory: it leaves the bytes of `out` as they were, and
     /// does not come where `out` has room for the text.
     pub fn write(&self, _alloc: Global, out: &mut Vec<u8>) -> Result<(), AllocError>
@@ -204,10 +220,11 @@ fn append_endorsement(out: &mut Vec<u8>, endorsement: &Endorsement)
 
 /// How many bytes the flag has, and the signature that it tells of.
 #[tactic(auto, unfolding(crate::specs::Changes::consent_text, ar_bytes::specs::RoundTrip::number_text))]
-fn consent_len(handover: &Option<Items<u8>>, objection: &Option<Items<u8>>) -> usize
-    requires handover { IfSome handover.now IsSignature }
-    requires objection { IfSome objection.now IsSignature }
-    ensures len { result ≡ length (consent_text handover.now objection.now) }
+fn consent_len(handover: Option<&Items<u8>>, objection: Option<&Items<u8>>) -> usize
+    requires handover { IfSome (option_map (λ s. s.now) handover) IsSignature }
+    requires objection { IfSome (option_map (λ s. s.now) objection) IsSignature }
+    ensures len { result ≡ length (consent_text
+        (option_map (λ s. s.now) handover.entry) (option_map (λ s. s.now) objection.entry)) }
     ensures few { result ≤ 65538 }
 {
     match (handover, objection) {
@@ -219,12 +236,14 @@ fn consent_len(handover: &Option<Items<u8>>, objection: &Option<Items<u8>>) -> u
 
 /// The flag, and the signature that it tells of.
 #[tactic(auto, unfolding(crate::specs::Changes::consent_text, ar_bytes::specs::RoundTrip::number_text))]
-fn append_consent(out: &mut Vec<u8>, handover: &Option<Items<u8>>, objection: &Option<Items<u8>>)
-    requires handover { IfSome handover.now IsSignature }
-    requires objection { IfSome objection.now IsSignature }
-    requires room { vec_len out.old + length (consent_text handover.now objection.now)
+fn append_consent(out: &mut Vec<u8>, handover: Option<&Items<u8>>, objection: Option<&Items<u8>>)
+    requires handover { IfSome (option_map (λ s. s.now) handover) IsSignature }
+    requires objection { IfSome (option_map (λ s. s.now) objection) IsSignature }
+    requires room { vec_len out.old + length (consent_text
+        (option_map (λ s. s.now) handover) (option_map (λ s. s.now) objection))
         ≤ vec_capacity out.old }
-    ensures text { out.new.items ≡ out.old.items ++ consent_text handover.now objection.now }
+    ensures text { out.new.items ≡ out.old.items ++ consent_text
+        (option_map (λ s. s.now) handover.entry) (option_map (λ s. s.now) objection.entry) }
     ensures capacity { vec_capacity out.old ≤ vec_capacity out.new }
 {
     match (handover, objection) {
@@ -242,25 +261,17 @@ fn append_consent(out: &mut Vec<u8>, handover: &Option<Items<u8>>, objection: &O
 
 /// What stands in a change behind its certificate.
 #[tactic(auto, unfolding(ar_bytes::specs::RoundTrip::number_text))]
-fn append_consents(
-    out: &mut Vec<u8>,
-    endorsements: &[Endorsement],
-    handover: &Option<Items<u8>>,
-    objection: &Option<Items<u8>>,
-)
-    requires few { length endorsements.now ≤ 8 }
-    requires handover { IfSome handover.now IsSignature }
-    requires objection { IfSome objection.now IsSignature }
-    requires room { vec_len out.old + (1 + length (flat_map endorsement_text endorsements.now)
-        + length (consent_text handover.now objection.now)) ≤ vec_capacity out.old }
-    ensures text { out.new.items ≡ out.old.items ++ (number_text w8 (length endorsements.now)
-        ++ (flat_map endorsement_text endorsements.now
-        ++ consent_text handover.now objection.now)) }
+fn append_consents(out: &mut Vec<u8>, parts: &ChangeParts)
+    requires { vec_len out.old + (1 + length (flat_map endorsement_text parts.now.endorsements)
+        + length (consent_text parts.now.handover parts.now.objection)) ≤ vec_capacity out.old }
+    ensures text { out.new.items ≡ out.old.items ++ (number_text w8 (length parts.now.endorsements)
+        ++ (flat_map endorsement_text parts.now.endorsements
+        ++ consent_text parts.now.handover parts.now.objection)) }
     ensures capacity { vec_capacity out.old ≤ vec_capacity out.new }
 {
-    append(out, &[endorsements.len() as u8]);
-    append_endorsements(out, endorsements);
-    append_consent(out, handover, objection);
+    append(out, &[parts.endorsements.len() as u8]);
+    append_endorsements(out, parts.endorsements);
+    append_consent(out, parts.handover, parts.objection);
 }
 
 impl Cert {
@@ -280,7 +291,7 @@ impl Cert {
     }
 }
 
-impl Change {
+impl<'a> ChangeParts<'a> {
     // How many bytes the text has, where its certificate's has so many.
     #[tactic(auto, using(crate::proofs::Lengths::change_lengths))]
     fn len_with(&self, cert: usize) -> usize
@@ -288,21 +299,12 @@ impl Change {
         requires few { cert ≤ 402 }
         ensures { result ≡ length (change_text self.now) }
     {
-        let endorsements = endorsements_len(self.endorsements.as_slice());
-        3 + cert + endorsements + consent_len(&self.handover, &self.objection)
+        let endorsements = endorsements_len(self.endorsements);
+        3 + cert + endorsements + consent_len(self.handover, self.objection)
     }
 
-    /// How many bytes the text has.
-    pub fn text_len(&self) -> usize
-        ensures { result ≡ length (change_text self.now) }
-    {
-        let mut cert = [0; TEXT_LEN];
-        let len = self.cert.put(&mut cert);
-        self.len_with(len)
-    }
-
-    /// Appends the text. The one error is want of memory: it leaves the bytes of `out` as they were, and
-    /// does not come where `out` has room for the text.
+    /// Appends the text of the change that the parts make. The one error is want of memory: it leaves the bytes of `out` as
+    /// they were, and does not come where `out` has room for the text.
     #[tactic(auto, using(crate::proofs::Lengths::change_lengths), unfolding(crate::specs::Changes::change_text))]
     pub fn write(&self, _alloc: Global, out: &mut Vec<u8>) -> Result<(), AllocError>
         ensures appends { Appends (change_text self.now) out.old out.new result }
@@ -312,12 +314,27 @@ impl Change {
         let len = self.cert.put(&mut cert);
         out.reserve(self.len_with(len))?;
         append_counted(out, &cert[..len]);
-        append_consents(
-            out,
-            self.endorsements.as_slice(),
-            &self.handover,
-            &self.objection,
-        );
+        append_consents(out, self);
         Ok(())
+    }
+}
+
+impl Change {
+    /// How many bytes the text has.
+    pub fn text_len(&self) -> usize
+        ensures { result ≡ length (change_text self.now) }
+    {
+        let mut cert = [0; TEXT_LEN];
+        let len = self.cert.put(&mut cert);
+        self.parts().len_with(len)
+    }
+
+    /// Appends the text. The one error is want of memory: it leaves the bytes of `out` as they were, and
+    /// does not come where `out` has room for the text.
+    pub fn write(&self, alloc: Global, out: &mut Vec<u8>) -> Result<(), AllocError>
+        ensures appends { Appends (change_text self.now) out.old out.new result }
+        ensures err { OnErr result (out.new.items ≡ out.old.items) }
+    {
+        self.parts().write(alloc, out)
     }
 }

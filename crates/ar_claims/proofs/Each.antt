@@ -4,7 +4,7 @@ use Rattle.std.specs.Prelude.{All, Contains, flat_map, map}
 use Rattle.std.proofs.lemmas.List.Elements.{All-cons, All-contains, All-contains_itself, All-nil, Contains-append_left, Contains-append_right}
 use Rattle.ar_cert.specs.Certificate.{digest_of}
 use Rattle.ar_cert.specs.Changes.{Change, Endorsement}
-use Rattle.ar_claims.specs.Claimed.{claimed_in, confirmed_by, votes_behind}
+use Rattle.ar_claims.specs.Claimed.{claimed_in, confirmed_claim, votes_behind}
 use Rattle.ar_claims.specs.Lists.{endorsements_in, claimed_statuses, claimed_votes}
 use Rattle.ar_council.proofs.Lists.{All-unmap, Contains-later, all-left, all-right}
 use Rattle.ar_council.specs.Values.{status_claim}
@@ -72,13 +72,13 @@ statuses epoch all x there =
 
 pub behind-log : (part : Confirming) (v : Vote) → Contains part.votes v → Contains (claimed_in (LogConfirmed part)) (voted part.epoch part.base part.root v)
 behind-log part v there =
-    Contains-later (confirmed_by part (log_party part.log) part.signature) (votes_behind part) (voted part.epoch part.base part.root v)
+    Contains-later (confirmed_claim part (log_party part.log) part.signature) (votes_behind part) (voted part.epoch part.base part.root v)
     (mapped (voted part.epoch part.base part.root) part.votes v there)
 
 pub behind-half : (part : Confirming) (first_signature : List ℕ) (v : Vote) → Contains part.votes v
     → Contains (claimed_in (HalfConfirmed part first_signature)) (voted part.epoch part.base part.root v)
 behind-half part first_signature v there =
     let c : Claimed = voted part.epoch part.base part.root v in
-    let first : Claimed = confirmed_by part (authority_party part.first) first_signature in
-    Contains-later (confirmed_by part (log_party part.log) part.signature) (first ∷ votes_behind part) c
+    let first : Claimed = confirmed_claim part (authority_party part.first) first_signature in
+    Contains-later (confirmed_claim part (log_party part.log) part.signature) (first ∷ votes_behind part) c
     (Contains-later first (votes_behind part) c (mapped (voted part.epoch part.base part.root) part.votes v there))

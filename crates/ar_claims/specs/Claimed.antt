@@ -19,8 +19,8 @@ abbrev pub confirmed_in : ℕ → List ℕ → Body → List ℕ → Party → L
 confirmed_in epoch name shown root party signature = signed_by party (confirmation_by party epoch name (digest_in shown) root) signature
 
 -- of a confirmation on its way, that of a party
-abbrev pub confirmed_by : Confirming → Party → List ℕ → Claimed
-confirmed_by part party signature = confirmed_in part.epoch part.name (shown_in part.body) part.root party signature
+abbrev pub confirmed_claim : Confirming → Party → List ℕ → Claimed
+confirmed_claim part party signature = confirmed_in part.epoch part.name (shown_in part.body) part.root party signature
 
 -- the votes behind it
 abbrev pub votes_behind : Confirming → List Claimed
@@ -49,10 +49,10 @@ claimed_in (Decision epoch base root changes votes) =
     claimed_votes epoch (value_with base root) votes ++ flat_map endorsements_in changes
 claimed_in (SkipNote epoch statuses) = claimed_statuses epoch statuses
 claimed_in (ConfirmAsk client name first second) = []
-claimed_in (LogConfirmed part) = confirmed_by part (log_party part.log) part.signature ∷ votes_behind part
+claimed_in (LogConfirmed part) = confirmed_claim part (log_party part.log) part.signature ∷ votes_behind part
 claimed_in (HalfConfirmed part first_signature) =
-    confirmed_by part (log_party part.log) part.signature
-    ∷ (confirmed_by part (authority_party part.first) first_signature ∷ votes_behind part)
+    confirmed_claim part (log_party part.log) part.signature
+    ∷ (confirmed_claim part (authority_party part.first) first_signature ∷ votes_behind part)
 claimed_in (Confirmation client epoch name root body log log_signature first first_signature second second_signature) =
     claimed_on (confirmation_in client epoch name root body log log_signature first first_signature second second_signature)
 claimed_in (RollNote party generation key signature) = signed_by party (roll party generation (key_text key)) signature ∷ []

@@ -29,7 +29,7 @@ use Rattle.ar_nodes.specs.declared.fault.WorldFault.{WorldFault}
 use Rattle.ar_nodes.specs.declared.fault.WorldFault.TheVariants.{Absent}
 use Rattle.ar_founding.specs.FirstKeys.{FirstKeys, first_of, first_ring, with_first, Setup, key_for, keys_for}
 use Rattle.ar_founding.specs.Founded.{AreOwn, EachHasRing, Founded, IsAuthorityRing, IsLogRing, authorities_of, founded_of, founded_with, logs_of}
-use Rattle.ar_founding.specs.Founding.{authority_node, fresh_core, fresh_log, fresh_state, genesis_of, log_node, new_authority}
+use Rattle.ar_founding.specs.Founding.{authority_node, fresh_core, fresh_log, fresh_state, genesis_of, log_node, founded_authority}
 
 more-first : (setup : Setup) (role : Role) (n : ℕ) → first_of (keys_for setup role (n + 1)) ≡ with_first (first_of (keys_for setup role n)) (key_for setup role n)
 more-first setup role n =
@@ -133,12 +133,12 @@ get-drop (suc a) (check ∷ checks) = get-drop a checks
 
 pub authorities-from : (setup : Setup) (genesis : Directory) (checks : List CheckParts) (a n : ℕ)
     → authorities_of (map (λ number. fresh_state genesis number (key_for setup Authority number)) (range_with_len a n)) (map first_ring (map (key_for setup Authority) (range_with_len a n))) (drop a checks)
-    ≡ map (λ number. Some (new_authority genesis number (key_for setup Authority number) (slice_get checks number))) (range_with_len a n)
+    ≡ map (λ number. Some (founded_authority genesis number (key_for setup Authority number) (slice_get checks number))) (range_with_len a n)
 authorities-from setup genesis checks a zero = refl
 authorities-from setup genesis checks a (suc n) =
-    ap (λ (check : Option CheckParts). Some (new_authority genesis a (key_for setup Authority a) check) ∷ authorities_of states rings (drop 1 (drop a checks))) (get-drop a checks)
-    ∙ ap (λ (left : List CheckParts). Some (new_authority genesis a (key_for setup Authority a) (slice_get checks a)) ∷ authorities_of states rings left) (drop-drop 1 a checks)
-    ∙ ap (λ (more : List (Option AuthorityNode)). Some (new_authority genesis a (key_for setup Authority a) (slice_get checks a)) ∷ more) (authorities-from setup genesis checks (a + 1) n)
+    ap (λ (check : Option CheckParts). Some (founded_authority genesis a (key_for setup Authority a) check) ∷ authorities_of states rings (drop 1 (drop a checks))) (get-drop a checks)
+    ∙ ap (λ (left : List CheckParts). Some (founded_authority genesis a (key_for setup Authority a) (slice_get checks a)) ∷ authorities_of states rings left) (drop-drop 1 a checks)
+    ∙ ap (λ (more : List (Option AuthorityNode)). Some (founded_authority genesis a (key_for setup Authority a) (slice_get checks a)) ∷ more) (authorities-from setup genesis checks (a + 1) n)
   where
     states : List AuthorityState
     states = map (λ number. fresh_state genesis number (key_for setup Authority number)) (range_with_len (a + 1) n)

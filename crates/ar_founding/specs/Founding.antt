@@ -45,8 +45,8 @@ fresh_log genesis number key = log_node (fresh_core genesis number key) (first_r
 abbrev pub fresh_state : Directory → ℕ → KeyParts → AuthorityState
 fresh_state genesis number key = record { me = number; keys = genesis; signature_len = ring_signature_len key; past = fresh_authority (leaves_of key.lms) }
 
-abbrev pub new_authority : Directory → ℕ → KeyParts → Option CheckParts → AuthorityNode
-new_authority genesis number key = authority_node (fresh_state genesis number key) (first_ring key)
+abbrev pub founded_authority : Directory → ℕ → KeyParts → Option CheckParts → AuthorityNode
+founded_authority genesis number key = authority_node (fresh_state genesis number key) (first_ring key)
 
 -- all logs, and so many authorities, which take the checks in order
 abbrev pub fresh_logs : Setup → Directory → List (Option LogNode)
@@ -54,4 +54,4 @@ fresh_logs setup genesis = map (λ number. Some (fresh_log genesis number (key_f
 
 abbrev pub new_authorities : Setup → Directory → List CheckParts → ℕ → List (Option AuthorityNode)
 new_authorities setup genesis checks count =
-    map (λ number. Some (new_authority genesis number (key_for setup Authority number) (slice_get checks number))) (range_with_len 0 count)
+    map (λ number. Some (founded_authority genesis number (key_for setup Authority number) (slice_get checks number))) (range_with_len 0 count)

@@ -5,7 +5,7 @@ use Rattle.std.proofs.lemmas.Bool.{eqb-true}
 use Rattle.std.proofs.lemmas.Option.{same_Some}
 use Rattle.ar_lines.specs.Forms.{number_in}
 use Rattle.ar_lines.specs.Parties.{letter_of, member_word, party_in, party_of, party_word, role_of}
-use Rattle.ar_lines.specs.Written.{IsReadAsWritten, Writes}
+use Rattle.ar_lines.specs.Written.{IsReadAsWritten, WritesBack}
 use Rattle.ar_lines.proofs.Respelled.{number_in_writes, stepped}
 use Rattle.ar_lines.proofs.Spelled.{number_of-decimal}
 use Rattle.ar_statement.specs.Claims.{party}
@@ -34,7 +34,7 @@ role_letter letter r h =
       ]
     ]
 
-party_in_writes : Writes party_in party_word
+party_in_writes : WritesBack party_in party_word
 party_in_writes [] value h = absurd cc
 party_in_writes (letter ∷ digits) value h =
     let found = stepped _ (role_of letter) value h in
@@ -43,7 +43,7 @@ party_in_writes (letter ∷ digits) value h =
     ∙ ap (λ l. l ∷ decimal number.0) (role_letter letter found.0 found.1)
     ∙ ap (λ d. letter ∷ d) (number_in_writes 0 65535 digits number.0 number.1)
 
-pub party_writes : Writes party_of party_word
+pub party_writes : WritesBack party_of party_word
 unfolding party_of
 party_writes = party_in_writes
 

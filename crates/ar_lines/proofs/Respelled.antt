@@ -17,7 +17,7 @@ use Rattle.lms_tree.specs.declared.public_key.LmsPublic.{LmsPublic}
 use Rattle.lms_tree.specs.PublicKey.{key_of_text}
 use Rattle.lms_tree.proofs.KeyLemmas.{key_text-key_of_text}
 use Rattle.ar_lines.specs.Forms.{bytes_of_hex, is_lower_hex_digit, is_numeral, key_of_hex, name_of, number_in, number_of, sized_of_hex}
-use Rattle.ar_lines.specs.Written.{Writes, hex_of_key}
+use Rattle.ar_lines.specs.Written.{WritesBack, hex_of_key}
 use Rattle.ar_lines.proofs.Numerals.{numeral_digits, own}
 use Rattle.ar_base.proofs.Shown.{gave}
 
@@ -40,7 +40,7 @@ filtered_some test (Some x) y e =
 filtered_some test None y e = absurd cc
 
 -- what passes a test is written as before
-pub filtered_writes : {T : Type 0} (form : List ℕ → Option T) (write : T → List ℕ) (test : T → Bool) → Writes form write → Writes (λ word. option_filter test (form word)) write
+pub filtered_writes : {T : Type 0} (form : List ℕ → Option T) (write : T → List ℕ) (test : T → Bool) → WritesBack form write → WritesBack (λ word. option_filter test (form word)) write
 filtered_writes form write test writes word value h = writes word value (filtered_some test (form word) value h).0
 
 -- ---- hex
@@ -105,7 +105,7 @@ hex_own word bytes h =
     let ok = decode_of-ok word bytes decoded in
     (pairs_own 0 word bytes parts.0 (sym (decode_of-even word ok.0) ∙ decoded), ok.3)
 
-pub sized_writes : (count : ℕ) → Writes (sized_of_hex count) encode_lower
+pub sized_writes : (count : ℕ) → WritesBack (sized_of_hex count) encode_lower
 unfolding sized_of_hex
 sized_writes count = filtered_writes bytes_of_hex encode_lower _ (λ word bytes h. (hex_own word bytes h).0)
 
@@ -138,7 +138,7 @@ number_own word n h =
     ap decimal (sym parts.1)
     ∙ decimal-digits_value own word digits.0 digits.1 (zero_alone word tests.0) (ltb-true _ _ tests.1)
 
-pub number_in_writes : (least most : ℕ) → Writes (number_in least most) decimal
+pub number_in_writes : (least most : ℕ) → WritesBack (number_in least most) decimal
 unfolding number_in
 number_in_writes least most = filtered_writes number_of decimal _ number_own
 

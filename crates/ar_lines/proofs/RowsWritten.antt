@@ -9,8 +9,8 @@ use Rattle.ar_base.proofs.Shown.{bind_ok, ok_is}
 use Rattle.ar_lines.specs.Forms.{bytes_of_hex}
 use Rattle.ar_lines.specs.Lines.{is_text, parts_of, words_of}
 use Rattle.ar_lines.specs.Readings.{LineCursor, WordAt, line_at, next_of, no_line_of, spelled, word_at}
-use Rattle.ar_lines.specs.Rows.{Row, both_of, field_at, no_row_of, only_of, row_at, row_of, two_fields_at, value_at}
-use Rattle.ar_lines.specs.Written.{Writes, named}
+use Rattle.ar_lines.specs.Rows.{NamedLine, both_of, field_at, no_row_of, only_of, row_at, row_of, two_fields_at, value_at}
+use Rattle.ar_lines.specs.Written.{WritesBack, named}
 use Rattle.ar_lines.specs.declared.refusal.Refusal.{Refusal}
 use Rattle.ar_lines.proofs.Respelled.{hex_own}
 
@@ -37,7 +37,7 @@ behind line e = ap (λ (l : List (List ℕ)). line ∷ l) e
 
 -- ---- lines of one word
 
-pub word_is : {T : Type 0} (form : List ℕ → Option T) (write : T → List ℕ) (at new : LineCursor) (value : T) → Writes form write → word_at form at ≡ Ok (value, new) → at.ahead ≡ write value ∷ new.ahead
+pub word_is : {T : Type 0} (form : List ℕ → Option T) (write : T → List ℕ) (at new : LineCursor) (value : T) → WritesBack form write → word_at form at ≡ Ok (value, new) → at.ahead ≡ write value ∷ new.ahead
 unfolding word_at line_at
 word_is {T = T} form write at new value writes h =
     let line = bind_ok (line_at at) _ (value, new) h in
@@ -52,7 +52,7 @@ pub no_line_is : (next : ℕ) (lines : List (List ℕ)) (end : Unit {0}) → no_
 no_line_is next [] end h = refl
 no_line_is next (line ∷ lines) end h = absurd cc
 
-pub hex_writes : Writes bytes_of_hex encode_lower
+pub hex_writes : WritesBack bytes_of_hex encode_lower
 hex_writes word bytes h = (hex_own word bytes h).0
 
 -- ---- named lines
@@ -62,20 +62,20 @@ passed : {A : Type 0} (test : Bool) (r : Result A Refusal) (refusal : Refusal) (
 passed true r refusal y e = (refl, e)
 passed false r refusal y e = absurd cc
 
-row_words : (name : List ℕ) (line : ℕ) (words : List (List ℕ)) (row : Row) → row_of name line words ≡ Ok row → words ≡ name ∷ row.fields
+row_words : (name : List ℕ) (line : ℕ) (words : List (List ℕ)) (row : NamedLine) → row_of name line words ≡ Ok row → words ≡ name ∷ row.fields
 row_words name line [] row h = absurd cc
 row_words name line (word ∷ fields) row h =
-    let read : Row = record { line = line; fields = fields } in
+    let read : NamedLine = record { line = line; fields = fields } in
     let parts = passed (bytes_eq word name) (done read) _ row h in
     let same : word ≡ name = (bytes_eq-Decides word name).0 parts.0 in
-    ap (λ (w : List ℕ). w ∷ fields) same ∙ ap (λ (r : Row). name ∷ r.fields) (ok_is read row parts.1)
+    ap (λ (w : List ℕ). w ∷ fields) same ∙ ap (λ (r : NamedLine). name ∷ r.fields) (ok_is read row parts.1)
 
 -- the words of a line, joined by spaces, are the line
 words_joined : (line : List ℕ) (words : List (List ℕ)) → words_of line ≡ words → line ≡ join_with_byte 32 words
 unfolding parts_of
 words_joined line words h = sym (join_with_byte-slice_split 32 line) ∙ ap (join_with_byte 32) h
 
-pub row_is : (name : List ℕ) (at new : LineCursor) (row : Row) → row_at name at ≡ Ok (row, new) → at.ahead ≡ join_with_byte 32 (name ∷ row.fields) ∷ new.ahead
+pub row_is : (name : List ℕ) (at new : LineCursor) (row : NamedLine) → row_at name at ≡ Ok (row, new) → at.ahead ≡ join_with_byte 32 (name ∷ row.fields) ∷ new.ahead
 unfolding row_at line_at
 row_is name at new row h =
     let line = bind_ok (line_at at) _ (row, new) h in
@@ -85,7 +85,7 @@ row_is name at new row h =
     let words = row_words name line.0.0.line (words_of text) read.0 (passed (is_text text) found _ read.0 read.1).1 in
     next_is at.next at.ahead line.0.0 line.0.1 line.1
     ∙ ap (λ (t : List ℕ). t ∷ line.0.1.ahead) (words_joined text (name ∷ read.0.fields) words)
-    ∙ ap (λ (x : Row × LineCursor). join_with_byte 32 (name ∷ x.0.fields) ∷ x.1.ahead) (ok_is (read.0, line.0.1) (row, new) read.2)
+    ∙ ap (λ (x : NamedLine × LineCursor). join_with_byte 32 (name ∷ x.0.fields) ∷ x.1.ahead) (ok_is (read.0, line.0.1) (row, new) read.2)
 
 only_is : (line : ℕ) (fields : List (List ℕ)) (word : WordAt) → only_of line fields ≡ Ok word → fields ≡ word.text ∷ []
 only_is line [] word h = absurd cc
@@ -121,7 +121,7 @@ two_fields_are name at new words h =
     ∙ ap (λ (fields : List (List ℕ)). join_with_byte 32 (name ∷ fields) ∷ row.0.1.ahead) (both_are row.0.0.line row.0.0.fields both.0 both.1)
     ∙ ap (λ (x : (WordAt × WordAt) × LineCursor). named name (named x.0.0.text x.0.1.text) ∷ x.1.ahead) (ok_is (both.0, row.0.1) (words, new) both.2)
 
-pub value_is : {T : Type 0} (name : List ℕ) (form : List ℕ → Option T) (write : T → List ℕ) (at new : LineCursor) (value : T) → Writes form write → value_at name form at ≡ Ok (value, new) → at.ahead ≡ named name (write value) ∷ new.ahead
+pub value_is : {T : Type 0} (name : List ℕ) (form : List ℕ → Option T) (write : T → List ℕ) (at new : LineCursor) (value : T) → WritesBack form write → value_at name form at ≡ Ok (value, new) → at.ahead ≡ named name (write value) ∷ new.ahead
 unfolding value_at
 value_is {T = T} name form write at new value writes h =
     let field = bind_ok (field_at name at) _ (value, new) h in

@@ -9,18 +9,18 @@ use Rattle.ar_lines.specs.declared.refusal.Reason.TheVariants.{Text, Word, Words
 use Rattle.ar_lines.specs.declared.refusal.Refusal.{Refusal}
 
 -- a named line: its number, and its words behind the first
-pub record Row : Type 0 where
+pub record NamedLine : Type 0 where
   pub line : ℕ
   pub fields : List (List ℕ)
 
 -- the row of these words, the first of which has to be this one
-abbrev pub row_of : List ℕ → ℕ → List (List ℕ) → Result Row Refusal
+abbrev pub row_of : List ℕ → ℕ → List (List ℕ) → Result NamedLine Refusal
 row_of name line [] = refused line Word
 row_of name line (word ∷ fields) =
     if bytes_eq word name then Ok (record { line = line; fields = fields }) else refused line Word
 
 -- the next line, which has to be text and to begin with this word
-unfoldable pub row_at : List ℕ → LineCursor → LineReading Row
+unfoldable pub row_at : List ℕ → LineCursor → LineReading NamedLine
 row_at name at = do
   line ← line_at at
   row ← (if is_text line.0.text then row_of name line.0.line (words_of line.0.text) else refused line.0.line Text)

@@ -28,5 +28,5 @@ abbrev pub IsReadAsWritten : {T : Type 0} → (List ℕ → Option T) → (T →
 IsReadAsWritten {T = T} form write Is = (value : T) → Is value → form (write value) ≡ Some value
 
 -- a word of the form is what is written of the value that it spells
-abbrev pub Writes : {T : Type 0} → (List ℕ → Option T) → (T → List ℕ) → Type 0
-Writes {T = T} form write = (word : List ℕ) (value : T) → form word ≡ Some value → write value ≡ word
+abbrev pub WritesBack : {T : Type 0} → (List ℕ → Option T) → (T → List ℕ) → Type 0
+WritesBack {T = T} form write = (word : List ℕ) (value : T) → form word ≡ Some value → write value ≡ word

@@ -9,7 +9,7 @@ ghost use Rattle.ar_names.specs.Names.{IsName};
 ghost use Rattle.ar_lines.specs.Forms.{bytes_of_hex, key_of_hex, name_of, number_of};
 ghost use Rattle.ar_lines.specs.Parties.{party_of, party_word};
 ghost use Rattle.ar_lines.specs.Lines.{is_text, lines_of};
-ghost use Rattle.ar_lines.specs.Written.{IsKey, IsReadAsWritten, Writes, hex_of_key, text_of_lines};
+ghost use Rattle.ar_lines.specs.Written.{IsKey, IsReadAsWritten, WritesBack, hex_of_key, text_of_lines};
 
 /// Lines of text that are written are read as just these lines.
 pub fn lines_are_read_as_they_are_written()
@@ -28,9 +28,9 @@ pub fn words_are_read_as_they_are_written()
 
 /// A word spells only what is written as it, so that no two words spell the same.
 pub fn only_written_words_are_read()
-    ensures hex { Writes bytes_of_hex encode_lower }
-    ensures number { Writes number_of decimal }
-    ensures name { Writes name_of (λ name. name) }
-    ensures key { Writes key_of_hex hex_of_key }
-    ensures party { Writes party_of party_word }
+    ensures hex { WritesBack bytes_of_hex encode_lower }
+    ensures number { WritesBack number_of decimal }
+    ensures name { WritesBack name_of (λ name. name) }
+    ensures key { WritesBack key_of_hex hex_of_key }
+    ensures party { WritesBack party_of party_word }
 {}

@@ -9,7 +9,7 @@ use thiserror::Error;
 /// Why a line is refused.
 #[derive(Clone, Copy, Debug, PartialEq, Eq)]
 pub enum Reason {
-    /// The input is longer than it may be.
+    /// The input is longer than it may be, or this line is one more than it may have, of all or of its kind.
     Limit,
     /// A byte of the line is none of 0x20 to 0x7e.
     Text,

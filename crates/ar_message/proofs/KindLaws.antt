@@ -25,7 +25,7 @@ use Rattle.ar_cert.proofs.ChangeLaws.{change_again, change_pass}
 use Rattle.ar_statement.proofs.FieldsByKind.{value_again, value_pass}
 use Rattle.ar_cert.proofs.FieldLaws.{key_again, key_pass}
 use Rattle.ar_message.specs.Confirmation.{IsConfirmation, confirmation_fields_at, confirmation_fields_text}
-use Rattle.ar_message.specs.Lists.{changes_at, changes_text, AreChanges, votes_at, votes_text, AreVotes, statuses_at, statuses_text, AreStatuses}
+use Rattle.ar_message.specs.Lists.{changes_at, changes_text, AreChanges, votes_at, votes_text, AreVotes, statuses_at, statuses_text, AreLogStatuses}
 use Rattle.ar_message.specs.declared.message.Body.TheVariants.{Present, Absent}
 use Rattle.ar_message.specs.declared.message.Message.{Message}
 use Rattle.ar_message.specs.declared.message.Message.TheVariants.{EndorseAsk, Endorsed, Submit, Propose, Ballot, StatusNote, Decision, SkipNote, ConfirmAsk, LogConfirmed, HalfConfirmed, Confirmation, RollNote}
@@ -87,7 +87,7 @@ changes_exact = record { again = changes_again; pass = changes_pass }
 votes_exact : IsExact votes_at votes_text AreVotes
 votes_exact = record { again = votes_again; pass = votes_pass }
 
-statuses_exact : IsExact statuses_at statuses_text AreStatuses
+statuses_exact : IsExact statuses_at statuses_text AreLogStatuses
 statuses_exact = record { again = statuses_again; pass = statuses_pass }
 
 fields_exact : IsExact confirmation_fields_at confirmation_fields_text IsConfirmation

@@ -23,7 +23,7 @@ use Rattle.ar_cert.specs.Changes.{Change, IsChange, IsSignature, change_at, chan
 use Rattle.ar_cert.proofs.ChangeLaws.{change_again, change_pass}
 use Rattle.ar_message.specs.declared.lists.Vote.{Vote}
 use Rattle.ar_message.specs.declared.lists.LogStatus.{LogStatus}
-use Rattle.ar_message.specs.Lists.{changes_at, changes_text, AreChanges, vote_from, votes_from, votes_at, vote_text, votes_text, IsVote, AreVotes, status_from, statuses_from, statuses_at, status_text, statuses_text, IsStatus, AreStatuses}
+use Rattle.ar_message.specs.Lists.{changes_at, changes_text, AreChanges, vote_from, votes_from, votes_at, vote_text, votes_text, IsVote, AreVotes, status_from, statuses_from, statuses_at, status_text, statuses_text, IsStatus, AreLogStatuses}
 
 -- ---- changes
 
@@ -84,9 +84,9 @@ status_pass least at new v bytes e =
     let passes = Passes-then at log.1 signature.1 (number_text w16 log.0) _ log.2 behind in
     subst (λ (x : LogStatus × Cursor). Passes at (status_text x.0) x.1 × ((least ≤ x.0.log) × IsStatus x.0)) (ok_is (made, signature.1) (v, new) signature.5) (passes, (log.3.0, (log.3.1, value.3, signature.3)))
 
-pub statuses_again : (statuses : List LogStatus) → AreStatuses statuses → ReadsBack statuses_at statuses (statuses_text statuses)
+pub statuses_again : (statuses : List LogStatus) → AreLogStatuses statuses → ReadsBack statuses_at statuses (statuses_text statuses)
 statuses_again statuses h =
     counted_list_again 16 (λ count at. statuses_from count 0 at) status_text statuses h.0 (omega (arith, h.0)) (ascending_again (λ v. v.log) status_from status_text IsStatus status_again (length statuses) 0 statuses refl h.1)
 
-pub statuses_pass : IsSpelledBy statuses_at statuses_text AreStatuses
+pub statuses_pass : IsSpelledBy statuses_at statuses_text AreLogStatuses
 statuses_pass = counted_list_pass 16 (λ count at. statuses_from count 0 at) status_text (Ascend (λ v. v.log) IsStatus 0) (λ count. ascending_pass (λ v. v.log) status_from status_text IsStatus status_pass count 0)

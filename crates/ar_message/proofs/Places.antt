@@ -9,7 +9,7 @@ use Rattle.ar_message.specs.declared.address.Address.{Address}
 use Rattle.ar_message.specs.declared.address.Address.TheVariants.{Logs}
 use Rattle.ar_message.specs.declared.unsigned.Blank.{Blank}
 use Rattle.ar_message.specs.Sending.{Letter}
-use Rattle.ar_message.specs.Filling.{AreApart, IsBlank, IsOutside, IsSigned, byte_at, bytes_at, lengths, no_letter, signature_due, signed, signed_at, signed_in, with_signature, written_at}
+use Rattle.ar_message.specs.Filling.{AreApart, IsBlank, IsOutside, IsSigned, byte_at, letter_bytes, lengths, no_letter, signature_due, signed, signed_at, signed_in, with_signature, written_at}
 use Rattle.ar_message.proofs.Filled.{length_of}
 
 -- ---- bytes that are written over others
@@ -52,13 +52,13 @@ no_shorter place bytes whole le =
 -- a blank stands in a message that is there, and begins in it
 pub record Stands (letters : List Letter) (b : Blank) : Type 0 where
   pub there : b.message < length letters
-  pub begins : b.at ≤ length (bytes_at letters b.message)
+  pub begins : b.at ≤ length (letter_bytes letters b.message)
 
 pub stands : (keys : List KeyParts) (letters : List Letter) (b : Blank) → IsBlank keys (lengths letters) b → Stands letters b
 stands keys letters b is =
     let within : b.message < length (lengths letters) = slice_get_within (lengths letters) b.message is.whole is.named in
     let there : b.message < length letters = subst (λ n. b.message < n) (length-map letters length_of) within in
-    let own : length (bytes_at letters b.message) ≡ is.whole =
+    let own : length (letter_bytes letters b.message) ≡ is.whole =
     sym (get_or-map length_of letters b.message no_letter 0 there) ∙ get_or_from_slice_get (lengths letters) b.message is.whole 0 is.named in
     record { there = there; begins = omega (arith, own, is.fits.inside) }
 
@@ -67,15 +67,15 @@ as_set : (keys : List KeyParts) (letters : List Letter) (b : Blank) → b.messag
 as_set keys letters b there = ap (signed_in keys b letters) (slice_get-get_or letters b.message no_letter there)
 
 own_bytes : (keys : List KeyParts) (letters : List Letter) (b : Blank) → b.message < length letters
-    → bytes_at (signed_at keys b letters) b.message ≡ written_at b.at (signature_due keys b.due) (bytes_at letters b.message)
+    → letter_bytes (signed_at keys b letters) b.message ≡ written_at b.at (signature_due keys b.due) (letter_bytes letters b.message)
 own_bytes keys letters b there =
-    ap (λ ls. bytes_at ls b.message) (as_set keys letters b there)
+    ap (λ ls. letter_bytes ls b.message) (as_set keys letters b there)
     ∙ ap (λ (l : Letter). l.bytes) (get_or-set_same letters b.message (with_signature keys b (get_or letters b.message no_letter)) no_letter there)
 
 other_bytes : (keys : List KeyParts) (letters : List Letter) (b : Blank) → b.message < length letters → (i : ℕ) → i ≢ b.message
-    → bytes_at (signed_at keys b letters) i ≡ bytes_at letters i
+    → letter_bytes (signed_at keys b letters) i ≡ letter_bytes letters i
 other_bytes keys letters b there i ne =
-    ap (λ ls. bytes_at ls i) (as_set keys letters b there)
+    ap (λ ls. letter_bytes ls i) (as_set keys letters b there)
     ∙ ap (λ (l : Letter). l.bytes) (get_or-set_other letters b.message i (with_signature keys b (get_or letters b.message no_letter)) no_letter ne)
 
 same_count : (keys : List KeyParts) (letters : List Letter) (b : Blank) → b.message < length letters → length (signed_at keys b letters) ≡ length letters
@@ -83,13 +83,13 @@ same_count keys letters b there =
     ap length (as_set keys letters b there) ∙ length-set letters b.message (with_signature keys b (get_or letters b.message no_letter))
 
 grows : (keys : List KeyParts) (letters : List Letter) (b : Blank) → Stands letters b → (i : ℕ) → (i ≡ b.message) ⊎ (i ≢ b.message)
-    → length (bytes_at letters i) ≤ length (bytes_at (signed_at keys b letters) i)
+    → length (letter_bytes letters i) ≤ length (letter_bytes (signed_at keys b letters) i)
 grows keys letters b s i (inl e) =
-    subst (λ n. length (bytes_at letters n) ≤ length (bytes_at (signed_at keys b letters) n)) (sym e)
-    (subst (λ bs. length (bytes_at letters b.message) ≤ length bs) (sym (own_bytes keys letters b s.there))
-    (no_shorter b.at (signature_due keys b.due) (bytes_at letters b.message) s.begins))
+    subst (λ n. length (letter_bytes letters n) ≤ length (letter_bytes (signed_at keys b letters) n)) (sym e)
+    (subst (λ bs. length (letter_bytes letters b.message) ≤ length bs) (sym (own_bytes keys letters b s.there))
+    (no_shorter b.at (signature_due keys b.due) (letter_bytes letters b.message) s.begins))
 grows keys letters b s i (inr ne) =
-    let same : length (bytes_at (signed_at keys b letters) i) ≡ length (bytes_at letters i) = ap length (other_bytes keys letters b s.there i ne) in
+    let same : length (letter_bytes (signed_at keys b letters) i) ≡ length (letter_bytes letters i) = ap length (other_bytes keys letters b s.there i ne) in
     omega (arith, same)
 
 still_stands : (keys : List KeyParts) (letters : List Letter) (b c : Blank) → Stands letters b → Stands letters c → Stands (signed_at keys b letters) c
@@ -103,9 +103,9 @@ still_stands keys letters b c s t =
 stays_in : (keys : List KeyParts) (letters : List Letter) (b : Blank) → Stands letters b → (p : ℕ)
     → (p < b.at) ⊎ (b.at + length (signature_due keys b.due) ≤ p) → byte_at (signed_at keys b letters) b.message p ≡ byte_at letters b.message p
 stays_in keys letters b s p (inl lt) =
-    ap (λ bs. get_or bs p 0) (own_bytes keys letters b s.there) ∙ before b.at p (signature_due keys b.due) (bytes_at letters b.message) s.begins lt
+    ap (λ bs. get_or bs p 0) (own_bytes keys letters b s.there) ∙ before b.at p (signature_due keys b.due) (letter_bytes letters b.message) s.begins lt
 stays_in keys letters b s p (inr past) =
-    ap (λ bs. get_or bs p 0) (own_bytes keys letters b s.there) ∙ behind b.at p (signature_due keys b.due) (bytes_at letters b.message) s.begins past
+    ap (λ bs. get_or bs p 0) (own_bytes keys letters b s.there) ∙ behind b.at p (signature_due keys b.due) (letter_bytes letters b.message) s.begins past
 
 stays_here : (keys : List KeyParts) (letters : List Letter) (b : Blank) → Stands letters b → (i p : ℕ) → IsOutside keys i p b → (i ≡ b.message) ⊎ (i ≢ b.message)
     → byte_at (signed_at keys b letters) i p ≡ byte_at letters i p
@@ -120,7 +120,7 @@ stays_one keys letters b s i p out = stays_here keys letters b s i p out (cases_
 
 is_signed : (keys : List KeyParts) (letters : List Letter) (b : Blank) → Stands letters b → IsSigned keys (signed_at keys b letters) b
 is_signed keys letters b s = λ j lt.
-    ap (λ bs. get_or bs (b.at + j) 0) (own_bytes keys letters b s.there) ∙ inside b.at j (signature_due keys b.due) (bytes_at letters b.message) s.begins lt
+    ap (λ bs. get_or bs (b.at + j) 0) (own_bytes keys letters b s.there) ∙ inside b.at j (signature_due keys b.due) (letter_bytes letters b.message) s.begins lt
 
 -- ---- all blanks
 

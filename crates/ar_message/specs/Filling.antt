@@ -88,12 +88,12 @@ abbrev pub no_letter : Letter
 no_letter = record { to = Logs; bytes = [] }
 
 -- the bytes of a message, none where there is no such message
-abbrev pub bytes_at : List Letter → ℕ → List ℕ
-bytes_at letters message = (slice_index_or letters message no_letter).bytes
+abbrev pub letter_bytes : List Letter → ℕ → List ℕ
+letter_bytes letters message = (slice_index_or letters message no_letter).bytes
 
 -- the byte at a place of a message
 abbrev pub byte_at : List Letter → ℕ → ℕ → ℕ
-byte_at letters message place = slice_index (bytes_at letters message) place
+byte_at letters message place = slice_index (letter_bytes letters message) place
 
 -- in these messages the signature that is due stands in the place of the blank
 abbrev pub IsSigned : List KeyParts → List Letter → Blank → Type 0

@@ -86,5 +86,5 @@ statuses_text = counted_list_text status_text
 abbrev pub IsStatus : LogStatus → Type 0
 IsStatus v = (v.log < 2 ^ 16) × IfSome v.value IsValue × IsSignature v.signature
 
-abbrev pub AreStatuses : List LogStatus → Type 0
-AreStatuses statuses = (length statuses ≤ most_parties) × Ascend (λ v. v.log) IsStatus 0 statuses
+abbrev pub AreLogStatuses : List LogStatus → Type 0
+AreLogStatuses statuses = (length statuses ≤ most_parties) × Ascend (λ v. v.log) IsStatus 0 statuses

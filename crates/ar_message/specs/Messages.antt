@@ -19,7 +19,7 @@ use Rattle.ar_cert.specs.Certificate.{IsCertificate, certificate_text, counted_c
 use Rattle.ar_cert.specs.Changes.{IsChange, IsSignature, change_at, change_text}
 use Rattle.ar_message.specs.Confirmation as confirmation
 use Rattle.ar_message.specs.Confirmation.{Subject, Signed, form_at, subject_at, body_at, path_at, signed_at, confirmation_fields_at, is_present, form_text, subject_text, body_text, path_text, signed_text, confirmation_fields_text, IsConfirmation}
-use Rattle.ar_message.specs.Lists.{changes_at, changes_text, AreChanges, votes_at, votes_text, AreVotes, statuses_at, statuses_text, AreStatuses}
+use Rattle.ar_message.specs.Lists.{changes_at, changes_text, AreChanges, votes_at, votes_text, AreVotes, statuses_at, statuses_text, AreLogStatuses}
 use Rattle.ar_message.specs.declared.message.Body.{Body}
 use Rattle.ar_message.specs.declared.message.Body.TheVariants.{Present, Absent}
 use Rattle.ar_message.specs.declared.message.Confirming.{Confirming}
@@ -267,7 +267,7 @@ IsMessage (StatusNote log epoch value signature) =
     (log < 2 ^ 16) × (IsEpoch epoch × (IfSome value IsValue × IsSignature signature))
 IsMessage (Decision epoch base root changes votes) =
     IsEpoch epoch × (IsValue (value_with base root) × (AreChanges changes × AreVotes votes))
-IsMessage (SkipNote epoch statuses) = IsEpoch epoch × AreStatuses statuses
+IsMessage (SkipNote epoch statuses) = IsEpoch epoch × AreLogStatuses statuses
 IsMessage (ConfirmAsk client name first second) =
     (client < 2 ^ 16) × (IsName name × ((first < 2 ^ 16) × (second < 2 ^ 16)))
 IsMessage (LogConfirmed part) = IsConfirming part

@@ -12,7 +12,7 @@ ghost use Rattle.ar_message.specs.declared.lists.Vote.{Vote};
 
 use crate::fields::{BodyView, SignedView, SubjectView, body, form, path, signed, subject};
 use crate::take_lists::take_votes;
-use crate::{Body, ConfView, Confirming, Message, MessageFault, Signature, Steps, Votes};
+use crate::{Body, ConfView, Confirming, Message, MessageFault, PathSteps, Signature, Votes};
 use ar_bytes::Fields;
 use ar_names::NameView;
 use ar_statement::fields::digest;
@@ -35,7 +35,7 @@ pub(crate) fn owned_body(alloc: Global, shown: &BodyView, path: &[u8]) -> Result
     requires { AreSteps path.now }
     ensures { IfOk result (λ body. body ≡ body_with (body_of shown.now) path.now) }
 {
-    let path = Steps::of(alloc, path)?;
+    let path = PathSteps::of(alloc, path)?;
     match shown {
         BodyView::Present(certificate) => {
             let cert = certificate.to_cert(alloc)?;

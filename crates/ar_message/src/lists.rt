@@ -54,13 +54,13 @@ pub struct Statuses {
 impl Model for Statuses {
     ghost use Rattle.std.specs.Prelude.{List};
     ghost use Rattle.ar_message.specs.declared.lists.LogStatus.{LogStatus};
-    ghost use Rattle.ar_message.specs.Lists.{AreStatuses};
+    ghost use Rattle.ar_message.specs.Lists.{AreLogStatuses};
 
     ghost Value = { List LogStatus };
 
     ghost view = { λ v. v.list.items };
 
-    ghost invariant = { λ v. AreStatuses v.list.items };
+    ghost invariant = { λ v. AreLogStatuses v.list.items };
 }
 
 /// At most 64 changes, in the order in which they are applied.

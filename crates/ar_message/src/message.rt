@@ -1,4 +1,4 @@
-use crate::{Changes, Signature, Statuses, Steps, Votes};
+use crate::{Changes, PathSteps, Signature, Statuses, Votes};
 use ar_cert::{Cert, Change};
 use ar_names::Name;
 use ar_statement::Party;
@@ -10,9 +10,9 @@ use vote_quorum::Value;
 #[derive(Debug, Drop)]
 pub enum Body {
     /// This certificate. The message is of form 1.
-    Present { cert: Cert, path: Steps },
+    Present { cert: Cert, path: PathSteps },
     /// None: this stands at the foot of the name's path. The message is of form 2.
-    Absent { bottom: Bottom, path: Steps },
+    Absent { bottom: Bottom, path: PathSteps },
 }
 
 /// A confirmation on its way to the client: what a log confirmed, and the votes that it rests on.

@@ -7,13 +7,13 @@ use tree_proof::Path;
 /// The steps of a path as they stand in a message: at most 256 digests of 32 bytes, the deepest first, one
 /// behind the other.
 #[derive(Debug, Drop)]
-pub struct Steps {
+pub struct PathSteps {
     /// 32 for each step. In a message the number of steps stands in front of them, u16.
     pub bytes: Vec<u8>,
 }
 
 // Clauses see the bytes.
-impl Model for Steps {
+impl Model for PathSteps {
     ghost use Rattle.std.specs.Prelude.{List, ℕ};
     ghost use Rattle.ar_message.specs.Confirmation.{AreSteps};
 
@@ -24,7 +24,7 @@ impl Model for Steps {
     ghost invariant = { λ s. AreSteps s.bytes.items };
 }
 
-impl Steps {
+impl PathSteps {
     ghost use Rattle.std.specs.Prelude.{◌≡◌, ◌≤◌, IfOk, length};
     ghost use Rattle.std.specs.List.{concat};
     ghost use Rattle.ar_message.specs.Confirmation.{AreSteps};
@@ -40,19 +40,19 @@ impl Steps {
     /// The steps of a path in the tree, which has at most 256: its digests are copied once.
     /// The only error is want of memory.
     #[tactic(auto, using(std::proofs::lemmas::List::Concat::concat_is))]
-    pub fn of_path(alloc: Global, path: &Path) -> Result<Steps, AllocError>
+    pub fn of_path(alloc: Global, path: &Path) -> Result<PathSteps, AllocError>
         requires { length path.now.steps ≤ 256 }
         ensures { IfOk result (λ steps. steps ≡ concat path.now.steps) }
     {
-        Steps::of(alloc, path.steps.as_slice().as_flattened())
+        PathSteps::of(alloc, path.steps.as_slice().as_flattened())
     }
 
     /// These bytes as steps of their own.
-    pub(crate) fn of(alloc: Global, bytes: &[u8]) -> Result<Steps, AllocError>
+    pub(crate) fn of(alloc: Global, bytes: &[u8]) -> Result<PathSteps, AllocError>
         requires { AreSteps bytes.now }
         ensures { IfOk result (λ steps. steps ≡ bytes.now) }
     {
-        Ok(Steps {
+        Ok(PathSteps {
             bytes: Vec::from_slice(alloc, bytes)?,
         })
     }

@@ -8,23 +8,29 @@ ghost use Rattle.ar_bytes.specs.RoundTrip.{counted_text, number_text};
 ghost use Rattle.ar_cert.specs.Certificate.{certificate_text};
 ghost use Rattle.ar_message.specs.Confirmation.{body_text, form_text, is_present, path_text, signers_text, subject_text};
 ghost use Rattle.ar_message.specs.Lists.{changes_text, statuses_text, votes_text};
+ghost use Rattle.ar_message.specs.declared.message.Message.TheVariants.{EndorseAsk, Submit};
 ghost use Rattle.ar_message.specs.Messages.{fields_text, kind_of, message_text, path_in, shown_in, signed_in};
 ghost use Rattle.ar_statement.specs.Claims.{name_text, party_text, value_text, value_with};
 ghost use Rattle.ar_base.specs.Appending.{Appends};
 ghost use Rattle.lms_tree.specs.PublicKey.{key_text};
 
 use crate::writing::{
-    put_body, put_cert, put_change, put_changes, put_confirming, put_form, put_name, put_roots,
-    put_signature, put_signed, put_statuses, put_subject, put_value, put_votes,
+    put_body, put_changes, put_confirming, put_form, put_name, put_roots, put_signature,
+    put_signed, put_statuses, put_subject, put_value, put_votes,
 };
 use crate::{Body, Changes, Message, Signature, Votes};
 use ar_bytes::{put_bytes, put_u8, put_u16, put_u32, put_u64};
-use ar_cert::Cert;
+use ar_cert::{Cert, ChangeParts};
 use ar_names::Name;
 use ar_statement::Party;
 use lms_tree::LmsPublic;
 use std::alloc::{AllocError, Global};
 use vote_quorum::Value;
+
+/// The number of the kind of a request to endorse.
+const ENDORSE_ASK: u8 = 1;
+/// The number of the kind of a change on its way to the logs.
+const SUBMIT: u8 = 3;
 
 fn put_endorse_ask(
     alloc: Global,
@@ -36,7 +42,7 @@ fn put_endorse_ask(
         ++ counted_text (certificate_text cert.now)) out.old out.new result }
 {
     put_u16(alloc, out, owner)?;
-    put_cert(alloc, out, cert)
+    cert.write_counted(alloc, out)
 }
 
 fn put_endorsed(
@@ -288,7 +294,7 @@ fn put_fields(alloc: Global, out: &mut Vec<u8>, message: &Message) -> Result<(),
             certificate,
             signature,
         } => put_endorsed(alloc, out, *owner, *authority, certificate, signature),
-        Message::Submit { change } => put_change(alloc, out, change),
+        Message::Submit { change } => change.write(alloc, out),
         Message::ConfirmAsk {
             client,
             name,
@@ -321,6 +327,28 @@ fn put_message(alloc: Global, out: &mut Vec<u8>, message: &Message) -> Result<()
     put_fields(alloc, out, message)
 }
 
+/// The text of the message `EndorseAsk` of this owner and this certificate. The only error is want of memory.
+#[tactic(auto, unfolding(crate::specs::Messages::message_text, crate::specs::Messages::fields_text))]
+pub fn endorse_ask_text(alloc: Global, owner: u16, cert: &Cert) -> Result<Vec<u8>, AllocError>
+    ensures { IfOk result (λ text. text.items ≡ message_text (EndorseAsk owner cert.now)) }
+{
+    let mut text = Vec::new(alloc);
+    put_u8(alloc, &mut text, ENDORSE_ASK)?;
+    put_endorse_ask(alloc, &mut text, owner, cert)?;
+    Ok(text)
+}
+
+/// The text of the message `Submit` of the change that these parts make. The only error is want of memory.
+#[tactic(auto, unfolding(crate::specs::Messages::message_text, crate::specs::Messages::fields_text))]
+pub fn submit_text(alloc: Global, change: &ChangeParts) -> Result<Vec<u8>, AllocError>
+    ensures { IfOk result (λ text. text.items ≡ message_text (Submit change.now)) }
+{
+    let mut text = Vec::new(alloc);
+    put_u8(alloc, &mut text, SUBMIT)?;
+    change.write(alloc, &mut text)?;
+    Ok(text)
+}
+
 impl Message {
     ghost use Rattle.std.specs.Prelude.{◌≡◌, OnErr};
     ghost use Rattle.ar_message.specs.Messages.{kind_of, message_text};
@@ -330,9 +358,9 @@ impl Message {
         ensures { result ≡ kind_of self.now }
     {
         match self {
-            Message::EndorseAsk { .. } => 1,
+            Message::EndorseAsk { .. } => ENDORSE_ASK,
             Message::Endorsed { .. } => 2,
-            Message::Submit { .. } => 3,
+            Message::Submit { .. } => SUBMIT,
             Message::Propose { .. } => 4,
             Message::Ballot { .. } => 5,
             Message::StatusNote { .. } => 6,

@@ -6,7 +6,6 @@ ghost use Rattle.std.specs.List.{flat_map};
 ghost use Rattle.std.specs.Int.{w8, w16, w32, w64};
 ghost use Rattle.ar_bytes.specs.Joined.{optional_text};
 ghost use Rattle.ar_bytes.specs.RoundTrip.{counted_text, number_text};
-ghost use Rattle.ar_cert.specs.Certificate.{certificate_text};
 ghost use Rattle.ar_cert.specs.Changes.{change_text};
 ghost use Rattle.ar_message.specs.Confirmation.{body_text, bottom_text, form_text, is_present, path_text, signed_text, subject_text};
 ghost use Rattle.ar_message.specs.Lists.{changes_text, status_text, statuses_text, vote_text, votes_text};
@@ -16,10 +15,10 @@ ghost use Rattle.ar_base.specs.Appending.{Appends};
 ghost use Rattle.lms_tree.specs.PublicKey.{key_text};
 
 use crate::{
-    Body, Changes, Confirming, LogStatus, Message, Signature, Statuses, Steps, Vote, Votes,
+    Body, Changes, Confirming, LogStatus, Message, PathSteps, Signature, Statuses, Vote, Votes,
 };
 use ar_bytes::{put_bytes, put_u8, put_u16, put_u32, put_u64};
-use ar_cert::{Cert, Change};
+use ar_cert::Change;
 use ar_names::Name;
 use std::alloc::{AllocError, Global};
 use tree_proof::Bottom;
@@ -80,30 +79,13 @@ pub(crate) fn put_name(alloc: Global, out: &mut Vec<u8>, name: &Name) -> Result<
     put_bytes(alloc, out, text)
 }
 
-/// A certificate behind the number of its bytes.
-pub(crate) fn put_cert(alloc: Global, out: &mut Vec<u8>, cert: &Cert) -> Result<(), AllocError>
-    ensures { Appends (counted_text (certificate_text cert.now)) out.old out.new result }
-{
-    cert.write_counted(alloc, out)
-}
-
-pub(crate) fn put_change(
-    alloc: Global,
-    out: &mut Vec<u8>,
-    change: &Change,
-) -> Result<(), AllocError>
-    ensures { Appends (change_text change.now) out.old out.new result }
-{
-    change.write(alloc, out)
-}
-
 // ---- lists
 
 fn put_each_change(alloc: Global, out: &mut Vec<u8>, changes: &[Change]) -> Result<(), AllocError>
     ensures { Appends (flat_map change_text changes.now) out.old out.new result }
 {
     for change in changes {
-        put_change(alloc, out, change)?;
+        change.write(alloc, out)?;
     }
     Ok(())
 }
@@ -201,7 +183,7 @@ fn put_bottom(alloc: Global, out: &mut Vec<u8>, bottom: &Bottom) -> Result<(), A
 }
 
 /// The steps behind their count.
-fn put_path(alloc: Global, out: &mut Vec<u8>, path: &Steps) -> Result<(), AllocError>
+fn put_path(alloc: Global, out: &mut Vec<u8>, path: &PathSteps) -> Result<(), AllocError>
     ensures { Appends (path_text path.now) out.old out.new result }
 {
     let bytes = path.as_slice();
@@ -217,7 +199,7 @@ pub(crate) fn put_body(alloc: Global, out: &mut Vec<u8>, body: &Body) -> Result<
 {
     match body {
         Body::Present { cert, path } => {
-            put_cert(alloc, out, cert)?;
+            cert.write_counted(alloc, out)?;
             put_path(alloc, out, path)
         }
         Body::Absent { bottom, path } => {

@@ -16,7 +16,7 @@ use Rattle.lms_tree.specs.KeyParts.{KeyParts}
 use Rattle.log_core.specs.Row.{row}
 use Rattle.log_core.specs.State as log
 use Rattle.owner_check.specs.declared.answer.Outcome.{Outcome}
-use Rattle.owner_core.specs.Rows.{Row, object_row, step_row, submit_row}
+use Rattle.owner_core.specs.Rows.{OwnerAnswer, object_row, step_row, submit_row}
 use Rattle.owner_core.specs.State.{Owner}
 use Rattle.ar_statement.specs.Claims.{authority_party, log_party, owner_party}
 use Rattle.report_text.specs.declared.happening.Code.{Code}
@@ -141,7 +141,7 @@ authority_turned node next (Err refusal) = authority_does node (Err refusal)
 -- ---- owners
 
 -- an owner by its answer
-abbrev pub owner_does : Owner → Row Sent → Owner × Reply
+abbrev pub owner_does : Owner → OwnerAnswer Sent → Owner × Reply
 owner_does me (Ok made) = (made.1, Ok made.0)
 owner_does me (Err refusal) = (me, Err (owner_code refusal))
 

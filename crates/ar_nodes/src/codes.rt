@@ -63,7 +63,7 @@ pub fn authority_code(refusal: AuthorityRefusal) -> Code
 }
 
 /// The code of an owner's refusal; want of memory has the number 0.
-pub(crate) fn owner_code(refusal: OwnerRefusal) -> Code
+pub fn owner_code(refusal: OwnerRefusal) -> Code
     ensures { result ≡ owner_code refusal }
 {
     let role = Role::Owner;

@@ -16,7 +16,7 @@ ghost use Rattle.ar_nodes.specs.declared.fault.WorldFault.TheVariants.{Memory};
 use crate::fault::WorldFault;
 use crate::parties::Forger;
 use crate::pool::{Pool, Pooled};
-use crate::sending::{enter, reserve, say};
+use crate::sending::{enter, push_told, reserve};
 use ar_base::Items;
 use ar_bytes::{are_bytes, write_u32};
 use ar_statement::Party;
@@ -138,12 +138,12 @@ fn sign_refused(alloc: Global, party: Party) -> Result<Vec<Happening>, AllocErro
     ensures { IfOk result (λ said. said.items ≡ SignRefused party ∷ []) }
 {
     let mut said = Vec::with_capacity(alloc, 1)?;
-    say(&mut said, Happening::SignRefused { party });
+    push_told(&mut said, Happening::SignRefused { party });
     Ok(said)
 }
 
 /// A dishonest party signs a text, where a leaf is left, and this is told.
-pub fn sign(
+pub fn sign_by_forger(
     alloc: Global,
     pool: &mut Pool,
     forger: &mut Forger,

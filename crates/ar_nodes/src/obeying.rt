@@ -11,7 +11,7 @@ use crate::event::LogEvent;
 use crate::fault::WorldFault;
 use crate::parties::{HonestAuthority, HonestLog};
 use crate::pool::Pool;
-use crate::replying::{MOST_SENT, tell};
+use crate::replying::{MOST_SENT, tell_reply};
 use crate::sending::reserve;
 use ar_base::Items;
 use ar_statement::Role;
@@ -41,7 +41,7 @@ pub fn log_obeys_there(
     let said = reserve(alloc, pool, MOST_SENT)?;
     let reply = node.step(alloc, event, input)?;
     let party = Role::LogServer.party(number);
-    Ok(tell(alloc, pool, said, party, what, reply))
+    Ok(tell_reply(alloc, pool, said, party, what, reply))
 }
 
 /// A log in its place goes on to its next key.
@@ -62,7 +62,7 @@ pub fn log_rolls_there(
     let said = reserve(alloc, pool, MOST_SENT)?;
     let reply = node.roll(alloc)?;
     let party = Role::LogServer.party(number);
-    Ok(tell(alloc, pool, said, party, What::Roll, reply))
+    Ok(tell_reply(alloc, pool, said, party, What::Roll, reply))
 }
 
 /// An authority in its place goes on to its next key.
@@ -83,5 +83,5 @@ pub fn authority_rolls_there<C: OwnerCheck>(
     let said = reserve(alloc, pool, MOST_SENT)?;
     let reply = node.roll(alloc)?;
     let party = Role::Authority.party(number);
-    Ok(tell(alloc, pool, said, party, What::Roll, reply))
+    Ok(tell_reply(alloc, pool, said, party, What::Roll, reply))
 }

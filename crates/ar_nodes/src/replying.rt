@@ -18,7 +18,7 @@ pub type Reply = Result<Sent, Code>;
 pub(crate) const MOST_SENT: usize = 2;
 
 /// What a party sends enters the pool, and its reply is told.
-pub(crate) fn tell(
+pub(crate) fn tell_reply(
     alloc: Global,
     pool: &mut Pool,
     mut said: Vec<Happening>,

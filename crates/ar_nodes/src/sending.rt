@@ -35,7 +35,7 @@ pub fn reserve(
 }
 
 /// Tells something, for which there is room.
-pub fn say(said: &mut Vec<Happening>, happening: Happening)
+pub fn push_told(said: &mut Vec<Happening>, happening: Happening)
     requires { vec_len said.old < vec_capacity said.old }
     ensures said { said.new.items ≡ said.old.items ++ happening ∷ [] }
     ensures room { vec_capacity said.old ≤ vec_capacity said.new }
@@ -44,11 +44,11 @@ pub fn say(said: &mut Vec<Happening>, happening: Happening)
 }
 
 /// One thing that is told. The only error is want of memory.
-pub fn tell(alloc: Global, happening: Happening) -> Result<Items<Happening>, AllocError>
+pub fn one_told(alloc: Global, happening: Happening) -> Result<Items<Happening>, AllocError>
     ensures { IfOk result (λ said. said ≡ happening ∷ []) }
 {
     let mut said = Vec::with_capacity(alloc, 1)?;
-    say(&mut said, happening);
+    push_told(&mut said, happening);
     Ok(Items::from_vec(said))
 }
 
@@ -79,7 +79,7 @@ pub fn enter(pool: &mut Pool, said: &mut Vec<Happening>, message: Pooled)
     ensures capacity { vec_capacity said.old ≤ vec_capacity said.new }
 {
     let number = pool.next_number();
-    say(said, entry_of(number, &message));
+    push_told(said, entry_of(number, &message));
     pool.push(message);
 }
 
@@ -128,7 +128,7 @@ fn say_ending(said: &mut Vec<Happening>, log: u16, ended: Option<(u64, Option<[u
     ensures room { vec_capacity said.old ≤ vec_capacity said.new }
 {
     if let Some((epoch, root)) = ended {
-        say(said, Happening::Ended { log, epoch, root });
+        push_told(said, Happening::Ended { log, epoch, root });
     }
 }
 
@@ -154,7 +154,7 @@ pub(crate) fn does(
         what,
         refused: None,
     };
-    say(said, step);
+    push_told(said, step);
     say_ending(said, party.number, ended);
     post(alloc, pool, said, party, messages.into_vec());
 }
@@ -169,5 +169,5 @@ pub(crate) fn refuses(said: &mut Vec<Happening>, party: Party, what: What, code:
         what,
         refused: Some(code),
     };
-    say(said, step);
+    push_told(said, step);
 }

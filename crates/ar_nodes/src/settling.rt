@@ -9,7 +9,7 @@ ghost use Rattle.ar_nodes.specs.Pool.{numbered};
 use crate::event::LogEvent;
 use crate::parties::HonestLog;
 use crate::pool::Pool;
-use crate::replying::{Reply, tell};
+use crate::replying::{Reply, tell_reply};
 use crate::sending::reserve;
 use ar_base::Items;
 use ar_statement::{Party, Role};
@@ -63,7 +63,7 @@ pub(crate) fn finish(
 {
     let Settling { said, delivered } = ready;
     pool.note_delivered(message, delivered);
-    tell(alloc, pool, said, who, What::Take(message), reply)
+    tell_reply(alloc, pool, said, who, What::Take(message), reply)
 }
 
 /// A log that is honest notes that it took a message. After an error it is as before.

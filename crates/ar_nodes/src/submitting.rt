@@ -11,8 +11,8 @@ use crate::codes::owner_code;
 use crate::fault::WorldFault;
 use crate::owners;
 use crate::pool::Pool;
-use crate::replying::tell;
-use crate::sending::{refuses, reserve, say};
+use crate::replying::tell_reply;
+use crate::sending::{push_told, refuses, reserve};
 use ar_base::Items;
 use ar_cert::Cert;
 use ar_statement::{Party, Role};
@@ -21,7 +21,7 @@ use report_text::{Happening, What};
 use std::alloc::Global;
 
 /// That an owner refused is told, unless memory was wanting.
-pub fn refused(
+pub fn say_refused(
     said: Vec<Happening>,
     owner: Party,
     what: What,
@@ -56,7 +56,7 @@ pub fn took(said: Vec<Happening>, owner: Party, what: What) -> Items<Happening>
         what,
         refused: None,
     };
-    say(&mut said, step);
+    push_told(&mut said, step);
     Items::from_vec(said)
 }
 
@@ -75,7 +75,7 @@ pub fn objected(
     let said = reserve(alloc, pool, 1)?;
     let reply = owners::object(alloc, owner, cert)?;
     let party = Role::Owner.party(number);
-    Ok(tell(alloc, pool, said, party, What::Object(draft), reply))
+    Ok(tell_reply(alloc, pool, said, party, What::Object(draft), reply))
 }
 
 /// An owner submits its draft with this certificate, and this is told.
@@ -93,5 +93,5 @@ pub fn submitted(
     let said = reserve(alloc, pool, 1)?;
     let reply = owners::submit(alloc, owner, cert)?;
     let party = Role::Owner.party(number);
-    Ok(tell(alloc, pool, said, party, What::Submit(draft), reply))
+    Ok(tell_reply(alloc, pool, said, party, What::Submit(draft), reply))
 }

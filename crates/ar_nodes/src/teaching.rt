@@ -13,7 +13,7 @@ use crate::fault::WorldFault;
 use crate::finding::{honest, owner_place};
 use crate::lesson::Lesson;
 use crate::parties::HonestAuthority;
-use crate::sending::tell;
+use crate::sending::one_told;
 use ar_base::Items;
 use ar_names::NameView;
 use owner_check::OwnerCheck;
@@ -197,7 +197,7 @@ pub fn instructed<C: OwnerCheck>(
     ensures err { IfErr result (λ fault. (fault ≡ Memory) × (authorities.new ≡ authorities.old)) }
     ensures len { length authorities.new ≡ length authorities.old }
 {
-    let said = tell(alloc, lesson_said(lesson, number))?;
+    let said = one_told(alloc, lesson_said(lesson, number))?;
     instruct_at(alloc, authorities, number, lesson, name.text(), key)?;
     Ok(said)
 }
@@ -216,7 +216,7 @@ pub fn retired<C: OwnerCheck>(
     ensures err { IfErr result (λ fault. (fault ≡ Memory) × (authorities.new ≡ authorities.old)) }
     ensures len { length authorities.new ≡ length authorities.old }
 {
-    let said = tell(alloc, Happening::Retired { authority: number })?;
+    let said = one_told(alloc, Happening::Retired { authority: number })?;
     retire_at(authorities, number);
     Ok(said)
 }

@@ -19,9 +19,9 @@ pub struct Judged {
 
 // Clauses see the bytes, however much room they keep.
 impl Model for Judged {
-    ghost use Rattle.ar_safety.specs.Held.{Taken};
+    ghost use Rattle.ar_safety.specs.Held.{AcceptedBytes};
 
-    ghost Value = { Taken };
+    ghost Value = { AcceptedBytes };
 
     ghost view = { λ j. record { name = j.name; now = j.now; age = j.age; bytes = j.bytes.items } };
 }

@@ -28,7 +28,7 @@ use Rattle.ar_message.specs.Confirmation.{Body, Confirmation, IsConfirmation, ab
 use Rattle.ar_message.specs.Filling.{signature_under}
 use Rattle.ar_message.specs.Messages.{about_in, confirmation_in, fields_text, message_text, shown_in}
 use Rattle.ar_message.proofs.ConfirmationLaws.{confirmation_again}
-use Rattle.client_rule.specs.Meaning.{HasParties, HoldsAll, Passes}
+use Rattle.client_rule.specs.Meaning.{HasSigners, HoldsAll, PassesChecks}
 use Rattle.client_rule.specs.Rule.{claim_on, judgement, Asked}
 use Rattle.client_rule.specs.declared.judgement.Judgement.TheVariants.{Absent, Accepted}
 use Rattle.client_rule.proofs.Meanings.{absence, accepted}
@@ -186,7 +186,7 @@ all-hold a part first_signature asked honest is knows in_time =
     let log = carried-over a.keys asked.keys (log_party part.log) (text (log_party part.log)) part.signature knows.log is.log_signed in
     let first = carried-over a.keys asked.keys (authority_party part.first) (text (authority_party part.first)) first_signature knows.first is.first_signed in
     let second = carried-over a.keys asked.keys (authority_party a.me) (text (authority_party a.me)) (own_signature a part) knows.second own.is_verified in
-    let parties : HasParties asked.keys (Got a part first_signature) = record {
+    let parties : HasSigners asked.keys (Got a part first_signature) = record {
       log = log-known asked.keys part.log (text (log_party part.log)) part.signature log;
       first = authority-known asked.keys part.first (text (authority_party part.first)) first_signature first;
       second = authority-known asked.keys a.me (text (authority_party a.me)) (own_signature a part) second;
@@ -195,7 +195,7 @@ all-hold a part first_signature asked honest is knows in_time =
     (in_time.name, (parties, (log, (first, (second, (is.path, (in_time.timely.not_later, (in_time.timely.young, (in_time.timely.live, (in_time.timely.current, tt))))))))))
 
 passes : (a : Confirmer) (part : Confirming) (first_signature : List ℕ) (asked : Asked) → IsConfirmer a → IsHalfConfirmed a part first_signature
-    → KnowsSigners a part first_signature asked.keys → IsInTime part asked → Passes asked (bytes_to_client a part first_signature) (Got a part first_signature)
+    → KnowsSigners a part first_signature asked.keys → IsInTime part asked → PassesChecks asked (bytes_to_client a part first_signature) (Got a part first_signature)
 unfolding message_text fields_text confirmation_text
 passes a part first_signature asked honest is knows in_time =
     let own : IsSigned a part = own-signed a part first_signature honest is in

@@ -18,7 +18,7 @@ use Rattle.domain_table.specs.Tree.{root_of}
 use Rattle.domain_table.proofs.Applied.{applied, none_holds, none_sound}
 use Rattle.domain_table.proofs.Steps.{Follows, Holds, follows_itself}
 use Rattle.domain_table.proofs.Trees.{Listed, same_tables}
-use Rattle.epoch_log.specs.Honest.{EndsInOrder, HonestLog}
+use Rattle.epoch_log.specs.Honest.{EndsInOrder, IsOfHonestLog}
 use Rattle.epoch_log.specs.Record.{after_ending, base_of, current, ending}
 use Rattle.ar_council.proofs.Lists.{find-nothing}
 use Rattle.epoch_log.specs.Right.{IsRightDecision, IsRightVote, SawEndorsements}
@@ -72,7 +72,7 @@ base-next r honest j is e sound holds = by (ending (r.logs j).ended e) refl
     seen : List SeenText
     seen = (r.logs j).seen
 
-    h : HonestLog r.council j (r.logs j)
+    h : IsOfHonestLog r.council j (r.logs j)
     h = honest.logs j is
 
     stays : base_of ended (suc e) ≡ base_of ended e → Follows (Endorsed seen) (base_of ended e) (base_of ended (suc e))
@@ -122,13 +122,13 @@ one-of-root r clean one other a b same = same_tables (hashed r) clean.strings on
 
 pub agreed-range : (r : Records) → AreHonest r → (e : ℕ) (t : Table) (a : Agreed r e t) → (1 ≤ e) × (e ≤ current (r.logs a.log).ended)
 agreed-range r honest e t a =
-    let h : HonestLog r.council a.log (r.logs a.log) = honest.logs a.log a.honest in
+    let h : IsOfHonestLog r.council a.log (r.logs a.log) = honest.logs a.log a.honest in
     let up = All-contains (λ (v : Voted). (1 ≤ v.epoch) × (v.epoch ≤ current (r.logs a.log).ended)) (r.logs a.log).voted a.ballot h.votes_once.up_to_now a.is_cast in
     (omega (arith, up.0, a.of_epoch), omega (arith, up.1, a.of_epoch))
 
 pub agreed-follows : (r : Records) → AreHonest r → (e : ℕ) (t : Table) (a : Agreed r e t) → Follows (Endorsed (r.logs a.log).seen) (base_of (r.logs a.log).ended e) t
 agreed-follows r honest e t a =
-    let h : HonestLog r.council a.log (r.logs a.log) = honest.logs a.log a.honest in
+    let h : IsOfHonestLog r.council a.log (r.logs a.log) = honest.logs a.log a.honest in
     let range = agreed-range r honest e t a in
     let right : IsRightVote (r.logs a.log).seen (r.logs a.log).ended a.ballot = All-contains (IsRightVote (r.logs a.log).seen (r.logs a.log).ended) (r.logs a.log).voted a.ballot h.votes_rightly a.is_cast in
     let before = base-kept r honest a.log a.honest e in
@@ -155,7 +155,7 @@ record IsDecidedBy (r : Records) (j e : ℕ) (to : List ℕ) : Type 0 where
 decided-by : (r : Records) → AreHonest r → (j : ℕ) → IsHonestLog r j → (e : ℕ) (changes : List Change) (to : List ℕ) → ending (r.logs j).ended e ≡ Some (Decided changes to) → IsDecidedBy r j e to
 decided-by r honest j is e changes to at =
     let ended : List Ended = (r.logs j).ended in
-    let h : HonestLog r.council j (r.logs j) = honest.logs j is in
+    let h : IsOfHonestLog r.council j (r.logs j) = honest.logs j is in
     let right : IsRightDecision r.council (r.logs j).seen ended e changes to = h.decides_rightly e changes to at in
     let within = ending-within ended h.ends_in_order e (Decided changes to) at in
     let t : Table = right.leads.reaches.table in

@@ -39,19 +39,19 @@ use Rattle.domain_table.specs.Tree.{newest_strings, table_strings, tree_entries,
 use Rattle.domain_table.proofs.Chains.{Good, one_certificate}
 use Rattle.domain_table.proofs.Newest.{newest_has, newest_there}
 use Rattle.domain_table.proofs.Trees.{chain_listed, entry_at, good_chain, holds_digests}
-use Rattle.client_rule.specs.Meaning.{HasParties, IsShown, IsTimely}
+use Rattle.client_rule.specs.Meaning.{HasSigners, IsShown, IsTimely}
 use Rattle.client_rule.specs.Rule.{claim_on}
 use Rattle.ar_council.specs.Council.{Council, IsMember}
 use Rattle.ar_safety.specs.Agreed.{Backed, Confirms, HasHonestSigner, HasNewest, HasNone}
 use Rattle.ar_safety.specs.Hashed.{body_strings, hashed, judged_strings, listed_tables}
-use Rattle.ar_safety.specs.Records.{AreSigned, IsHonest, IsJudged, Judged, Records, carried, carried_by, signed_by, signers}
+use Rattle.ar_safety.specs.Records.{AreSigned, IsHonest, IsJudged, AcceptedConfirmation, Records, carried, carried_by, signed_by, signers}
 use Rattle.ar_safety.specs.Theorem.{AreHonest, Few, NoCollision, NoForgery}
 use Rattle.ar_safety.proofs.Agreement.{Fine, agreed-fine}
 use Rattle.ar_safety.proofs.Confirming.{IsAgreed, backed-agreed, confirms-backed, confirms-saw, one-of-three}
 
 -- ---- what is accepted is backed
 
-is-read : (council : Council) (j : Judged) → IsJudged council j → IsConfirmation j.confirmation
+is-read : (council : Council) (j : AcceptedConfirmation) → IsJudged council j → IsConfirmation j.confirmation
 is-read council j is = ((only_text confirmation_at confirmation_text IsConfirmation confirmation_again confirmation_pass j.bytes j.confirmation is.bytes).0 is.passes.is_read).0
 
 pub valid-body : (c : Confirmation) (p : Party) → IsConfirmation c → p.number < 2 ^ 16 → is_witness p.role ≡ true → (b : Body) → IsBody b
@@ -85,7 +85,7 @@ record Confirmer (r : Records) (c : Confirmation) : Type 0 where
   signed : Contains (signed_by r party) (text_of (claim_on c.about c.body party))
 
 -- of what a client accepted there is one
-confirmer : (r : Records) → AreHonest r → Few r → NoForgery r → (j : Judged) → Contains r.judged j → Confirmer r j.confirmation
+confirmer : (r : Records) → AreHonest r → Few r → NoForgery r → (j : AcceptedConfirmation) → Contains r.judged j → Confirmer r j.confirmation
 confirmer r honest few forged j there = elim (one-of-three r.dishonest log first second few (λ e. log-not c.first.number e) (λ e. log-not c.second.number e) (λ e. two-not e)) [
   | inl good ↦ back log (omega (arith, log-in, honest.quorums.few)) refl log-in good (0, omega arith, refl)
   | inr rest ↦ elim rest [
@@ -103,7 +103,7 @@ confirmer r honest few forged j there = elim (one-of-three r.dishonest log first
     read : IsConfirmation c
     read = is-read r.council j is
 
-    parties : HasParties j.asked.keys c
+    parties : HasSigners j.asked.keys c
     parties = is.passes.holds.1.0
 
     log : Party
@@ -133,7 +133,7 @@ confirmer r honest few forged j there = elim (one-of-three r.dishonest log first
     back : (p : Party) → p.number < 2 ^ 16 → is_witness p.role ≡ true → IsMember r.council p → list_any (is_party p) r.dishonest ≡ false → Contains (signers c) p → Confirmer r c
     back p small witness known good one =
         let honest-p : IsHonest r p = record { known = known; honest = good } in
-        let signed : AreSigned r (carried c) = All-contains (λ (x : Judged). AreSigned r (carried x.confirmation)) r.judged j forged.judged there in
+        let signed : AreSigned r (carried c) = All-contains (λ (x : AcceptedConfirmation). AreSigned r (carried x.confirmation)) r.judged j forged.judged there in
         let carries : Contains (carried c) (carried_by c p) = All-contains (λ q. Contains (carried c) (carried_by c q)) (signers c) p (map-has (carried_by c) (signers c)) one in
         record {
           party = p;
@@ -144,13 +144,13 @@ confirmer r honest few forged j there = elim (one-of-three r.dishonest log first
         }
 
 -- the root of what a client accepted is backed
-pub judged-backed : (r : Records) → AreHonest r → Few r → NoForgery r → (j : Judged) → Contains r.judged j → Backed r j.confirmation.about.epoch j.confirmation.about.root
+pub judged-backed : (r : Records) → AreHonest r → Few r → NoForgery r → (j : AcceptedConfirmation) → Contains r.judged j → Backed r j.confirmation.about.epoch j.confirmation.about.root
 judged-backed r honest few forged j there =
     let p = confirmer r honest few forged j there in
     confirms-backed r honest forged p.party p.honest j.confirmation.about.epoch j.confirmation.about.root p.confirms
 
 -- and an honest one of the three saw votes for it
-pub judged-voted : (r : Records) → AreHonest r → Few r → NoForgery r → (j : Judged) → Contains r.judged j → HasHonestSigner r j.confirmation
+pub judged-voted : (r : Records) → AreHonest r → Few r → NoForgery r → (j : AcceptedConfirmation) → Contains r.judged j → HasHonestSigner r j.confirmation
 judged-voted r honest few forged j there =
     let p = confirmer r honest few forged j there in
     record {
@@ -171,13 +171,13 @@ in-list {X} f (z ∷ xs) x s there is = by there.0 there.1 there.2 (in-list f xs
     by zero within same rest = in_front (f z) (flat_map f xs) s (subst (λ w. IsIn (f w) s) (sym same) is)
     by (suc k) within same rest = in_rest (f z) (flat_map f xs) s (rest (k, omega (arith, within), same) is)
 
-judged-hashed : (r : Records) (j : Judged) (s : List ℕ) → Contains r.judged j → IsIn (judged_strings j) s → IsIn (hashed r) s
+judged-hashed : (r : Records) (j : AcceptedConfirmation) (s : List ℕ) → Contains r.judged j → IsIn (judged_strings j) s → IsIn (hashed r) s
 judged-hashed r j s there is = in_rest (flat_map table_strings (listed_tables r)) (flat_map judged_strings r.judged) s (in-list judged_strings r.judged j s there is)
 
-name-hashed : (r : Records) (j : Judged) → Contains r.judged j → IsIn (hashed r) (name_string j.confirmation.about.name)
+name-hashed : (r : Records) (j : AcceptedConfirmation) → Contains r.judged j → IsIn (hashed r) (name_string j.confirmation.about.name)
 name-hashed r j there = judged-hashed r j (name_string j.confirmation.about.name) there (inl refl)
 
-body-hashed : (r : Records) (j : Judged) (b : Body) → Contains r.judged j → j.confirmation.body ≡ b → (s : List ℕ) → IsIn (body_strings (name_digest_of j.confirmation.about.name) j.confirmation.steps b) s → IsIn (hashed r) s
+body-hashed : (r : Records) (j : AcceptedConfirmation) (b : Body) → Contains r.judged j → j.confirmation.body ≡ b → (s : List ℕ) → IsIn (body_strings (name_digest_of j.confirmation.about.name) j.confirmation.steps b) s → IsIn (hashed r) s
 body-hashed r j b there is s within =
     judged-hashed r j s there (inr (subst (λ x. IsIn (body_strings (name_digest_of j.confirmation.about.name) j.confirmation.steps x) s) (sym is) within))
 
@@ -216,7 +216,7 @@ newest-by-value r clean t fine name chain there certificate fits hashed-text has
     let is : top.0 ≡ certificate = one_certificate strings none top.0 certificate top-fits fits top-text hashed-text digests in
     (good.is_chain, top.1 ∙ ap (λ c. Some c) is)
 
-pub accepted-newest : (r : Records) → AreHonest r → Few r → NoForgery r → NoCollision r → (j : Judged) (certificate : Certificate) → Contains r.judged j → j.confirmation.body ≡ present certificate
+pub accepted-newest : (r : Records) → AreHonest r → Few r → NoForgery r → NoCollision r → (j : AcceptedConfirmation) (certificate : Certificate) → Contains r.judged j → j.confirmation.body ≡ present certificate
     → HasNewest r j.asked.name j.confirmation.about.epoch j.confirmation.about.root certificate
 accepted-newest r honest few forged clean j certificate there is-present =
     let c : Confirmation = j.confirmation in
@@ -254,7 +254,7 @@ digest-key : (bottom : Bottom) → IsBottom bottom → HasDigestKey bottom
 digest-key Empty is = tt
 digest-key (Other key value) is = is.0
 
-pub accepted-absence : (r : Records) → AreHonest r → Few r → NoForgery r → NoCollision r → (j : Judged) (bottom : Bottom) → Contains r.judged j → j.confirmation.body ≡ absent bottom
+pub accepted-absence : (r : Records) → AreHonest r → Few r → NoForgery r → NoCollision r → (j : AcceptedConfirmation) (bottom : Bottom) → Contains r.judged j → j.confirmation.body ≡ absent bottom
     → HasNone r j.asked.name j.confirmation.about.epoch j.confirmation.about.root
 accepted-absence r honest few forged clean j bottom there is-absent =
     let c : Confirmation = j.confirmation in
@@ -282,7 +282,7 @@ accepted-absence r honest few forged clean j bottom there is-absent =
 
 -- ---- ages
 
-pub judged-timely : (r : Records) → AreHonest r → (j : Judged) → Contains r.judged j → IsTimely j.asked j.confirmation.about.epoch j.confirmation.body
+pub judged-timely : (r : Records) → AreHonest r → (j : AcceptedConfirmation) → Contains r.judged j → IsTimely j.asked j.confirmation.about.epoch j.confirmation.body
 judged-timely r honest j there =
     let holds = (All-contains (IsJudged r.council) r.judged j honest.judged there).passes.holds in
     let ages = holds.1.1.1.1.1.1 in

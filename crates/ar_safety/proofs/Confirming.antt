@@ -17,7 +17,7 @@ use Rattle.domain_table.specs.Applying.{apply}
 use Rattle.domain_table.specs.Tables.{Table}
 use Rattle.domain_table.specs.Tree.{root_of}
 use Rattle.domain_table.proofs.Trees.{root-digest}
-use Rattle.epoch_log.specs.Honest.{HonestLog}
+use Rattle.epoch_log.specs.Honest.{IsOfHonestLog}
 use Rattle.epoch_log.specs.Record.{base_of}
 use Rattle.ar_council.proofs.Lists.{found}
 use Rattle.ar_council.proofs.Seeing.{one_party}
@@ -27,7 +27,7 @@ use Rattle.epoch_log.specs.Told.{HasConfirmed}
 use Rattle.epoch_log.specs.declared.entries.Confirmed.{Confirmed}
 use Rattle.epoch_log.specs.declared.entries.Voted.{Voted}
 use Rattle.epoch_log.proofs.Read.{confirmations-signed}
-use Rattle.authority_core.specs.Honest.{HasKept, HonestAuthority}
+use Rattle.authority_core.specs.Honest.{HasKept, IsOfHonestAuthority}
 use Rattle.authority_core.specs.Record.{AuthorityRecord}
 use Rattle.authority_core.proofs.Read.{confirmed-kept}
 use Rattle.ar_safety.specs.Agreed.{Agreed, Backed, Backs, Confirms, SawQuorum}
@@ -83,7 +83,7 @@ root-of-claim p e name (Some certificate) to valid = valid.held.fields.1.1.1
 log-decided : (r : Records) → AreHonest r → (log : ℕ) → IsHonestLog r log → (e : ℕ) (to : List ℕ) (c : Confirms r (log_party log) e to)
     → IsRightConfirmation (r.logs log).ended (record { epoch = e; name = c.name; certificate = c.certificate; root = to })
 log-decided r honest log is e to c =
-    let h : HonestLog r.council log (r.logs log) = honest.logs log is in
+    let h : IsOfHonestLog r.council log (r.logs log) = honest.logs log is in
     let has : HasConfirmed (r.logs log).confirmed e c.name c.certificate to =
     (confirmations-signed r.council log (r.logs log) e c.name c.certificate to h c.valid).0 c.signed in
     let entry : Confirmed = record { epoch = e; name = c.name; certificate = c.certificate; root = to } in
@@ -100,7 +100,7 @@ before (suc n) is = (n, (omega arith, omega (arith, leb-true (suc n) (2 ^ 63) (a
 
 authority-backed : (r : Records) → AreHonest r → NoForgery r → (a : ℕ) → IsHonest r (authority_party a) → (e : ℕ) (to : List ℕ) → Confirms r (authority_party a) e to → Backed r e to
 authority-backed r honest forged a is e to c =
-    let h : HonestAuthority r.council a (r.authorities a) = honest.authorities a is in
+    let h : IsOfHonestAuthority r.council a (r.authorities a) = honest.authorities a is in
     let own : AuthorityRecord = r.authorities a in
     let kept : HasKept r.council own.seen own.kept e c.name c.certificate to = confirmed-kept r.council a own e c.name c.certificate to h c.valid c.signed in
     let value : Value = record { base = kept.0.base; root = to } in

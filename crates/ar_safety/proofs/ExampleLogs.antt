@@ -20,10 +20,10 @@ use Rattle.ar_council.proofs.Texts.{own-text}
 use Rattle.ar_council.specs.Council.{IsMember}
 use Rattle.ar_council.specs.Values.{status_claim, vote_claim}
 use Rattle.ar_council.specs.Votes.{SawVotes}
-use Rattle.epoch_log.specs.Honest.{EndsInOrder, HonestLog}
+use Rattle.epoch_log.specs.Honest.{EndsInOrder, IsOfHonestLog}
 use Rattle.epoch_log.specs.Record.{base_of, ending}
-use Rattle.epoch_log.specs.Right.{Fits, IsRightDecision, IsRightSkip, IsRightVote, LeadsTo}
-use Rattle.epoch_log.specs.Told.{Told}
+use Rattle.epoch_log.specs.Right.{FitsVotes, IsRightDecision, IsRightSkip, IsRightVote, LeadsTo}
+use Rattle.epoch_log.specs.Told.{ToldByLog}
 use Rattle.epoch_log.specs.declared.entries.Ended.{Ended}
 use Rattle.epoch_log.specs.declared.entries.How.{How}
 use Rattle.epoch_log.specs.declared.entries.How.TheVariants.{Decided, Skipped}
@@ -83,8 +83,8 @@ leads-none seen how = subst (λ t. LeadsTo seen 1 t [] (root_of no_table)) (sym 
   endorsed = λ k d less. absurd (omega (arith, less));
 })
 
-pub deciding-honest : (voters : List ℕ) (me : ℕ) → me < 5 → All (λ k. k < 5) voters → 4 ≤ distinct_count voters → HonestLog five me (deciding_log voters me)
-unfolding Told
+pub deciding-honest : (voters : List ℕ) (me : ℕ) → me < 5 → All (λ k. k < 5) voters → 4 ≤ distinct_count voters → IsOfHonestLog five me (deciding_log voters me)
+unfolding ToldByLog
 deciding-honest voters me small below many = record {
   ends_in_order = first-order end;
   votes_once = record { once = single (λ v w. v.epoch ≢ w.epoch) own; up_to_now = only (λ v. (1 ≤ v.epoch) × (v.epoch ≤ 2)) own (omega arith, omega arith) };
@@ -99,8 +99,8 @@ deciding-honest voters me small below many = record {
   confirms_rightly = λ k d less. absurd (omega (arith, less));
   signs_what_it_tells = record {
     sound = one-book (vote_claim me 1 unchanged) (plain-vote me 1 unchanged);
-    told = only (IsTextOf (Told me (own ∷ []) [] [])) (text_of (vote_claim me 1 unchanged))
-        (own-text (Told me (own ∷ []) [] []) (vote_claim me 1 unchanged) (valid-vote me 0 unchanged (omega (arith, small)) (omega arith) value-fits) (refl, (own, ((0, omega arith, refl), refl, refl))));
+    told = only (IsTextOf (ToldByLog me (own ∷ []) [] [])) (text_of (vote_claim me 1 unchanged))
+        (own-text (ToldByLog me (own ∷ []) [] []) (vote_claim me 1 unchanged) (valid-vote me 0 unchanged (omega (arith, small)) (omega arith) value-fits) (refl, (own, ((0, omega arith, refl), refl, refl))));
     votes = only (λ v. Contains (text_of (vote_claim me 1 unchanged) ∷ []) (text_of (vote_claim me v.epoch (record { base = v.base; root = v.root })))) own (0, omega arith, refl);
     statuses = λ k d less. absurd (omega (arith, less));
     confirmations = λ k d less. absurd (omega (arith, less));
@@ -150,15 +150,15 @@ right-skip = record {
   rises (suc (suc zero)) less = omega arith
   rises (suc (suc (suc k))) less = absurd (omega (arith, less))
 
-pub skipping-honest : HonestLog five 4 (skipping_log (0 ∷ 1 ∷ 2 ∷ 4 ∷ []) 4)
-unfolding Told
+pub skipping-honest : IsOfHonestLog five 4 (skipping_log (0 ∷ 1 ∷ 2 ∷ 4 ∷ []) 4)
+unfolding ToldByLog
 skipping-honest = record {
   ends_in_order = first-order end;
   votes_once = record { once = λ i j d before within. absurd (omega (arith, within)); up_to_now = λ k d less. absurd (omega (arith, less)) };
   states_its_vote = record {
     once = single (λ s t. s.epoch ≢ t.epoch) own;
     up_to_now = only (λ s. (1 ≤ s.epoch) × (s.epoch ≤ 2)) own (omega arith, omega arith);
-    fits = only (λ s. Fits [] s.epoch s.value) own (λ k d less. absurd (omega (arith, less)));
+    fits = only (λ s. FitsVotes [] s.epoch s.value) own (λ k d less. absurd (omega (arith, less)));
   };
   votes_rightly = λ k d less. absurd (omega (arith, less));
   decides_rightly = λ epoch changes to is. let f = first-is end (Decided changes to) epoch is in absurd cc;
@@ -169,8 +169,8 @@ skipping-honest = record {
   confirms_rightly = λ k d less. absurd (omega (arith, less));
   signs_what_it_tells = record {
     sound = one-book (status_claim 4 1 None) (plain-status 4 1 None);
-    told = only (IsTextOf (Told 4 [] (own ∷ []) [])) (text_of (status_claim 4 1 None))
-        (own-text (Told 4 [] (own ∷ []) []) (status_claim 4 1 None) (valid-status 4 0 None (omega arith) (omega arith) tt) (refl, (0, omega arith, refl)));
+    told = only (IsTextOf (ToldByLog 4 [] (own ∷ []) [])) (text_of (status_claim 4 1 None))
+        (own-text (ToldByLog 4 [] (own ∷ []) []) (status_claim 4 1 None) (valid-status 4 0 None (omega arith) (omega arith) tt) (refl, (0, omega arith, refl)));
     votes = λ k d less. absurd (omega (arith, less));
     statuses = only (λ (s : Stated). Contains (text_of (status_claim 4 1 None) ∷ []) (text_of (status_claim 4 s.epoch s.value))) own (0, omega arith, refl);
     confirmations = λ k d less. absurd (omega (arith, less));

@@ -14,7 +14,7 @@ use Rattle.domain_table.specs.Tree.{root_of, table_strings}
 use Rattle.party_keys.specs.Seen.{seen_of}
 use Rattle.ar_council.specs.Values.{status_claim, vote_claim}
 use Rattle.epoch_log.specs.Calls.{fresh}
-use Rattle.epoch_log.specs.Honest.{HonestLog}
+use Rattle.epoch_log.specs.Honest.{IsOfHonestLog}
 use Rattle.epoch_log.specs.Record.{ending}
 use Rattle.epoch_log.specs.declared.entries.How.{How}
 use Rattle.epoch_log.specs.declared.entries.How.TheVariants.{Decided, Skipped}
@@ -142,7 +142,7 @@ split-honest = record {
   authorities = λ authority is. honest-fresh five authority 32 (omega arith);
   judged = λ k d less. absurd (omega (arith, less));
 } where
-  by : (log : ℕ) → (log ≡ 3) ⊎ (log ≡ 4) → HonestLog five log (split_run.logs log)
+  by : (log : ℕ) → (log ≡ 3) ⊎ (log ≡ 4) → IsOfHonestLog five log (split_run.logs log)
   by log (inl is) = rw is (deciding-honest (0 ∷ 1 ∷ 2 ∷ 3 ∷ []) 3 (omega arith) (four-below 0 1 2 3 5 (omega arith) (omega arith) (omega arith) (omega arith)) four-many)
   by log (inr is) = rw is skipping-honest
 
@@ -192,7 +192,7 @@ forged-honest = record {
   authorities = λ authority is. honest-fresh five authority 32 (omega arith);
   judged = λ k d less. absurd (omega (arith, less));
 } where
-  by : (log : ℕ) → log < 5 → HonestLog five log (forged_run.logs log)
+  by : (log : ℕ) → log < 5 → IsOfHonestLog five log (forged_run.logs log)
   by zero less = (kept-fresh 0 five 32 (omega arith) (omega arith)).honest
   by (suc zero) less = (kept-fresh 1 five 32 (omega arith) (omega arith)).honest
   by (suc (suc zero)) less = (kept-fresh 2 five 32 (omega arith) (omega arith)).honest

@@ -15,14 +15,14 @@ use Rattle.ar_statement.specs.declared.party.Party.{Party}
 use Rattle.ar_statement.specs.Claims.{is_party}
 use Rattle.ar_message.specs.Confirmation.{Confirmation, confirmation_at}
 use Rattle.party_keys.specs.Directory.{Directory}
-use Rattle.client_rule.specs.Meaning.{Passes}
+use Rattle.client_rule.specs.Meaning.{PassesChecks}
 use Rattle.client_rule.specs.declared.judgement.Judgement.{Judgement}
 use Rattle.client_rule.specs.declared.judgement.Judgement.TheVariants.{Absent, Accepted, Refused}
 use Rattle.client_rule.proofs.Meanings.{absence, accepted}
 use Rattle.ar_council.specs.Council.{council_of}
 use Rattle.ar_safety.specs.Agreed.{HasNewest, HasNone}
-use Rattle.ar_safety.specs.Held.{AreKept, AreSafe, Held, IsAccepting, Taken, asked_by, honest_below, honest_records, judged_in, record_at, records_of, verdict_on}
-use Rattle.ar_safety.specs.Records.{IsJudged, Judged, Records}
+use Rattle.ar_safety.specs.Held.{AreKept, AreSafe, Held, IsAccepting, AcceptedBytes, asked_by, honest_below, honest_records, judged_in, record_at, records_of, verdict_on}
+use Rattle.ar_safety.specs.Records.{IsJudged, AcceptedConfirmation, Records}
 use Rattle.ar_safety.specs.Theorem.{AreHonest, Few, NoCollision, NoForgery, Safe}
 use Rattle.ar_safety.proofs.Whole.{agree}
 
@@ -56,27 +56,27 @@ taken-there {X} {Y} f (z ∷ xs) x y there is = by there.0 there.1 there.2 (f z)
 -- ---- judgements
 
 -- an accepted judgement was read, and passes
-record WasRead (directory : Directory) (t : Taken) : Type 0 where
+record WasRead (directory : Directory) (t : AcceptedBytes) : Type 0 where
   confirmation : Confirmation
-  passes : Passes (asked_by directory t) t.bytes confirmation
+  passes : PassesChecks (asked_by directory t) t.bytes confirmation
 
-read-of : (directory : Directory) (t : Taken) (v : Judgement) → verdict_on directory t ≡ v → IsAccepting v → WasRead directory t
+read-of : (directory : Directory) (t : AcceptedBytes) (v : Judgement) → verdict_on directory t ≡ v → IsAccepting v → WasRead directory t
 read-of directory t (Accepted certificate digest epoch root) is taken =
     let a = (accepted (asked_by directory t) t.bytes certificate digest epoch root).0 is in record { confirmation = a.confirmation; passes = a.passes }
 read-of directory t (Absent epoch root) is taken =
     let a = (absence (asked_by directory t) t.bytes epoch root).0 is in record { confirmation = a.confirmation; passes = a.passes }
 read-of directory t (Refused number) is taken = absurd taken
 
-abbrev as_judged : Directory → Taken → Confirmation → Judged
+abbrev as_judged : Directory → AcceptedBytes → Confirmation → AcceptedConfirmation
 as_judged directory t c = record { asked = asked_by directory t; bytes = t.bytes; confirmation = c }
 
-judged-is : (directory : Directory) (t : Taken) (c : Confirmation) → whole confirmation_at t.bytes ≡ Ok c → judged_in directory t ≡ Some (as_judged directory t c)
+judged-is : (directory : Directory) (t : AcceptedBytes) (c : Confirmation) → whole confirmation_at t.bytes ≡ Ok c → judged_in directory t ≡ Some (as_judged directory t c)
 judged-is directory t c is = ap (λ (r : Result Confirmation ℕ). option_map (as_judged directory t) (result_ok r)) is
 
 all-judged : (h : Held) → AreKept h → All (IsJudged (council_of h.directory)) (records_of h).judged
 all-judged h kept = all-taken (judged_in h.directory) (IsJudged (council_of h.directory)) h.judged (λ t there j gives.
-    let bytes : AreBytes t.bytes = All-contains (λ (x : Taken). AreBytes x.bytes) h.judged t kept.bytes there in
-    let taken : IsAccepting (verdict_on h.directory t) = All-contains (λ (x : Taken). IsAccepting (verdict_on h.directory x)) h.judged t kept.taken there in
+    let bytes : AreBytes t.bytes = All-contains (λ (x : AcceptedBytes). AreBytes x.bytes) h.judged t kept.bytes there in
+    let taken : IsAccepting (verdict_on h.directory t) = All-contains (λ (x : AcceptedBytes). IsAccepting (verdict_on h.directory x)) h.judged t kept.taken there in
     let was : WasRead h.directory t = read-of h.directory t (verdict_on h.directory t) refl taken in
     let same : as_judged h.directory t was.confirmation ≡ j = same_Some _ _ (sym (judged-is h.directory t was.confirmation was.passes.is_read) ∙ gives) in
     subst (IsJudged (council_of h.directory)) same (record { bytes = bytes; passes = was.passes; same_council = refl }))
@@ -92,13 +92,13 @@ run-safe h kept few forged clean =
       safe = safe;
       accepted = λ t certificate digest epoch root there is.
           let a = (accepted (asked_by h.directory t) t.bytes certificate digest epoch root).0 is in
-          let j : Judged = as_judged h.directory t a.confirmation in
+          let j : AcceptedConfirmation = as_judged h.directory t a.confirmation in
           let in-run = taken-there (judged_in h.directory) h.judged t j there (judged-is h.directory t a.confirmation a.passes.is_read) in
           let newest : HasNewest r t.name a.confirmation.about.epoch a.confirmation.about.root certificate = (safe.newest j certificate in-run a.body).0 in
           subst (λ e. HasNewest r t.name e root certificate) (sym a.epoch_is) (subst (λ to. HasNewest r t.name a.confirmation.about.epoch to certificate) (sym a.root_is) newest);
       absence = λ t epoch root there is.
           let a = (absence (asked_by h.directory t) t.bytes epoch root).0 is in
-          let j : Judged = as_judged h.directory t a.confirmation in
+          let j : AcceptedConfirmation = as_judged h.directory t a.confirmation in
           let in-run = taken-there (judged_in h.directory) h.judged t j there (judged-is h.directory t a.confirmation a.passes.is_read) in
           let none : HasNone r t.name a.confirmation.about.epoch a.confirmation.about.root = (safe.absence j a.bottom.0 in-run a.bottom.1).0 in
           subst (λ e. HasNone r t.name e root) (sym a.epoch_is) (subst (λ to. HasNone r t.name a.confirmation.about.epoch to) (sym a.root_is) none);
@@ -106,11 +106,11 @@ run-safe h kept few forged clean =
 
 -- ---- nothing is left out
 
-pub judged-there : (h : Held) (t : Taken) → Contains h.judged t → IsAccepting (verdict_on h.directory t)
-    → (j : Judged) × (Contains (records_of h).judged j × (j.asked ≡ asked_by h.directory t) × (j.bytes ≡ t.bytes))
+pub judged-there : (h : Held) (t : AcceptedBytes) → Contains h.judged t → IsAccepting (verdict_on h.directory t)
+    → (j : AcceptedConfirmation) × (Contains (records_of h).judged j × (j.asked ≡ asked_by h.directory t) × (j.bytes ≡ t.bytes))
 judged-there h t there taken =
     let was : WasRead h.directory t = read-of h.directory t (verdict_on h.directory t) refl taken in
-    let j : Judged = as_judged h.directory t was.confirmation in
+    let j : AcceptedConfirmation = as_judged h.directory t was.confirmation in
     (j, (taken-there (judged_in h.directory) h.judged t j there (judged-is h.directory t was.confirmation was.passes.is_read), refl, refl))
 
 -- as many as there are honest ones

@@ -20,7 +20,7 @@ use Rattle.hash_tree.specs.Root.{strings_below, strings_of}
 use Rattle.hash_tree.specs.Strings.{entry_string, pending_key_string, value_digest, value_string}
 use Rattle.hash_tree.proofs.ByCount.{string-one}
 use Rattle.hash_tree.proofs.Maps.{exact, total}
-use Rattle.domain_table.specs.Applying.{after_answer, apply, apply_each, judge_ripe, manner_of, taken, with_room}
+use Rattle.domain_table.specs.Applying.{after_answer, apply, apply_each, judge_ripe, manner_of, taking_change, with_room}
 use Rattle.domain_table.specs.Tables.{Pending, Table, chain_of, newest, no_table, size}
 use Rattle.domain_table.specs.Tree.{chain_strings, keyed, pending_strings, pending_value, root_of, table_strings, valued, tree_entries, value_of}
 use Rattle.ar_safety.specs.RegisteredRun.{a_name, first_certificate, one_table, registration}
@@ -66,14 +66,14 @@ applied-one =
 -- ---- what stands in it
 
 pub one-chain : entries one_table.chains ≡ (a_name, registration ∷ []) ∷ []
-unfolding taken
+unfolding taking_change
 one-chain =
     entries-insert total no_table.chains a_name (chain_of no_table a_name ++ registration ∷ [])
     ∙ ap (maps.put key_cmp a_name (chain_of no_table a_name ++ registration ∷ [])) (no-entries (List Change))
     ∙ ap (λ (c : List Change). (a_name, c ++ registration ∷ []) ∷ []) none-chain
 
 pub no-waiting : entries one_table.waiting ≡ []
-unfolding taken
+unfolding taking_change
 no-waiting =
     let same : remove no_table.waiting a_name ≡ empty = same_map total exact (remove no_table.waiting a_name) empty (λ q.
     get-remove total no_table.waiting a_name q ∙ either _ (get no_table.waiting q) (get-empty key_cmp q) ∙ sym (get-empty key_cmp q)) in

@@ -38,7 +38,7 @@ use Rattle.hash_tree.specs.Strings.{entry_string, value_string}
 use Rattle.tree_proof.specs.Membership.{OnBytes}
 use Rattle.ar_message.specs.Confirmation.{IsConfirmation, body_text, confirmation_at, confirmation_fields_text, confirmation_text, signed_text, subject_text}
 use Rattle.ar_message.proofs.ConfirmationLaws.{confirmation_again}
-use Rattle.client_rule.specs.Meaning.{HasParties, HoldsAll, Passes}
+use Rattle.client_rule.specs.Meaning.{HasSigners, HoldsAll, PassesChecks}
 use Rattle.client_rule.specs.Rule.{judgement}
 use Rattle.client_rule.specs.declared.judgement.Judgement.TheVariants.{Accepted}
 use Rattle.client_rule.proofs.Meanings.{accepted}
@@ -55,11 +55,11 @@ use Rattle.ar_council.specs.Room.{HasRoom}
 use Rattle.party_keys.specs.Seen.{seen_of}
 use Rattle.ar_council.specs.Values.{confirm_claim, vote_claim}
 use Rattle.ar_council.specs.Votes.{SawVotes}
-use Rattle.epoch_log.specs.Honest.{HonestLog}
+use Rattle.epoch_log.specs.Honest.{IsOfHonestLog}
 use Rattle.epoch_log.specs.Record.{base_of, ending}
 use Rattle.epoch_log.specs.Right.{IsRightDecision, IsRightVote, LeadsTo, SawEndorsements, newest_digest}
-use Rattle.epoch_log.specs.State.{IsKept, IsNewestDecision, table_of}
-use Rattle.epoch_log.specs.Told.{Told}
+use Rattle.epoch_log.specs.State.{IsKeptLog, IsNewestDecision, table_of}
+use Rattle.epoch_log.specs.Told.{ToldByLog}
 use Rattle.epoch_log.specs.declared.entries.Ended.{Ended}
 use Rattle.epoch_log.specs.declared.entries.How.{How}
 use Rattle.epoch_log.specs.declared.entries.How.TheVariants.{Decided, Skipped}
@@ -67,13 +67,13 @@ use Rattle.epoch_log.specs.declared.entries.Voted.{Voted}
 use Rattle.epoch_log.proofs.Acting.{kept-confirming}
 use Rattle.epoch_log.proofs.Texts.{plain-vote, valid-vote}
 use Rattle.authority_core.specs.Calls.{MayConfirm, after_endorse, fresh_authority, seen_of_log}
-use Rattle.authority_core.specs.Honest.{HonestAuthority}
+use Rattle.authority_core.specs.Honest.{IsOfHonestAuthority}
 use Rattle.authority_core.specs.declared.entries.Approved.{Approved}
 use Rattle.authority_core.proofs.Growing.{confirm-signed, endorse-signed, honest-endorse, honest-first, honest-fresh, map-has}
 use Rattle.ar_safety.specs.Agreed.{Confirms}
 use Rattle.ar_safety.specs.Examples.{book_with, five}
 use Rattle.ar_safety.specs.Hashed.{StandsIn, hashed, judged_strings, log_tables, tables_below}
-use Rattle.ar_safety.specs.Records.{AreSigned, IsHonest, IsJudged, Judged, carried, signed_by}
+use Rattle.ar_safety.specs.Records.{AreSigned, IsHonest, IsJudged, AcceptedConfirmation, carried, signed_by}
 use Rattle.ar_safety.specs.RegisteredRun.{a_name, all_five, asked_for, asked_in_one, confirmation, confirming_authority, confirming_log, decided_log, directory_of_five, due_for, first_certificate, first_decision, judged_one, kept_one, key_for, one_table, registered, registered_run, registering_log, registration, says, seen_by_all, signed_for}
 use Rattle.ar_safety.specs.Theorem.{AreHonest, Few, NoCollision, NoForgery}
 use Rattle.ar_safety.proofs.ExampleLogs.{base-one, first-ending, first-is, first-order, one-book, only, single}
@@ -171,10 +171,10 @@ right-decision = record {
 }
 
 abbrev IsTold : ℕ → Claim → Type 0
-IsTold me = Told me (OwnVote ∷ []) [] []
+IsTold me = ToldByLog me (OwnVote ∷ []) [] []
 
-registering-honest : (me : ℕ) → me < 5 → HonestLog five me (registering_log me)
-unfolding Told
+registering-honest : (me : ℕ) → me < 5 → IsOfHonestLog five me (registering_log me)
+unfolding ToldByLog
 registering-honest me small = record {
   ends_in_order = first-order (Decided (registration ∷ []) (root_of one_table));
   votes_once = record { once = single (λ v w. v.epoch ≢ w.epoch) OwnVote; up_to_now = only (λ v. (1 ≤ v.epoch) × (v.epoch ≤ 2)) OwnVote (omega arith, omega arith) };
@@ -221,7 +221,7 @@ is-newest me = record {
   many = five-many;
 }
 
-decided-kept : (me : ℕ) → me < 5 → IsKept (decided_log me)
+decided-kept : (me : ℕ) → me < 5 → IsKeptLog (decided_log me)
 decided-kept me less = record {
   number = omega (arith, less);
   honest = registering-honest me less;
@@ -246,13 +246,13 @@ has-room : (claim : Claim) (text : List ℕ) → HasRoom (book_with claim) (text
 has-room claim text =
     omega (arith, one-most (is_plain_of 0) (record { generation = 0; text = text_of claim }), one-most (λ t. not (is_some (place_of (text_of claim ∷ []) t))) text)
 
-log-kept : (me : ℕ) → me < 5 → IsKept (calls.after_confirm (decided_log me) first_decision a_name)
+log-kept : (me : ℕ) → me < 5 → IsKeptLog (calls.after_confirm (decided_log me) first_decision a_name)
 log-kept me less =
     kept-confirming (decided_log me) first_decision a_name (decided-kept me less)
     (record { is_newest = refl; is_name = is-name; certificate = subst (λ o. IfSome o IsDigest) (sym (certificate-there me)) digest-fits; root = root-digest one_table })
     (has-room (vote_claim me 1 registered) (calls.confirmation_text (decided_log me) first_decision a_name))
 
-log-honest : (me : ℕ) → me < 5 → HonestLog five me (confirming_log me)
+log-honest : (me : ℕ) → me < 5 → IsOfHonestLog five me (confirming_log me)
 log-honest me less = (log-kept me less).honest
 
 -- it signed its vote and its confirmation
@@ -278,7 +278,7 @@ may-confirm = record {
   value = value-fits;
 }
 
-authority-honest : (me : ℕ) → me < 3 → HonestAuthority five me (confirming_authority me)
+authority-honest : (me : ℕ) → me < 3 → IsOfHonestAuthority five me (confirming_authority me)
 authority-honest me less =
     honest-first five me (after_endorse me (fresh_authority 32) asked_for) 0 all_five kept_one
     (honest-endorse five me (fresh_authority 32) asked_for (honest-fresh five me 32 (omega arith)) (omega (arith, less)) digest-fits) (omega (arith, less)) may-confirm
@@ -318,7 +318,7 @@ unforged = record {
   authorities = λ authority is. signed-of registered_run (confirming_authority authority).seen
       (seen-all IsOwn (seen_of_log 0 all_five kept_one) [] (All-nil IsOwn)
       (All-cons IsOwn (Saying (log_party 0)) (map Voting all_five) (λ honest. log-says 0) votes-own));
-  judged = only (λ (j : Judged). AreSigned registered_run (carried j.confirmation)) judged_one (signed-of registered_run (carried confirmation)
+  judged = only (λ (j : AcceptedConfirmation). AreSigned registered_run (carried j.confirmation)) judged_one (signed-of registered_run (carried confirmation)
       (All-cons IsOwn (Saying (log_party 0)) (Saying (authority_party 0) ∷ (Saying (authority_party 1) ∷ [])) (λ honest. log-says 0)
       (All-cons IsOwn (Saying (authority_party 0)) (Saying (authority_party 1) ∷ []) (λ honest. authority-says 0)
       (only IsOwn (Saying (authority_party 1)) (λ honest. authority-says 1)))));
@@ -616,10 +616,10 @@ holds = (
   ),
 )
   where
-    parties : HasParties directory_of_five confirmation
+    parties : HasSigners directory_of_five confirmation
     parties = record { log = omega arith; first = omega arith; second = omega arith; two = λ e. omega (arith, e) }
 
-one-passes : Passes asked_in_one (confirmation_text confirmation) confirmation
+one-passes : PassesChecks asked_in_one (confirmation_text confirmation) confirmation
 one-passes = record {
   is_read = whole_again confirmation_at confirmation (confirmation_text confirmation) (confirmation_again confirmation confirmation-fits);
   holds = holds;

@@ -35,7 +35,7 @@ use Rattle.party_keys.specs.declared.fault.SignerFault.TheVariants as signer
 use Rattle.party_keys.specs.Signers.{Claimed, all_known, all_signed, is_known, seen_in, signed_as, signer_fault, signers_answer}
 use Rattle.ar_message.specs.Confirmation as confirmation
 use Rattle.ar_message.specs.Confirmation.{body_text, confirmation_fields_text, form_text, is_present, path_text, signed_text, subject_text}
-use Rattle.ar_message.specs.Filling.{bytes_at, filled, signature_due, signed, written_at, zeros}
+use Rattle.ar_message.specs.Filling.{letter_bytes, filled, signature_due, signed, written_at, zeros}
 use Rattle.ar_message.specs.Sending.{Letter}
 use Rattle.ar_message.specs.declared.address.Address.{Address}
 use Rattle.ar_message.specs.declared.address.Address.TheVariants.{One}
@@ -357,13 +357,13 @@ row-letter s ring part first_signature later sent keyed message e =
 
 -- its bytes
 letter-bytes : (s : AuthorityState) (ring : List KeyParts) (part : Confirming) (first_signature : List ℕ) (later : AuthorityState) (sent : Unsigned) → IsWithRing s ring → IsMessage (HalfConfirmed part first_signature)
-    → half_confirmed_row s part first_signature ≡ Ok (later, sent) → bytes_at (filled ring sent).messages 0 ≡ bytes_to_client (confirmer_of s ring) part first_signature
-letter-bytes s ring part first_signature later sent keyed message e = ap (λ ls. bytes_at ls 0) (row-letter s ring part first_signature later sent keyed message e)
+    → half_confirmed_row s part first_signature ≡ Ok (later, sent) → letter_bytes (filled ring sent).messages 0 ≡ bytes_to_client (confirmer_of s ring) part first_signature
+letter-bytes s ring part first_signature later sent keyed message e = ap (λ ls. letter_bytes ls 0) (row-letter s ring part first_signature later sent keyed message e)
 
 pub row-accepted : (s : AuthorityState) (ring : List KeyParts) (part : Confirming) (first_signature : List ℕ) (later : AuthorityState) (sent : Unsigned) (asked : Asked) (certificate : Certificate) → IsWithRing s ring
     → IsMessage (HalfConfirmed part first_signature) → half_confirmed_row s part first_signature ≡ Ok (later, sent) → KnowsSigners (confirmer_of s ring) part first_signature asked.keys → IsInTime part asked
     → shown_in part.body ≡ confirmation.present certificate
-    → judgement asked (bytes_at (filled ring sent).messages 0) ≡ judgements.Accepted certificate (digest_of certificate) part.epoch part.root
+    → judgement asked (letter_bytes (filled ring sent).messages 0) ≡ judgements.Accepted certificate (digest_of certificate) part.epoch part.root
 row-accepted s ring part first_signature later sent asked certificate keyed message e knows in_time shown =
     subst (λ b. judgement asked b ≡ judgements.Accepted certificate (digest_of certificate) part.epoch part.root)
     (sym (letter-bytes s ring part first_signature later sent keyed message e))
@@ -372,7 +372,7 @@ row-accepted s ring part first_signature later sent asked certificate keyed mess
 pub row-absent : (s : AuthorityState) (ring : List KeyParts) (part : Confirming) (first_signature : List ℕ) (later : AuthorityState) (sent : Unsigned) (asked : Asked) (bottom : Bottom) → IsWithRing s ring
     → IsMessage (HalfConfirmed part first_signature) → half_confirmed_row s part first_signature ≡ Ok (later, sent) → KnowsSigners (confirmer_of s ring) part first_signature asked.keys → IsInTime part asked
     → shown_in part.body ≡ confirmation.absent bottom
-    → judgement asked (bytes_at (filled ring sent).messages 0) ≡ judgements.Absent part.epoch part.root
+    → judgement asked (letter_bytes (filled ring sent).messages 0) ≡ judgements.Absent part.epoch part.root
 row-absent s ring part first_signature later sent asked bottom keyed message e knows in_time shown =
     subst (λ b. judgement asked b ≡ judgements.Absent part.epoch part.root)
     (sym (letter-bytes s ring part first_signature later sent keyed message e))

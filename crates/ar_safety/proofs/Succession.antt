@@ -29,8 +29,8 @@ use Rattle.client_rule.specs.declared.judgement.Judgement.{Judgement}
 use Rattle.client_rule.specs.declared.judgement.Judgement.TheVariants as judgements
 use Rattle.ar_safety.specs.Agreed.{Agreed, Backed, HasChange, HasNewest, HasNone, IsVouchedFor, SawQuorum}
 use Rattle.ar_safety.specs.Hashed.{StandsIn}
-use Rattle.ar_safety.specs.Held.{AreSafe, Held, Taken, records_of, verdict_on}
-use Rattle.ar_safety.specs.Records.{AreSigned, IsHonest, Judged, Records, seen_by}
+use Rattle.ar_safety.specs.Held.{AreSafe, Held, AcceptedBytes, records_of, verdict_on}
+use Rattle.ar_safety.specs.Records.{AreSigned, IsHonest, AcceptedConfirmation, Records, seen_by}
 use Rattle.ar_safety.specs.Succession.{AcceptedOf, AreInOrder, IsNoOlder, accepted_by, accepted_of}
 use Rattle.ar_safety.specs.Theorem.{AreHonest, NoForgery, Safe}
 use Rattle.ar_safety.proofs.Votes.{votes-back}
@@ -116,20 +116,20 @@ in-order r safe name one other a b = record { same = same; later = later one.cer
 
 -- ---- of records
 
-stands-judged : (r : Records) → Safe r → (j : Judged) → Contains r.judged j → Stands r j.asked.name (accepted_by j)
+stands-judged : (r : Records) → Safe r → (j : AcceptedConfirmation) → Contains r.judged j → Stands r j.asked.name (accepted_by j)
 stands-judged r safe j there = by j.confirmation.body refl
   where
     by : (b : Body) → j.confirmation.body ≡ b → Stands r j.asked.name (record { epoch = j.confirmation.about.epoch; certificate = certificate_in b; root = j.confirmation.about.root })
     by (present certificate) is = with-newest r j.asked.name j.confirmation.about.epoch j.confirmation.about.root certificate (safe.newest j certificate there is).0
     by (absent bottom) is = with-none r j.asked.name j.confirmation.about.epoch j.confirmation.about.root (safe.absence j bottom there is).0
 
-pub judged-in-order : (r : Records) → Safe r → (j k : Judged) → Contains r.judged j → Contains r.judged k → j.asked.name ≡ k.asked.name → AreInOrder (accepted_by j) (accepted_by k)
+pub judged-in-order : (r : Records) → Safe r → (j k : AcceptedConfirmation) → Contains r.judged j → Contains r.judged k → j.asked.name ≡ k.asked.name → AreInOrder (accepted_by j) (accepted_by k)
 judged-in-order r safe j k one other same =
     in-order r safe j.asked.name (accepted_by j) (accepted_by k) (stands-judged r safe j one) (subst (λ name. Stands r name (accepted_by k)) (sym same) (stands-judged r safe k other))
 
 -- ---- of a run
 
-stands-taken : (h : Held) → AreSafe h → (t : Taken) (a : AcceptedOf) → Contains h.judged t → accepted_of (verdict_on h.directory t) ≡ Some a → Stands (records_of h) t.name a
+stands-taken : (h : Held) → AreSafe h → (t : AcceptedBytes) (a : AcceptedOf) → Contains h.judged t → accepted_of (verdict_on h.directory t) ≡ Some a → Stands (records_of h) t.name a
 stands-taken h safe t a there is = by (verdict_on h.directory t) refl is
   where
     by : (v : Judgement) → verdict_on h.directory t ≡ v → accepted_of v ≡ Some a → Stands (records_of h) t.name a
@@ -141,7 +141,7 @@ stands-taken h safe t a there is = by (verdict_on h.directory t) refl is
         subst (Stands (records_of h) t.name) same (with-none (records_of h) t.name epoch root (safe.absence t epoch root there said))
     by (judgements.Refused number) said e = absurd cc
 
-pub taken-in-order : (h : Held) → AreSafe h → (t u : Taken) (one other : AcceptedOf) → Contains h.judged t → Contains h.judged u → t.name ≡ u.name
+pub taken-in-order : (h : Held) → AreSafe h → (t u : AcceptedBytes) (one other : AcceptedOf) → Contains h.judged t → Contains h.judged u → t.name ≡ u.name
     → accepted_of (verdict_on h.directory t) ≡ Some one → accepted_of (verdict_on h.directory u) ≡ Some other → AreInOrder one other
 taken-in-order h safe t u one other first second same says tells =
     in-order (records_of h) safe.safe t.name one other (stands-taken h safe t one first says)
@@ -149,7 +149,7 @@ taken-in-order h safe t u one other first second same says tells =
 
 -- ---- vouched for
 
-pub accepted-vouched : (r : Records) → Safe r → (j : Judged) (certificate : Certificate) → Contains r.judged j → j.confirmation.body ≡ present certificate → IsVouchedFor r j.asked.name certificate
+pub accepted-vouched : (r : Records) → Safe r → (j : AcceptedConfirmation) (certificate : Certificate) → Contains r.judged j → j.confirmation.body ≡ present certificate → IsVouchedFor r j.asked.name certificate
 accepted-vouched r safe j certificate there is =
     let has = (safe.newest j certificate there is).0 in
     let chain : chain_of has.table j.asked.name ≡ has.chain = ap (λ o. unwrap_or o []) has.there in

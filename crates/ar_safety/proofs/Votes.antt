@@ -25,7 +25,7 @@ use Rattle.vote_quorum.proofs.Below.{count_below-both, distinct_count-below}
 use Rattle.vote_quorum.proofs.Silence.{no_quorum}
 use Rattle.domain_table.specs.Tree.{root_of}
 use Rattle.domain_table.proofs.Trees.{root-digest}
-use Rattle.epoch_log.specs.Honest.{HonestLog}
+use Rattle.epoch_log.specs.Honest.{IsOfHonestLog}
 use Rattle.epoch_log.specs.Record.{base_of, ending}
 use Rattle.ar_council.specs.Values.{status_claim, vote_claim}
 use Rattle.ar_council.specs.Votes.{SawVotes}
@@ -151,7 +151,7 @@ before (suc n) least = (n, omega arith)
 pub decided-backed : (r : Records) → AreHonest r → NoForgery r → (j : ℕ) → IsHonestLog r j → (epoch : ℕ) (changes : List Change) (to : List ℕ)
     → ending (r.logs j).ended epoch ≡ Some (Decided changes to) → Backed r epoch to
 decided-backed r honest forged j is epoch changes to ended =
-    let h : HonestLog r.council j (r.logs j) = honest.logs j is in
+    let h : IsOfHonestLog r.council j (r.logs j) = honest.logs j is in
     let right : IsRightDecision r.council (r.logs j).seen (r.logs j).ended epoch changes to = h.decides_rightly epoch changes to ended in
     let within = ending-within (r.logs j).ended h.ends_in_order epoch (Decided changes to) ended in
     let value : Value = record { base = root_of (base_of (r.logs j).ended epoch); root = to } in
@@ -166,7 +166,7 @@ pub backed-not-skipped : (r : Records) → AreHonest r → Few r → NoForgery r
 backed-not-skipped r honest few forged j is epoch to statuses backed ended =
     no_quorum r.council.logs r.council.quorum statuses to (λ log. is_dishonest r (log_party log)) (Backs r epoch to) right.are_seen.of_logs right.excludes (few-dishonest r few LogServer r.council.logs) each backed
   where
-    h : HonestLog r.council j (r.logs j)
+    h : IsOfHonestLog r.council j (r.logs j)
     h = honest.logs j is
 
     right : IsRightSkip r.council (r.logs j).seen epoch statuses

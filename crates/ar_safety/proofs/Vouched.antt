@@ -24,7 +24,7 @@ use Rattle.vote_quorum.proofs.Counts.{count_below-either, count_below-wider}
 use Rattle.domain_table.specs.Sound.{IsChainOf, Waits}
 use Rattle.domain_table.specs.Tables.{Pending, Table, certificates_of, chain_of, pair_of}
 use Rattle.ar_council.specs.Council.{IsMember}
-use Rattle.epoch_log.specs.Honest.{HonestLog}
+use Rattle.epoch_log.specs.Honest.{IsOfHonestLog}
 use Rattle.epoch_log.specs.Right.{SawEndorsements}
 use Rattle.authority_core.specs.Honest.{HasAsked}
 use Rattle.authority_core.proofs.Read.{endorsed-asked}
@@ -176,7 +176,7 @@ each-vouches r honest forged clean e t a name change has v among good =
 change-vouched : (r : Records) → AreHonest r → Few r → NoForgery r → NoCollision r → (e : ℕ) (t : Table) → Agreed r e t → (name : List ℕ) (change : Change) → HasChange t name change → IsVouchedFor r name change.cert
 change-vouched r honest few forged clean e t a name change has =
     let k = known r honest e t a name change has in
-    let h : HonestLog r.council a.log (r.logs a.log) = honest.logs a.log a.honest in
+    let h : IsOfHonestLog r.council a.log (r.logs a.log) = honest.logs a.log a.honest in
     let v = honest-endorser r few (r.logs a.log).seen h.sees_members change k.saw k.many in
     record { authority = v.number; honest = v.honest; vouches = endorser-vouches r honest forged clean e t a name change.cert k.stands k.named v.number v.honest v.saw }
 

@@ -22,7 +22,7 @@ use Rattle.client_rule.specs.Meaning.{SignsConfirmation, IsShown, IsTimely}
 use Rattle.client_rule.specs.Rule.{claim_on, Asked}
 use Rattle.ar_council.specs.Council.{council_of}
 use Rattle.ar_council.specs.Room.{HasRoom}
-use Rattle.authority_core.specs.Honest.{HonestAuthority}
+use Rattle.authority_core.specs.Honest.{IsOfHonestAuthority}
 use Rattle.authority_core.specs.Record.{AuthorityRecord}
 use Rattle.authority_core.specs.State.{AuthorityState}
 
@@ -46,7 +46,7 @@ KnowsRing keys party leaves ring =
 
 -- It is an honest authority, with a key for each generation of its book, and its directory knows them.
 pub record IsConfirmer (a : Confirmer) : Type 0 where
-  pub honest : HonestAuthority (council_of a.keys) a.me a.past
+  pub honest : IsOfHonestAuthority (council_of a.keys) a.me a.past
   pub each : length a.ring ≡ a.past.signed.newest + 1
   pub known : KnowsRing a.keys (authority_party a.me) a.past.signed.leaves a.ring
 

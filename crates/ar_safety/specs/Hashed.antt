@@ -15,7 +15,7 @@ use Rattle.epoch_log.specs.declared.entries.Ended.{Ended}
 use Rattle.epoch_log.specs.declared.entries.How.{How}
 use Rattle.epoch_log.specs.declared.entries.How.TheVariants.{Decided, Skipped}
 use Rattle.epoch_log.specs.declared.entries.Voted.{Voted}
-use Rattle.ar_safety.specs.Records.{Judged, Records, is_dishonest}
+use Rattle.ar_safety.specs.Records.{AcceptedConfirmation, Records, is_dishonest}
 
 -- the table of a vote
 abbrev pub voted_table : List Ended → Voted → Option Table
@@ -48,7 +48,7 @@ body_strings key steps (present certificate) =
     ∷ path_strings key (entry_string key (certificate_value certificate)) (digests_in steps))
 body_strings key steps (absent bottom) = path_strings key (bottom_string bottom) (digests_in steps)
 
-abbrev pub judged_strings : Judged → List (List ℕ)
+abbrev pub judged_strings : AcceptedConfirmation → List (List ℕ)
 judged_strings j =
     name_string j.confirmation.about.name
     ∷ body_strings (name_digest_of j.confirmation.about.name) j.confirmation.steps j.confirmation.body

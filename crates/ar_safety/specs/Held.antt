@@ -18,18 +18,18 @@ use Rattle.client_rule.specs.declared.judgement.Judgement.{Judgement}
 use Rattle.client_rule.specs.declared.judgement.Judgement.TheVariants.{Absent, Accepted, Refused}
 use Rattle.ar_council.specs.Council.{council_of}
 use Rattle.epoch_log.specs.Calls.{fresh}
-use Rattle.epoch_log.specs.Honest.{HonestLog}
+use Rattle.epoch_log.specs.Honest.{IsOfHonestLog}
 use Rattle.epoch_log.specs.Record.{LogRecord}
 use Rattle.authority_core.specs.Calls.{fresh_authority}
-use Rattle.authority_core.specs.Honest.{HonestAuthority}
+use Rattle.authority_core.specs.Honest.{IsOfHonestAuthority}
 use Rattle.authority_core.specs.Record.{AuthorityRecord}
 use Rattle.vote_quorum.specs.Counted.{count_below}
 use Rattle.ar_safety.specs.Agreed.{HasNewest, HasNone}
-use Rattle.ar_safety.specs.Records.{IsHonest, IsHonestLog, Judged, Records}
+use Rattle.ar_safety.specs.Records.{IsHonest, IsHonestLog, AcceptedConfirmation, Records}
 use Rattle.ar_safety.specs.Theorem.{Safe}
 
 -- one judgement: the name, the epoch and the age that the client asked with, and the bytes that it judged
-pub record Taken : Type 0 where
+pub record AcceptedBytes : Type 0 where
   pub name : List ℕ
   pub now : ℕ
   pub age : ℕ
@@ -42,7 +42,7 @@ pub record Held : Type 0 where
   pub dishonest : List Party
   pub logs : List LogRecord
   pub authorities : List AuthorityRecord
-  pub judged : List Taken
+  pub judged : List AcceptedBytes
   pub learned : List SeenText
 
 -- how many of the parties with a number below n are honest
@@ -54,11 +54,11 @@ abbrev pub record_at : {X : Type 0} → (ℕ → Party) → List Party → List 
 record_at party dishonest records none n = slice_index_or records (honest_below party dishonest n) none
 
 -- what the client asked for
-abbrev pub asked_by : Directory → Taken → Asked
+abbrev pub asked_by : Directory → AcceptedBytes → Asked
 asked_by directory t = record { keys = directory; name = t.name; epoch = t.now; age = t.age }
 
 -- a judgement with the confirmation that its bytes are, where they are one
-abbrev pub judged_in : Directory → Taken → Option Judged
+abbrev pub judged_in : Directory → AcceptedBytes → Option AcceptedConfirmation
 judged_in directory t =
     option_map (λ (c : Confirmation). record { asked = asked_by directory t; bytes = t.bytes; confirmation = c }) (result_ok (whole confirmation_at t.bytes))
 
@@ -76,7 +76,7 @@ records_of h = record {
 -- ---- what a run keeps
 
 -- the verdict of the client's rule
-abbrev pub verdict_on : Directory → Taken → Judgement
+abbrev pub verdict_on : Directory → AcceptedBytes → Judgement
 verdict_on directory t = judgement (asked_by directory t) t.bytes
 
 abbrev pub IsAccepting : Judgement → Type 0
@@ -90,8 +90,8 @@ pub record AreKept (h : Held) : Type 0 where
   pub is_directory : IsDirectory h.directory
   pub all_logs : length h.logs ≡ honest_below log_party h.dishonest (length h.directory.logs)
   pub all_authorities : length h.authorities ≡ honest_below authority_party h.dishonest (length h.directory.authorities)
-  pub logs : (n : ℕ) → IsHonestLog (records_of h) n → HonestLog (council_of h.directory) n ((records_of h).logs n)
-  pub authorities : (n : ℕ) → IsHonest (records_of h) (authority_party n) → HonestAuthority (council_of h.directory) n ((records_of h).authorities n)
+  pub logs : (n : ℕ) → IsHonestLog (records_of h) n → IsOfHonestLog (council_of h.directory) n ((records_of h).logs n)
+  pub authorities : (n : ℕ) → IsHonest (records_of h) (authority_party n) → IsOfHonestAuthority (council_of h.directory) n ((records_of h).authorities n)
   pub bytes : All (λ t. AreBytes t.bytes) h.judged
   pub taken : All (λ t. IsAccepting (verdict_on h.directory t)) h.judged
 
@@ -99,9 +99,9 @@ pub record AreKept (h : Held) : Type 0 where
 -- agreed, or the name has none there.
 pub record AreSafe (h : Held) : Type 0 where
   pub safe : Safe (records_of h)
-  pub accepted : (t : Taken) (certificate : Certificate) (digest : List ℕ) (epoch : ℕ) (root : List ℕ) → Contains h.judged t
+  pub accepted : (t : AcceptedBytes) (certificate : Certificate) (digest : List ℕ) (epoch : ℕ) (root : List ℕ) → Contains h.judged t
       → verdict_on h.directory t ≡ Accepted certificate digest epoch root → HasNewest (records_of h) t.name epoch root certificate
-  pub absence : (t : Taken) (epoch : ℕ) (root : List ℕ) → Contains h.judged t
+  pub absence : (t : AcceptedBytes) (epoch : ℕ) (root : List ℕ) → Contains h.judged t
       → verdict_on h.directory t ≡ Absent epoch root → HasNone (records_of h) t.name epoch root
 
 -- the records of the honest among the parties below n, ascending by number

@@ -9,7 +9,7 @@ use Rattle.ar_statement.specs.declared.text.SeenText.{SeenText}
 use Rattle.ar_statement.specs.Claims.{authority_party, log_party, most_parties, has_party}
 use Rattle.key_roll.specs.Book.{texts_of}
 use Rattle.ar_message.specs.Confirmation.{Confirmation}
-use Rattle.client_rule.specs.Meaning.{Passes}
+use Rattle.client_rule.specs.Meaning.{PassesChecks}
 use Rattle.client_rule.specs.Rule.{claim_on, Asked}
 use Rattle.ar_council.specs.Council.{Council, IsMember, council_of}
 use Rattle.party_keys.specs.Seen.{seen_of}
@@ -19,7 +19,7 @@ use Rattle.authority_core.specs.Calls.{fresh_authority}
 use Rattle.authority_core.specs.Record.{AuthorityRecord}
 
 -- what a client asked, the bytes that it accepted, and the confirmation that they are
-pub record Judged : Type 0 where
+pub record AcceptedConfirmation : Type 0 where
   pub asked : Asked
   pub bytes : List ℕ
   pub confirmation : Confirmation
@@ -31,7 +31,7 @@ pub record Records : Type 0 where
   pub dishonest : List Party
   pub logs : ℕ → LogRecord
   pub authorities : ℕ → AuthorityRecord
-  pub judged : List Judged
+  pub judged : List AcceptedConfirmation
   pub learned : List SeenText
 
 abbrev pub is_dishonest : Records → Party → Bool
@@ -54,9 +54,9 @@ pub record AreQuorums (council : Council) : Type 0 where
   pub few_authorities : council.authorities ≤ most_parties
 
 -- a client accepted the bytes, under a directory of the council
-pub record IsJudged (council : Council) (j : Judged) : Type 0 where
+pub record IsJudged (council : Council) (j : AcceptedConfirmation) : Type 0 where
   pub bytes : AreBytes j.bytes
-  pub passes : Passes j.asked j.bytes j.confirmation
+  pub passes : PassesChecks j.asked j.bytes j.confirmation
   pub same_council : council_of j.asked.keys ≡ council
 
 -- ---- who signed what

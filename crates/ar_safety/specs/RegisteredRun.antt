@@ -24,7 +24,7 @@ use Rattle.ar_cert.specs.Certificate.{Certificate, digest_of}
 use Rattle.ar_cert.specs.Changes.{Change}
 use Rattle.ar_message.specs.Confirmation.{Confirmation, Signed, confirmation_text, present}
 use Rattle.client_rule.specs.Rule.{Asked}
-use Rattle.domain_table.specs.Applying.{taken}
+use Rattle.domain_table.specs.Applying.{taking_change}
 use Rattle.domain_table.specs.Tables.{Table, no_table}
 use Rattle.domain_table.specs.Tree.{root_of}
 use Rattle.party_keys.specs.Seen.{seen_of}
@@ -39,7 +39,7 @@ use Rattle.authority_core.specs.Record.{AuthorityRecord}
 use Rattle.authority_core.specs.declared.entries.Approved as asked
 use Rattle.authority_core.specs.declared.entries.Kept.{Kept}
 use Rattle.ar_safety.specs.Examples.{book_with, five}
-use Rattle.ar_safety.specs.Records.{Judged, Records}
+use Rattle.ar_safety.specs.Records.{AcceptedConfirmation, Records}
 
 -- ---- the certificate
 
@@ -70,7 +70,7 @@ registration = record {
 
 -- the table with this name alone
 abbrev pub one_table : Table
-one_table = taken no_table 1 registration Full
+one_table = taking_change no_table 1 registration Full
 
 -- from the table without names to it
 abbrev pub registered : Value
@@ -162,7 +162,7 @@ abbrev pub asked_in_one : Asked
 asked_in_one = record { keys = directory_of_five; name = a_name; epoch = 1; age = 0 }
 
 -- what it accepted
-abbrev pub judged_one : Judged
+abbrev pub judged_one : AcceptedConfirmation
 judged_one = record { asked = asked_in_one; bytes = confirmation_text confirmation; confirmation = confirmation }
 
 -- ---- the run

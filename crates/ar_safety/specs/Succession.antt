@@ -4,7 +4,7 @@ use Rattle.ar_cert.specs.Certificate.{Certificate}
 use Rattle.ar_message.specs.Confirmation.{certificate_in}
 use Rattle.client_rule.specs.declared.judgement.Judgement.{Judgement}
 use Rattle.client_rule.specs.declared.judgement.Judgement.TheVariants.{Accepted, Absent, Refused}
-use Rattle.ar_safety.specs.Records.{Judged}
+use Rattle.ar_safety.specs.Records.{AcceptedConfirmation}
 
 -- what was accepted of a name: of which epoch, the certificate or that there is none, and under which root
 pub record AcceptedOf : Type 0 where
@@ -13,7 +13,7 @@ pub record AcceptedOf : Type 0 where
   pub root : List ℕ
 
 -- what a client accepted
-abbrev pub accepted_by : Judged → AcceptedOf
+abbrev pub accepted_by : AcceptedConfirmation → AcceptedOf
 accepted_by j = record {
   epoch = j.confirmation.about.epoch;
   certificate = certificate_in j.confirmation.body;

@@ -13,15 +13,15 @@ use Rattle.ar_cert.specs.Changes.{Change}
 use Rattle.ar_cert.specs.Judging.{endorsers_of}
 use Rattle.domain_table.specs.Tables.{SameTable, Table, certificates, chain_of}
 use Rattle.domain_table.specs.Waiting.{EachWaited}
-use Rattle.epoch_log.specs.Honest.{HonestLog}
+use Rattle.epoch_log.specs.Honest.{IsOfHonestLog}
 use Rattle.epoch_log.specs.Record.{base_of, ending}
 use Rattle.epoch_log.specs.declared.entries.How.{How}
-use Rattle.authority_core.specs.Honest.{HonestAuthority}
+use Rattle.authority_core.specs.Honest.{IsOfHonestAuthority}
 use Rattle.authority_core.specs.declared.entries.Approved.{Approved}
 use Rattle.client_rule.specs.Meaning.{IsTimely}
 use Rattle.ar_safety.specs.Agreed.{Agreed, Backed, Confirms, HasChange, HasHonestSigner, HasNewest, HasNone, IsVouchedBy, IsVouchedFor, SameEnding}
 use Rattle.ar_safety.specs.Hashed.{StandsIn, hashed, listed_tables}
-use Rattle.ar_safety.specs.Records.{AreQuorums, AreSigned, IsHonest, IsHonestLog, IsJudged, Judged, Records, carried}
+use Rattle.ar_safety.specs.Records.{AreQuorums, AreSigned, IsHonest, IsHonestLog, IsJudged, AcceptedConfirmation, Records, carried}
 
 -- ---- what every run meets
 
@@ -29,8 +29,8 @@ use Rattle.ar_safety.specs.Records.{AreQuorums, AreSigned, IsHonest, IsHonestLog
 -- what clients accepted they accepted by their rule.
 pub record AreHonest (r : Records) : Type 0 where
   pub quorums : AreQuorums r.council
-  pub logs : (log : ℕ) → IsHonestLog r log → HonestLog r.council log (r.logs log)
-  pub authorities : (authority : ℕ) → IsHonest r (authority_party authority) → HonestAuthority r.council authority (r.authorities authority)
+  pub logs : (log : ℕ) → IsHonestLog r log → IsOfHonestLog r.council log (r.logs log)
+  pub authorities : (authority : ℕ) → IsHonest r (authority_party authority) → IsOfHonestAuthority r.council authority (r.authorities authority)
   pub judged : All (IsJudged r.council) r.judged
 
 -- ---- the premises
@@ -72,7 +72,7 @@ pub record AgreeOnEpochs (r : Records) : Type 0 where
 -- 2. A certificate that a client accepted is the newest of its name's policy-valid chain in the table that is agreed under the
 -- confirmed root, and was accepted in time.
 abbrev pub AcceptedAreNewest : Records → Type 0
-AcceptedAreNewest r = (j : Judged) (certificate : Certificate) → Contains r.judged j → j.confirmation.body ≡ present certificate
+AcceptedAreNewest r = (j : AcceptedConfirmation) (certificate : Certificate) → Contains r.judged j → j.confirmation.body ≡ present certificate
     → HasNewest r j.asked.name j.confirmation.about.epoch j.confirmation.about.root certificate × IsTimely j.asked j.confirmation.about.epoch j.confirmation.body
 
 -- 3. Chains only grow: those of an agreed table begin those of the table that is agreed in a later epoch.
@@ -88,7 +88,7 @@ AreVouchedFor r = (epoch : ℕ) (table : Table) → Agreed r epoch table → (na
 -- 5. A name of which a client accepted that it has no certificate has none in the table that is agreed under the confirmed
 -- root, and the client accepted this in time.
 abbrev pub AbsentHaveNone : Records → Type 0
-AbsentHaveNone r = (j : Judged) (bottom : Bottom) → Contains r.judged j → j.confirmation.body ≡ absent bottom
+AbsentHaveNone r = (j : AcceptedConfirmation) (bottom : Bottom) → Contains r.judged j → j.confirmation.body ≡ absent bottom
     → HasNone r j.asked.name j.confirmation.about.epoch j.confirmation.about.root × IsTimely j.asked j.confirmation.about.epoch j.confirmation.body
 
 -- 6. Each honest endorser vouches: of each change of an agreed table, in a chain or waiting, each honest authority among its
@@ -100,7 +100,7 @@ EachEndorserVouches r = (epoch : ℕ) (table : Table) → Agreed r epoch table �
 
 -- 7. What a client accepted was voted: an honest one of the three that signed it saw a quorum's votes for its root.
 abbrev pub AcceptedWereVoted : Records → Type 0
-AcceptedWereVoted r = (j : Judged) → Contains r.judged j → HasHonestSigner r j.confirmation
+AcceptedWereVoted r = (j : AcceptedConfirmation) → Contains r.judged j → HasHonestSigner r j.confirmation
 
 -- 8. A recovery waited: in a chain of an agreed table each change behind another is a full update of that one's certificate,
 -- or its certificate waited in the agreed tables, as long as the policy of that one says.

@@ -23,7 +23,7 @@ ghost use Rattle.ar_message.specs.Messages.{IsMessage, shown_in};
 ghost use Rattle.ar_message.specs.declared.message.Message.TheVariants.{HalfConfirmed};
 ghost use Rattle.ar_message.specs.declared.unsigned.Unsigned.{Unsigned};
 ghost use Rattle.ar_message.specs.declared.address.Address.TheVariants.{One};
-ghost use Rattle.ar_message.specs.Filling.{bytes_at, filled};
+ghost use Rattle.ar_message.specs.Filling.{letter_bytes, filled};
 ghost use Rattle.ar_statement.specs.Claims.{authority_party, client_party, log_party, party};
 ghost use Rattle.key_roll.specs.Book.{IsRollBook};
 ghost use Rattle.authority_core.specs.ConfirmRows.{half_confirmed_row};
@@ -37,8 +37,8 @@ ghost use Rattle.ar_safety.specs.Examples.{decided_run, forged_run, split_run};
 ghost use Rattle.epoch_log.specs.State.{LogState};
 ghost use Rattle.authority_core.specs.Record.{AuthorityRecord};
 ghost use Rattle.authority_core.specs.declared.entries.Approved.{Approved};
-ghost use Rattle.ar_safety.specs.Held.{AreKept, AreSafe, Held, IsAccepting, Taken, asked_by, honest_below, honest_records, records_of, verdict_on};
-ghost use Rattle.ar_safety.specs.Records.{AreQuorums, IsHonest, IsHonestLog, Judged, Records, fresh_records};
+ghost use Rattle.ar_safety.specs.Held.{AreKept, AreSafe, Held, IsAccepting, AcceptedBytes, asked_by, honest_below, honest_records, records_of, verdict_on};
+ghost use Rattle.ar_safety.specs.Records.{AreQuorums, IsHonest, IsHonestLog, AcceptedConfirmation, Records, fresh_records};
 ghost use Rattle.ar_safety.specs.RegisteredRun.{a_name, confirmation, directory_of_five, first_certificate, one_table, registered_run, registration};
 ghost use Rattle.ar_safety.specs.Succession.{AcceptedOf, AreInOrder, accepted_by, accepted_of};
 ghost use Rattle.ar_safety.specs.Theorem.{AreHonest, Few, NoCollision, NoForgery, Safe};
@@ -66,10 +66,10 @@ pub fn a_run_is_safe()
 /// is none. And what one accepts of a later epoch is no older: the certificate that another accepted, or one with a higher
 /// serial number, and not that there is none.
 pub fn what_is_accepted_does_not_go_back()
-    ensures records { (r : Records) → Safe r → (j k : Judged) → Contains r.judged j
+    ensures records { (r : Records) → Safe r → (j k : AcceptedConfirmation) → Contains r.judged j
         → Contains r.judged k → j.asked.name ≡ k.asked.name
         → AreInOrder (accepted_by j) (accepted_by k) }
-    ensures verdicts { (h : Held) → AreSafe h → (t u : Taken) (one other : AcceptedOf)
+    ensures verdicts { (h : Held) → AreSafe h → (t u : AcceptedBytes) (one other : AcceptedOf)
         → Contains h.judged t → Contains h.judged u → t.name ≡ u.name
         → accepted_of (verdict_on h.directory t) ≡ Some one
         → accepted_of (verdict_on h.directory u) ≡ Some other → AreInOrder one other }
@@ -78,7 +78,7 @@ pub fn what_is_accepted_does_not_go_back()
 /// Behind a certificate that a client accepted stands an honest authority whose check had said yes to the name that the client
 /// asked for, with the certificate's key.
 pub fn what_is_accepted_was_vouched_for()
-    ensures { (r : Records) → Safe r → (j : Judged) (certificate : Certificate)
+    ensures { (r : Records) → Safe r → (j : AcceptedConfirmation) (certificate : Certificate)
         → Contains r.judged j → j.confirmation.body ≡ present certificate
         → (authority : ℕ) × (asked : Approved) × IsHonest r (authority_party authority)
         × Contains (r.authorities authority).asked asked
@@ -121,9 +121,10 @@ pub fn the_records_leave_nothing_out()
         of (length h.directory.authorities)
         → length h.authorities
         ≡ honest_below authority_party h.dishonest (length h.directory.authorities) }
-    ensures judged { (h : Held) (t : Taken) → Contains h.judged t
+    ensures judged { (h : Held) (t : AcceptedBytes) → Contains h.judged t
         → IsAccepting (verdict_on h.directory t)
-        → (j : Judged) × (Contains (records_of h).judged j × (j.asked ≡ asked_by h.directory t)
+        → (j : AcceptedConfirmation)
+        × (Contains (records_of h).judged j × (j.asked ≡ asked_by h.directory t)
         × (j.bytes ≡ t.bytes)) }
 {}
 
@@ -209,7 +210,7 @@ pub fn an_honest_confirmation_is_accepted()
         → half_confirmed_row s part first_signature ≡ Ok (later, sent)
         → KnowsSigners (confirmer_of s ring) part first_signature asked.keys → IsInTime part asked
         → shown_in part.body ≡ present certificate
-        → judgement asked (bytes_at (filled ring sent).messages 0)
+        → judgement asked (letter_bytes (filled ring sent).messages 0)
         ≡ Accepted certificate (digest_of certificate) part.epoch part.root }
     ensures absent { (s : AuthorityState) (ring : List KeyParts) (part : Confirming)
         (first_signature : List ℕ) (later : AuthorityState) (sent : Unsigned)
@@ -218,7 +219,8 @@ pub fn an_honest_confirmation_is_accepted()
         → half_confirmed_row s part first_signature ≡ Ok (later, sent)
         → KnowsSigners (confirmer_of s ring) part first_signature asked.keys → IsInTime part asked
         → shown_in part.body ≡ absent bottom
-        → judgement asked (bytes_at (filled ring sent).messages 0) ≡ Absent part.epoch part.root }
+        → judgement asked (letter_bytes (filled ring sent).messages 0)
+        ≡ Absent part.epoch part.root }
 {}
 
 /// Where the row of an authority answers Ok to a confirmation that a first authority confirmed, the authority has checked all
@@ -232,7 +234,8 @@ pub fn a_second_authority_confirms_so()
         → IsHalfConfirmed (confirmer_of s ring) part first_signature }
     ensures confirms { (s : AuthorityState) (ring : List KeyParts) (part : Confirming)
         (first_signature : List ℕ)
-        → IsConfirmer (confirmer_of s ring) → IsHalfConfirmed (confirmer_of s ring) part first_signature
+        → IsConfirmer (confirmer_of s ring)
+        → IsHalfConfirmed (confirmer_of s ring) part first_signature
         → (later : AuthorityState) × ((sent : Unsigned)
         × (half_confirmed_row s part first_signature ≡ Ok (later, sent))) }
     ensures sent { (s : AuthorityState) (ring : List KeyParts) (part : Confirming)

@@ -9,7 +9,7 @@ use Rattle.ar_statement.specs.Claims.{object, owner_party}
 use Rattle.ar_statement.specs.declared.party.Party.{Party}
 use Rattle.owner_core.specs.Drafts.{changed_draft, handed_over}
 use Rattle.owner_core.specs.Rows.{attach_row, handover_row, object_row}
-use Rattle.owner_core.specs.Signing.{after_signing, signed, signed_at}
+use Rattle.owner_core.specs.Signing.{after_signing, signed_by_owner, signed_at}
 use Rattle.owner_core.specs.State.{Owner}
 use Rattle.owner_core.specs.declared.refusal.OwnerRefusal.{OwnerRefusal}
 use Rattle.owner_core.specs.declared.refusal.OwnerRefusal.TheVariants as refusals
@@ -45,7 +45,7 @@ pub handover_number : (me : Owner) (digest : List ℕ) (made : List ℕ × Owner
 handover_number me digest made e = signed-number me _ _ made e
 
 object-number : (me : Owner) (cert : Certificate) → IfOk (object_row me cert) (λ made. made.1.number ≡ me.number)
-object-number me cert = if-chained (signed me (object (digest_of cert))) _ (λ made. made.1.number ≡ me.number) (λ signature e. signed-number me _ _ signature e)
+object-number me cert = if-chained (signed_by_owner me (object (digest_of cert))) _ (λ made. made.1.number ≡ me.number) (λ signature e. signed-number me _ _ signature e)
 
 attached-number : (me : Owner) (r : Result (List Change) OwnerRefusal) (made : Unit {0} × Owner) → (r >>= λ drafts. Ok (tt, record me { drafts = drafts })) ≡ Ok made → made.1.number ≡ me.number
 attached-number me (Ok drafts) made e =

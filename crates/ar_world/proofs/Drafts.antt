@@ -14,7 +14,10 @@ use Rattle.owner_core.specs.State.{Owner}
 use Rattle.report_text.specs.declared.happening.Happening.{Happening}
 use Rattle.report_text.specs.declared.happening.Happening.TheVariants.{Draft}
 use Rattle.script_text.specs.declared.line.PolicyWords.{PolicyWords}
-use Rattle.ar_world.specs.Drafting.{are_authorities, asked, draft_room, drafted, first_certificate, may_wait, next_certificate, register_line, revoke_line, terms_of, update_line}
+use Rattle.cert_drafts.specs.Certificates.{first_certificate, next_certificate}
+use Rattle.cert_drafts.specs.Policies.{are_authorities, may_wait, terms_of}
+use Rattle.lms_tree.specs.Key.{public_of}
+use Rattle.ar_world.specs.Drafting.{asked, draft_room, drafted, register_line, revoke_line, update_line}
 use Rattle.ar_world.specs.Finding.{Effect, draft_at, is_authority, is_there, known_asks, owner_at, room, with_owner}
 use Rattle.ar_nodes.specs.Finding.{is_owner, named}
 use Rattle.ar_founding.specs.FirstKeys.{FirstKeys}
@@ -169,7 +172,7 @@ steps_as result old new effect same e h = subst (λ (x : Effect). StepsBy result
 pub registered_there : (w : World) (number place : ℕ) (name : List ℕ) (policy : PolicyWords) (asks : List ℕ) (me : Owner)
     → position (is_owner number) w.owners ≡ Some place → me ≡ get_or w.owners place me → are_authorities policy.trusted ≡ true → may_wait policy.wait ≡ true
     → known_asks w 8 asks ≡ Ok tt → draft_room w ≡ Ok tt
-    → register_line w number name policy asks ≡ Ok (drafted w me (first_certificate me name (terms_of policy)) asks)
+    → register_line w number name policy asks ≡ Ok (drafted w me (first_certificate (public_of me.key) name (terms_of policy)) asks)
 registered_there w number place name policy asks me here is ascends waits known room =
     let owner = owner_is_at w number place me here is in
     rw (owner, ascends, waits, known, room) refl
@@ -177,7 +180,7 @@ registered_there w number place name policy asks me here is ascends waits known 
 pub updated_there : (w : World) (number place draft spot : ℕ) (policy : PolicyWords) (asks : List ℕ) (me : Owner) (old : Drafted)
     → position (is_owner number) w.owners ≡ Some place → me ≡ get_or w.owners place me → draft ≡ spot + 1 → spot < length w.drafts → old ≡ get_or w.drafts spot old
     → are_authorities policy.trusted ≡ true → may_wait policy.wait ≡ true → known_asks w 8 asks ≡ Ok tt → draft_room w ≡ Ok tt
-    → update_line w number draft policy asks ≡ Ok (drafted w me (next_certificate me old.cert (terms_of policy) false) asks)
+    → update_line w number draft policy asks ≡ Ok (drafted w me (next_certificate (public_of me.key) old.cert (terms_of policy) false) asks)
 updated_there w number place draft spot policy asks me old here is next lt is-old ascends waits known room =
     let owner = owner_is_at w number place me here is in
     let found = draft_is_at w draft spot old next lt is-old in
@@ -186,7 +189,7 @@ updated_there w number place draft spot policy asks me old here is next lt is-ol
 pub revoked_there : (w : World) (number place draft spot : ℕ) (asks : List ℕ) (me : Owner) (old : Drafted)
     → position (is_owner number) w.owners ≡ Some place → me ≡ get_or w.owners place me → draft ≡ spot + 1 → spot < length w.drafts → old ≡ get_or w.drafts spot old
     → known_asks w 3 asks ≡ Ok tt → draft_room w ≡ Ok tt
-    → revoke_line w number draft asks ≡ Ok (drafted w me (next_certificate me old.cert old.cert.policy true) asks)
+    → revoke_line w number draft asks ≡ Ok (drafted w me (next_certificate (public_of me.key) old.cert old.cert.policy true) asks)
 revoked_there w number place draft spot asks me old here is next lt is-old known room =
     let owner = owner_is_at w number place me here is in
     let found = draft_is_at w draft spot old next lt is-old in
@@ -229,24 +232,24 @@ made result w new number place me cert same asks effect here is alike reached ma
 
 pub registered : (result : Result (List Happening) WorldFault) (w new : World) (number place : ℕ) (name : List ℕ) (policy : PolicyWords) (asks : List ℕ) (me : Owner) (cert : Certificate)
     → position (is_owner number) w.owners ≡ Some place → me ≡ get_or w.owners place me → are_authorities policy.trusted ≡ true → may_wait policy.wait ≡ true
-    → known_asks w 8 asks ≡ Ok tt → draft_room w ≡ Ok tt → cert ≡ first_certificate me name (terms_of policy)
+    → known_asks w 8 asks ≡ Ok tt → draft_room w ≡ Ok tt → cert ≡ first_certificate (public_of me.key) name (terms_of policy)
     → Makes result w new place cert asks → StepsBy result w new (register_line w number name policy asks)
 registered result w new number place name policy asks me cert here is ascends waits known room alike makes =
-    made result w new number place me cert (first_certificate me name (terms_of policy)) asks (register_line w number name policy asks) here is alike
+    made result w new number place me cert (first_certificate (public_of me.key) name (terms_of policy)) asks (register_line w number name policy asks) here is alike
     (registered_there w number place name policy asks me here is ascends waits known room) makes
 
 pub updated : (result : Result (List Happening) WorldFault) (w new : World) (number place draft spot : ℕ) (policy : PolicyWords) (asks : List ℕ) (me : Owner) (old : Drafted) (cert : Certificate)
     → position (is_owner number) w.owners ≡ Some place → me ≡ get_or w.owners place me → draft ≡ spot + 1 → spot < length w.drafts → old ≡ get_or w.drafts spot old
     → are_authorities policy.trusted ≡ true → may_wait policy.wait ≡ true → known_asks w 8 asks ≡ Ok tt → draft_room w ≡ Ok tt
-    → cert ≡ next_certificate me old.cert (terms_of policy) false → Makes result w new place cert asks → StepsBy result w new (update_line w number draft policy asks)
+    → cert ≡ next_certificate (public_of me.key) old.cert (terms_of policy) false → Makes result w new place cert asks → StepsBy result w new (update_line w number draft policy asks)
 updated result w new number place draft spot policy asks me old cert here is next lt is-old ascends waits known room alike makes =
-    made result w new number place me cert (next_certificate me old.cert (terms_of policy) false) asks (update_line w number draft policy asks) here is alike
+    made result w new number place me cert (next_certificate (public_of me.key) old.cert (terms_of policy) false) asks (update_line w number draft policy asks) here is alike
     (updated_there w number place draft spot policy asks me old here is next lt is-old ascends waits known room) makes
 
 pub revoked : (result : Result (List Happening) WorldFault) (w new : World) (number place draft spot : ℕ) (asks : List ℕ) (me : Owner) (old : Drafted) (cert : Certificate)
     → position (is_owner number) w.owners ≡ Some place → me ≡ get_or w.owners place me → draft ≡ spot + 1 → spot < length w.drafts → old ≡ get_or w.drafts spot old
-    → known_asks w 3 asks ≡ Ok tt → draft_room w ≡ Ok tt → cert ≡ next_certificate me old.cert old.cert.policy true
+    → known_asks w 3 asks ≡ Ok tt → draft_room w ≡ Ok tt → cert ≡ next_certificate (public_of me.key) old.cert old.cert.policy true
     → Makes result w new place cert asks → StepsBy result w new (revoke_line w number draft asks)
 revoked result w new number place draft spot asks me old cert here is next lt is-old known room alike makes =
-    made result w new number place me cert (next_certificate me old.cert old.cert.policy true) asks (revoke_line w number draft asks) here is alike
+    made result w new number place me cert (next_certificate (public_of me.key) old.cert old.cert.policy true) asks (revoke_line w number draft asks) here is alike
     (revoked_there w number place draft spot asks me old here is next lt is-old known room) makes

@@ -9,6 +9,21 @@ use Rattle.ar_world.specs.Delivering.{addressed, due_from, due_or, due_to, is_du
 use Rattle.ar_nodes.specs.Pool.{Pooled}
 use Rattle.ar_world.specs.State.{World}
 
+-- ---- one party
+
+-- a message is due once
+pub had_already : (takes had : Bool) → had ≡ true → false ≡ (takes && not had)
+had_already true true e = refl
+had_already false true e = refl
+had_already takes false e = absurd cc
+
+pub never_had : (takes had result : Bool) → had ≡ false → result ≡ takes → result ≡ (takes && not had)
+never_had true false result e is = is
+never_had false false result e is = is
+never_had takes true result e is = absurd cc
+
+pub ruleset due_once = (had_already, never_had)
+
 -- ---- messages
 
 -- from one message on
@@ -30,19 +45,19 @@ due-none w n (suc i) [] past = refl
 due-none w n zero (q ∷ pool) past = absurd (omega (arith, past))
 due-none w n (suc i) (q ∷ pool) past = due-none w n i pool (omega (arith, past))
 
--- the search for the first that is due, at a place before which none is
-pub due_found : (w : World) (i : ℕ) (pool : List Pooled) (p : Pooled) (who : Party) → i < length pool → get_or pool i p ≡ p → due_from w (i + 1) (drop i pool) ≡ due_from w 1 pool
-    → Some who ≡ due_to w p → Some (i + 1, who) ≡ due_from w 1 pool
-due_found w i pool p who inside is so due =
+-- the search for the first that is due, at a place up to which none is
+pub due_found : (w : World) (i : ℕ) (pool : List Pooled) (p : Pooled) (who : Party) (first : Option (ℕ × Party)) → i < length pool → get_or pool i p ≡ p
+    → due_from w (i + 1) (drop i pool) ≡ first → Some who ≡ due_to w p → Some (i + 1, who) ≡ first
+due_found w i pool p who first inside is so due =
     ap (λ o. due_or (i + 1) o (due_from w (i + 1 + 1) (drop (i + 1) pool))) due ∙ sym (due-here w (i + 1) i pool p inside is) ∙ so
 
-pub due_later : (w : World) (i : ℕ) (pool : List Pooled) (p : Pooled) → i < length pool → get_or pool i p ≡ p → due_from w (i + 1) (drop i pool) ≡ due_from w 1 pool
-    → None ≡ due_to w p → due_from w (i + 1 + 1) (drop (i + 1) pool) ≡ due_from w 1 pool
-due_later w i pool p inside is so due =
+pub due_later : (w : World) (i : ℕ) (pool : List Pooled) (p : Pooled) (first : Option (ℕ × Party)) → i < length pool → get_or pool i p ≡ p
+    → due_from w (i + 1) (drop i pool) ≡ first → None ≡ due_to w p → due_from w (i + 1 + 1) (drop (i + 1) pool) ≡ first
+due_later w i pool p first inside is so due =
     ap (λ o. due_or (i + 1) o (due_from w (i + 1 + 1) (drop (i + 1) pool))) due ∙ sym (due-here w (i + 1) i pool p inside is) ∙ so
 
-pub due_none : (w : World) (i : ℕ) (pool : List Pooled) → length pool ≤ i → due_from w (i + 1) (drop i pool) ≡ due_from w 1 pool → None ≡ due_from w 1 pool
-due_none w i pool past so = sym (due-none w (i + 1) i pool past) ∙ so
+pub due_none : (w : World) (i : ℕ) (pool : List Pooled) (first : Option (ℕ × Party)) → length pool ≤ i → due_from w (i + 1) (drop i pool) ≡ first → None ≡ first
+due_none w i pool first past so = sym (due-none w (i + 1) i pool past) ∙ so
 
 pub ruleset due_messages = (due_found, due_later, due_none)
 

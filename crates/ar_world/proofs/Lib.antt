@@ -16,7 +16,9 @@ pub mod Refused
 pub mod Remembered
 pub mod Retold
 pub mod Runs
+pub mod Searched
 pub mod Seats
+pub mod Sends
 pub mod Settling
 pub mod Small
 pub mod Stepping

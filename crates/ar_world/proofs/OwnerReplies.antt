@@ -3,7 +3,7 @@ use Rattle.std.proofs.Common.{◌≡◌, ℕ, List, length, get_or, Option, Some
 use Rattle.std.specs.Prelude.{position, slice_get, slice_set}
 use Rattle.std.proofs.lemmas.Option.{slice_get_read}
 use Rattle.ar_message.specs.declared.sent.Sent.{Sent}
-use Rattle.owner_core.specs.Rows.{Row, attach_row}
+use Rattle.owner_core.specs.Rows.{OwnerAnswer, attach_row}
 use Rattle.owner_core.specs.State.{Owner}
 use Rattle.report_text.specs.declared.happening.Happening.{Happening}
 use Rattle.ar_nodes.specs.Acting.{ActsBy, owner_does}
@@ -19,7 +19,7 @@ use Rattle.ar_world.proofs.Drafts.{owner_number, owner_put, owner_within}
 use Rattle.ar_world.proofs.Orders.{acts-steps, same-there}
 
 -- a handover that is put to a draft changes owners alone
-attached-alone : (w : World) (r : Row (Unit {0})) → attached w r ≡ record w { owners = (attached w r).owners }
+attached-alone : (w : World) (r : OwnerAnswer (Unit {0})) → attached w r ≡ record w { owners = (attached w r).owners }
 attached-alone w (Ok made) = refl
 attached-alone w (Err refusal) = refl
 
@@ -41,7 +41,7 @@ owner-made w number place me made here is same =
     ap (λ (v : World). (record v { pool = made.1.0 }, made.1.1)) (owner_put w number place made.0 here (same ∙ owner_number w.owners number place me here is))
 
 -- an owner keeps its number that answers by a row that does
-pub does-number : (me : Owner) (r : Row Sent) → IfOk r (λ made. made.1.number ≡ me.number) → (owner_does me r).0.number ≡ me.number
+pub does-number : (me : Owner) (r : OwnerAnswer Sent) → IfOk r (λ made. made.1.number ≡ me.number) → (owner_does me r).0.number ≡ me.number
 does-number me (Ok made) same = same
 does-number me (Err refusal) same = refl
 

@@ -10,7 +10,7 @@ use Rattle.ar_statement.specs.declared.party.Role.TheVariants as role
 use Rattle.log_core.specs.State as log_input
 use Rattle.owner_check.specs.Answers.{Told, forgotten, learnt}
 use Rattle.owner_check.specs.declared.answer.Outcome.{Outcome}
-use Rattle.owner_core.specs.Rows.{Row, begin_row, handover_row}
+use Rattle.owner_core.specs.Rows.{OwnerAnswer, begin_row, handover_row}
 use Rattle.owner_core.specs.State.{Owner}
 use Rattle.report_text.specs.declared.happening.Happening.{Happening}
 use Rattle.report_text.specs.declared.happening.Happening.TheVariants.{Forgot, Taught}
@@ -21,7 +21,10 @@ use Rattle.script_text.specs.declared.line.EventLine.TheVariants as event
 use Rattle.script_text.specs.declared.line.PolicyWords.{PolicyWords}
 use Rattle.ar_world.specs.Asking.{ask_line}
 use Rattle.ar_world.specs.Delivering.{Taker, a_log, an_authority, an_owner, can_deliver, delivery}
-use Rattle.ar_world.specs.Drafting.{begun, draft_if, draft_room, first_certificate, next_certificate, policy_of, register_line, revoke_line, update_line}
+use Rattle.cert_drafts.specs.Certificates.{first_certificate, next_certificate}
+use Rattle.cert_drafts.specs.Policies.{policy_of}
+use Rattle.lms_tree.specs.Key.{public_of}
+use Rattle.ar_world.specs.Drafting.{draft_begun, draft_if, draft_room, register_line, revoke_line, update_line}
 use Rattle.ar_world.specs.Finding.{authority_at, checking_at, draft_at, existing, forger_at, known_asks, log_at, message_at, owner_at, room, with_owner}
 use Rattle.ar_nodes.specs.Finding.{named}
 use Rattle.ar_world.specs.Forging.{composed_in, inject_line, receiver_in, sign_line, signing_if}
@@ -49,13 +52,13 @@ Stays w made = made.0.phase ≡ w.phase
 
 -- ---- parties
 
-handed-stays : (w : World) (number draft : ℕ) (found : Drafted) (r : Row (List ℕ)) → Stays w (handed w number draft found r)
+handed-stays : (w : World) (number draft : ℕ) (found : Drafted) (r : OwnerAnswer (List ℕ)) → Stays w (handed w number draft found r)
 handed-stays w number draft found (Ok made) =
     let signed = with_owner w made.1
     in ap (λ (v : World). v.phase) (attached-by-alone signed (owner_at signed found.owner) (digest_of found.cert) made.0)
 handed-stays w number draft found (Err refusal) = refl
 
-begun-stays : (w : World) (number : ℕ) (r : Row Sent) → Stays w (begun w number r)
+begun-stays : (w : World) (number : ℕ) (r : OwnerAnswer Sent) → Stays w (draft_begun w number r)
 begun-stays w number (Ok made) = refl
 begun-stays w number (Err refusal) = refl
 
@@ -80,7 +83,7 @@ register-stays w number name policy asks =
     if-chained (named 1 (owner_at w number)) _ (Stays w) (λ owner same.
     if-chained (named 3 (policy_of policy)) _ (Stays w) (λ terms said.
     if-chained (known_asks w 8 asks) _ (Stays w) (λ known there.
-    draft-stays w owner (first_certificate owner name terms) asks)))
+    draft-stays w owner (first_certificate (public_of owner.key) name terms) asks)))
 
 update-stays : (w : World) (number draft : ℕ) (policy : PolicyWords) (asks : List ℕ) → IfOk (update_line w number draft policy asks) (Stays w)
 update-stays w number draft policy asks =
@@ -88,14 +91,14 @@ update-stays w number draft policy asks =
     if-chained (named 2 (draft_at w draft)) _ (Stays w) (λ old there.
     if-chained (named 3 (policy_of policy)) _ (Stays w) (λ terms said.
     if-chained (known_asks w 8 asks) _ (Stays w) (λ known all.
-    draft-stays w owner (next_certificate owner old.cert terms false) asks))))
+    draft-stays w owner (next_certificate (public_of owner.key) old.cert terms false) asks))))
 
 revoke-stays : (w : World) (number draft : ℕ) (asks : List ℕ) → IfOk (revoke_line w number draft asks) (Stays w)
 revoke-stays w number draft asks =
     if-chained (named 1 (owner_at w number)) _ (Stays w) (λ owner same.
     if-chained (named 2 (draft_at w draft)) _ (Stays w) (λ old there.
     if-chained (known_asks w 3 asks) _ (Stays w) (λ known all.
-    draft-stays w owner (next_certificate owner old.cert old.cert.policy true) asks)))
+    draft-stays w owner (next_certificate (public_of owner.key) old.cert old.cert.policy true) asks)))
 
 handover-stays : (w : World) (number draft : ℕ) → IfOk (handover_line w number draft) (Stays w)
 handover-stays w number draft =

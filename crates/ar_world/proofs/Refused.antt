@@ -8,7 +8,8 @@ use Rattle.std.proofs.lemmas.List.Folds.{find_at}
 use Rattle.std.proofs.lemmas.Option.{cond_some}
 use Rattle.ar_base.specs.Chaining.{◌>>=◌}
 use Rattle.script_text.specs.declared.line.PolicyWords.{PolicyWords}
-use Rattle.ar_world.specs.Drafting.{are_authorities, draft_room, may_wait, policy_of, register_line, revoke_line, update_line}
+use Rattle.cert_drafts.specs.Policies.{are_authorities, may_wait, policy_of}
+use Rattle.ar_world.specs.Drafting.{draft_room, register_line, revoke_line, update_line}
 use Rattle.ar_world.specs.Finding.{draft_at, known_asks, owner_at, room}
 use Rattle.ar_nodes.specs.Finding.{is_owner, named}
 use Rattle.ar_nodes.specs.Pool.{numbered}

@@ -5,7 +5,7 @@ use Rattle.std.proofs.lemmas.List.Elements.{All-get_or}
 use Rattle.std.proofs.lemmas.Option.{get_or_from_slice_get, slice_get_within}
 use Rattle.ar_nodes.specs.Parties.{AuthorityNode, Forger, LogNode}
 use Rattle.ar_records.specs.Records.{held_by}
-use Rattle.ar_safety.specs.Held.{Taken}
+use Rattle.ar_safety.specs.Held.{AcceptedBytes}
 use Rattle.ar_statement.specs.declared.text.SeenText.{SeenText}
 use Rattle.party_keys.specs.Directory.{Directory}
 use Rattle.ar_world.specs.Records.{held_of}
@@ -26,7 +26,7 @@ kept-at {X = X} P nodes number node all is =
 
 -- ---- all of it
 
-pub held-so : (v w : World) (clients : Directory) (forgers : List Forger) (logs : List (Option LogNode)) (authorities : List (Option AuthorityNode)) (judged : List Taken) (learned : List SeenText)
+pub held-so : (v w : World) (clients : Directory) (forgers : List Forger) (logs : List (Option LogNode)) (authorities : List (Option AuthorityNode)) (judged : List AcceptedBytes) (learned : List SeenText)
     → v ≡ w → clients ≡ v.clients → forgers ≡ v.forgers → logs ≡ v.logs → authorities ≡ v.authorities → judged ≡ v.judged → learned ≡ v.learned
     → held_by clients forgers logs authorities judged learned ≡ held_of w
 held-so v w clients forgers logs authorities judged learned same c f l a j r = cc

@@ -24,8 +24,8 @@ use Rattle.ar_world.specs.Finding.{Effect, message_at, room}
 use Rattle.ar_world.specs.Founding.{in_order, led_to, may_come}
 use Rattle.ar_nodes.specs.Parties.{CheckParts}
 use Rattle.ar_nodes.specs.Pool.{Pooled, entries_from}
-use Rattle.ar_world.specs.Printed.{Tells, TellsPool, entries_in}
-use Rattle.ar_world.specs.Run.{Course, Progress, Saying, at_line, delivering, flushed, follows, line_taken, most_deliveries, most_lines, progress_of, refusing, run, run_from, taken_as, then_if}
+use Rattle.ar_world.specs.Printed.{TellsMoved, TellsPool, entries_in}
+use Rattle.ar_world.specs.Run.{Course, Progress, Saying, at_line, delivering, flushed, deliveries_behind, line_taken, most_deliveries, most_lines, progress_of, refusing, run, run_from, taken_as, then_if}
 use Rattle.ar_world.specs.State.{Moved, World, first_world}
 use Rattle.ar_world.specs.Step.{event_effect, leads_to, setup_effect, step}
 use Rattle.ar_world.specs.declared.cause.Cause.TheVariants.{Unread}
@@ -40,7 +40,7 @@ use Rattle.ar_base.proofs.Shown.{if-chained}
 
 -- ---- a step
 
-setup-tells : (w : World) (l : SetupLine) → IfOk (setup_effect w l) (Tells w.pool)
+setup-tells : (w : World) (l : SetupLine) → IfOk (setup_effect w l) (TellsMoved w.pool)
 unfolding setup_effect
 setup-tells w (setup.Secret secret) = quiet w.pool [] refl
 setup-tells w (setup.Keys lms ots) = keys-tells w lms ots
@@ -48,7 +48,7 @@ setup-tells w (setup.Logs n q) = logs-tells w n q
 setup-tells w (setup.Authorities m) = authorities-tells w m
 setup-tells w (setup.Dishonest party) = dishonest-tells w party
 
-event-tells : (says : Outcome) (w : World) (l : EventLine) → IfOk (event_effect says w l) (Tells w.pool)
+event-tells : (says : Outcome) (w : World) (l : EventLine) → IfOk (event_effect says w l) (TellsMoved w.pool)
 unfolding event_effect
 event-tells says w (event.Owner owner) = owner-line-tells w owner
 event-tells says w (event.Teach authority name owner) = check-line-tells w authority owner (learnt name) (Taught authority) refl
@@ -94,8 +94,8 @@ step-holds P says w sets does (line.Event l) = in_order-holds P w phase.Running 
 step-holds P says w sets does line.Burst = tt
 step-holds P says w sets does line.End = tt
 
-pub step-tells : (says : Outcome) (w : World) (l : Line) → IfOk (step says w l) (Tells w.pool)
-step-tells says w = step-holds (Tells w.pool) says w (λ l comes. setup-tells w l) (λ l comes. event-tells says w l)
+pub step-tells : (says : Outcome) (w : World) (l : Line) → IfOk (step says w l) (TellsMoved w.pool)
+step-tells says w = step-holds (TellsMoved w.pool) says w (λ l comes. setup-tells w l) (λ l comes. event-tells says w l)
 
 -- ---- what holds of a run
 
@@ -142,14 +142,14 @@ flushed-goes R holds zero says number w = holds.still w
 flushed-goes R holds (suc more) says number w =
     delivering-goes R holds (says number) w (next_due w) (flushed more says (number + 1)) (flushed-goes R holds more says (number + 1))
 
-follows-goes : (R : World → World → List Happening → Type 0) → HoldsOfSteps R → (says : ℕ → Outcome) (l : Line) (w : World) → Goes R w (follows says l w)
+follows-goes : (R : World → World → List Happening → Type 0) → HoldsOfSteps R → (says : ℕ → Outcome) (l : Line) (w : World) → Goes R w (deliveries_behind says l w)
 follows-goes R holds says (line.Event event.Flush) w = flushed-goes R holds most_deliveries says 0 w
 follows-goes R holds says _ w = holds.still w
 
 taken-goes : (R : World → World → List Happening → Type 0) → HoldsOfSteps R → (says : ℕ → Outcome) (w : World) (read : Result (Option Line) Reason) → Goes R w (taken_as says w read)
 taken-goes R holds says w (Ok (Some l)) =
     let p = progress_of w (step (says 0) w l)
-    in if-goes R holds w p.refused p (follows says l) (effect-goes R holds w (step (says 0) w l) (holds.steps (says 0) w l)) (follows-goes R holds says l)
+    in if-goes R holds w p.refused p (deliveries_behind says l) (effect-goes R holds w (step (says 0) w l) (holds.steps (says 0) w l)) (follows-goes R holds says l)
 taken-goes R holds says w (Ok None) = holds.still w
 taken-goes R holds says w (Err why) = holds.still w
 

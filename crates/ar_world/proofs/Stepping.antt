@@ -1,6 +1,7 @@
 -- A line that asks no check, as one by what a check says.
-use Rattle.std.proofs.Common.{◌≡◌, ℕ, List, [], Option, refl, sym, ap, subst, true, inr}
+use Rattle.std.proofs.Common.{◌≡◌, ℕ, List, [], Option, refl, sym, ap, ◌∙◌, subst, Bool, true, false, inr}
 use Rattle.std.specs.Prelude.{Result, Ok, Err}
+use Rattle.std.proofs.lemmas.Bool.{true≢false}
 use Rattle.ar_base.specs.Chaining.{◌>>=◌, need}
 use Rattle.ar_statement.specs.declared.party.Party.{Party}
 use Rattle.owner_check.specs.declared.answer.Outcome.TheVariants.{No}
@@ -21,7 +22,7 @@ use Rattle.ar_world.specs.Learning.{learn_line}
 use Rattle.ar_world.specs.Ordering.{pass_line, propose_line, roll_line}
 use Rattle.ar_world.specs.Owning.{lesson_line, owner_line, retire_line}
 use Rattle.ar_world.specs.State.{World, silent}
-use Rattle.ar_world.specs.Step.{StepsBy, StepsBySome, event_effect, leads_to, setup_effect, step}
+use Rattle.ar_world.specs.Step.{StepsBy, StepsBySome, comes_now, event_effect, leads_to, setup_effect, step}
 use Rattle.ar_world.specs.Submitting.{handover_line, object_line, submit_line}
 use Rattle.ar_nodes.specs.declared.fault.WorldFault.{WorldFault}
 use Rattle.ar_nodes.specs.declared.fault.WorldFault.TheVariants.{Order}
@@ -145,6 +146,21 @@ event-comes result old new l other is comes made =
       steps = subst (λ b. StepsBy result old new (need b Order >>= λ comes. led_to phase.Running (event_effect made.says old other))) (sym comes) made.steps;
     })
 
-pub ruleset in_its_order = (setup-late, event-late, setup-comes, event-comes)
+-- a line that may not come is refused for that, and one that came might
+pub late-order : (comes : Bool) (fault : WorldFault) (result : Answered) → need comes Order ≡ Err fault → result ≡ Err fault → result ≡ Err Order
+late-order true fault result late is = absurd cc
+late-order false fault result late is =
+    let same : fault ≡ Order = cc
+    in is ∙ ap (λ why. Err why) same
+
+pub setup-came : (w : World) (l : Line) (in_setup : SetupLine) (result : Answered) → l ≡ line.Setup in_setup → may_come w.phase (leads_to in_setup) ≡ true → comes_now w l ≡ false
+    → result ≡ Err Order
+setup-came w l in_setup result is comes late = absurd (true≢false (sym comes ∙ sym (ap (comes_now w) is) ∙ late))
+
+pub event-came : (w : World) (l : Line) (other : EventLine) (result : Answered) → l ≡ line.Event other → may_come w.phase phase.Running ≡ true → comes_now w l ≡ false
+    → result ≡ Err Order
+event-came w l other result is comes late = absurd (true≢false (sym comes ∙ sym (ap (comes_now w) is) ∙ late))
+
+pub ruleset in_its_order = (setup-late, event-late, setup-comes, event-comes, late-order, setup-came, event-came)
 
 pub ruleset some_check = (owner-some, teach-some, forget-some, retire-some, register-some, update-some, revoke-some, handover-some, object-some, submit-some, propose-some, pass-some, roll-some, learn-some, ask-some, judge-some, sign-some, inject-some)

@@ -1,5 +1,5 @@
 -- Deliveries: the line `deliver`, and which delivery is the next of a `flush`.
-use Rattle.std.specs.Prelude.{ℕ, ◌+◌, Bool, false, not, ◌&&◌, List, [], ◌∷◌, filter, find, length, map, is_some, Option, Some, None, Result, Ok}
+use Rattle.std.specs.Prelude.{◌≡◌, ℕ, ◌+◌, Bool, false, not, ◌&&◌, List, [], ◌∷◌, filter, find, drop, length, map, take, is_some, Option, Some, None, Result, Ok}
 use Rattle.std.specs.List.{range_with_len}
 use Rattle.std.specs.Option.{option_map}
 use Rattle.ar_base.specs.Chaining.{◌>>=◌}
@@ -99,3 +99,11 @@ due_from w message (p ∷ more) = due_or message (due_to w p) (due_from w (messa
 -- the next delivery of a `flush`: of the first message that is due to a party it is addressed to, to the first such
 abbrev pub next_due : World → Option (ℕ × Party)
 next_due w = due_from w 1 w.pool
+
+-- the first delivery that is due of the messages behind so many
+abbrev pub next_due_behind : World → ℕ → Option (ℕ × Party)
+next_due_behind w front = due_from w (front + 1) (drop front w.pool)
+
+-- nothing is due of so many messages in front
+abbrev pub NothingDue : World → ℕ → Type 0
+NothingDue w front = due_from w 1 (take front w.pool) ≡ None

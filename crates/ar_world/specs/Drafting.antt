@@ -1,15 +1,14 @@
 -- The lines that make drafts of certificates: `register`, `update` and `revoke`.
-use Rattle.std.specs.Prelude.{ℕ, ◌+◌, nat_lt, Bool, true, false, ◌&&◌, if◌then◌else◌, List, [], ◌∷◌, ◌++◌, length, map, replicate, Option, Some, None, Result, Ok, Err}
-use Rattle.std.specs.List.{list_all}
-use Rattle.ar_bytes.specs.Ascending.{ascends}
+use Rattle.std.specs.Prelude.{ℕ, ◌+◌, nat_lt, true, false, List, [], ◌∷◌, ◌++◌, length, map, Result, Ok, Err}
 use Rattle.ar_base.specs.Chaining.{◌>>=◌, need}
-use Rattle.ar_cert.specs.Certificate.{Certificate, digest_of, is_wait}
+use Rattle.ar_cert.specs.Certificate.{Certificate, digest_of}
 use Rattle.ar_message.specs.declared.address.Address.TheVariants.{One}
 use Rattle.ar_message.specs.declared.message.Message.TheVariants.{EndorseAsk}
 use Rattle.ar_message.specs.declared.sent.Sent.{Sent}
-use Rattle.cert_policy.specs.Terms.{PolicyTerms}
+use Rattle.cert_drafts.specs.Certificates.{first_certificate, next_certificate}
+use Rattle.cert_drafts.specs.Policies.{policy_of}
 use Rattle.lms_tree.specs.Key.{public_of}
-use Rattle.owner_core.specs.Rows.{Row, begin_row, letter}
+use Rattle.owner_core.specs.Rows.{OwnerAnswer, begin_row, letter}
 use Rattle.owner_core.specs.State.{Owner}
 use Rattle.ar_statement.specs.Claims.{authority_party, owner_party}
 use Rattle.report_text.specs.declared.happening.Happening.TheVariants.{Draft}
@@ -22,54 +21,6 @@ use Rattle.ar_world.specs.State.{Moved, World, printing, silent}
 use Rattle.ar_nodes.specs.declared.fault.WorldFault.{WorldFault}
 use Rattle.ar_nodes.specs.declared.fault.WorldFault.TheVariants.{Limit}
 
--- whether numbers are those of authorities: they ascend strictly, and have two bytes each
-abbrev pub are_authorities : List ℕ → Bool
-are_authorities numbers = ascends numbers && list_all (λ number. nat_lt number 65536) numbers
-
--- a wait is one, where there is any
-abbrev pub may_wait : Option ℕ → Bool
-may_wait None = true
-may_wait (Some wait) = is_wait wait
-
--- the terms that words say
-abbrev pub terms_of : PolicyWords → PolicyTerms
-terms_of words = record {
-  threshold = words.threshold;
-  keyed = words.keyed;
-  max_age = words.max_age;
-  until = words.until;
-  trusted = words.trusted;
-  wait = words.wait;
-}
-
--- the policy that words say, where its authorities ascend and its wait is one
-abbrev pub policy_of : PolicyWords → Option PolicyTerms
-policy_of words = if are_authorities words.trusted && may_wait words.wait then Some (terms_of words) else None
-
--- ---- certificates
-
--- the first certificate of a name, with the owner's key
-abbrev pub first_certificate : Owner → List ℕ → PolicyTerms → Certificate
-first_certificate owner name policy = record {
-  name = name;
-  serial = 0;
-  previous = replicate 32 0;
-  subject = public_of owner.key;
-  policy = policy;
-  revoked = false;
-}
-
--- the certificate behind another, with the owner's key
-abbrev pub next_certificate : Owner → Certificate → PolicyTerms → Bool → Certificate
-next_certificate owner old policy revoked = record {
-  name = old.name;
-  serial = old.serial + 1;
-  previous = digest_of old;
-  subject = public_of owner.key;
-  policy = policy;
-  revoked = revoked;
-}
-
 -- ---- a new draft
 
 -- what an owner sends that asks these authorities to endorse a certificate
@@ -78,15 +29,15 @@ asked owner cert asks =
     map (pooled_from (owner_party owner.number)) (map (λ authority. letter (One (authority_party authority)) (EndorseAsk owner.number cert)) asks)
 
 -- the owner asks authorities to endorse it
-abbrev pub begun : World → ℕ → Row Sent → Moved
-begun w number (Ok made) = posted (with_owner w made.1) (owner_party number) made.0
-begun w number (Err refusal) = silent w
+abbrev pub draft_begun : World → ℕ → OwnerAnswer Sent → Moved
+draft_begun w number (Ok made) = posted (with_owner w made.1) (owner_party number) made.0
+draft_begun w number (Err refusal) = silent w
 
 -- the draft gets the next number
 abbrev pub drafted : World → Owner → Certificate → List ℕ → Moved
 drafted w owner cert asks =
     printing (Draft (length w.drafts + 1) (digest_of cert) ∷ [])
-    (begun (record w { drafts = w.drafts ++ record { owner = owner.number; cert = cert } ∷ [] }) owner.number (begin_row owner cert asks))
+    (draft_begun (record w { drafts = w.drafts ++ record { owner = owner.number; cert = cert } ∷ [] }) owner.number (begin_row owner cert asks))
 
 -- there is room for a draft and for messages
 abbrev pub draft_room : World → Result (Unit {0}) WorldFault
@@ -108,7 +59,7 @@ register_line w number name policy asks = do
   owner ← named 1 (owner_at w number)
   terms ← named 3 (policy_of policy)
   known ← known_asks w 8 asks
-  draft_if w owner (first_certificate owner name terms) asks
+  draft_if w owner (first_certificate (public_of owner.key) name terms) asks
 
 -- word 1 names an owner, word 2 a draft, the words from 3 on say a policy, and word 8 names authorities
 abbrev pub update_line : World → ℕ → ℕ → PolicyWords → List ℕ → Effect
@@ -117,7 +68,7 @@ update_line w number draft policy asks = do
   old ← named 2 (draft_at w draft)
   terms ← named 3 (policy_of policy)
   known ← known_asks w 8 asks
-  draft_if w owner (next_certificate owner old.cert terms false) asks
+  draft_if w owner (next_certificate (public_of owner.key) old.cert terms false) asks
 
 -- word 1 names an owner, word 2 a draft, and word 3 authorities
 abbrev pub revoke_line : World → ℕ → ℕ → List ℕ → Effect
@@ -125,4 +76,4 @@ revoke_line w number draft asks = do
   owner ← named 1 (owner_at w number)
   old ← named 2 (draft_at w draft)
   known ← known_asks w 3 asks
-  draft_if w owner (next_certificate owner old.cert old.cert.policy true) asks
+  draft_if w owner (next_certificate (public_of owner.key) old.cert old.cert.policy true) asks

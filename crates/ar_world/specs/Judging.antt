@@ -1,7 +1,7 @@
 -- The line `judge`: a client judges a message.
 use Rattle.std.specs.Prelude.{ℕ, ◌+◌, Bool, false, true, if◌then◌else◌, List, [], ◌∷◌, ◌++◌, Option, Some, None, Ok}
 use Rattle.ar_base.specs.Chaining.{◌>>=◌}
-use Rattle.ar_safety.specs.Held.{Taken, verdict_on}
+use Rattle.ar_safety.specs.Held.{AcceptedBytes, verdict_on}
 use Rattle.ar_statement.specs.declared.party.Role.{Role}
 use Rattle.ar_statement.specs.declared.party.Role.TheVariants as role
 use Rattle.client_rule.specs.declared.judgement.Judgement.{Judgement}
@@ -54,15 +54,15 @@ is_accepted (judgement.Absent epoch root) = true
 is_accepted (judgement.Refused check) = false
 
 -- what was accepted so far, with this where it is
-abbrev pub accepted_with : List Taken → Taken → Judgement → List Taken
+abbrev pub accepted_with : List AcceptedBytes → AcceptedBytes → Judgement → List AcceptedBytes
 accepted_with judged t verdict = if is_accepted verdict then judged ++ t ∷ [] else judged
 
 -- a client says this of a message
-abbrev pub judging : World → ℕ → Taken → Judgement → Moved
+abbrev pub judging : World → ℕ → AcceptedBytes → Judgement → Moved
 judging w message t verdict = (record w { judged = accepted_with w.judged t verdict }, Judged message (said_of t.name verdict) ∷ [])
 
 -- the client's rule, by the directory that all clients share
-abbrev pub judged_by_rule : World → ℕ → Taken → Moved
+abbrev pub judged_by_rule : World → ℕ → AcceptedBytes → Moved
 judged_by_rule w message t = judging w message t (verdict_on w.clients t)
 
 -- word 1 names a message, or there is one to a client

@@ -26,5 +26,5 @@ pub record TellsPool (old new : List Pooled) (said : List Happening) : Type 0 wh
   pub told : entries_in said ≡ entries_from (length old + 1) more
 
 -- the same of what a line comes to
-abbrev pub Tells : List Pooled → Moved → Type 0
-Tells old made = TellsPool old made.0.pool made.1
+abbrev pub TellsMoved : List Pooled → Moved → Type 0
+TellsMoved old made = TellsPool old made.0.pool made.1

@@ -62,12 +62,12 @@ progress_of w (Ok made) = record { world = made.0; said = made.1; refused = None
 progress_of w (Err why) = refusing w (Untaken why)
 
 -- what was printed before
-abbrev pub behind : {C : Type 0} → List Happening → Course C → Course C
-behind said p = record p { said = said ++ p.said }
+abbrev pub printed_before : {C : Type 0} → List Happening → Course C → Course C
+printed_before said p = record p { said = said ++ p.said }
 
 -- one after the other, unless the first was refused
 abbrev pub then_if : {C : Type 0} → Option C → Course C → (World → Course C) → Course C
-then_if None p next = behind p.said (next p.world)
+then_if None p next = printed_before p.said (next p.world)
 then_if (Some cause) p next = p
 
 abbrev pub then_on : {C : Type 0} → Course C → (World → Course C) → Course C
@@ -92,15 +92,15 @@ abbrev pub most_deliveries : ℕ
 most_deliveries = 16 * (most_messages + 64)
 
 -- what follows a line: behind a `flush` the deliveries
-abbrev pub follows : (ℕ → Outcome) → Line → World → Progress
-follows says (line.Event event.Flush) w = flushed most_deliveries says 0 w
-follows says _ w = unmoved w
+abbrev pub deliveries_behind : (ℕ → Outcome) → Line → World → Progress
+deliveries_behind says (line.Event event.Flush) w = flushed most_deliveries says 0 w
+deliveries_behind says _ w = unmoved w
 
 -- ---- lines
 
 -- a line, with what follows it
 abbrev pub taken : (ℕ → Outcome) → World → Line → Progress
-taken says w l = then_on (progress_of w (step (says 0) w l)) (follows says l)
+taken says w l = then_on (progress_of w (step (says 0) w l)) (deliveries_behind says l)
 
 -- what a line is read as; one that is skipped does nothing
 abbrev pub taken_as : (ℕ → Outcome) → World → Result (Option Line) Reason → Progress

@@ -1,5 +1,5 @@
 -- What a line of a script makes of a world, and what is printed of it; or why the line is refused.
-use Rattle.std.specs.Prelude.{List, Result, Ok, Err}
+use Rattle.std.specs.Prelude.{Bool, false, List, Result, Ok, Err}
 use Rattle.ar_base.specs.Gives.{StepsUnless}
 use Rattle.owner_check.specs.declared.answer.Outcome.{Outcome}
 use Rattle.report_text.specs.declared.happening.Happening.{Happening}
@@ -14,7 +14,7 @@ use Rattle.ar_world.specs.Delivering.{deliver_line}
 use Rattle.ar_world.specs.Drafting.{register_line, revoke_line, update_line}
 use Rattle.ar_world.specs.Finding.{Effect}
 use Rattle.ar_world.specs.Forging.{inject_line, sign_line}
-use Rattle.ar_world.specs.Founding.{authorities_line, dishonest_line, in_order, keys_line, logs_line, secret_line}
+use Rattle.ar_world.specs.Founding.{authorities_line, dishonest_line, in_order, keys_line, logs_line, may_come, secret_line}
 use Rattle.ar_world.specs.Judging.{judge_line}
 use Rattle.ar_world.specs.Learning.{learn_line}
 use Rattle.ar_world.specs.Ordering.{pass_line, propose_line, roll_line}
@@ -73,6 +73,13 @@ step says w (line.Setup l) = in_order w (leads_to l) (setup_effect w l)
 step says w (line.Event l) = in_order w phase.Running (event_effect says w l)
 step says w line.Burst = Err Order
 step says w line.End = Err Order
+
+-- whether a line may come now; the lines of a burst never may
+abbrev pub comes_now : World → Line → Bool
+comes_now w (line.Setup l) = may_come w.phase (leads_to l)
+comes_now w (line.Event l) = may_come w.phase phase.Running
+comes_now w line.Burst = false
+comes_now w line.End = false
 
 -- A call made of the world what the effect says, and answered what is printed. Or it answered the effect's refusal, or want of
 -- memory, and left the world as it was.

@@ -2,7 +2,7 @@
 use Rattle.std.specs.Prelude.{ℕ, List, [], ◌∷◌, Option, Some, None, Ok, Err}
 use Rattle.ar_base.specs.Chaining.{◌>>=◌}
 use Rattle.ar_cert.specs.Certificate.{digest_of}
-use Rattle.owner_core.specs.Rows.{Row, attach_row, handover_row}
+use Rattle.owner_core.specs.Rows.{OwnerAnswer, attach_row, handover_row}
 use Rattle.owner_core.specs.State.{Owner}
 use Rattle.report_text.specs.declared.happening.Happening.TheVariants.{Step}
 use Rattle.report_text.specs.declared.happening.What.TheVariants.{Handover}
@@ -17,7 +17,7 @@ use Rattle.ar_world.specs.State.{Drafted, Moved, World}
 -- ---- `handover`
 
 -- an owner puts a handover to its draft with this digest
-abbrev pub attached : World → Row (Unit {0}) → World
+abbrev pub attached : World → OwnerAnswer (Unit {0}) → World
 attached w (Ok made) = with_owner w made.1
 attached w (Err refusal) = w
 
@@ -26,7 +26,7 @@ attached_by w None digest handover = w
 attached_by w (Some owner) digest handover = attached w (attach_row owner digest handover)
 
 -- one owner signs the handover, and the draft's owner puts it to the draft
-abbrev pub handed : World → ℕ → ℕ → Drafted → Row (List ℕ) → Moved
+abbrev pub handed : World → ℕ → ℕ → Drafted → OwnerAnswer (List ℕ) → Moved
 handed w number draft found (Ok made) =
     let signed = with_owner w made.1
     in (attached_by signed (owner_at signed found.owner) (digest_of found.cert) made.0, Step (owner_party number) (Handover draft) None ∷ [])

@@ -1,10 +1,10 @@
 //! Deliveries: the line `deliver`, and which delivery is the next of a `flush`.
 
-ghost use Rattle.std.specs.Prelude.{◌≡◌, ◌&&◌, not, true, is_some, length, find, OnOk, Err};
+ghost use Rattle.std.specs.Prelude.{◌≡◌, ◌&&◌, not, true, is_some, length, find, drop, ◌+◌, ◌<◌, IfSome, OnOk, Err};
 ghost use Rattle.ar_statement.specs.declared.party.Role.TheVariants as roles;
 ghost use Rattle.ar_statement.specs.Claims.{authority_party, log_party, owner_party};
 ghost use Rattle.report_text.specs.declared.happening.Target.TheVariants as target;
-ghost use Rattle.ar_world.specs.Delivering.{addressed, deliver_line, deliverable, due_from, due_to, is_due, is_sender, next_due, taker_at};
+ghost use Rattle.ar_world.specs.Delivering.{addressed, deliver_line, deliverable, due_from, due_to, is_due, is_sender, next_due, next_due_behind, taker_at};
 ghost use Rattle.ar_nodes.specs.Finding.{honest_in};
 ghost use Rattle.ar_world.specs.Step.{StepsBySome};
 
@@ -172,11 +172,16 @@ impl<C: OwnerCheck> World<C> {
 
     // ---- what is due
 
-    /// Whether the party takes deliveries, and the message was never delivered to it.
+    /// Whether the party takes deliveries, and the message was never delivered to it. That it was is looked at first: it is
+    /// so of most messages, and whether an owner is there is searched among all owners.
+    #[tactic(auto, using(crate::proofs::Due::due_once))]
     fn is_due(&self, message: &Pooled, who: Party) -> bool
         ensures { result ≡ is_due self.now message.now who }
     {
-        self.takes(who) && !has_party(&message.delivered, who)
+        if has_party(&message.delivered, who) {
+            return false;
+        }
+        self.takes(who)
     }
 
     /// Whether a message that goes to all logs is due to this one: it is not addressed to its sender.
@@ -221,13 +226,13 @@ impl<C: OwnerCheck> World<C> {
         }
     }
 
-    /// The first delivery that is due of these messages, of which the first has the number 1.
+    /// The first delivery that is due of these messages, of which the first has the number 1, behind so many in front.
     #[tactic(auto, using(crate::proofs::Due::due_messages))]
-    fn due_in(&self, messages: &[Pooled]) -> Option<(u64, Party)>
-        ensures { result ≡ due_from self.now 1 messages.now }
+    fn due_in(&self, front: usize, messages: &[Pooled]) -> Option<(u64, Party)>
+        ensures { result ≡ due_from self.now (front + 1) (drop front messages.now) }
     {
-        for (place, message) in messages.iter().enumerate() {
-            if let Some(who) = self.due_to(message) {
+        for place in front..messages.len() {
+            if let Some(who) = self.due_to(&messages[place]) {
                 return Some((place as u64 + 1, who));
             }
         }
@@ -239,6 +244,15 @@ impl<C: OwnerCheck> World<C> {
     pub fn next_due(&self) -> Option<(u64, Party)>
         ensures { result ≡ next_due self.now }
     {
-        self.due_in(self.pool.as_slice())
+        self.next_due_behind(0)
+    }
+
+    /// The same of the messages behind so many in front, which are not looked at. A delivery that is due leaves nothing due
+    /// before its message, so that all deliveries of a `flush` are found in one search.
+    pub fn next_due_behind(&self, front: usize) -> Option<(u64, Party)>
+        ensures due { result ≡ next_due_behind self.now front }
+        ensures behind { IfSome result (λ due. front < due.0) }
+    {
+        self.due_in(front, self.pool.as_slice())
     }
 }

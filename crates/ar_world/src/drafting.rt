@@ -1,12 +1,16 @@
 //! The lines that make drafts of certificates.
 
 ghost use Rattle.std.specs.Prelude.{◌≡◌, ◌≤◌, ◌<◌, ◌+◌, ◌++◌, ◌∷◌, [], length, map, position, slice_index_or, true, false, vec_len, vec_capacity, ℕ, List, All, IfOk, IfErr, OnOk, Ok, Err, Some};
+ghost use Rattle.std.specs.Result.{is_ok};
 ghost use Rattle.ar_cert.specs.Certificate.{digest_of};
 ghost use Rattle.owner_core.specs.Drafts.{begun_draft};
 ghost use Rattle.owner_core.specs.State.{Owner as OwnerState};
 ghost use Rattle.report_text.specs.declared.happening.Happening.TheVariants.{Draft};
-ghost use Rattle.ar_world.specs.Drafting.{are_authorities, asked, draft_room, drafted, first_certificate, may_wait, next_certificate, register_line, revoke_line, terms_of, update_line};
-ghost use Rattle.ar_nodes.specs.Finding.{is_owner};
+ghost use Rattle.cert_drafts.specs.Certificates.{first_certificate, next_certificate};
+ghost use Rattle.cert_drafts.specs.Policies.{are_authorities, may_wait, policy_of, terms_of};
+ghost use Rattle.lms_tree.specs.Key.{public_of};
+ghost use Rattle.ar_world.specs.Drafting.{asked, draft_room, drafted, register_line, revoke_line, update_line};
+ghost use Rattle.ar_nodes.specs.Finding.{is_owner, named};
 ghost use Rattle.ar_world.specs.Finding.{known_asks};
 ghost use Rattle.ar_statement.specs.Claims.{owner_party};
 ghost use Rattle.ar_nodes.specs.Pool.{entries_from, pooled_from};
@@ -14,28 +18,46 @@ ghost use Rattle.ar_world.specs.Step.{StepsBy};
 ghost use Rattle.ar_nodes.specs.declared.fault.WorldFault.TheVariants.{Memory};
 
 use crate::drafted::Drafted;
-use crate::policies::{narrow, need_policy, policy};
 use crate::world::World;
 use ar_base::Items;
 use ar_cert::Cert;
 use ar_message::Sent;
 use ar_names::NameView;
-use ar_nodes::sending::{post, reserve, say};
+use ar_nodes::sending::{post, push_told, reserve};
 use ar_nodes::{Pool, WorldFault};
 use ar_statement::Role;
+use cert_drafts::{
+    are_authorities, first_certificate, may_wait, narrow, next_certificate, updated_certificate,
+};
 use owner_check::OwnerCheck;
 use owner_core::Owner;
 use report_text::Happening;
-use script_text::{Numbers, PolicyWords};
+use script_text::{NumberList, PolicyWords};
 use std::alloc::{AllocError, Global};
 
 /// How many drafts there may be.
 const MOST_DRAFTS: usize = 4096;
 
+// ---- policies
+
+/// Refuses words that say no policy, of which the first has this number. No line that is read has such words.
+#[tactic(auto, using(crate::proofs::Terms::policies, crate::proofs::Refused::names_policy))]
+fn need_policy(word: usize, words: &PolicyWords) -> Result<(), WorldFault>
+    ensures ascend { OnOk result (are_authorities words.now.trusted ≡ true) }
+    ensures wait { OnOk result (may_wait words.now.wait ≡ true) }
+    ensures known { OnOk result (is_ok (named word (policy_of words.now)) ≡ true) }
+    ensures err { IfErr result (λ fault. named word (policy_of words.now) ≡ Err fault) }
+{
+    if !are_authorities(words.trusted.as_slice()) || !may_wait(words.wait) {
+        return Err(WorldFault::Absent(word));
+    }
+    Ok(())
+}
+
 // ---- certificates
 
-/// The first certificate of a name, with the owner's key.
-fn first_certificate(
+/// The first certificate of a name, with the owner's key. The only error here and below is want of memory.
+fn to_register(
     alloc: Global,
     owner: &Owner,
     name: &NameView,
@@ -44,40 +66,13 @@ fn first_certificate(
     requires ascend { are_authorities words.now.trusted ≡ true }
     requires wait { may_wait words.now.wait ≡ true }
     ensures { IfOk result (λ cert.
-        cert ≡ first_certificate owner.now name.now (terms_of words.now)) }
+        cert ≡ first_certificate (public_of owner.now.key) name.now (terms_of words.now)) }
 {
-    let policy = policy(alloc, words)?;
-    Ok(Cert {
-        name: name.to_name(alloc)?,
-        serial: 0,
-        previous: [0; 32],
-        subject: owner.public(),
-        policy,
-        revoked: false,
-    })
-}
-
-/// The certificate behind another, with the owner's key and the same policy.
-fn next_certificate(
-    alloc: Global,
-    owner: &Owner,
-    old: &Cert,
-    revoked: bool,
-) -> Result<Cert, AllocError>
-    requires { old.now.serial < 4096 }
-    ensures { IfOk result (λ cert.
-        cert ≡ next_certificate owner.now old.now old.now.policy revoked) }
-{
-    let mut cert = old.copy(alloc)?;
-    cert.serial = old.serial + 1;
-    cert.previous = old.digest();
-    cert.subject = owner.public();
-    cert.revoked = revoked;
-    Ok(cert)
+    first_certificate(alloc, owner.public(), name, words)
 }
 
 /// The certificate behind another, with the owner's key and the policy that words say.
-fn updated_certificate(
+fn to_update(
     alloc: Global,
     owner: &Owner,
     old: &Cert,
@@ -87,12 +82,18 @@ fn updated_certificate(
     requires ascend { are_authorities words.now.trusted ≡ true }
     requires wait { may_wait words.now.wait ≡ true }
     ensures { IfOk result (λ cert.
-        cert ≡ next_certificate owner.now old.now (terms_of words.now) false) }
+        cert ≡ next_certificate (public_of owner.now.key) old.now (terms_of words.now) false) }
 {
-    let policy = policy(alloc, words)?;
-    let mut cert = next_certificate(alloc, owner, old, false)?;
-    cert.policy = policy;
-    Ok(cert)
+    updated_certificate(alloc, owner.public(), old, words)
+}
+
+/// The certificate behind another by which its name is revoked, with the owner's key.
+fn to_revoke(alloc: Global, owner: &Owner, old: &Cert) -> Result<Cert, AllocError>
+    requires { old.now.serial < 4096 }
+    ensures { IfOk result (λ cert.
+        cert ≡ next_certificate (public_of owner.now.key) old.now old.now.policy true) }
+{
+    next_certificate(alloc, owner.public(), old, true)
 }
 
 // ---- a new draft
@@ -123,7 +124,7 @@ fn enter_draft(
     };
     let sender = Role::Owner.party(draft.owner);
     let Sent { messages, .. } = sent;
-    say(said, happening);
+    push_told(said, happening);
     post(alloc, pool, said, sender, messages.into_vec());
     drafts.push_reserved(draft);
 }
@@ -200,7 +201,7 @@ impl<C: OwnerCheck> World<C> {
         alloc: Global,
         place: usize,
         cert: Cert,
-        asks: &Numbers,
+        asks: &NumberList,
     ) -> Result<Items<Happening>, WorldFault>
         requires place { place < length self.old.owners }
         requires serial { cert.serial ≤ length self.old.drafts }
@@ -229,7 +230,7 @@ impl<C: OwnerCheck> World<C> {
         &self,
         owner: u16,
         policy: &PolicyWords,
-        asks: &Numbers,
+        asks: &NumberList,
     ) -> Result<usize, WorldFault>
         ensures place { IfOk result (λ place.
             position (is_owner owner) self.now.owners ≡ Some place) }
@@ -256,13 +257,13 @@ impl<C: OwnerCheck> World<C> {
         owner: u16,
         name: &NameView,
         policy: &PolicyWords,
-        asks: &Numbers,
+        asks: &NumberList,
     ) -> Result<Items<Happening>, WorldFault>
         ensures { StepsBy result self.old self.new
             (register_line self.old owner name.now policy.now asks.now) }
     {
         let place = self.may_register(owner, policy, asks)?;
-        let cert = first_certificate(alloc, &self.owners[place], name, policy)?;
+        let cert = to_register(alloc, &self.owners[place], name, policy)?;
         self.make_draft(alloc, place, cert, asks)
     }
 
@@ -275,7 +276,7 @@ impl<C: OwnerCheck> World<C> {
         owner: u16,
         draft: u64,
         policy: &PolicyWords,
-        asks: &Numbers,
+        asks: &NumberList,
     ) -> Result<(usize, usize), WorldFault>
         ensures place { IfOk result (λ places.
             position (is_owner owner) self.now.owners ≡ Some places.0) }
@@ -305,14 +306,14 @@ impl<C: OwnerCheck> World<C> {
         owner: u16,
         draft: u64,
         policy: &PolicyWords,
-        asks: &Numbers,
+        asks: &NumberList,
     ) -> Result<Items<Happening>, WorldFault>
         ensures { StepsBy result self.old self.new
             (update_line self.old owner draft policy.now asks.now) }
     {
         let (place, old) = self.may_update(owner, draft, policy, asks)?;
         let old = &self.drafts[old].cert;
-        let cert = updated_certificate(alloc, &self.owners[place], old, policy)?;
+        let cert = to_update(alloc, &self.owners[place], old, policy)?;
         self.make_draft(alloc, place, cert, asks)
     }
 
@@ -324,7 +325,7 @@ impl<C: OwnerCheck> World<C> {
         &self,
         owner: u16,
         draft: u64,
-        asks: &Numbers,
+        asks: &NumberList,
     ) -> Result<(usize, usize), WorldFault>
         ensures place { IfOk result (λ places.
             position (is_owner owner) self.now.owners ≡ Some places.0) }
@@ -350,13 +351,13 @@ impl<C: OwnerCheck> World<C> {
         alloc: Global,
         owner: u16,
         draft: u64,
-        asks: &Numbers,
+        asks: &NumberList,
     ) -> Result<Items<Happening>, WorldFault>
         ensures { StepsBy result self.old self.new (revoke_line self.old owner draft asks.now) }
     {
         let (place, old) = self.may_revoke(owner, draft, asks)?;
         let old = &self.drafts[old].cert;
-        let cert = next_certificate(alloc, &self.owners[place], old, true)?;
+        let cert = to_revoke(alloc, &self.owners[place], old)?;
         self.make_draft(alloc, place, cert, asks)
     }
 }

@@ -2,13 +2,11 @@
 
 ghost use Rattle.std.specs.Prelude.{◌≡◌, ◌&&◌, nat_lt};
 ghost use Rattle.std.specs.List.{list_all};
-ghost use Rattle.std.specs.Option.{option_copied};
-ghost use Rattle.ar_world.specs.Finding.{draft_at, existing, is_there, known_asks, room};
+ghost use Rattle.ar_world.specs.Finding.{existing, is_there, known_asks, room};
 
-use crate::drafted::Drafted;
 use crate::world::World;
+use ar_nodes::WorldFault;
 use ar_nodes::finding::has_owner;
-use ar_nodes::{WorldFault, numbered};
 use ar_statement::Role;
 use owner_check::OwnerCheck;
 use owner_core::Owner;
@@ -53,13 +51,6 @@ impl<C: OwnerCheck> World<C> {
             return Err(WorldFault::Absent(word));
         }
         Ok(())
-    }
-
-    /// The draft with a number.
-    pub(crate) fn draft(&self, number: u64) -> Option<&Drafted>
-        ensures { option_copied result ≡ draft_at self.now number }
-    {
-        numbered(&self.drafts, number)
     }
 
     /// Refuses a line that may send where the pool is full.

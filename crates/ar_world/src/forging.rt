@@ -9,7 +9,7 @@ ghost use Rattle.ar_nodes.specs.declared.fault.WorldFault.TheVariants.{Memory};
 
 use crate::world::World;
 use ar_base::Items;
-use ar_nodes::forging::{forger_place, put, sign};
+use ar_nodes::forging::{forger_place, put, sign_by_forger};
 use ar_nodes::{WorldFault, composed};
 use ar_statement::Party;
 use owner_check::OwnerCheck;
@@ -61,7 +61,7 @@ impl<C: OwnerCheck> World<C> {
         ensures { StepsBy result self.old self.new (sign_line self.old party pieces.now) }
     {
         let (place, text) = self.may_sign(alloc, party, pieces)?;
-        sign(alloc, &mut self.pool, &mut self.forgers[place], &text)
+        sign_by_forger(alloc, &mut self.pool, &mut self.forgers[place], &text)
     }
 
     /// To whom bytes go: to a party that is there, or to all logs.

@@ -11,7 +11,7 @@ ghost use Rattle.ar_world.specs.Step.{StepsBy};
 use crate::world::World;
 use ar_base::Items;
 use ar_names::NameView;
-use ar_nodes::sending::tell;
+use ar_nodes::sending::one_told;
 use ar_nodes::{Pooled, WorldFault};
 use ar_records::Judged;
 use ar_statement::Role;
@@ -99,7 +99,7 @@ fn judge(
         message: number,
         said: said_of(name, &verdict),
     };
-    Ok((tell(alloc, judged)?, is_accepted(&verdict)))
+    Ok((one_told(alloc, judged)?, is_accepted(&verdict)))
 }
 
 /// A client judges a message, and what it accepts is kept.

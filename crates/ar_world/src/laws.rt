@@ -11,7 +11,7 @@ ghost use Rattle.ar_world.specs.Finding.{log_at, message_at};
 ghost use Rattle.ar_world.specs.Founding.{is_peopled};
 ghost use Rattle.ar_nodes.specs.Parties.{AuthorityNode, CheckParts, LogNode};
 ghost use Rattle.ar_nodes.specs.Pool.{Pooled, entries_from};
-ghost use Rattle.ar_world.specs.Printed.{Tells, entries_in};
+ghost use Rattle.ar_world.specs.Printed.{TellsMoved, entries_in};
 ghost use Rattle.ar_world.specs.Records.{bytes_at, held_of, taken_at};
 ghost use Rattle.ar_world.specs.Run.{Saying, lines_of_run, run};
 ghost use Rattle.ar_world.specs.Settling.{authority_apart, authority_settled, log_apart, log_settled};
@@ -36,7 +36,8 @@ pub fn the_setup_comes_first()
 /// The pool only grows, and each message is printed once, with its number, where it enters: by each line, and of a whole
 /// script, whose printed messages are those of its pool, numbered from 1.
 pub fn the_printed_messages_are_the_pool()
-    ensures line { (says : Outcome) (w : World) (l : Line) → IfOk (step says w l) (Tells w.pool) }
+    ensures line { (says : Outcome) (w : World) (l : Line)
+        → IfOk (step says w l) (TellsMoved w.pool) }
     ensures script { (saying : Saying) (checks : List CheckParts) (input : List ℕ)
         → entries_in (run saying checks input).said
         ≡ entries_from 1 (run saying checks input).world.pool }

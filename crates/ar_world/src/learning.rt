@@ -16,7 +16,7 @@ use ar_base::Items;
 use ar_council::{see, seen_text};
 use ar_founding::Directories;
 use ar_nodes::WorldFault;
-use ar_nodes::sending::say;
+use ar_nodes::sending::push_told;
 use ar_statement::SeenText;
 use client_rule::RollNote;
 use owner_check::OwnerCheck;
@@ -113,7 +113,7 @@ fn learn(
         message: number,
         refused,
     };
-    say(&mut said, learnt);
+    push_told(&mut said, learnt);
     Ok(Items::from_vec(said))
 }
 

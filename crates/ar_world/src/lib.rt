@@ -15,7 +15,9 @@
 //! `Acting`), and `Sending` puts the party and the pool into their places in the world. `Step` has the step of each line,
 //! and `Run` a whole script with all that is written of it. `Settling` has parties apart from their world, and what becomes
 //! of it where they have replied.
-//! `Records` has what the honest parties and the clients of a world hold, of which the safety theorem speaks.
+//! `Records` has what the honest parties and the clients of a world hold, of which the safety theorem speaks. `Finding` says
+//! what the words of a line name, `Kept` what the program keeps beside what its lines speak of, `Printed` what the printed
+//! lines tell of the pool, and `Examples` has small scripts with all that is written of them.
 //!
 //! Its tests: `examples/play`, and `play_tests`, module `records`.
 #![tactic(auto)]
@@ -37,7 +39,6 @@ mod ordering;
 mod owning;
 mod parties;
 mod phase;
-mod policies;
 mod records;
 mod step;
 mod submitting;

@@ -14,7 +14,7 @@ use ar_base::Items;
 use ar_founding::{Setup, key_made, make_key};
 use ar_names::NameView;
 use ar_nodes::finding::has_owner;
-use ar_nodes::sending::tell;
+use ar_nodes::sending::one_told;
 use ar_nodes::teaching::{instructed, is_checking, known_key, retired};
 use ar_nodes::{Lesson, WorldFault};
 use ar_statement::Role;
@@ -67,7 +67,7 @@ fn add_owner(
 {
     owners.reserve(1)?;
     let owner = new_owner(alloc, secret, genesis, number)?;
-    let said = tell(alloc, key_made(Role::Owner.party(number), &owner.public()))?;
+    let said = one_told(alloc, key_made(Role::Owner.party(number), &owner.public()))?;
     owners.push_reserved(owner);
     Ok(said)
 }

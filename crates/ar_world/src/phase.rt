@@ -1,4 +1,5 @@
-/// How far a script came.
+/// How far a script came. The phases stand in the order in which the lines of the setup lead from one to the next; `order.rt`
+/// says which line may come in which.
 #[derive(Clone, Copy, Debug, PartialEq, Eq)]
 pub enum Phase {
     /// No line came yet.

@@ -1,11 +1,11 @@
 //! The step of a line.
 
-ghost use Rattle.std.specs.Prelude.{◌≡◌, true, OnOk};
+ghost use Rattle.std.specs.Prelude.{◌≡◌, true, false, Err, OnOk};
 ghost use Rattle.ar_base.specs.Chaining.{need};
 ghost use Rattle.ar_nodes.specs.declared.fault.WorldFault.TheVariants.{Order};
 ghost use Rattle.ar_world.specs.Founding.{led_to, may_come};
 ghost use Rattle.ar_world.specs.Records.{HasParties};
-ghost use Rattle.ar_world.specs.Step.{StepsBy, StepsBySome, event_effect, leads_to, setup_effect, step};
+ghost use Rattle.ar_world.specs.Step.{StepsBy, StepsBySome, comes_now, event_effect, leads_to, setup_effect, step};
 ghost use Rattle.ar_world.specs.declared.phase.Phase.TheVariants as phases;
 
 use crate::order::{leads_to, may_come};
@@ -139,12 +139,13 @@ impl<C: OwnerCheck> World<C> {
     ///
     /// A line is refused as `Order` where it may not come now; the lines of a burst always are. It is refused as `Absent`
     /// for the first word that names nothing of its kind, and as `Limit` where there is no room for what it makes. `Memory`
-    /// may stand in the place of each answer. A refused line changes nothing. A party that refuses a step does not refuse
+    /// may stand in the place of each answer but `Order`. A refused line changes nothing. A party that refuses a step does not refuse
     /// the line: it is told among what happens. A `flush` itself does nothing but end the setup: its deliveries are those
     /// that `next_due` names until there is none, each made by `deliver`.
     #[tactic(auto, using(crate::proofs::Stepping::in_its_order))]
     pub fn step(&mut self, alloc: Global, line: &Line) -> Result<Items<Happening>, WorldFault>
-        ensures { StepsBySome result self.old self.new (λ says. step says self.old line.now) }
+        ensures steps { StepsBySome result self.old self.new (λ says. step says self.old line.now) }
+        ensures order { comes_now self.old line.now ≡ false → result ≡ Err Order }
     {
         match line {
             Line::Setup(line) => {

@@ -13,7 +13,7 @@ ghost use Rattle.ar_world.specs.Submitting.{attached_by, handed, handover_line, 
 use crate::world::World;
 use ar_base::Items;
 use ar_nodes::WorldFault;
-use ar_nodes::submitting::{objected, refused, submitted, took};
+use ar_nodes::submitting::{objected, say_refused, submitted, took};
 use ar_statement::Role;
 use owner_check::OwnerCheck;
 use owner_core::{Owner, OwnerRefusal};
@@ -133,7 +133,7 @@ impl<C: OwnerCheck> World<C> {
                 self.attach(holder, digest, signature);
                 Ok(took(said, owner, what))
             }
-            Err(refusal) => refused(said, owner, what, refusal),
+            Err(refusal) => say_refused(said, owner, what, refusal),
         }
     }
 

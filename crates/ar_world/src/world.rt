@@ -145,4 +145,15 @@ impl<C: OwnerCheck> World<C> {
         };
         &known.genesis
     }
+
+    /// The directory that clients know: that of the first keys, with the Rolls that it learnt.
+    pub fn clients(&self) -> &Directory
+        requires { HasParties self.now }
+        ensures { result.now ≡ self.now.clients }
+    {
+        let Some(known) = &self.directories else {
+            unreachable!()
+        };
+        &known.clients
+    }
 }

@@ -3,7 +3,7 @@ ghost use Rattle.arpki_ask.specs.Answers.{found, unless_refused};
 ghost use Rattle.arpki_ask.specs.Inquiries.{inquiry_at};
 ghost use Rattle.ar_lines.specs.Readings.{ReadsUnless, start_of_lines};
 
-use crate::judgements::tell;
+use crate::judgements::tell_judgement;
 use crate::readers::{confirmation, directory, name, number};
 use crate::verdicts::refuse;
 use ar_lines::{LineFault, Lines};
@@ -75,7 +75,7 @@ fn judged(alloc: Global, inquiry: Inquiry) -> Result<Answer, AllocError>
         confirmation,
     } = inquiry;
     let judgement = judge(&directory, name.text(), &confirmation, now, age);
-    tell(alloc, &said_of(name, &judgement))
+    tell_judgement(alloc, &said_of(name, &judgement))
 }
 
 /// The answer to an input that is not too long.

@@ -19,7 +19,7 @@ fn status(said: &Said) -> u8
 }
 
 /// The answer that tells it.
-pub fn tell(alloc: Global, said: &Said) -> Result<Answer, AllocError>
+pub fn tell_judgement(alloc: Global, said: &Said) -> Result<Answer, AllocError>
     ensures { IfOk result (λ answer.
         answer ≡ one_line (said_text said.now) (said_status said.now)) }
 {

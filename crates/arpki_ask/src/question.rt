@@ -4,7 +4,7 @@ ghost use Rattle.arpki_ask.specs.Questions.{question_at};
 ghost use Rattle.ar_lines.specs.Forms.{bytes_of_hex, key_of_hex};
 ghost use Rattle.ar_lines.specs.Readings.{Follows, FollowsUnless, ReadsUnless, start_of_lines, word_at};
 
-use crate::verdicts::{refuse, tell};
+use crate::verdicts::{refuse, tell_verdict};
 use ar_lines::{LineFault, Lines, Refusal};
 use ar_run::Answer;
 use lms_tree::{LmsPublic, valid};
@@ -76,7 +76,7 @@ pub fn answer(alloc: Global, input: &[u8]) -> Result<Answer, AllocError>
     match read(alloc, input) {
         Ok(question) => {
             let verdict = valid(&question.key, &question.message, &question.signature);
-            tell(alloc, verdict)
+            tell_verdict(alloc, verdict)
         }
         Err(LineFault::Refused(refusal)) => refuse(alloc, refusal),
         Err(LineFault::Memory) => Err(AllocError),

@@ -8,7 +8,7 @@ use lms_tree::Verdict;
 use std::alloc::{AllocError, Global};
 
 /// The answer that tells a verdict on a signature.
-pub fn tell(alloc: Global, verdict: Verdict) -> Result<Answer, AllocError>
+pub fn tell_verdict(alloc: Global, verdict: Verdict) -> Result<Answer, AllocError>
     ensures { IfOk result (λ answer.
         answer ≡ one_line (verdict_text verdict) (verdict_status verdict)) }
 {

@@ -6,7 +6,7 @@ use Rattle.ar_cert.specs.Changes.{Change}
 use Rattle.ar_message.specs.Confirmation.{Body, Confirmation, Subject, absent, certificate_in, confirmation_at, present}
 use Rattle.client_memory.specs.Answers.{pinned_by, pinned_on}
 use Rattle.client_memory.specs.Book.{Pin}
-use Rattle.client_rule.specs.Rule.{Asked, judgement, judgement_on, refusal_of, taken, unless_refused}
+use Rattle.client_rule.specs.Rule.{Asked, judgement, judgement_on, refusal_of, accepted_body, unless_refused}
 use Rattle.client_rule.specs.declared.judgement.Judgement.{Judgement}
 use Rattle.client_memory.specs.declared.answers.Pinned.{Pinned}
 use Rattle.arpki_c.specs.Following.{following, following_by, shown_in, shown_on, shown_with}
@@ -15,7 +15,7 @@ use Rattle.arpki_c.specs.declared.followed.Followed.{Followed}
 use Rattle.arpki_c.specs.declared.pins.PinFault.{PinFault}
 use Rattle.arpki_c.specs.declared.pins.PinFault.TheVariants as pin_fault
 
-shown-taken : (about : Subject) (body : Body) → shown_with about (certificate_in body) ≡ taken about body
+shown-taken : (about : Subject) (body : Body) → shown_with about (certificate_in body) ≡ accepted_body about body
 shown-taken about (present certificate) = refl
 shown-taken about (absent bottom) = refl
 
@@ -27,7 +27,7 @@ shown_as_judged asked bytes book links = by (result_ok (whole confirmation_at by
     of-one : (c : Confirmation) (r : Result (Unit {0}) ℕ)
         → following (pinned_on (unless_refused r c) book asked links).0 (shown_with c.about (certificate_in c.body))
         ≡ following (pinned_on (unless_refused r c) book asked links).0 (unless_refused r c)
-    of-one c (Ok u) = ap (λ (j : Judgement). following (pinned_on (taken c.about c.body) book asked links).0 j) (shown-taken c.about c.body)
+    of-one c (Ok u) = ap (λ (j : Judgement). following (pinned_on (accepted_body c.about c.body) book asked links).0 j) (shown-taken c.about c.body)
     of-one c (Err number) = refl
 
     by : (o : Option Confirmation) → following (pinned_on (judgement_on asked o) book asked links).0 (shown_on o)

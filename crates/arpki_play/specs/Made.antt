@@ -6,7 +6,7 @@ use Rattle.sha2.specs.Sha256.{sha256}
 use Rattle.ar_run.specs.Answers.{Answer}
 use Rattle.ar_nodes.specs.Parties.{CheckParts}
 use Rattle.ar_world.specs.Run as world
-use Rattle.script_make.specs.Script.{last_epoch, script}
+use Rattle.script_make.specs.Script.{last_script_epoch, script}
 use Rattle.ar_world.specs.declared.cause.Cause.{Cause}
 use Rattle.script_play.specs.Playing.{Played, played_of}
 use Rattle.script_play.specs.declared.counts.Counts.{Counts}
@@ -16,7 +16,7 @@ use Rattle.script_play.specs.declared.counts.Counts.{Counts}
 abbrev pub summary_line : ℕ → ℕ → Counts → List ℕ → List ℕ
 summary_line domains messages n output =
     codes "domains " ++ (decimal domains ++ (codes " messages " ++ (decimal messages ++ (codes " epochs "
-    ++ (decimal (last_epoch domains) ++ (codes " accepted " ++ (decimal n.accepted ++ (codes " absent " ++ (decimal n.absent
+    ++ (decimal (last_script_epoch domains) ++ (codes " accepted " ++ (decimal n.accepted ++ (codes " absent " ++ (decimal n.absent
     ++ (codes " refused " ++ (decimal n.refused ++ (codes " output " ++ (encode_lower output ++ codes "\n")))))))))))))
 
 -- the summary of what a script came to, where this is the digest of what is written of it, or the line that is refused

@@ -17,8 +17,8 @@ use ar_io::{QuietSink, Sink, Source};
 use ar_run::{Fault, read_input, write_line};
 use ar_text::{Part, append};
 use owner_check::OwnerCheck;
-use script_make::last_epoch;
-use script_play::{Counts, Played, play, refused_line, tell_too_long};
+use script_make::last_script_epoch;
+use script_play::{Counts, Played, play, refusal_line, tell_too_long};
 use std::alloc::{AllocError, Global};
 
 /// Plays a script that is not too long, and writes what happens.
@@ -118,7 +118,7 @@ fn summary_line(
         Part::Bytes(b" messages "),
         Part::Number(messages),
         Part::Bytes(b" epochs "),
-        Part::Number(u64::from(last_epoch(number))),
+        Part::Number(u64::from(last_script_epoch(number))),
         Part::Bytes(b" accepted "),
         Part::Number(counts.accepted),
         Part::Bytes(b" absent "),
@@ -147,7 +147,7 @@ fn sum_up<C: OwnerCheck>(
     ensures bound { IfOk result (λ told. told.1 < 4) }
 {
     match played.refused {
-        Some((number, cause)) => Ok((refused_line(alloc, number, cause)?, 3)),
+        Some((number, cause)) => Ok((refusal_line(alloc, number, cause)?, 3)),
         None => {
             let messages = played.world.messages();
             let line = summary_line(alloc, domains, messages, &played.counts, output)?;

@@ -104,10 +104,7 @@ fn answer<C: OwnerCheck, S: Source, K: Sink>(
     };
     let played = play(alloc, checks, &script, &mut QuietSink::new())?;
     tell(alloc, &played.world, sink)?;
-    match played.refused {
-        Some(_) => Ok(3),
-        None => Ok(0),
-    }
+    Ok(played.status())
 }
 
 fn main(rt: HostRuntime) -> ExitCode {

@@ -31,7 +31,7 @@ use Rattle.ar_council.proofs.Votes.{votes-more}
 use Rattle.ar_council.proofs.Values.{one_digest}
 use Rattle.ar_council.specs.Votes.{SawVotes}
 use Rattle.authority_core.specs.Calls.{MayConfirm, after_endorse, after_half_confirmed, after_learn, after_log_confirmed, after_roll, confirming, fresh_authority, is_same_asked, is_same_kept, is_same_path, kept_claim, kept_value, seen_of_half, seen_of_log, seen_confirmed, seen_of_votes}
-use Rattle.authority_core.specs.Honest.{HasAsked, HasKept, HonestAuthority, ToldBy}
+use Rattle.authority_core.specs.Honest.{HasAsked, HasKept, IsOfHonestAuthority, ToldBy}
 use Rattle.authority_core.specs.Record.{AuthorityRecord}
 use Rattle.authority_core.specs.declared.entries.Approved.{Approved}
 use Rattle.authority_core.specs.declared.entries.Kept.{Kept}
@@ -60,16 +60,16 @@ told-more council me seen seen' asked asked' kept kept' s a k (status log epoch 
 told-more council me seen seen' asked asked' kept kept' s a k (object certificate) t = t
 
 texts-more : (council : Council) (me : ℕ) (r : AuthorityRecord) (seen' : List SeenText) (asked' : List Approved) (kept' : List Kept) → Within r.seen seen' → Within r.asked asked' → Within r.kept kept'
-    → HonestAuthority council me r → All (IsTextOf (ToldBy council me seen' asked' kept')) (texts_of r.signed)
+    → IsOfHonestAuthority council me r → All (IsTextOf (ToldBy council me seen' asked' kept')) (texts_of r.signed)
 texts-more council me r seen' asked' kept' s a k h =
     All-weaker (IsTextOf (ToldBy council me r.seen r.asked r.kept)) (IsTextOf (ToldBy council me seen' asked' kept'))
     (λ text t. record { claim = t.claim; valid = t.valid; holds = told-more council me r.seen seen' r.asked asked' r.kept kept' s a k t.claim t.holds; is = t.is }) (texts_of r.signed) h.told
 
 -- one more statement, of which the entries tell
-honest-signing : (council : Council) (me : ℕ) (r : AuthorityRecord) (more : List SeenText) (asked' : List Approved) (kept' : List Kept) (claim : Claim) → HonestAuthority council me r
+honest-signing : (council : Council) (me : ℕ) (r : AuthorityRecord) (more : List SeenText) (asked' : List Approved) (kept' : List Kept) (claim : Claim) → IsOfHonestAuthority council me r
     → All (λ s. IsMember council s.party) more → Within r.asked asked' → Within r.kept kept' → IsValid claim → is_roll (text_of claim) ≡ false
     → ToldBy council me (seen_after r.seen more) asked' kept' claim
-    → HonestAuthority council me (record { seen = seen_after r.seen more; signed = after_entry r.signed (text_of claim); asked = asked'; kept = kept' })
+    → IsOfHonestAuthority council me (record { seen = seen_after r.seen more; signed = after_entry r.signed (text_of claim); asked = asked'; kept = kept' })
 honest-signing council me r more asked' kept' claim h members a k valid plain told =
     let P : Claim → Type 0 = ToldBy council me (seen_after r.seen more) asked' kept' in
     record {
@@ -119,11 +119,11 @@ kept-has council seen kept k base saw =
 
 -- ---- what an authority does
 
-pub honest-fresh : (council : Council) (me leaves : ℕ) → 0 < leaves → HonestAuthority council me (fresh_authority leaves)
+pub honest-fresh : (council : Council) (me leaves : ℕ) → 0 < leaves → IsOfHonestAuthority council me (fresh_authority leaves)
 honest-fresh council me leaves some =
     record { sound = empty-book leaves some; told = λ k d less. absurd (omega (arith, less)); sees_members = λ k d less. absurd (omega (arith, less)) }
 
-pub honest-endorse : (council : Council) (me : ℕ) (r : AuthorityRecord) (a : Approved) → HonestAuthority council me r → me < 2 ^ 16 → IsDigest a.certificate → HonestAuthority council me (after_endorse me r a)
+pub honest-endorse : (council : Council) (me : ℕ) (r : AuthorityRecord) (a : Approved) → IsOfHonestAuthority council me r → me < 2 ^ 16 → IsDigest a.certificate → IsOfHonestAuthority council me (after_endorse me r a)
 unfolding ToldBy
 honest-endorse council me r a h small digest =
     honest-signing council me r [] (with_one is_same_asked r.asked a) r.kept (endorse me a.certificate) h (All-nil (λ (s : SeenText). IsMember council s.party)) (one-keeps is_same_asked r.asked a) (same-within r.kept)
@@ -151,9 +151,9 @@ claim-told council me seen asked kept epoch name None root has = (refl, has)
 claim-told council me seen asked kept epoch name (Some certificate) root has = (refl, has)
 
 -- it confirms where the votes are among what it sees
-honest-confirming : (council : Council) (me : ℕ) (r : AuthorityRecord) (log : ℕ) (voters : List ℕ) (k : Kept) (more : List SeenText) → HonestAuthority council me r → me < 2 ^ 16
+honest-confirming : (council : Council) (me : ℕ) (r : AuthorityRecord) (log : ℕ) (voters : List ℕ) (k : Kept) (more : List SeenText) → IsOfHonestAuthority council me r → me < 2 ^ 16
     → MayConfirm council log voters k → All (λ s. IsMember council s.party) more → All (λ voter. Saw more (log_party voter) (vote_claim voter k.epoch (kept_value k))) voters
-    → HonestAuthority council me (confirming me r more k)
+    → IsOfHonestAuthority council me (confirming me r more k)
 honest-confirming council me r log voters k more h small may members votes =
     let later : List SeenText = seen_after r.seen more in
     let saw : SawVotes council later k.epoch (kept_value k) = record {
@@ -193,20 +193,20 @@ votes-behind front voters k =
     All-weaker (λ voter. Contains (map f voters) (f voter)) (λ voter. Saw (front ++ seen_of_votes voters k) (log_party voter) (vote_claim voter k.epoch (kept_value k)))
     (λ voter there. Contains-append_right front (map f voters) (f voter) there) voters (map-has f voters)
 
-pub honest-first : (council : Council) (me : ℕ) (r : AuthorityRecord) (log : ℕ) (voters : List ℕ) (k : Kept) → HonestAuthority council me r → me < 2 ^ 16 → MayConfirm council log voters k
-    → HonestAuthority council me (after_log_confirmed me r log voters k)
+pub honest-first : (council : Council) (me : ℕ) (r : AuthorityRecord) (log : ℕ) (voters : List ℕ) (k : Kept) → IsOfHonestAuthority council me r → me < 2 ^ 16 → MayConfirm council log voters k
+    → IsOfHonestAuthority council me (after_log_confirmed me r log voters k)
 honest-first council me r log voters k h small may =
     honest-confirming council me r log voters k (seen_of_log log voters k) h small may (log-members council log voters k may)
     (votes-behind (seen_confirmed (log_party log) k ∷ []) voters k)
 
-pub honest-second : (council : Council) (me : ℕ) (r : AuthorityRecord) (log : ℕ) (voters : List ℕ) (first : ℕ) (k : Kept) → HonestAuthority council me r → me < 2 ^ 16 → MayConfirm council log voters k
-    → first < council.authorities → HonestAuthority council me (after_half_confirmed me r log voters first k)
+pub honest-second : (council : Council) (me : ℕ) (r : AuthorityRecord) (log : ℕ) (voters : List ℕ) (first : ℕ) (k : Kept) → IsOfHonestAuthority council me r → me < 2 ^ 16 → MayConfirm council log voters k
+    → first < council.authorities → IsOfHonestAuthority council me (after_half_confirmed me r log voters first k)
 honest-second council me r log voters first k h small may known =
     honest-confirming council me r log voters k (seen_of_half log voters first k) h small may (half-members council log voters first k may known)
     (votes-behind (seen_confirmed (log_party log) k ∷ (seen_confirmed (authority_party first) k ∷ [])) voters k)
 
-pub honest-learn : (council : Council) (me : ℕ) (r : AuthorityRecord) (a : Announced) → HonestAuthority council me r → IsMember council a.party
-    → HonestAuthority council me (after_learn r a)
+pub honest-learn : (council : Council) (me : ℕ) (r : AuthorityRecord) (a : Announced) → IsOfHonestAuthority council me r → IsMember council a.party
+    → IsOfHonestAuthority council me (after_learn r a)
 honest-learn council me r a h member =
     let more : List SeenText = seen_of a.party (roll_claim a) ∷ [] in
     record {
@@ -216,7 +216,7 @@ honest-learn council me r a h member =
           (All-cons (λ (s : SeenText). IsMember council s.party) (seen_of a.party (roll_claim a)) [] member (All-nil (λ (s : SeenText). IsMember council s.party)));
     }
 
-pub honest-roll : (council : Council) (me : ℕ) (r : AuthorityRecord) (key : List ℕ) → HonestAuthority council me r → me < 2 ^ 16 → MayRoll r.signed key → HonestAuthority council me (after_roll me r key)
+pub honest-roll : (council : Council) (me : ℕ) (r : AuthorityRecord) (key : List ℕ) → IsOfHonestAuthority council me r → me < 2 ^ 16 → MayRoll r.signed key → IsOfHonestAuthority council me (after_roll me r key)
 unfolding ToldBy
 honest-roll council me r key h small may =
     let claim : Claim = roll (authority_party me) r.signed.newest key in

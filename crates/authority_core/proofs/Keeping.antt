@@ -38,7 +38,7 @@ use Rattle.authority_core.specs.Calls.{MayConfirm, after_endorse, after_learn, a
 use Rattle.authority_core.specs.ConfirmRows.{half_claims, log_claims}
 use Rattle.ar_message.specs.Shown.{shows}
 use Rattle.authority_core.specs.Confirming.{confirmed_by, confirming_checks, content_tests, kept_of, log_claimed, meant_for, parties_of, vote_count, voted_by, voters_of}
-use Rattle.authority_core.specs.Honest.{HonestAuthority}
+use Rattle.authority_core.specs.Honest.{IsOfHonestAuthority}
 use Rattle.authority_core.specs.Refusals.{of_signers}
 use Rattle.authority_core.specs.State.{AuthorityAnswer, AuthorityState, IsAuthority, if_due}
 use Rattle.authority_core.specs.declared.refusal.AuthorityRefusal.{AuthorityRefusal}
@@ -150,7 +150,7 @@ log-keeps s part is confirming-is passed =
     record {
       number = is.number;
       bytes = is.bytes;
-      honest = subst (λ (seen : List SeenText). HonestAuthority (council_of s.keys) s.me (confirming s.me s.past seen (kept_of part))) (sym (log-seen part))
+      honest = subst (λ (seen : List SeenText). IsOfHonestAuthority (council_of s.keys) s.me (confirming s.me s.past seen (kept_of part))) (sym (log-seen part))
           (honest-first (council_of s.keys) s.me s.past part.log (voters_of part) (kept_of part) is.honest is.number may);
     }
 
@@ -163,7 +163,7 @@ half-keeps s part first_signature is confirming-is passed =
     record {
       number = is.number;
       bytes = is.bytes;
-      honest = subst (λ (seen : List SeenText). HonestAuthority (council_of s.keys) s.me (confirming s.me s.past seen (kept_of part))) (sym (half-seen part first_signature))
+      honest = subst (λ (seen : List SeenText). IsOfHonestAuthority (council_of s.keys) s.me (confirming s.me s.past seen (kept_of part))) (sym (half-seen part first_signature))
           (honest-second (council_of s.keys) s.me s.past part.log (voters_of part) part.first (kept_of part) is.honest is.number may
           (authority-member (council_of s.keys) part part.first members));
     }
@@ -180,7 +180,7 @@ pub note-keeps : (s : AuthorityState) (a : Announced) (l : Learned) → IsAuthor
 note-keeps s a l is e = record {
   number = is.number;
   bytes = is.bytes;
-  honest = subst (λ (council : Council). HonestAuthority council s.me (after_learn s.past a)) (sym (council-learning s.keys a))
+  honest = subst (λ (council : Council). IsOfHonestAuthority council s.me (after_learn s.past a)) (sym (council-learning s.keys a))
       (honest-learn (council_of s.keys) s.me s.past a is.honest (member s.keys a.party (note-known s.keys a l e)));
 }
 
@@ -201,7 +201,7 @@ pub roll-keeps : (s : AuthorityState) (next : LmsPublic) (due : DueParts) → Is
 roll-keeps s next due is e text widths = record {
   number = is.number;
   bytes = is.bytes;
-  honest = subst (λ (council : Council). HonestAuthority council s.me (after_roll s.me s.past (key_text next))) (sym (council-adopting s.keys (authority_party s.me) s.past.signed.newest next))
+  honest = subst (λ (council : Council). IsOfHonestAuthority council s.me (after_roll s.me s.past (key_text next))) (sym (council-adopting s.keys (authority_party s.me) s.past.signed.newest next))
       (honest-roll (council_of s.keys) s.me s.past (key_text next) is.honest is.number
       (record { not_last = roll-room s next due is e; is_key = text; readable = readable next widths }));
 }

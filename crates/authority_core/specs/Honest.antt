@@ -39,7 +39,7 @@ ToldBy council me seen asked kept (object certificate) = ⊥
 
 -- The record is that of an honest authority with this number: its book is sound, it has only texts of statements that the
 -- entries tell of, and what it saw is of logs and authorities of the council.
-pub record HonestAuthority (council : Council) (me : ℕ) (r : AuthorityRecord) : Type 0 where
+pub record IsOfHonestAuthority (council : Council) (me : ℕ) (r : AuthorityRecord) : Type 0 where
   pub sound : IsRollBook r.signed
   pub told : All (IsTextOf (ToldBy council me r.seen r.asked r.kept)) (texts_of r.signed)
   pub sees_members : SeesMembers council r.seen

@@ -10,7 +10,7 @@ use Rattle.ar_statement.specs.Claims.{Claim, text_of}
 use Rattle.key_roll.specs.Due.{DueParts}
 use Rattle.key_roll.specs.Entry.{entered}
 use Rattle.party_keys.specs.Directory.{Directory}
-use Rattle.authority_core.specs.Honest.{HonestAuthority}
+use Rattle.authority_core.specs.Honest.{IsOfHonestAuthority}
 use Rattle.authority_core.specs.Record.{AuthorityRecord}
 use Rattle.authority_core.specs.Refusals.{of_book}
 use Rattle.authority_core.specs.declared.refusal.AuthorityRefusal.{AuthorityRefusal}
@@ -27,7 +27,7 @@ pub record AuthorityState : Type 0 where
 pub record IsAuthority (s : AuthorityState) : Type 0 where
   pub number : s.me < 2 ^ 16
   pub bytes : s.signature_len < 2 ^ 16
-  pub honest : HonestAuthority (council_of s.keys) s.me s.past
+  pub honest : IsOfHonestAuthority (council_of s.keys) s.me s.past
 
 -- ---- answers
 

@@ -29,7 +29,7 @@ ghost use Rattle.authority_core.specs.ConfirmRows.{half_confirmed_row, log_confi
 ghost use Rattle.ar_message.specs.Shown.{shows};
 ghost use Rattle.authority_core.specs.Confirming.{vote_count};
 ghost use Rattle.authority_core.specs.EndorseRow.{endorse_row};
-ghost use Rattle.authority_core.specs.Honest.{HasAsked, HasKept, HonestAuthority};
+ghost use Rattle.authority_core.specs.Honest.{HasAsked, HasKept, IsOfHonestAuthority};
 ghost use Rattle.authority_core.specs.Keyed.{IsRingOf};
 ghost use Rattle.authority_core.specs.Later.{AuthorityGrows};
 ghost use Rattle.authority_core.specs.Record.{AuthorityRecord};
@@ -44,15 +44,15 @@ ghost use Rattle.party_keys.specs.Learning.{Announced};
 /// The record of an authority that has done nothing yet is an honest one's.
 pub fn a_fresh_authority_is_honest()
     ensures { (council : Council) (me leaves : ℕ) → 0 < leaves
-        → HonestAuthority council me (fresh_authority leaves) }
+        → IsOfHonestAuthority council me (fresh_authority leaves) }
 {}
 
 /// A record stays an honest authority's where the check said yes and the authority endorses. Where a leaf is left for it,
 /// the endorsement is signed.
 pub fn an_endorsement_keeps_an_authority()
     ensures honest { (council : Council) (me : ℕ) (r : AuthorityRecord) (a : Approved)
-        → HonestAuthority council me r → me < 2 ^ 16
-        → IsDigest a.certificate → HonestAuthority council me (after_endorse me r a) }
+        → IsOfHonestAuthority council me r → me < 2 ^ 16
+        → IsDigest a.certificate → IsOfHonestAuthority council me (after_endorse me r a) }
     ensures signed { (me : ℕ) (r : AuthorityRecord) (a : Approved)
         → HasRoom r.signed (text_of (endorse me a.certificate) ∷ [])
         → Contains (texts_of (after_endorse me r a).signed) (text_of (endorse me a.certificate)) }
@@ -62,14 +62,14 @@ pub fn an_endorsement_keeps_an_authority()
 /// as the second, by what a first one says. Where a leaf is left for it, the confirmation is signed.
 pub fn confirmations_keep_an_authority()
     ensures first { (council : Council) (me : ℕ) (r : AuthorityRecord) (log : ℕ) (voters : List ℕ)
-        (k : Kept) → HonestAuthority council me r
+        (k : Kept) → IsOfHonestAuthority council me r
         → me < 2 ^ 16 → MayConfirm council log voters k
-        → HonestAuthority council me (after_log_confirmed me r log voters k) }
+        → IsOfHonestAuthority council me (after_log_confirmed me r log voters k) }
     ensures second { (council : Council) (me : ℕ) (r : AuthorityRecord) (log : ℕ) (voters : List ℕ)
         (first : ℕ) (k : Kept)
-        → HonestAuthority council me r → me < 2 ^ 16 → MayConfirm council log voters k
+        → IsOfHonestAuthority council me r → me < 2 ^ 16 → MayConfirm council log voters k
         → first < council.authorities
-        → HonestAuthority council me (after_half_confirmed me r log voters first k) }
+        → IsOfHonestAuthority council me (after_half_confirmed me r log voters first k) }
     ensures signed { (me : ℕ) (r : AuthorityRecord) (log : ℕ) (voters : List ℕ) (k : Kept)
         → HasRoom r.signed (text_of (kept_claim (authority_party me) k) ∷ [])
         → Contains (texts_of (after_log_confirmed me r log voters k).signed)
@@ -80,24 +80,24 @@ pub fn confirmations_keep_an_authority()
 /// next key.
 pub fn rolls_keep_an_authority()
     ensures learn { (council : Council) (me : ℕ) (r : AuthorityRecord) (a : Announced)
-        → HonestAuthority council me r
-        → IsMember council a.party → HonestAuthority council me (after_learn r a) }
+        → IsOfHonestAuthority council me r
+        → IsMember council a.party → IsOfHonestAuthority council me (after_learn r a) }
     ensures roll { (council : Council) (me : ℕ) (r : AuthorityRecord) (key : List ℕ)
-        → HonestAuthority council me r → me < 2 ^ 16
-        → MayRoll r.signed key → HonestAuthority council me (after_roll me r key) }
+        → IsOfHonestAuthority council me r → me < 2 ^ 16
+        → MayRoll r.signed key → IsOfHonestAuthority council me (after_roll me r key) }
 {}
 
 /// An honest authority endorsed only where its check said yes, and confirmed only what it keeps, with the votes of a quorum
 /// that it saw.
 pub fn what_is_signed_is_told()
     ensures endorsements { (council : Council) (me : ℕ) (r : AuthorityRecord) (certificate : List ℕ)
-        → HonestAuthority council me r
+        → IsOfHonestAuthority council me r
         → IsValid (endorse me certificate)
         → Contains (texts_of r.signed) (text_of (endorse me certificate))
         → HasAsked r.asked certificate }
     ensures confirmations { (council : Council) (me : ℕ) (r : AuthorityRecord) (epoch : ℕ)
         (name : List ℕ) (certificate : Option (List ℕ)) (root : List ℕ)
-        → HonestAuthority council me r
+        → IsOfHonestAuthority council me r
         → IsValid (confirmation_by (authority_party me) epoch name certificate root)
         → Contains (texts_of r.signed)
         (text_of (confirmation_by (authority_party me) epoch name certificate root))

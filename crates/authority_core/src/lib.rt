@@ -7,7 +7,7 @@
 //! bytes where a signature is due: `EndorseRow`, `ConfirmRows` over `Confirming`, and `RollRows`. `specs/Keyed.antt` has
 //! the answers with the signatures in, and which keys are the authority's.
 //! `specs/State.antt` says where an authority stands and what is true of that, and `specs/Refusals.antt` what
-//! it refuses where a call below does.
+//! it refuses where a call below does. `specs/Verifying.antt` says which votes it verified last, under the keys that it knows.
 //!
 //! Its tests: `worked_examples`, module `authority_core_tests`, and `examples/play`.
 #![tactic(auto)]

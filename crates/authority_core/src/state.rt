@@ -4,7 +4,7 @@ ghost use Rattle.std.specs.Prelude.{◌≡◌, ◌<◌, true};
 ghost use Rattle.ar_council.specs.Council.{council_of};
 ghost use Rattle.ar_message.specs.Messages.{IsMessage};
 ghost use Rattle.authority_core.specs.Calls.{fresh_authority};
-ghost use Rattle.authority_core.specs.Honest.{HonestAuthority};
+ghost use Rattle.authority_core.specs.Honest.{IsOfHonestAuthority};
 ghost use Rattle.authority_core.specs.Row.{message_row};
 ghost use Rattle.authority_core.specs.State.{IsAuthority, StepsBy};
 ghost use Rattle.owner_check.specs.declared.answer.Outcome.TheVariants.{Yes};
@@ -96,7 +96,7 @@ impl AuthorityState {
     /// What it remembers, which is what an honest authority does.
     pub fn record(&self) -> &AuthorityRecord
         ensures value { result.now ≡ self.now.past }
-        ensures honest { HonestAuthority (council_of self.now.keys) self.now.me self.now.past }
+        ensures honest { IsOfHonestAuthority (council_of self.now.keys) self.now.me self.now.past }
     {
         &self.past
     }

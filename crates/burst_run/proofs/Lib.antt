@@ -1,5 +1,6 @@
 pub mod Among
 pub mod BurstLemmas
+pub mod Crossing
 pub mod Dealt
 pub mod Gathered
 pub mod JoiningLemmas

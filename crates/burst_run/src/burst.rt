@@ -75,13 +75,18 @@ fn bring<C: OwnerCheck + Send, R: Threads + Wait + Sync, G: Gate>(
     workers: u16,
 ) -> Result<Vec<Taken<Station<C>, Signer, Reply>>, AllocError>
     requires some { 0 < workers }
-    requires kept { AllByRecursion (λ desk. IsStation (station_told C.told C.answers desk.core) desk.finish.ring.keys) desks.items }
+    requires kept { AllByRecursion (λ desk.
+        IsStation (station_told C.told C.answers desk.core) desk.finish.ring.keys) desks.items }
     requires there { AllByRecursion (λ errand. errand.place < length desks.items) errands.items }
-    ensures finish { IfOk result (λ all. map (λ taken. taken.finish) all.items ≡ map (λ desk. desk.finish) desks.items) }
-    ensures taken { IfOk result (λ all. EachFrom (λ place desk taken. IsTaken replied_at IsNoted (signed_reply desk.finish.ring.keys)
+    ensures finish { IfOk result (λ all.
+        map (λ taken. taken.finish) all.items ≡ map (λ desk. desk.finish) desks.items) }
+    ensures taken { IfOk result (λ all. EachFrom (λ place desk taken.
+        IsTaken replied_at IsNoted (signed_reply desk.finish.ring.keys)
         (station_told C.told C.answers desk.core)
-        (map (λ worker. brought_to place (own_of workers worker errands.items)) (range_with_len 0 workers))
-        taken.history.items (station_told C.told C.answers taken.core) taken.replies.items) 0 desks.items all.items) }
+        (map (λ worker. brought_to place (own_of workers worker errands.items))
+        (range_with_len 0 workers))
+        taken.history.items (station_told C.told C.answers taken.core)
+        taken.replies.items) 0 desks.items all.items) }
     ensures orders { IfOk result (λ all. AreNumbered (λ input. input.j) 0 errands.items
         → EachFrom (λ place desk taken. TakesDealt (λ input. input.j) workers errands.items place
         (inputs_of taken.history.items)) 0 desks.items all.items) }
@@ -103,7 +108,8 @@ fn visit_all<C: OwnerCheck + Send, R: Threads + Wait + Sync, G: Gate>(
     workers: u16,
 ) -> Result<Vec<Visit>, AllocError>
     requires some { 0 < workers }
-    requires messages { AllByRecursion (λ d. is_some (message_at world.now d.0) ≡ true) deliveries.now }
+    requires messages { AllByRecursion
+        (λ d. is_some (message_at world.now d.0) ≡ true) deliveries.now }
     requires parties { AllByRecursion (λ d. is_in (homes_in parties.old)
         d.1.role d.1.number ≡ true) deliveries.now }
     ensures { IfOk result (λ visits. AreVisits world.now workers deliveries.now
@@ -134,7 +140,8 @@ pub fn run_burst<C: OwnerCheck + Send, R: Threads + Wait + Sync, G: Gate>(
 ) -> Result<(World<C>, Items<Happening>), AllocError>
     requires workers { (0 < workers) × (workers ≤ 16) }
     requires there { AllByRecursion (IsDeliverable world) deliveries.now }
-    ensures { IfOk result (λ made. (orders : List Sequence) × AreOrders workers deliveries.now orders
+    ensures { IfOk result (λ made. (orders : List Sequence)
+        × AreOrders workers deliveries.now orders
         × (burst_made deliveries.now world orders ≡ (made.0, made.1))) }
 {
     let (rest, mut parties) = world.part(alloc);

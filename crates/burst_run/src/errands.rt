@@ -85,7 +85,8 @@ pub(crate) fn errands_of<C: OwnerCheck>(
     stations: &[Party],
     deliveries: &[(u64, Party)],
 ) -> Result<Vec<Errand<Delivery>>, AllocError>
-    requires messages { AllByRecursion (λ d. is_some (message_at world.now d.0) ≡ true) deliveries.now }
+    requires messages { AllByRecursion
+        (λ d. is_some (message_at world.now d.0) ≡ true) deliveries.now }
     requires stations { AllByRecursion (λ d. has_party stations.now d.1 ≡ true) deliveries.now }
     ensures { IfOk result (λ errands.
         errands.items ≡ errands_from world.now stations.now 0 deliveries.now) }

@@ -35,7 +35,8 @@ impl Model for Visit {
 
     ghost Value = { VisitParts };
 
-    ghost view = { λ v. record { party = v.party; history = v.history.items; replies = v.replies.items } };
+    ghost view = { λ v.
+        record { party = v.party; history = v.history.items; replies = v.replies.items } };
 }
 
 /// A party comes back to its place.
@@ -67,15 +68,21 @@ pub(crate) fn put_all_back<C: OwnerCheck + Send>(
     parties: &mut Parties<C>,
     all: Vec<Taken<Station<C>, Signer, Reply>>,
 ) -> Result<Vec<Visit>, AllocError>
-    requires kept { AllByRecursion (λ taken. IsStation (station_told C.told C.answers taken.core) taken.finish.ring.keys) all.items }
+    requires kept { AllByRecursion (λ taken.
+        IsStation (station_told C.told C.answers taken.core) taken.finish.ring.keys) all.items }
     requires places { AllByRecursion (λ taken. HasPlace
         (homes_in parties.old)
         taken.finish.party.number (station_told C.told C.answers taken.core)) all.items }
     ensures back { OnOk result (homes_in parties.new
         ≡ all_back_in (homes_in parties.old)
-        (map (λ taken. apart_with taken.finish (station_told C.told C.answers taken.core)) all.items)) }
+        (map (λ taken. apart_with taken.finish (station_told C.told C.answers taken.core))
+        all.items)) }
     ensures visits { IfOk result (λ visits. visits.items ≡ map (λ taken.
-        record { party = taken.finish.party; history = taken.history.items; replies = taken.replies.items }) all.items) }
+        record {
+          party = taken.finish.party;
+          history = taken.history.items;
+          replies = taken.replies.items;
+        }) all.items) }
 {
     let mut visits = Vec::new(alloc);
     for taken in all {

@@ -21,11 +21,13 @@ pub fn each_burst_has_orders()
 /// party, the world is what it is where the parties take the same deliveries in it, one after the other, in the same orders.
 #[tactic(auto, using(crate::proofs::Visits::world_visited))]
 pub fn visits_are_a_burst()
-    ensures { (w : World) (workers : ℕ) (deliveries : Deliveries) (stations : List Party) (all : List Away)
-        (now : List StationState) (visits : List VisitParts)
+    ensures { (w : World) (workers : ℕ) (deliveries : Deliveries) (stations : List Party)
+        (all : List Away) (now : List StationState) (visits : List VisitParts)
         → AreAway (record { logs = w.logs; authorities = w.authorities }) stations all
         → Abreast (IsVisit w workers deliveries) all now visits
         → burst_made deliveries w (orders_of visits) ≡ visits_settled (with_parties w
-        (all_back_in (record { logs = w.logs; authorities = w.authorities }) (stand_now all now)).logs
-        (all_back_in (record { logs = w.logs; authorities = w.authorities }) (stand_now all now)).authorities) visits }
+        (all_back_in (record { logs = w.logs; authorities = w.authorities })
+        (stand_now all now)).logs
+        (all_back_in (record { logs = w.logs; authorities = w.authorities })
+        (stand_now all now)).authorities) visits }
 {}

@@ -7,7 +7,8 @@
 //! after the other, and what happens is told with the orders.
 //!
 //! `specs/Bursts.antt` says what may be in a burst, what its orders are, and what it makes of a world; `Stations` which parties take
-//! its deliveries. The gate of `node_crowd` is passed before each delivery and told its place after that.
+//! its deliveries, `Laying` how these stand apart from their world, and `Visiting` what workers brought to them. The gate of
+//! `node_crowd` is passed before each delivery and told its place after that.
 //!
 //! Its tests: `thread_tests`, module `crowd_run_tests`.
 #![tactic(auto)]

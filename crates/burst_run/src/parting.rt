@@ -25,7 +25,8 @@ fn log_desk<C: OwnerCheck + Send>(
 ) -> Desk<Station<C>, Signer>
     requires role { party.role ≡ roles.LogServer }
     requires there { is_some (honest_in logs.old party.number) ≡ true }
-    ensures stands { StandsIn (record { logs = logs.old; authorities = [] }) roles.LogServer party.number
+    ensures stands { StandsIn (record { logs = logs.old; authorities = [] })
+        roles.LogServer party.number
         (apart_with result.finish (station_told C.told C.answers result.core)) }
     ensures kept { IsStation (station_told C.told C.answers result.core) result.finish.ring.keys }
     ensures left { logs.new ≡ slice_set logs.old party.number None }
@@ -50,7 +51,8 @@ fn authority_desk<C: OwnerCheck + Send>(
 ) -> Desk<Station<C>, Signer>
     requires role { party.role ≡ roles.Authority }
     requires there { is_some (honest_in authorities.old party.number) ≡ true }
-    ensures stands { StandsIn (record { logs = []; authorities = authorities.old }) roles.Authority party.number
+    ensures stands { StandsIn (record { logs = []; authorities = authorities.old })
+        roles.Authority party.number
         (apart_with result.finish (station_told C.told C.answers result.core)) }
     ensures kept { IsStation (station_told C.told C.answers result.core) result.finish.ring.keys }
     ensures left { authorities.new ≡ slice_set authorities.old party.number None }
@@ -101,7 +103,8 @@ pub(crate) fn desks_of<C: OwnerCheck + Send>(
         stations.now }
     ensures stand { IfOk result (λ desks. AreAway
         (homes_in parties.old) stations.now
-        (map (λ desk. apart_with desk.finish (station_told C.told C.answers desk.core)) desks.items)) }
+        (map (λ desk. apart_with desk.finish (station_told C.told C.answers desk.core))
+        desks.items)) }
     ensures kept { IfOk result (λ desks. AllByRecursion (λ desk.
         IsStation (station_told C.told C.answers desk.core) desk.finish.ring.keys) desks.items) }
     ensures left { OnOk result (homes_in parties.new

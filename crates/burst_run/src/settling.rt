@@ -40,7 +40,8 @@ fn settle_each<C: OwnerCheck>(
     replies: Vec<Reply>,
 ) -> Result<(), AllocError>
     requires many { length replies.items ≡ length history.items }
-    requires there { AllByRecursion (λ call. is_some (message_at world.old call.0.message) ≡ true) history.items }
+    requires there { AllByRecursion
+        (λ call. is_some (message_at world.old call.0.message) ≡ true) history.items }
     ensures { OnOk result ((world.new, said.new.items)
         ≡ printing said.old.items (each_settled world.old party history.items replies.items)) }
 {
@@ -63,7 +64,8 @@ fn settle_visit<C: OwnerCheck>(
     visit: Visit,
 ) -> Result<(), AllocError>
     requires many { length visit.replies ≡ length visit.history }
-    requires there { AllByRecursion (λ call. is_some (message_at world.old call.0.message) ≡ true) visit.history }
+    requires there { AllByRecursion
+        (λ call. is_some (message_at world.old call.0.message) ≡ true) visit.history }
     ensures { OnOk result ((world.new, said.new.items)
         ≡ printing said.old.items (visits_settled world.old (visit ∷ []))) }
 {
@@ -83,7 +85,8 @@ pub(crate) fn settle_all<C: OwnerCheck>(
     world: &mut World<C>,
     visits: Vec<Visit>,
 ) -> Result<Items<Happening>, AllocError>
-    requires many { AllByRecursion (λ visit. length visit.replies ≡ length visit.history) visits.items }
+    requires many { AllByRecursion
+        (λ visit. length visit.replies ≡ length visit.history) visits.items }
     requires there { AllByRecursion (λ visit. AllByRecursion
         (λ call. is_some (message_at world.old call.0.message) ≡ true) visit.history) visits.items }
     ensures { IfOk result (λ said. (world.new, said) ≡ visits_settled world.old visits.items) }

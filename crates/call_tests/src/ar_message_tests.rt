@@ -2,7 +2,7 @@
 //! `wrong-certificates` of `examples/play` have every kind of message, cut at each length and lengthened by one, and wrong fields.
 
 use ar_base::Items;
-use ar_message::{Message, MessageFault, Steps};
+use ar_message::{Message, MessageFault, PathSteps};
 use std::alloc::Global;
 use std::test::Fail;
 use tree_proof::Path;
@@ -28,7 +28,7 @@ fn two_steps(alloc: Global) -> Result<Vec<u8>, Fail> {
     let path = Path {
         steps: Items::from_vec(Vec::from_array(alloc, [[1; 32], [2; 32]])?),
     };
-    let steps = Steps::of_path(alloc, &path)?;
+    let steps = PathSteps::of_path(alloc, &path)?;
     Ok(steps.as_slice().to_vec(alloc)?)
 }
 

@@ -8,7 +8,7 @@ use Rattle.ar_base.specs.Chaining.{◌>>=◌}
 use Rattle.ar_base.specs.Gives.{with_error}
 use Rattle.ar_cert.specs.Certificate.{Certificate}
 use Rattle.ar_cert.specs.Changes.{Change, Endorsement}
-use Rattle.ar_cert.specs.Judging.{judgement}
+use Rattle.ar_cert.specs.Judging.{change_judgement}
 use Rattle.ar_council.specs.Endorsements.{endorsed_as}
 use Rattle.cert_policy.specs.declared.refusal.PolicyRefusal.{PolicyRefusal}
 use Rattle.party_keys.specs.Directory.{Directory}
@@ -36,10 +36,10 @@ each-endorsed keys cert (e ∷ es) h = by (is_endorsed keys cert e) refl (each-e
 
 -- a change without a fault is linked
 pub one-linked : (keys : Directory) (old : Certificate) (link : Change) → link_answer keys old link ≡ Ok tt → Linked keys old link
-one-linked keys old link h = by (endorsements_answer keys link.cert link.endorsements) refl (judgement (Some old) link) refl h
+one-linked keys old link h = by (endorsements_answer keys link.cert link.endorsements) refl (change_judgement (Some old) link) refl h
   where
     by : (es : Result (Unit {0}) LinkFault) → endorsements_answer keys link.cert link.endorsements ≡ es
-        → (j : Result (Unit {0}) PolicyRefusal) → judgement (Some old) link ≡ j
+        → (j : Result (Unit {0}) PolicyRefusal) → change_judgement (Some old) link ≡ j
         → (es >>= λ u. with_error fault.Policy j) ≡ Ok tt → Linked keys old link
     by (Err f) is j so h = absurd (cc)
     by (Ok u) is (Err f) so h = absurd (cc)
@@ -72,9 +72,9 @@ linked-follows keys old (link ∷ links) all = (all.0.follows, linked-follows ke
 pub all-follow : (place : ℕ) (old : Certificate) (links : List Change) → followed place old links ≡ Ok tt → AllFollow old links
 unfolding followed
 all-follow place old [] h = tt
-all-follow place old (link ∷ links) h = by (judgement (Some old) link) refl (all-follow (place + 1) link.cert links) h
+all-follow place old (link ∷ links) h = by (change_judgement (Some old) link) refl (all-follow (place + 1) link.cert links) h
   where
-    by : (j : Result (Unit {0}) PolicyRefusal) → judgement (Some old) link ≡ j
+    by : (j : Result (Unit {0}) PolicyRefusal) → change_judgement (Some old) link ≡ j
         → (followed (place + 1) link.cert links ≡ Ok tt → AllFollow link.cert links)
         → (with_error (λ why. (place, why)) j >>= λ u. followed (place + 1) link.cert links) ≡ Ok tt → AllFollow old (link ∷ links)
     by (Err f) is rest h = absurd (cc)

@@ -6,7 +6,7 @@ use Rattle.ar_base.specs.FirstFailing.{first_failing, tests_of}
 use Rattle.ar_base.specs.Gives.{with_error}
 use Rattle.ar_cert.specs.Certificate.{Certificate}
 use Rattle.ar_cert.specs.Changes.{Change, Endorsement}
-use Rattle.ar_cert.specs.Judging.{judgement}
+use Rattle.ar_cert.specs.Judging.{change_judgement}
 use Rattle.ar_council.specs.Endorsements.{endorsed_as}
 use Rattle.cert_policy.specs.declared.refusal.PolicyRefusal.{PolicyRefusal}
 use Rattle.party_keys.specs.Directory.{Directory}
@@ -23,7 +23,7 @@ IsEndorsed keys cert e = IsVerified keys (endorsed_as cert e).party (endorsed_as
 -- A change is linked behind a certificate: the rule takes it as a full update, in which the old key hands over where the
 -- old policy asks for it, and each of its endorsements is valid.
 pub record Linked (keys : Directory) (old : Certificate) (link : Change) : Type 0 where
-  pub follows : judgement (Some old) link ≡ Ok tt
+  pub follows : change_judgement (Some old) link ≡ Ok tt
   pub endorsed : All (IsEndorsed keys link.cert) link.endorsements
 
 -- each of these is linked behind the one before it, and the first behind this certificate
@@ -34,7 +34,7 @@ AllLinked keys old (link ∷ links) = Linked keys old link × AllLinked keys lin
 -- by the rule alone
 abbrev pub AllFollow : Certificate → List Change → Type 0
 AllFollow old [] = Unit {0}
-AllFollow old (link ∷ links) = (judgement (Some old) link ≡ Ok tt) × AllFollow link.cert links
+AllFollow old (link ∷ links) = (change_judgement (Some old) link ≡ Ok tt) × AllFollow link.cert links
 
 -- ---- the tests
 
@@ -49,7 +49,7 @@ endorsements_answer keys cert endorsements =
 -- a change is linked behind a certificate, or its fault: that of its endorsements is the first
 abbrev pub link_answer : Directory → Certificate → Change → Result (Unit {0}) LinkFault
 link_answer keys old link =
-    endorsements_answer keys link.cert link.endorsements >>= λ u. with_error fault.Policy (judgement (Some old) link)
+    endorsements_answer keys link.cert link.endorsements >>= λ u. with_error fault.Policy (change_judgement (Some old) link)
 
 -- each of these is linked behind the one before it, and gives the last certificate; or the first that is not, with its
 -- place, where the first has this one
@@ -62,4 +62,4 @@ linked keys place old (link ∷ links) =
 unfoldable pub followed : ℕ → Certificate → List Change → Result (Unit {0}) (ℕ × PolicyRefusal)
 followed place old [] = Ok tt
 followed place old (link ∷ links) =
-    with_error (λ why. (place, why)) (judgement (Some old) link) >>= λ u. followed (place + 1) link.cert links
+    with_error (λ why. (place, why)) (change_judgement (Some old) link) >>= λ u. followed (place + 1) link.cert links

@@ -2,7 +2,8 @@
 //! any number of dishonest parties can only move it along updates that the domain's own policy takes.
 //!
 //! `specs/Book.antt` says what is kept, `specs/Links.antt` when one change is linked behind another, `specs/Answers.antt`
-//! what a call answers and what is kept behind it, and `specs/Calls.antt` what it is to make calls one after the other.
+//! what a call answers and what is kept behind it, `specs/Calls.antt` what it is to make calls one after the other, and
+//! `specs/Meaning.antt` what it means that a client pins a certificate or takes links.
 //!
 //! Its tests: `memory_tests`, and `examples/follow`.
 #![tactic(auto)]

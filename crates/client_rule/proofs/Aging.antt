@@ -2,7 +2,7 @@
 use Rattle.std.proofs.Common.{◌≡◌, ℕ, ◌-◌, ◌≤◌, List, subst, arith}
 use Rattle.ar_cert.specs.Certificate.{Certificate}
 use Rattle.ar_message.specs.Confirmation.{Body, present, absent, Confirmation}
-use Rattle.client_rule.specs.Meaning.{IsYoung, IsCurrent, HoldsAll, Passes, earlier}
+use Rattle.client_rule.specs.Meaning.{IsYoung, IsCurrent, HoldsAll, PassesChecks, earlier}
 use Rattle.client_rule.specs.Rule.{judgement, Asked}
 use Rattle.client_rule.specs.declared.judgement.Judgement.TheVariants.{Accepted, Absent}
 use Rattle.client_rule.proofs.Meanings.{accepted, absence}
@@ -29,7 +29,7 @@ all_earlier asked c epoch begun le h =
     let young = younger (epoch - c.about.epoch) (asked.epoch - c.about.epoch) asked.age c.body (omega (arith, le)) h8.0 in
     (h.0, (h2.0, (h3.0, (h4.0, (h5.0, (h6.0, (begun, (young, (h9.0, (still_current epoch asked.epoch c.body le h10.0, tt))))))))))
 
-passes_earlier : (asked : Asked) (bytes : List ℕ) (c : Confirmation) (epoch : ℕ) → c.about.epoch ≤ epoch → epoch ≤ asked.epoch → Passes asked bytes c → Passes (earlier asked epoch) bytes c
+passes_earlier : (asked : Asked) (bytes : List ℕ) (c : Confirmation) (epoch : ℕ) → c.about.epoch ≤ epoch → epoch ≤ asked.epoch → PassesChecks asked bytes c → PassesChecks (earlier asked epoch) bytes c
 passes_earlier asked bytes c epoch begun le p = record { is_read = p.is_read; holds = all_earlier asked c epoch begun le p.holds }
 
 pub accepted_earlier : (asked : Asked) (bytes : List ℕ) (certificate : Certificate) (digest : List ℕ) (epoch : ℕ) (root : List ℕ) (now : ℕ)

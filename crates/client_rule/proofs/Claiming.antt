@@ -21,7 +21,7 @@ use Rattle.party_keys.specs.Learning.{Announced, learned, roll_claim}
 use Rattle.party_keys.specs.Seen.{seen_of}
 use Rattle.party_keys.specs.Signers.{Claimed}
 use Rattle.party_keys.specs.declared.learning.Learned.{Learned}
-use Rattle.client_rule.specs.Meaning.{Passes}
+use Rattle.client_rule.specs.Meaning.{PassesChecks}
 use Rattle.client_rule.specs.Notes.{note_of}
 use Rattle.client_rule.specs.Rule.{Asked, claim_on}
 
@@ -36,21 +36,21 @@ all-there : (c : Confirmation) → AllByRecursion (Contains (claimed_on c)) (cla
 all-there c = recursion_from_All (Contains (claimed_on c)) (claimed_on c) (All-contains_itself (claimed_on c))
 
 -- what is one of the claims of a confirmation is one of those of the bytes
-of-bytes : (asked : Asked) (bytes : List ℕ) (c : Confirmation) (t : SeenText) → AreBytes bytes → Passes asked bytes c → IsVerifiedIn asked.keys (claimed_on c) t
+of-bytes : (asked : Asked) (bytes : List ℕ) (c : Confirmation) (t : SeenText) → AreBytes bytes → PassesChecks asked bytes c → IsVerifiedIn asked.keys (claimed_on c) t
     → IsVerifiedIn asked.keys (claimed_in_bytes bytes) t
 of-bytes asked bytes c t are p there = subst (λ (l : List Claimed). IsVerifiedIn asked.keys l t) (sym (confirmation-claims bytes c are p.is_read)) there
 
-pub log-claims : (asked : Asked) (bytes : List ℕ) (c : Confirmation) → AreBytes bytes → Passes asked bytes c → Claims asked bytes c (log_party c.log.number)
+pub log-claims : (asked : Asked) (bytes : List ℕ) (c : Confirmation) → AreBytes bytes → PassesChecks asked bytes c → Claims asked bytes c (log_party c.log.number)
 log-claims asked bytes c are p =
     let party = log_party c.log.number in
     of-bytes asked bytes c (seen_of party (claim_on c.about c.body party)) are p (c.log.signature, (all-there c).0, p.holds.1.1.0)
 
-pub first-claims : (asked : Asked) (bytes : List ℕ) (c : Confirmation) → AreBytes bytes → Passes asked bytes c → Claims asked bytes c (authority_party c.first.number)
+pub first-claims : (asked : Asked) (bytes : List ℕ) (c : Confirmation) → AreBytes bytes → PassesChecks asked bytes c → Claims asked bytes c (authority_party c.first.number)
 first-claims asked bytes c are p =
     let party = authority_party c.first.number in
     of-bytes asked bytes c (seen_of party (claim_on c.about c.body party)) are p (c.first.signature, (all-there c).1.0, p.holds.1.1.1.0)
 
-pub second-claims : (asked : Asked) (bytes : List ℕ) (c : Confirmation) → AreBytes bytes → Passes asked bytes c → Claims asked bytes c (authority_party c.second.number)
+pub second-claims : (asked : Asked) (bytes : List ℕ) (c : Confirmation) → AreBytes bytes → PassesChecks asked bytes c → Claims asked bytes c (authority_party c.second.number)
 second-claims asked bytes c are p =
     let party = authority_party c.second.number in
     of-bytes asked bytes c (seen_of party (claim_on c.about c.body party)) are p (c.second.signature, (all-there c).1.1.0, p.holds.1.1.1.1.0)

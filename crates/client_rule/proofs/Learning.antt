@@ -14,7 +14,7 @@ use Rattle.party_keys.specs.declared.fault.LearnFault.{LearnFault}
 use Rattle.party_keys.specs.declared.learning.Learned.{Learned}
 use Rattle.party_keys.specs.declared.learning.Learned.TheVariants.{Again, New}
 use Rattle.party_keys.proofs.Growing.{lasts}
-use Rattle.client_rule.specs.Meaning.{HasParties, SignsConfirmation, HoldsAll, Passes, learnt}
+use Rattle.client_rule.specs.Meaning.{HasSigners, SignsConfirmation, HoldsAll, PassesChecks, learnt}
 use Rattle.client_rule.specs.Rule.{claim_on, judgement, Asked}
 use Rattle.client_rule.specs.declared.judgement.Judgement.TheVariants.{Accepted, Absent}
 use Rattle.client_rule.proofs.Meanings.{accepted, absence}
@@ -46,7 +46,7 @@ many_all keys (a ∷ more) =
     let rest = many_all (after_learning keys a) more in
     (rest.0 ∙ first.0, rest.1 ∙ first.1)
 
-still_known : (keys later : Directory) (c : Confirmation) → HasAsMany keys later → HasParties keys c → HasParties later c
+still_known : (keys later : Directory) (c : Confirmation) → HasAsMany keys later → HasSigners keys c → HasSigners later c
 still_known keys later c many h = record {
   log = subst (λ (n : ℕ). c.log.number < n) (sym many.0) h.log;
   first = subst (λ (n : ℕ). c.first.number < n) (sym many.1) h.first;
@@ -74,7 +74,7 @@ still_holds asked announced c h =
     let second = still_signed asked.keys announced c.about c.body (authority_party c.second.number) c.second.signature h5.0 in
     (h.0, (known, (log, (first, (second, h5.1)))))
 
-still_passes : (asked : Asked) (announced : List Announced) (bytes : List ℕ) (c : Confirmation) → Passes asked bytes c → Passes (learnt asked announced) bytes c
+still_passes : (asked : Asked) (announced : List Announced) (bytes : List ℕ) (c : Confirmation) → PassesChecks asked bytes c → PassesChecks (learnt asked announced) bytes c
 still_passes asked announced bytes c p = record { is_read = p.is_read; holds = still_holds asked announced c p.holds }
 
 pub still_accepted : (asked : Asked) (announced : List Announced) (bytes : List ℕ) (certificate : Certificate) (digest : List ℕ) (epoch : ℕ) (root : List ℕ)

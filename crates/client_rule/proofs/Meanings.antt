@@ -18,14 +18,14 @@ use Rattle.party_keys.specs.Directory.{Directory}
 use Rattle.party_keys.specs.Signatures.{verified}
 use Rattle.party_keys.specs.declared.fault.VerifyFault.{VerifyFault}
 use Rattle.ar_message.specs.Shown.{is_shown}
-use Rattle.client_rule.specs.Rule.{has_parties, confirms, is_young, is_live, is_current, refusal_of, claim_on, taken, unless_refused, judgement_on, judgement, Asked}
-use Rattle.client_rule.specs.Meaning.{Check, same_name, parties, log_signature, first_signature, second_signature, path, not_later, young, live, current, number_of, all_checks, HasParties, SignsConfirmation, IsShown, IsYoung, IsLive, IsCurrent, Holds, HoldsAll, HoldsUpTo, Accepts, AcceptsNone, Refuses}
+use Rattle.client_rule.specs.Rule.{has_parties, confirms, is_young, is_live, is_current, refusal_of, claim_on, accepted_body, unless_refused, judgement_on, judgement, Asked}
+use Rattle.client_rule.specs.Meaning.{Check, same_name, parties, log_signature, first_signature, second_signature, path, not_later, young, live, current, number_of, all_checks, HasSigners, SignsConfirmation, IsShown, IsYoung, IsLive, IsCurrent, Holds, HoldsAll, HoldsUpTo, Accepts, AcceptsNone, Refuses}
 use Rattle.client_rule.specs.declared.judgement.Judgement.{Judgement}
 use Rattle.client_rule.specs.declared.judgement.Judgement.TheVariants.{Accepted, Absent, Refused}
 
 -- ---- each test decides its fact
 
-parties_decides : (keys : Directory) (c : Confirmation) → Decides (has_parties keys c) (HasParties keys c)
+parties_decides : (keys : Directory) (c : Confirmation) → Decides (has_parties keys c) (HasSigners keys c)
 parties_decides keys c =
     let d = Decides-and _ _ (Decides-ltb c.log.number (length keys.logs))
     (Decides-and _ _ (Decides-ltb c.first.number (length keys.authorities))
@@ -111,7 +111,7 @@ pub accepted : (asked : Asked) (bytes : List ℕ) (certificate : Certificate) (d
     → (judgement asked bytes ≡ Accepted certificate digest epoch root) ↔ Accepts asked bytes certificate digest epoch root
 unfolding judgement
 accepted asked bytes certificate digest epoch root = by_reading (Whole bytes) refl where
-  by_body : (c : Confirmation) (body : Body) → c.body ≡ body → Whole bytes ≡ Ok c → refusal_of asked c ≡ Ok tt → taken c.about body ≡ Accepted certificate digest epoch root → Accepts asked bytes certificate digest epoch root
+  by_body : (c : Confirmation) (body : Body) → c.body ≡ body → Whole bytes ≡ Ok c → refusal_of asked c ≡ Ok tt → accepted_body c.about body ≡ Accepted certificate digest epoch root → Accepts asked bytes certificate digest epoch root
   by_body c (present found) b read holds h = record {
     confirmation = c;
     passes = record { is_read = read; holds = (none asked c).0 holds };
@@ -140,7 +140,7 @@ pub absence : (asked : Asked) (bytes : List ℕ) (epoch : ℕ) (root : List ℕ)
     → (judgement asked bytes ≡ Absent epoch root) ↔ AcceptsNone asked bytes epoch root
 unfolding judgement
 absence asked bytes epoch root = by_reading (Whole bytes) refl where
-  by_body : (c : Confirmation) (body : Body) → c.body ≡ body → Whole bytes ≡ Ok c → refusal_of asked c ≡ Ok tt → taken c.about body ≡ Absent epoch root → AcceptsNone asked bytes epoch root
+  by_body : (c : Confirmation) (body : Body) → c.body ≡ body → Whole bytes ≡ Ok c → refusal_of asked c ≡ Ok tt → accepted_body c.about body ≡ Absent epoch root → AcceptsNone asked bytes epoch root
   by_body c (present found) b read holds h = absurd cc
   by_body c (absent foot) b read holds h = record {
     confirmation = c;
@@ -168,7 +168,7 @@ pub refused : (asked : Asked) (bytes : List ℕ) (k : ℕ)
     → (judgement asked bytes ≡ Refused k) ↔ Refuses asked bytes k
 unfolding judgement
 refused asked bytes k = by_reading (Whole bytes) refl where
-  not_taken : (about : Subject) (body : Body) → taken about body ≡ Refused k → ⊥
+  not_taken : (about : Subject) (body : Body) → accepted_body about body ≡ Refused k → ⊥
   not_taken about (present certificate) h = cc
   not_taken about (absent bottom) h = cc
 

@@ -57,7 +57,7 @@ all_checks =
 -- ---- the facts
 
 -- the directory has the log and both authorities, and the authorities are two
-pub record HasParties (keys : Directory) (c : Confirmation) : Type 0 where
+pub record HasSigners (keys : Directory) (c : Confirmation) : Type 0 where
   pub log : c.log.number < length keys.logs
   pub first : c.first.number < length keys.authorities
   pub second : c.second.number < length keys.authorities
@@ -101,7 +101,7 @@ pub record IsTimely (asked : Asked) (epoch : ℕ) (body : Body) : Type 0 where
 -- what each check asks of a confirmation
 abbrev pub Holds : Asked → Confirmation → Check → Type 0
 Holds asked c same_name = c.about.name ≡ asked.name
-Holds asked c parties = HasParties asked.keys c
+Holds asked c parties = HasSigners asked.keys c
 Holds asked c log_signature = SignsConfirmation asked.keys c.about c.body (log_party c.log.number) c.log.signature
 Holds asked c first_signature = SignsConfirmation asked.keys c.about c.body (authority_party c.first.number) c.first.signature
 Holds asked c second_signature = SignsConfirmation asked.keys c.about c.body (authority_party c.second.number) c.second.signature
@@ -122,14 +122,14 @@ abbrev pub HoldsUpTo : Asked → Confirmation → ℕ → Type 0
 HoldsUpTo asked c k = FailsFirst number_of (Holds asked c) all_checks k
 
 -- the bytes are a confirmation that passes all checks
-pub record Passes (asked : Asked) (bytes : List ℕ) (c : Confirmation) : Type 0 where
+pub record PassesChecks (asked : Asked) (bytes : List ℕ) (c : Confirmation) : Type 0 where
   pub is_read : whole confirmation_at bytes ≡ Ok c
   pub holds : HoldsAll asked c
 
 -- the bytes are a confirmation that passes all checks, and says that the name has this certificate
 pub record Accepts (asked : Asked) (bytes : List ℕ) (certificate : Certificate) (digest : List ℕ) (epoch : ℕ) (root : List ℕ) : Type 0 where
   pub confirmation : Confirmation
-  pub passes : Passes asked bytes confirmation
+  pub passes : PassesChecks asked bytes confirmation
   pub body : confirmation.body ≡ present certificate
   pub digest_is : digest ≡ digest_of certificate
   pub epoch_is : epoch ≡ confirmation.about.epoch
@@ -138,7 +138,7 @@ pub record Accepts (asked : Asked) (bytes : List ℕ) (certificate : Certificate
 -- or that it has none
 pub record AcceptsNone (asked : Asked) (bytes : List ℕ) (epoch : ℕ) (root : List ℕ) : Type 0 where
   pub confirmation : Confirmation
-  pub passes : Passes asked bytes confirmation
+  pub passes : PassesChecks asked bytes confirmation
   pub bottom : (foot : Bottom) × (confirmation.body ≡ absent foot)
   pub epoch_is : epoch ≡ confirmation.about.epoch
   pub root_is : root ≡ confirmation.about.root

@@ -78,13 +78,13 @@ unfoldable pub refusal_of : Asked → Confirmation → Result (Unit {0}) ℕ
 refusal_of asked c = first_failing (checks asked c)
 
 -- what is accepted: the certificate, or that there is none
-abbrev pub taken : Subject → Body → Judgement
-taken about (present certificate) = Accepted certificate (digest_of certificate) about.epoch about.root
-taken about (absent bottom) = Absent about.epoch about.root
+abbrev pub accepted_body : Subject → Body → Judgement
+accepted_body about (present certificate) = Accepted certificate (digest_of certificate) about.epoch about.root
+accepted_body about (absent bottom) = Absent about.epoch about.root
 
 -- refused, or accepted
 abbrev pub unless_refused : Result (Unit {0}) ℕ → Confirmation → Judgement
-unless_refused (Ok _) c = taken c.about c.body
+unless_refused (Ok _) c = accepted_body c.about c.body
 unless_refused (Err number) c = Refused number
 
 -- the judgement of what was read, where it is a confirmation; what is none fails the first check

@@ -1,5 +1,5 @@
 ghost use Rattle.std.specs.Prelude.{◌≡◌};
-ghost use Rattle.client_rule.specs.Rule.{judgement, taken};
+ghost use Rattle.client_rule.specs.Rule.{judgement, accepted_body};
 ghost use Rattle.client_rule.specs.Views.{body_shown, HasDigest};
 
 use crate::checks::refusal;
@@ -34,9 +34,9 @@ pub enum Judgement<'a> {
 }
 
 // What the confirmation says, where no check refuses it.
-fn taken<'a>(view: &ConfView<'a>, shown: Shown<'a>) -> Judgement<'a>
+fn accepted_body<'a>(view: &ConfView<'a>, shown: Shown<'a>) -> Judgement<'a>
     requires { HasDigest shown }
-    ensures { result ≡ taken view.now.about (body_shown shown.entry) }
+    ensures { result ≡ accepted_body view.now.about (body_shown shown.entry) }
 {
     let (epoch, root) = (view.epoch(), view.root());
     match shown {
@@ -76,6 +76,6 @@ pub fn judge<'a>(
     let shown = shown_by(&view);
     match refusal(directory, name, &view, &shown, now, age) {
         Err(number) => Judgement::Refused(number),
-        Ok(()) => taken(&view, shown),
+        Ok(()) => accepted_body(&view, shown),
     }
 }

@@ -12,7 +12,7 @@ ghost use Rattle.party_keys.specs.Directory.{Directory};
 ghost use Rattle.party_keys.specs.Learning.{Announced, learned, roll_claim};
 ghost use Rattle.party_keys.specs.Seen.{seen_of};
 ghost use Rattle.party_keys.specs.declared.learning.Learned.{Learned};
-ghost use Rattle.client_rule.specs.Meaning.{Accepts, AcceptsNone, Passes, Refuses, earlier, learnt};
+ghost use Rattle.client_rule.specs.Meaning.{Accepts, AcceptsNone, PassesChecks, Refuses, earlier, learnt};
 ghost use Rattle.client_rule.specs.Notes.{note_of};
 ghost use Rattle.client_rule.specs.Rule.{Asked, claim_on, judgement};
 ghost use Rattle.client_rule.specs.declared.judgement.Judgement.TheVariants.{Absent, Accepted, Refused};
@@ -65,16 +65,16 @@ pub fn what_is_accepted_stays_so()
 /// which its directory learns a key or has learnt it before, the Roll.
 pub fn what_is_taken_was_claimed()
     ensures log { (asked : Asked) (bytes : List ℕ) (c : Confirmation) → AreBytes bytes
-        → Passes asked bytes c
+        → PassesChecks asked bytes c
         → IsVerifiedIn asked.keys (claimed_in_bytes bytes)
         (seen_of (log_party c.log.number) (claim_on c.about c.body (log_party c.log.number))) }
     ensures first { (asked : Asked) (bytes : List ℕ) (c : Confirmation) → AreBytes bytes
-        → Passes asked bytes c
+        → PassesChecks asked bytes c
         → IsVerifiedIn asked.keys (claimed_in_bytes bytes)
         (seen_of (authority_party c.first.number)
         (claim_on c.about c.body (authority_party c.first.number))) }
     ensures second { (asked : Asked) (bytes : List ℕ) (c : Confirmation) → AreBytes bytes
-        → Passes asked bytes c
+        → PassesChecks asked bytes c
         → IsVerifiedIn asked.keys (claimed_in_bytes bytes)
         (seen_of (authority_party c.second.number)
         (claim_on c.about c.body (authority_party c.second.number))) }

@@ -6,7 +6,7 @@ use Rattle.ar_lines.specs.Lines.{lines_of}
 use Rattle.ar_lines.specs.declared.refusal.Reason.{Reason}
 use Rattle.ar_lines.specs.declared.refusal.Reason.TheVariants as reason
 use Rattle.ar_nodes.specs.Parties.{CheckParts}
-use Rattle.ar_world.specs.Run.{Run, Saying, at_line, behind, line_taken, most_lines, run, run_from, taken_as, then_if, then_on}
+use Rattle.ar_world.specs.Run.{Run, Saying, at_line, printed_before, line_taken, most_lines, run, run_from, taken_as, then_if, then_on}
 use Rattle.ar_world.specs.State.{World, first_world}
 use Rattle.ar_world.specs.declared.cause.Cause.{Cause}
 use Rattle.burst_run.specs.Stations.{Deliveries}
@@ -55,7 +55,7 @@ said_alike saying other number (text ∷ texts) same w =
 
 -- what follows is asked for the world that is there
 there_if : (cause : Option (ℕ × Cause)) (p rest : Run) (next : World → Run) → rest ≡ next p.world → then_if cause p (λ later. rest) ≡ then_if cause p next
-there_if None p rest next is = ap (behind p.said) is
+there_if None p rest next is = ap (printed_before p.said) is
 there_if (Some cause) p rest next is = refl
 
 -- what lines come to that are no bursts, in these ways

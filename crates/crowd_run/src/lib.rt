@@ -5,7 +5,7 @@
 //! `play`, by the parts of `script_play`.
 //!
 //! In `specs/`, `Scripts` says what a script with bursts comes to, by the orders of its bursts, and `Program` what the program writes,
-//! and with which status. The command `serve` is that of `serve_run`.
+//! and with which status; `Passing` what it keeps from line to line. The command `serve` is that of `serve_run`.
 //!
 //! Its tests: `thread_tests`, module `crowd_run_tests`, `examples/crowd`, and `tools/crowd-orders`.
 #![tactic(auto)]
@@ -19,4 +19,3 @@ mod request;
 
 pub use node_crowd::{Gate, OpenGate};
 pub use program::crowd_main;
-pub use request::Request;

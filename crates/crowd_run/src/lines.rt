@@ -35,8 +35,8 @@ fn begin_burst<C: OwnerCheck, K: Sink>(
     stage: &mut Stage<C>,
     burst: &mut OpenBurst,
 ) -> Result<Option<Cause>, Fault>
-    ensures passes { (workers : ℕ) → LinePasses K.faults K.wrote sink.old sink.new workers stage.old stage.new None
-        (Ok (Some lines.Burst)) result }
+    ensures passes { (workers : ℕ) → LinePasses K.faults K.wrote sink.old sink.new workers
+        stage.old stage.new None (Ok (Some lines.Burst)) result }
     ensures burst { burst.new ≡ Some [] }
 {
     let made = stage.world.step(alloc, &Line::Event(EventLine::Flush));
@@ -60,8 +60,8 @@ fn take_outside<C: OwnerCheck, K: Sink>(
     read: Result<Option<Line>, Reason>,
 ) -> Result<Option<Cause>, Fault>
     requires { burst.old ≡ None }
-    ensures passes { (workers : ℕ) → LinePasses K.faults K.wrote sink.old sink.new workers stage.old stage.new None
-        read.entry result }
+    ensures passes { (workers : ℕ) → LinePasses K.faults K.wrote sink.old sink.new workers
+        stage.old stage.new None read.entry result }
     ensures burst { burst.new ≡ open_behind None read.entry }
 {
     if is_burst(&read) {
@@ -142,8 +142,8 @@ fn end_burst<C: OwnerCheck + Send, R: Threads + Wait + Sync, K: Sink, G: Gate>(
 ) -> Result<Option<Cause>, Fault>
     requires workers { (0 < workers) × (workers ≤ 16) }
     requires ready { AllByRecursion (IsDeliverable stage.old.world) deliveries }
-    ensures { LinePasses K.faults K.wrote sink.old sink.new workers stage.old stage.new (Some deliveries)
-        (Ok (Some lines.End)) result }
+    ensures { LinePasses K.faults K.wrote sink.old sink.new workers stage.old stage.new
+        (Some deliveries) (Ok (Some lines.End)) result }
 {
     let world = mem::replace(&mut stage.world, World::new(alloc, Vec::new(alloc)));
     let (world, said) = run_burst(rt, alloc, gate, world, deliveries.as_slice(), workers)?;
@@ -167,9 +167,10 @@ fn take_inside<C: OwnerCheck + Send, R: Threads + Wait + Sync, K: Sink, G: Gate>
     requires workers { (0 < workers) × (workers ≤ 16) }
     requires none { burst.old ≡ None }
     requires ready { AllByRecursion (IsDeliverable stage.old.world) deliveries }
-    ensures passes { LinePasses K.faults K.wrote sink.old sink.new workers stage.old stage.new (Some deliveries)
-        (Ok (Some line.now)) result }
-    ensures burst { IfOk result (λ cause. cause ≡ None → burst.new ≡ open_behind (Some deliveries) (Ok (Some line.now))) }
+    ensures passes { LinePasses K.faults K.wrote sink.old sink.new workers stage.old stage.new
+        (Some deliveries) (Ok (Some line.now)) result }
+    ensures burst { IfOk result (λ cause. cause ≡ None
+        → burst.new ≡ open_behind (Some deliveries) (Ok (Some line.now))) }
     ensures ready { IfOk result (λ cause. cause ≡ None → IsOpenIn stage.new.world burst.new) }
 {
     match line {
@@ -194,9 +195,10 @@ fn take_read_inside<C: OwnerCheck + Send, R: Threads + Wait + Sync, K: Sink, G: 
     requires workers { (0 < workers) × (workers ≤ 16) }
     requires none { burst.old ≡ None }
     requires ready { AllByRecursion (IsDeliverable stage.old.world) deliveries }
-    ensures passes { LinePasses K.faults K.wrote sink.old sink.new workers stage.old stage.new (Some deliveries)
-        read.entry result }
-    ensures burst { IfOk result (λ cause. cause ≡ None → burst.new ≡ open_behind (Some deliveries) read.entry) }
+    ensures passes { LinePasses K.faults K.wrote sink.old sink.new workers stage.old stage.new
+        (Some deliveries) read.entry result }
+    ensures burst { IfOk result (λ cause. cause ≡ None
+        → burst.new ≡ open_behind (Some deliveries) read.entry) }
     ensures ready { IfOk result (λ cause. cause ≡ None → IsOpenIn stage.new.world burst.new) }
 {
     match read {
@@ -226,8 +228,10 @@ pub(crate) fn take_read<C: OwnerCheck + Send, R: Threads + Wait + Sync, K: Sink,
 ) -> Result<Option<Cause>, Fault>
     requires workers { (0 < workers) × (workers ≤ 16) }
     requires ready { IsOpenIn stage.old.world burst.old }
-    ensures passes { LinePasses K.faults K.wrote sink.old sink.new workers stage.old stage.new burst.old read.entry result }
-    ensures burst { IfOk result (λ cause. cause ≡ None → burst.new ≡ open_behind burst.old read.entry) }
+    ensures passes { LinePasses K.faults K.wrote sink.old sink.new workers stage.old stage.new
+        burst.old read.entry result }
+    ensures burst { IfOk result (λ cause. cause ≡ None
+        → burst.new ≡ open_behind burst.old read.entry) }
     ensures ready { IfOk result (λ cause. cause ≡ None → IsOpenIn stage.new.world burst.new) }
 {
     match burst.take() {

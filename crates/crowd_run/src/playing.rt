@@ -96,8 +96,8 @@ pub(crate) fn play<C: OwnerCheck + Send, R: Threads + Wait + Sync, K: Sink, G: G
     sink: &mut K,
 ) -> Result<Played<C>, Fault>
     requires workers { (0 < workers) × (workers ≤ 16) }
-    ensures { Plays (crowd_with workers (checks_told C.told C.answers checks.items)) K.faults K.wrote sink.old sink.new
-        input.now result }
+    ensures { Plays (crowd_with workers (checks_told C.told C.answers checks.items))
+        K.faults K.wrote sink.old sink.new input.now result }
 {
     let mut stage = Stage::begin(alloc, checks);
     match take_all(rt, alloc, gate, workers, sink, &mut stage, input) {

@@ -15,7 +15,7 @@ use Rattle.ar_cert.specs.Changes.{Change, IsChange}
 use Rattle.ar_cert.specs.Judging.{IsAccepted}
 use Rattle.domain_table.specs.declared.refusal.ChangeRefusal.{ChangeRefusal}
 use Rattle.domain_table.specs.Tables.{Pending, Table, no_table, chain_of, newest}
-use Rattle.domain_table.specs.Applying.{is_ripe, is_ripe_behind, ripened, change_list, ripen, judge_ripe, taken, after_answer, apply_each, apply}
+use Rattle.domain_table.specs.Applying.{is_ripe, is_ripe_behind, ripened, change_list, ripen, judge_ripe, taking_change, after_answer, apply_each, apply}
 use Rattle.domain_table.specs.Sound.{Waits, IsSound}
 use Rattle.domain_table.proofs.Maps.{get-ripen, waiting-ripen}
 use Rattle.domain_table.proofs.Judged.{IsJudged, judged}
@@ -100,17 +100,17 @@ left_waiting P t u c name p is there behind = at (eq_by_cmp key_cmp name c.cert.
   }
 
 pub step_steps : (P : List ℕ → Change → Type 0) (t : Table) (e : ℕ) (c : Change) (m : Manner) → IsJudged (newest (chain_of t c.cert.name)) c m → e < 2 ^ 64 → P c.cert.name c → IsChange c
-    → Steps P t (taken t e c m)
-unfolding taken
+    → Steps P t (taking_change t e c m)
+unfolding taking_change
 step_steps P t e c Full judged low holds is = record {
   chains = λ name. at name (eq_by_cmp key_cmp name c.cert.name) refl;
-  waiting = λ name p there. inl (left_waiting P t (taken t e c Full) c name p refl there
+  waiting = λ name p there. inl (left_waiting P t (taking_change t e c Full) c name p refl there
       (λ apart. get-insert total t.chains c.cert.name (chain_of t c.cert.name ++ c ∷ []) name ∙ ap (λ b. cond b (Some (chain_of t c.cert.name ++ c ∷ [])) (get t.chains name)) apart));
 } where
-  at : (name : List ℕ) (b : Bool) → eq_by_cmp key_cmp name c.cert.name ≡ b → Grows P name (get t.chains name) (get (taken t e c Full).chains name)
+  at : (name : List ℕ) (b : Bool) → eq_by_cmp key_cmp name c.cert.name ≡ b → Grows P name (get t.chains name) (get (taking_change t e c Full).chains name)
   at name true tied =
       let same : c.cert.name ≡ name = sym (same_key name c.cert.name tied) in
-      subst (λ k. Grows P k (get t.chains k) (get (taken t e c Full).chains k)) same
+      subst (λ k. Grows P k (get t.chains k) (get (taking_change t e c Full).chains k)) same
       (inr (
         c,
         get-insert total t.chains c.cert.name (chain_of t c.cert.name ++ c ∷ []) c.cert.name ∙ ap (λ b. cond b (Some (chain_of t c.cert.name ++ c ∷ [])) (get t.chains c.cert.name)) (own_key c.cert.name),
@@ -125,14 +125,14 @@ step_steps P t e c Recovery judged low holds is = record {
   pair = record { change = c; since = e }
 
   at : (name : List ℕ) (p : Pending) → get (insert t.waiting c.cert.name (record { change = c; since = e })) name ≡ Some p → (b : Bool) → eq_by_cmp key_cmp name c.cert.name ≡ b
-      → Stayed t (taken t e c Recovery) name p ⊎ Begun P (taken t e c Recovery) name p
+      → Stayed t (taking_change t e c Recovery) name p ⊎ Begun P (taking_change t e c Recovery) name p
   at name p there true tied =
       let same : c.cert.name ≡ name = sym (same_key name c.cert.name tied) in
       let found : Some (record { change = c; since = e }) ≡ Some p =
       sym (ap (λ b. cond b (Some (record { change = c; since = e })) (get t.waiting name)) tied) ∙ sym (get-insert total t.waiting c.cert.name (record { change = c; since = e }) name) ∙ there in
       let is_pair : record { change = c; since = e } ≡ p = cc in
-      inr (subst (λ q. Begun P (taken t e c Recovery) name q) is_pair
-      (subst (λ k. Begun P (taken t e c Recovery) k (record { change = c; since = e })) same
+      inr (subst (λ q. Begun P (taking_change t e c Recovery) name q) is_pair
+      (subst (λ k. Begun P (taking_change t e c Recovery) k (record { change = c; since = e })) same
       (record { waits = record { old = judged.0; is_newest = judged.1; recovers = judged.2; change = is; named = refl; since = low }; holds = holds })))
   at name p there false apart = inl (record {
     waited = sym (ap (λ b. cond b (Some (record { change = c; since = e })) (get t.waiting name)) apart) ∙ sym (get-insert total t.waiting c.cert.name (record { change = c; since = e }) name) ∙ there;
@@ -140,7 +140,7 @@ step_steps P t e c Recovery judged low holds is = record {
   })
 step_steps P t e c Objected judged low holds is = record {
   chains = λ name. inl refl;
-  waiting = λ name p there. inl (left_waiting P t (taken t e c Objected) c name p refl there (λ apart. refl));
+  waiting = λ name p there. inl (left_waiting P t (taking_change t e c Objected) c name p refl there (λ apart. refl));
 }
 
 -- ---- a list of changes
@@ -169,10 +169,10 @@ applied_each P (c ∷ changes) e t u low is sound holds are each =
           → ((v : Table) → apply_each v e changes ≡ Some u → IsSound v → Holds P v → All IsChange changes → All (λ c. P c.cert.name c) changes → Follows P v u) → Follows P t u
       by (Err refusal) answers rest next = absurd (cc)
       by (Ok m) answers rest next =
-          let first : Follows P t (taken t e c m) =
-          steps_on P t (taken t e c m) (step_steps P t e c m (judged t c m answers) low (All-head (λ c. P c.cert.name c) c changes each) (All-head IsChange c changes are)) sound holds in
-          follows_on P t (taken t e c m) u first
-          (next (taken t e c m) rest first.sound first.holds (All-tail IsChange c changes are) (All-tail (λ c. P c.cert.name c) c changes each))
+          let first : Follows P t (taking_change t e c m) =
+          steps_on P t (taking_change t e c m) (step_steps P t e c m (judged t c m answers) low (All-head (λ c. P c.cert.name c) c changes each) (All-head IsChange c changes are)) sound holds in
+          follows_on P t (taking_change t e c m) u first
+          (next (taking_change t e c m) rest first.sound first.holds (All-tail IsChange c changes are) (All-tail (λ c. P c.cert.name c) c changes each))
 
 pub ripe_follows : (P : List ℕ → Change → Type 0) (t : Table) (e : ℕ) → IsSound t → Holds P t → Follows P t (ripen t e)
 ripe_follows P t e sound holds = steps_on P t (ripen t e) (ripe_steps P t e sound holds) sound holds

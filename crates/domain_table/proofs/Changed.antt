@@ -11,7 +11,7 @@ use Rattle.hash_tree.proofs.Changed.{same_key}
 use Rattle.cert_policy.specs.declared.manner.Manner.TheVariants.{Full, Recovery, Objected}
 use Rattle.ar_cert.specs.Changes.{Change}
 use Rattle.domain_table.specs.Tables.{Pending, chain_of, size}
-use Rattle.domain_table.specs.Applying.{taken}
+use Rattle.domain_table.specs.Applying.{taking_change}
 use Rattle.domain_table.specs.Rows.{RowData, chain_pair, table_of, with_row, IsMarked, AreRows, IsChanged}
 use Rattle.domain_table.proofs.RowLists.{changed_chains, changed_waiting, with_pending, rise_changed, places, places_split, size_rows}
 use Rattle.domain_table.proofs.RipeRows.{Stands, stands}
@@ -75,8 +75,8 @@ module _ (old new : List RowData) (trie : Entries) (i : ℕ) (d : RowData) (chai
 -- the change was appended
 pub taken_full : (old new : List RowData) (trie : Entries) (i : ℕ) (d : RowData) (epoch : ℕ) (change : Change) → i < length old → AreRows old
     → (get_or old i d).name ≡ change.cert.name → IsChanged old new trie i (get_or old i d) ((get_or old i d).chain ++ change ∷ []) None
-    → table_of new ≡ taken (table_of old) epoch change Full
-unfolding taken
+    → table_of new ≡ taking_change (table_of old) epoch change Full
+unfolding taking_change
 taken_full old new trie i d epoch change within are name is =
     let r : RowData = get_or old i d in
     let own : Stands (table_of old) r = stands old are.rise i d within in
@@ -90,8 +90,8 @@ taken_full old new trie i d epoch change within are name is =
 -- the change waits
 pub taken_recovery : (old new : List RowData) (trie : Entries) (i : ℕ) (d : RowData) (epoch : ℕ) (change : Change) → i < length old → AreRows old
     → (get_or old i d).name ≡ change.cert.name → IsChanged old new trie i (get_or old i d) (get_or old i d).chain (Some (record { change = change; since = epoch }))
-    → table_of new ≡ taken (table_of old) epoch change Recovery
-unfolding taken
+    → table_of new ≡ taking_change (table_of old) epoch change Recovery
+unfolding taking_change
 taken_recovery old new trie i d epoch change within are name is =
     let p : Pending = record { change = change; since = epoch } in
     let chains = same_chains old new trie i d (get_or old i d).chain (Some p) within are is refl in
@@ -101,8 +101,8 @@ taken_recovery old new trie i d epoch change within are name is =
 -- nothing waits any longer
 pub taken_objected : (old new : List RowData) (trie : Entries) (i : ℕ) (d : RowData) (epoch : ℕ) (change : Change) → i < length old → AreRows old
     → (get_or old i d).name ≡ change.cert.name → IsChanged old new trie i (get_or old i d) (get_or old i d).chain None
-    → table_of new ≡ taken (table_of old) epoch change Objected
-unfolding taken
+    → table_of new ≡ taking_change (table_of old) epoch change Objected
+unfolding taking_change
 taken_objected old new trie i d epoch change within are name is =
     let chains = same_chains old new trie i d (get_or old i d).chain None within are is refl in
     let waiting = waiting_is old new trie i d (get_or old i d).chain None within are is ∙ ap (λ n. with_pending (table_of old).waiting n None) name in

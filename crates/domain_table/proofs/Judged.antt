@@ -12,7 +12,7 @@ use Rattle.cert_policy.specs.declared.manner.Manner.TheVariants.{Full, Recovery,
 use Rattle.cert_policy.specs.Clauses.{in_manner, update_answer, Recovers}
 use Rattle.ar_cert.specs.Certificate.{Certificate}
 use Rattle.ar_cert.specs.Changes.{Change}
-use Rattle.ar_cert.specs.Judging.{cert_terms_of, endorsers_of, is_handed_over, judgement, objection_clauses, IsAccepted, IsTaken}
+use Rattle.ar_cert.specs.Judging.{cert_terms_of, endorsers_of, is_handed_over, change_judgement, objection_clauses, IsAccepted, IsTakenIn}
 use Rattle.ar_cert.proofs.Accepted.{first_facts, plain_facts}
 use Rattle.domain_table.specs.declared.refusal.ChangeRefusal.{ChangeRefusal}
 use Rattle.domain_table.specs.declared.refusal.ChangeRefusal.TheVariants as refusals
@@ -22,11 +22,11 @@ use Rattle.domain_table.specs.Applying.{manner_of, with_room, takes_a_place, mos
 -- a full update is accepted behind the newest certificate, and a recovery recovers from it
 abbrev pub IsJudged : Option Certificate → Change → Manner → Type 0
 IsJudged old c Full = IsAccepted old c
-IsJudged old c Recovery = (cert : Certificate) × (old ≡ Some cert) × IsTaken Recovery cert false c
+IsJudged old c Recovery = (cert : Certificate) × (old ≡ Some cert) × IsTakenIn Recovery cert false c
 IsJudged old c Objected = Unit {0}
 
 -- a recovery is taken with nothing pending
-recovered : (old : Certificate) (pending : Bool) (c : Change) → IsTaken Recovery old pending c → IsTaken Recovery old false c
+recovered : (old : Certificate) (pending : Bool) (c : Change) → IsTakenIn Recovery old pending c → IsTakenIn Recovery old false c
 recovered old pending c is =
     let r : Recovers (cert_terms_of old) (cert_terms_of c.cert) (endorsers_of c) (is_handed_over old c) pending = is.updates in
     record {
@@ -35,10 +35,10 @@ recovered old pending c is =
     }
 
 -- whether something is pending says nothing of a full update
-followed : (old : Certificate) (pending : Bool) (c : Change) → IsTaken Full old pending c → IsTaken Full old false c
+followed : (old : Certificate) (pending : Bool) (c : Change) → IsTakenIn Full old pending c → IsTakenIn Full old false c
 followed old pending c is = record { plain = is.plain; updates = is.updates }
 
-by_taken : (old : Certificate) (pending : Bool) (c : Change) (m : Manner) → IsTaken m old pending c → IsJudged (Some old) c m
+by_taken : (old : Certificate) (pending : Bool) (c : Change) (m : Manner) → IsTakenIn m old pending c → IsJudged (Some old) c m
 unfolding IsAccepted
 by_taken old pending c Full is = inl (followed old pending c is)
 by_taken old pending c Recovery is = (old, refl, recovered old pending c is)
@@ -58,9 +58,9 @@ only_full c m (Err refusal) accepted e = absurd (cc)
 
 pub judged_behind : (old : Option Certificate) (pending : Option Pending) (c : Change) (m : Manner) → manner_of old pending c ≡ Ok m → IsJudged old c m
 judged_behind None pending c m e =
-    elim (is_some c.objection) as (λ b. cond {A = Result Manner PolicyRefusal} b (Err NotPending) (in_manner Full (judgement None c)) ≡ Ok m → IsJudged None c m) [
+    elim (is_some c.objection) as (λ b. cond {A = Result Manner PolicyRefusal} b (Err NotPending) (in_manner Full (change_judgement None c)) ≡ Ok m → IsJudged None c m) [
       | true ↦ λ e. absurd (cc)
-      | false ↦ λ e. only_full c m (judgement None c) (first_facts c).0 e
+      | false ↦ λ e. only_full c m (change_judgement None c) (first_facts c).0 e
     ] e
 judged_behind (Some old) pending c m e =
     elim (is_some c.objection) as (λ b. is_some c.objection ≡ b → IsJudged (Some old) c m) [
@@ -89,9 +89,9 @@ not_full : (answer : Result (Unit {0}) PolicyRefusal) → in_manner Objected ans
 not_full (Ok u) e = absurd cc
 not_full (Err refusal) e = absurd cc
 
-full_behind : (old : Certificate) (pending : Option Pending) (c : Change) → manner_of (Some old) pending c ≡ Ok Full → IsTaken Full old false c
+full_behind : (old : Certificate) (pending : Option Pending) (c : Change) → manner_of (Some old) pending c ≡ Ok Full → IsTakenIn Full old false c
 full_behind old pending c e =
-    elim (is_some c.objection) as (λ b. is_some c.objection ≡ b → IsTaken Full old false c) [
+    elim (is_some c.objection) as (λ b. is_some c.objection ≡ b → IsTakenIn Full old false c) [
       | true ↦ λ objects.
           absurd (not_full (first_failing (objection_clauses old (option_map waiting_digest pending) c))
           (subst (λ b. cond {A = Result Manner PolicyRefusal} b (in_manner Objected (first_failing (objection_clauses old (option_map waiting_digest pending) c)))
@@ -100,7 +100,7 @@ full_behind old pending c e =
     ] refl
 
 -- what is taken fully behind a certificate is a full update of it
-pub judged_full : (t : Table) (c : Change) (old : Certificate) → judge_ripe t c ≡ Ok Full → newest (chain_of t c.cert.name) ≡ Some old → IsTaken Full old false c
+pub judged_full : (t : Table) (c : Change) (old : Certificate) → judge_ripe t c ≡ Ok Full → newest (chain_of t c.cert.name) ≡ Some old → IsTakenIn Full old false c
 unfolding judge_ripe
 judged_full t c old e is_newest =
     full_behind old (get t.waiting c.cert.name) c

@@ -15,7 +15,7 @@ use Rattle.ar_cert.specs.Certificate.{Certificate, IsCertificate, IsWait}
 use Rattle.ar_cert.specs.Changes.{Change}
 use Rattle.domain_table.specs.declared.refusal.ChangeRefusal.{ChangeRefusal}
 use Rattle.domain_table.specs.Tables.{Pending, Table, chain_of, newest}
-use Rattle.domain_table.specs.Applying.{is_over, is_ripe, is_ripe_behind, ripened, change_list, ripen, judge_ripe, taken, after_answer, apply_each, apply}
+use Rattle.domain_table.specs.Applying.{is_over, is_ripe, is_ripe_behind, ripened, change_list, ripen, judge_ripe, taking_change, after_answer, apply_each, apply}
 use Rattle.domain_table.specs.Sound.{IsSound}
 use Rattle.domain_table.proofs.Maps.{get-ripen, waiting-ripen}
 use Rattle.domain_table.proofs.Newest.{newest_has}
@@ -70,41 +70,41 @@ fits t sound name old is =
     let there : get t.chains name ≡ Some (chain_of t name) = chain_there (get t.chains name) old is in
     newest_has IsCertificate (chain_of t name) old (λ k d l. ((sound.chains name (chain_of t name) there).each k d l).cert) is
 
-pub still_none : (t : Table) (e : ℕ) (c : Change) (m : Manner) → IsSound t → IsJudged (newest (chain_of t c.cert.name)) c m → NoneRipe t e → NoneRipe (taken t e c m) e
-unfolding taken
+pub still_none : (t : Table) (e : ℕ) (c : Change) (m : Manner) → IsSound t → IsJudged (newest (chain_of t c.cert.name)) c m → NoneRipe t e → NoneRipe (taking_change t e c m) e
+unfolding taking_change
 still_none t e c Full sound judged none name = at (eq_by_cmp key_cmp name c.cert.name) refl where
-  at : (b : Bool) → eq_by_cmp key_cmp name c.cert.name ≡ b → is_ripe (taken t e c Full) e name ≡ false
+  at : (b : Bool) → eq_by_cmp key_cmp name c.cert.name ≡ b → is_ripe (taking_change t e c Full) e name ≡ false
   at true tied =
-      ripe_by (taken t e c Full) e name (get (taken t e c Full).chains name) None refl (get-remove total t.waiting c.cert.name name ∙ ap (λ b. cond b None (get t.waiting name)) tied)
-      ∙ nothing_waits e (newest (chain_of (taken t e c Full) name))
+      ripe_by (taking_change t e c Full) e name (get (taking_change t e c Full).chains name) None refl (get-remove total t.waiting c.cert.name name ∙ ap (λ b. cond b None (get t.waiting name)) tied)
+      ∙ nothing_waits e (newest (chain_of (taking_change t e c Full) name))
   at false apart =
-      ripe_by (taken t e c Full) e name (get t.chains name) (get t.waiting name)
+      ripe_by (taking_change t e c Full) e name (get t.chains name) (get t.waiting name)
       (get-insert total t.chains c.cert.name (chain_of t c.cert.name ++ c ∷ []) name ∙ ap (λ b. cond b (Some (chain_of t c.cert.name ++ c ∷ [])) (get t.chains name)) apart)
       (get-remove total t.waiting c.cert.name name ∙ ap (λ b. cond b None (get t.waiting name)) apart)
       ∙ none name
 still_none t e c Objected sound judged none name = at (eq_by_cmp key_cmp name c.cert.name) refl where
-  at : (b : Bool) → eq_by_cmp key_cmp name c.cert.name ≡ b → is_ripe (taken t e c Objected) e name ≡ false
+  at : (b : Bool) → eq_by_cmp key_cmp name c.cert.name ≡ b → is_ripe (taking_change t e c Objected) e name ≡ false
   at true tied =
-      ripe_by (taken t e c Objected) e name (get t.chains name) None refl (get-remove total t.waiting c.cert.name name ∙ ap (λ b. cond b None (get t.waiting name)) tied)
+      ripe_by (taking_change t e c Objected) e name (get t.chains name) None refl (get-remove total t.waiting c.cert.name name ∙ ap (λ b. cond b None (get t.waiting name)) tied)
       ∙ nothing_waits e (newest (chain_of t name))
   at false apart =
-      ripe_by (taken t e c Objected) e name (get t.chains name) (get t.waiting name) refl
+      ripe_by (taking_change t e c Objected) e name (get t.chains name) (get t.waiting name) refl
       (get-remove total t.waiting c.cert.name name ∙ ap (λ b. cond b None (get t.waiting name)) apart)
       ∙ none name
 still_none t e c Recovery sound judged none name = at (eq_by_cmp key_cmp name c.cert.name) refl where
   pair : Pending
   pair = record { change = c; since = e }
 
-  at : (b : Bool) → eq_by_cmp key_cmp name c.cert.name ≡ b → is_ripe (taken t e c Recovery) e name ≡ false
+  at : (b : Bool) → eq_by_cmp key_cmp name c.cert.name ≡ b → is_ripe (taking_change t e c Recovery) e name ≡ false
   at true tied =
       let same : name ≡ c.cert.name = same_key name c.cert.name tied in
       let newest_is : newest (chain_of t name) ≡ Some judged.0 = ap (λ k. newest (chain_of t k)) same ∙ judged.1 in
-      ripe_by (taken t e c Recovery) e name (get t.chains name) (Some (record { change = c; since = e })) refl
+      ripe_by (taking_change t e c Recovery) e name (get t.chains name) (Some (record { change = c; since = e })) refl
       (get-insert total t.waiting c.cert.name (record { change = c; since = e }) name ∙ ap (λ b. cond b (Some (record { change = c; since = e })) (get t.waiting name)) tied)
       ∙ ap (λ o. is_ripe_behind e o (Some (record { change = c; since = e }))) newest_is
       ∙ begun_now e judged.0.policy.wait (fits t sound c.cert.name judged.0 judged.1).policy.wait
   at false apart =
-      ripe_by (taken t e c Recovery) e name (get t.chains name) (get t.waiting name) refl
+      ripe_by (taking_change t e c Recovery) e name (get t.chains name) (get t.waiting name) refl
       (get-insert total t.waiting c.cert.name (record { change = c; since = e }) name ∙ ap (λ b. cond b (Some (record { change = c; since = e })) (get t.waiting name)) apart)
       ∙ none name
 
@@ -118,6 +118,6 @@ one_by_one t e c changes sound = by (judge_ripe (ripen t e) c) refl where
   by (Err refusal) is = refl
   by (Ok m) is =
       ap (λ u. apply_each u e changes)
-      (sym (ripen_none (taken (ripen t e) e c m) e
+      (sym (ripen_none (taking_change (ripen t e) e c m) e
       (still_none (ripen t e) e c m (ripe_follows (λ name d. Unit {0}) t e sound (unit_holds t)).sound
       (judged (ripen t e) c m is) (ripened_once t e))))

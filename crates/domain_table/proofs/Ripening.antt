@@ -11,7 +11,7 @@ use Rattle.ar_cert.specs.Changes.{Change}
 use Rattle.domain_table.specs.declared.refusal.ChangeRefusal.{ChangeRefusal}
 use Rattle.domain_table.specs.declared.row.Row.{Row}
 use Rattle.domain_table.specs.Tables.{Pending, Table, newest, size}
-use Rattle.domain_table.specs.Applying.{after_answer, apply, apply_each, change_list, judge, judge_ripe, ripen, taken}
+use Rattle.domain_table.specs.Applying.{after_answer, apply, apply_each, change_list, judge, judge_ripe, ripen, taking_change}
 use Rattle.domain_table.specs.Rows.{RowData, any_ripe, chain_pair, pending_pair, is_ripe_row, marked, marks_of, table_of, with_row, AreRows, IsChanged, IsKept, IsRipeUpTo, data_in}
 use Rattle.domain_table.proofs.Places.{split_at}
 use Rattle.domain_table.proofs.Once.{nothing_waits}
@@ -126,7 +126,7 @@ kept_ripe rows copies new before trie kept e is same are tree ripe = record {
 
 -- ---- one change
 
-pub apply_one : (t : Table) (e : ℕ) (c : Change) (m : Manner) → judge_ripe (ripen t e) c ≡ Ok m → apply t e (c ∷ []) ≡ Some (taken (ripen t e) e c m)
+pub apply_one : (t : Table) (e : ℕ) (c : Change) (m : Manner) → judge_ripe (ripen t e) c ≡ Ok m → apply t e (c ∷ []) ≡ Some (taking_change (ripen t e) e c m)
 unfolding apply_each
 apply_one t e c m judged = ap (λ o. option_and_then (λ s. apply_each s e []) (after_answer (ripen t e) e c o)) judged
 

@@ -17,12 +17,12 @@ use Rattle.cert_policy.specs.declared.manner.Manner.{Manner}
 use Rattle.cert_policy.specs.declared.manner.Manner.TheVariants.{Full}
 use Rattle.cert_policy.specs.Clauses.{in_manner}
 use Rattle.ar_cert.specs.Changes.{Change}
-use Rattle.ar_cert.specs.Judging.{judgement}
+use Rattle.ar_cert.specs.Judging.{change_judgement}
 use Rattle.domain_table.specs.declared.refusal.ChangeRefusal.{ChangeRefusal}
 use Rattle.domain_table.specs.declared.refusal.ChangeRefusal.TheVariants as refusals
 use Rattle.domain_table.specs.declared.row.Row.{Row}
 use Rattle.domain_table.specs.Tables.{Pending, Table, chain_of, newest, size}
-use Rattle.domain_table.specs.Applying.{judge, judge_ripe, manner_of, most_kept, ripen, taken, takes_a_place, with_room}
+use Rattle.domain_table.specs.Applying.{judge, judge_ripe, manner_of, most_kept, ripen, taking_change, takes_a_place, with_room}
 use Rattle.domain_table.specs.Tree.{tree_entries}
 use Rattle.domain_table.specs.Rows.{RowData, chain_pair, data_in, data_of, first_row, table_of, IsMarked, IsChanged, IsCome, IsKept, IsPlace}
 use Rattle.domain_table.proofs.RowLists.{came_chains, came_waiting, rise_came, none_waits, places, places_split, size_rows, tree_rows}
@@ -91,7 +91,7 @@ may_take t c m judged = at (manner_of (newest (chain_of t c.cert.name)) (get t.w
 
 -- a change that is taken where the name is absent is taken fully
 pub first_full : (p : Option Pending) (c : Change) (m : Manner) → manner_of None p c ≡ Ok m → m ≡ Full
-first_full p c m e = at (is_some c.objection) (judgement None c) e where
+first_full p c m e = at (is_some c.objection) (change_judgement None c) e where
   at : (b : Bool) (o : Result (Unit {0}) PolicyRefusal) → cond {A = Result Manner PolicyRefusal} b (Err NotPending) (in_manner Full o) ≡ Ok m → m ≡ Full
   at true o e = absurd (cc)
   at false (Err r) e = absurd (cc)
@@ -170,8 +170,8 @@ module _ (rows : List Row) (new : List RowData) (before trie : Entries) (i kept 
         most = omega (arith, room);
       }
 
-  pub taken_come : (epoch : ℕ) → table_of new ≡ taken (table_of (data_in rows)) epoch change Full
-  unfolding taken
+  pub taken_come : (epoch : ℕ) → table_of new ≡ taking_change (table_of (data_in rows)) epoch change Full
+  unfolding taking_change
   taken_come epoch =
       let none : chain_of (table_of (data_in rows)) change.cert.name ≡ [] = ap (λ o. unwrap_or o []) (row_absent rows change.cert.name apart).0 in
       let chains : (table_of new).chains ≡ insert (table_of (data_in rows)).chains change.cert.name (chain_of (table_of (data_in rows)) change.cert.name ++ change ∷ []) =

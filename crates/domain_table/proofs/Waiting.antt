@@ -17,10 +17,10 @@ use Rattle.cert_policy.specs.declared.manner.Manner.{Manner}
 use Rattle.cert_policy.specs.declared.manner.Manner.TheVariants.{Full, Recovery, Objected}
 use Rattle.ar_cert.specs.Certificate.{Certificate}
 use Rattle.ar_cert.specs.Changes.{Change}
-use Rattle.ar_cert.specs.Judging.{IsTaken}
+use Rattle.ar_cert.specs.Judging.{IsTakenIn}
 use Rattle.domain_table.specs.declared.refusal.ChangeRefusal.{ChangeRefusal}
 use Rattle.domain_table.specs.Tables.{Pending, SameTable, Table, certificates, chain_of, newest, no_table, pair_of, pairs}
-use Rattle.domain_table.specs.Applying.{after_answer, apply, apply_each, is_ripe, judge_ripe, ripen, taken, IsRipe}
+use Rattle.domain_table.specs.Applying.{after_answer, apply, apply_each, is_ripe, judge_ripe, ripen, taking_change, IsRipe}
 use Rattle.domain_table.specs.Waiting.{EachWaited, Leads, Waited}
 use Rattle.domain_table.proofs.Applied.{left_waiting, still_waits}
 use Rattle.domain_table.proofs.Judged.{judged_full}
@@ -72,7 +72,7 @@ record Ripened (InEpoch : ℕ → Table → Type 0) (n : ℕ) (name : List ℕ) 
 
 -- what each change of a chain is inside the epoch behind this one
 abbrev Passed : (ℕ → Table → Type 0) → ℕ → List ℕ → Certificate → Change → Type 0
-Passed InEpoch n name old c = IsTaken Full old false c ⊎ (Waited InEpoch n name old c.cert ⊎ Ripened InEpoch n name old c)
+Passed InEpoch n name old c = IsTakenIn Full old false c ⊎ (Waited InEpoch n name old c.cert ⊎ Ripened InEpoch n name old c)
 
 -- what a table inside the epoch behind this one keeps
 record Within (InEpoch : ℕ → Table → Type 0) (n : ℕ) (t : Table) : Type 0 where
@@ -133,17 +133,17 @@ ripen-passes InEpoch n t is = record {
       )
 
 -- a change that is taken
-take-passes : (InEpoch : ℕ → Table → Type 0) (n : ℕ) (t : Table) (c : Change) (m : Manner) → judge_ripe t c ≡ Ok m → Passes InEpoch n t (taken t (suc n) c m)
-unfolding taken
+take-passes : (InEpoch : ℕ → Table → Type 0) (n : ℕ) (t : Table) (c : Change) (m : Manner) → judge_ripe t c ≡ Ok m → Passes InEpoch n t (taking_change t (suc n) c m)
+unfolding taking_change
 take-passes InEpoch n t c Full judged = record {
   chains = λ name. at name (eq_by_cmp key_cmp name c.cert.name) refl;
-  waiting = λ name p there. inl (left_waiting (λ _ _. Unit {0}) t (taken t (suc n) c Full) c name p refl there (λ apart. found name ∙ ap (λ b. cond b (Some (chain_of t c.cert.name ++ c ∷ [])) (get t.chains name)) apart));
+  waiting = λ name p there. inl (left_waiting (λ _ _. Unit {0}) t (taking_change t (suc n) c Full) c name p refl there (λ apart. found name ∙ ap (λ b. cond b (Some (chain_of t c.cert.name ++ c ∷ [])) (get t.chains name)) apart));
 } where
-  found : (name : List ℕ) → get (taken t (suc n) c Full).chains name ≡ cond (eq_by_cmp key_cmp name c.cert.name) (Some (chain_of t c.cert.name ++ c ∷ [])) (get t.chains name)
+  found : (name : List ℕ) → get (taking_change t (suc n) c Full).chains name ≡ cond (eq_by_cmp key_cmp name c.cert.name) (Some (chain_of t c.cert.name ++ c ∷ [])) (get t.chains name)
   found name = get-insert total t.chains c.cert.name (chain_of t c.cert.name ++ c ∷ []) name
 
-  at : (name : List ℕ) (b : Bool) → eq_by_cmp key_cmp name c.cert.name ≡ b → (chain_of (taken t (suc n) c Full) name ≡ chain_of t name)
-      ⊎ ((x : Change) × (chain_of (taken t (suc n) c Full) name ≡ chain_of t name ++ x ∷ []) × ((old : Certificate) → newest (chain_of t name) ≡ Some old → Passed InEpoch n name old x))
+  at : (name : List ℕ) (b : Bool) → eq_by_cmp key_cmp name c.cert.name ≡ b → (chain_of (taking_change t (suc n) c Full) name ≡ chain_of t name)
+      ⊎ ((x : Change) × (chain_of (taking_change t (suc n) c Full) name ≡ chain_of t name ++ x ∷ []) × ((old : Certificate) → newest (chain_of t name) ≡ Some old → Passed InEpoch n name old x))
   at name false apart = inl (ap (λ o. unwrap_or o []) (found name ∙ ap (λ b. cond b (Some (chain_of t c.cert.name ++ c ∷ [])) (get t.chains name)) apart))
   at name true tied =
       let same : c.cert.name ≡ name = sym (same_key name c.cert.name tied) in
@@ -156,10 +156,10 @@ take-passes InEpoch n t c Recovery judged = record {
   chains = λ name. inl refl;
   waiting = λ name p there. at name p there (eq_by_cmp key_cmp name c.cert.name) refl;
 } where
-  found : (name : List ℕ) → get (taken t (suc n) c Recovery).waiting name ≡ cond (eq_by_cmp key_cmp name c.cert.name) (Some (record { change = c; since = suc n })) (get t.waiting name)
+  found : (name : List ℕ) → get (taking_change t (suc n) c Recovery).waiting name ≡ cond (eq_by_cmp key_cmp name c.cert.name) (Some (record { change = c; since = suc n })) (get t.waiting name)
   found name = get-insert total t.waiting c.cert.name (record { change = c; since = suc n }) name
 
-  at : (name : List ℕ) (p : Pending) → get (taken t (suc n) c Recovery).waiting name ≡ Some p → (b : Bool) → eq_by_cmp key_cmp name c.cert.name ≡ b → Stayed t (taken t (suc n) c Recovery) name p ⊎ (p.since ≡ suc n)
+  at : (name : List ℕ) (p : Pending) → get (taking_change t (suc n) c Recovery).waiting name ≡ Some p → (b : Bool) → eq_by_cmp key_cmp name c.cert.name ≡ b → Stayed t (taking_change t (suc n) c Recovery) name p ⊎ (p.since ≡ suc n)
   at name p there true tied =
       let some : Some (record { change = c; since = suc n }) ≡ Some p = sym (ap (λ b. cond b (Some (record { change = c; since = suc n })) (get t.waiting name)) tied) ∙ sym (found name) ∙ there in
       let is_pair : record { change = c; since = suc n } ≡ p = cc in
@@ -170,7 +170,7 @@ take-passes InEpoch n t c Recovery judged = record {
   })
 take-passes InEpoch n t c Objected judged = record {
   chains = λ name. inl refl;
-  waiting = λ name p there. inl (left_waiting (λ _ _. Unit {0}) t (taken t (suc n) c Objected) c name p refl there (λ apart. refl));
+  waiting = λ name p there. inl (left_waiting (λ _ _. Unit {0}) t (taking_change t (suc n) c Objected) c name p refl there (λ apart. refl));
 }
 
 -- all changes
@@ -184,7 +184,7 @@ each-within InEpoch n (c ∷ changes) t u is here = by (judge_ripe t c) refl is 
     by : (answer : Result Manner ChangeRefusal) → judge_ripe t c ≡ answer → option_and_then (λ v. apply_each v (suc n) changes) (after_answer t (suc n) c answer) ≡ Some u
         → ((v : Table) → apply_each v (suc n) changes ≡ Some u → Within InEpoch n v → Within InEpoch n u) → Within InEpoch n u
     by (Err refusal) answers rest next = absurd cc
-    by (Ok m) answers rest next = next (taken t (suc n) c m) rest (within-on InEpoch n t (taken t (suc n) c m) here (take-passes InEpoch n t c m answers))
+    by (Ok m) answers rest next = next (taking_change t (suc n) c m) rest (within-on InEpoch n t (taking_change t (suc n) c m) here (take-passes InEpoch n t c m answers))
 
 -- ---- behind an epoch
 

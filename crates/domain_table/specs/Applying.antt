@@ -12,7 +12,7 @@ use Rattle.cert_policy.specs.declared.manner.Manner.TheVariants.{Full, Recovery,
 use Rattle.cert_policy.specs.Clauses.{in_manner}
 use Rattle.ar_cert.specs.Certificate.{Certificate}
 use Rattle.ar_cert.specs.Changes.{Change}
-use Rattle.ar_cert.specs.Judging.{judgement, update_judgement}
+use Rattle.ar_cert.specs.Judging.{change_judgement, update_judgement}
 use Rattle.domain_table.specs.declared.refusal.ChangeRefusal.{ChangeRefusal}
 use Rattle.domain_table.specs.declared.refusal.ChangeRefusal.TheVariants as refusals
 use Rattle.domain_table.specs.Tables.{Pending, Table, chain_of, newest, size, waiting_digest}
@@ -65,7 +65,7 @@ ripen table epoch = record {
 -- How a change of a name is taken, by the name's newest certificate and what waits, or the clause of the policy
 -- rule that fails. Where the name is absent a change registers it, and an objection has nothing to object to.
 abbrev pub manner_of : Option Certificate → Option Pending → Change → Result Manner PolicyRefusal
-manner_of None pending change = if is_some change.objection then Err NotPending else in_manner Full (judgement None change)
+manner_of None pending change = if is_some change.objection then Err NotPending else in_manner Full (change_judgement None change)
 manner_of (Some old) pending change = update_judgement old (option_map waiting_digest pending) change
 
 -- whether a change that is taken so takes a place in the table; an objection takes none
@@ -100,20 +100,20 @@ answer_of judged = result_map_both (λ _. tt) (λ refusal. refusal) judged
 
 -- The table with a change that is taken in a manner. A full update is appended and ends what waits, a recovery
 -- waits since this epoch, and an objection ends what waits.
-unfoldable pub taken : Table → ℕ → Change → Manner → Table
-taken table epoch change Full = record {
+unfoldable pub taking_change : Table → ℕ → Change → Manner → Table
+taking_change table epoch change Full = record {
   chains = insert table.chains change.cert.name (chain_of table change.cert.name ++ change ∷ []);
   waiting = remove table.waiting change.cert.name;
 }
-taken table epoch change Recovery = record {
+taking_change table epoch change Recovery = record {
   chains = table.chains;
   waiting = insert table.waiting change.cert.name (record { change = change; since = epoch });
 }
-taken table epoch change Objected = record { chains = table.chains; waiting = remove table.waiting change.cert.name }
+taking_change table epoch change Objected = record { chains = table.chains; waiting = remove table.waiting change.cert.name }
 
 -- the table after one change, by the answer of the judgement
 abbrev pub after_answer : Table → ℕ → Change → Result Manner ChangeRefusal → Option Table
-after_answer table epoch change (Ok manner) = Some (taken table epoch change manner)
+after_answer table epoch change (Ok manner) = Some (taking_change table epoch change manner)
 after_answer table epoch change (Err refusal) = None
 
 -- the table after each change of a list, each judged in the table that the ones before it leave; none where

@@ -4,7 +4,7 @@ use Rattle.std.specs.FinMap.{get}
 use Rattle.cert_policy.specs.declared.manner.Manner.TheVariants.{Recovery}
 use Rattle.ar_cert.specs.Certificate.{Certificate}
 use Rattle.ar_cert.specs.Changes.{Change, IsChange}
-use Rattle.ar_cert.specs.Judging.{IsChain, IsTaken}
+use Rattle.ar_cert.specs.Judging.{IsChain, IsTakenIn}
 use Rattle.domain_table.specs.Tables.{Pending, Table, chain_of, newest}
 use Rattle.domain_table.specs.Applying.{Epoch}
 
@@ -18,7 +18,7 @@ pub record IsChainOf (name : List ℕ) (changes : List Change) : Type 0 where
 pub record Waits (name : List ℕ) (chain : List Change) (p : Pending) : Type 0 where
   pub old : Certificate
   pub is_newest : newest chain ≡ Some old
-  pub recovers : IsTaken Recovery old false p.change
+  pub recovers : IsTakenIn Recovery old false p.change
   pub change : IsChange p.change
   pub named : p.change.cert.name ≡ name
   pub since : p.since < 2 ^ 64

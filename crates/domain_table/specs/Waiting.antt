@@ -4,7 +4,7 @@ use Rattle.std.specs.Prelude.{◌≡◌, ℕ, ◌+◌, ◌<◌, ◌≤◌, ◌�
 use Rattle.cert_policy.specs.declared.manner.Manner.TheVariants.{Full}
 use Rattle.ar_cert.specs.Certificate.{Certificate}
 use Rattle.ar_cert.specs.Changes.{Change}
-use Rattle.ar_cert.specs.Judging.{IsTaken}
+use Rattle.ar_cert.specs.Judging.{IsTakenIn}
 use Rattle.domain_table.specs.Tables.{SameTable, Table, certificates, chain_of, newest, pairs}
 use Rattle.domain_table.specs.Applying.{apply}
 
@@ -32,7 +32,7 @@ pub record Waited (InEpoch : ℕ → Table → Type 0) (epoch : ℕ) (name : Lis
 -- each change of a chain that stands behind another is a full update of that one's certificate, or its own waited
 abbrev pub EachWaited : (ℕ → Table → Type 0) → ℕ → List ℕ → List Change → Type 0
 EachWaited InEpoch epoch name chain = (k : ℕ) (d : Change) → k + 1 < length chain
-    → IsTaken Full (get_or chain k d).cert false (get_or chain (k + 1) d)
+    → IsTakenIn Full (get_or chain k d).cert false (get_or chain (k + 1) d)
     ⊎ Waited InEpoch epoch name (get_or chain k d).cert (get_or chain (k + 1) d).cert
 
 -- An epoch leads from a table to the next one: it left the table as it is, or it applied changes and has a table. Each table of

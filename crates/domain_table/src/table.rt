@@ -4,7 +4,7 @@ ghost use Rattle.std.specs.FinMap.{entries, get};
 ghost use Rattle.domain_table.specs.Tables.{chain_of, newest, no_table};
 ghost use Rattle.domain_table.specs.declared.fault.ApplyFault.TheVariants as faults;
 ghost use Rattle.domain_table.specs.declared.refusal.ChangeRefusal.{ChangeRefusal};
-ghost use Rattle.domain_table.specs.Applying.{answer_of, apply, judge, judge_ripe, ripen, taken};
+ghost use Rattle.domain_table.specs.Applying.{answer_of, apply, judge, judge_ripe, ripen, taking_change};
 ghost use Rattle.domain_table.specs.Tree.{root_of, tree_entries};
 ghost use Rattle.domain_table.specs.Rows.{pending_told};
 
@@ -168,7 +168,7 @@ impl Table {
         manner: Manner,
     ) -> Result<(), (Change, ApplyFault)>
         requires { judge_ripe self.old change ≡ Ok manner }
-        ensures ok { OnOk result (self.new ≡ taken self.old epoch change manner) }
+        ensures ok { OnOk result (self.new ≡ taking_change self.old epoch change manner) }
         ensures err { IfErr result (λ e. e ≡ (change, faults.Memory)) }
         ensures same { OnErr result (self.new ≡ self.old) }
     {

@@ -1,7 +1,7 @@
 ghost use Rattle.std.specs.Prelude.{◌≡◌, ◌<◌, length, get_or, Ok, IfErr, IfOk, OnOk, OnErr};
 ghost use Rattle.std.specs.Option.{option_len};
 ghost use Rattle.domain_table.specs.declared.row.Row.{Row};
-ghost use Rattle.domain_table.specs.Applying.{judge_ripe, taken};
+ghost use Rattle.domain_table.specs.Applying.{judge_ripe, taking_change};
 ghost use Rattle.domain_table.specs.Rows.{IsKept, data_in, data_of, table_of};
 
 use crate::change_row::{append, wait};
@@ -41,7 +41,7 @@ fn take_behind(
     requires name { (d : Row) → (get_or rows.old.items i d).name.items ≡ change.cert.name }
     ensures kept { IfOk result (λ kept. IsKept (data_in rows.new.items) trie.new kept) }
     ensures ok { OnOk result (table_of (data_in rows.new.items)
-        ≡ taken (table_of (data_in rows.old.items)) epoch change manner) }
+        ≡ taking_change (table_of (data_in rows.old.items)) epoch change manner) }
     ensures back { IfErr result (λ e. e.0 ≡ change) }
     ensures same { OnErr result (data_in rows.new.items ≡ data_in rows.old.items) }
     ensures same_tree { OnErr result (trie.new ≡ trie.old) }
@@ -78,7 +78,7 @@ pub(crate) fn take(
     requires judged { judge_ripe (table_of (data_in rows.old.items)) change ≡ Ok manner }
     ensures kept { IfOk result (λ kept. IsKept (data_in rows.new.items) trie.new kept) }
     ensures ok { OnOk result (table_of (data_in rows.new.items)
-        ≡ taken (table_of (data_in rows.old.items)) epoch change manner) }
+        ≡ taking_change (table_of (data_in rows.old.items)) epoch change manner) }
     ensures back { IfErr result (λ e. e.0 ≡ change) }
     ensures same { OnErr result (data_in rows.new.items ≡ data_in rows.old.items) }
     ensures same_tree { OnErr result (trie.new ≡ trie.old) }

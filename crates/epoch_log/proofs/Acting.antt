@@ -13,8 +13,8 @@ use Rattle.ar_statement.specs.Ranges.{IsValue}
 use Rattle.epoch_log.specs.Calls.{MayConfirm, MayState, after_confirm, after_roll, casting, confirmation_text, confirmed_of, own_status_text, own_value, own_vote_text, proposing, stating, vote_of}
 use Rattle.epoch_log.specs.Ending.{own_vote}
 use Rattle.epoch_log.specs.Record.{base_of}
-use Rattle.epoch_log.specs.Right.{Fits, IsRightConfirmation, IsRightVote, newest_digest}
-use Rattle.epoch_log.specs.State.{IsKept, IsNewest, IsNewestDecision, LogState, epoch_of, table_of}
+use Rattle.epoch_log.specs.Right.{FitsVotes, IsRightConfirmation, IsRightVote, newest_digest}
+use Rattle.epoch_log.specs.State.{IsKeptLog, KeepsNewest, IsNewestDecision, LogState, epoch_of, table_of}
 use Rattle.epoch_log.specs.Told.{value_of}
 use Rattle.epoch_log.specs.declared.entries.How.TheVariants.{Decided}
 use Rattle.epoch_log.specs.declared.entries.Newest.{Newest}
@@ -24,8 +24,8 @@ use Rattle.epoch_log.proofs.Endings.{base-newest, ending-within}
 use Rattle.epoch_log.proofs.Growing.{honest-casting, honest-proposing, honest-rolling, honest-stating}
 use Rattle.epoch_log.proofs.Texts.{a-roll, names-generation, plain-confirm, plain-propose, plain-status, plain-vote, valid-confirm, valid-propose, valid-roll, valid-status, valid-vote}
 
-pub kept-casting : (s : LogState) (value : Value) (changes : List Change) → IsKept s → All (λ w. w.epoch ≢ epoch_of s) s.past.voted → All (λ t. t.epoch ≢ epoch_of s) s.past.stated
-    → IsRightVote s.past.seen s.past.ended (vote_of s value changes) → HasRoom s.past.signed (own_vote_text s value ∷ []) → IsKept (casting s (vote_of s value changes))
+pub kept-casting : (s : LogState) (value : Value) (changes : List Change) → IsKeptLog s → All (λ w. w.epoch ≢ epoch_of s) s.past.voted → All (λ t. t.epoch ≢ epoch_of s) s.past.stated
+    → IsRightVote s.past.seen s.past.ended (vote_of s value changes) → HasRoom s.past.signed (own_vote_text s value ∷ []) → IsKeptLog (casting s (vote_of s value changes))
 kept-casting s value changes kept not-voted not-stated right room = record {
   number = kept.number;
   honest = honest-casting s.council s.me s.past (vote_of s value changes) kept.honest refl not-voted not-stated right
@@ -35,7 +35,7 @@ kept-casting s value changes kept not-voted not-stated right room = record {
   newest = kept.newest;
 }
 
-pub kept-proposing : (s : LogState) (value : Value) → IsKept s → IsValue value → IsKept (proposing s value)
+pub kept-proposing : (s : LogState) (value : Value) → IsKeptLog s → IsValue value → IsKeptLog (proposing s value)
 kept-proposing s value kept are = record {
   number = kept.number;
   honest = honest-proposing s.council s.me s.past (epoch_of s) value.base value.root kept.honest
@@ -46,7 +46,7 @@ kept-proposing s value kept are = record {
 }
 
 -- what the log states of the epoch fits its votes, and is of digests
-own-fits : (s : LogState) (own : Option Voted) → own_vote s.past.voted (epoch_of s) ≡ own → Fits s.past.voted (epoch_of s) (option_map value_of own)
+own-fits : (s : LogState) (own : Option Voted) → own_vote s.past.voted (epoch_of s) ≡ own → FitsVotes s.past.voted (epoch_of s) (option_map value_of own)
 own-fits s None is = λ k d less same.
     let fails = find-nothing (λ (v : Voted). v.epoch == epoch_of s) s.past.voted is k d less in
     let passes : eqb (get_or s.past.voted k d).epoch (epoch_of s) ≡ true = eq-eqb (get_or s.past.voted k d).epoch (epoch_of s) same in absurd cc
@@ -54,16 +54,16 @@ own-fits s (Some v) is =
     let there = find-some (λ (w : Voted). w.epoch == epoch_of s) s.past.voted v is in
     (v, (there.0, eqb-true v.epoch (epoch_of s) there.1, refl, refl))
 
-own-digests : (s : LogState) → IsKept s → (own : Option Voted) → own_vote s.past.voted (epoch_of s) ≡ own → IfSome (option_map value_of own) IsValue
+own-digests : (s : LogState) → IsKeptLog s → (own : Option Voted) → own_vote s.past.voted (epoch_of s) ≡ own → IfSome (option_map value_of own) IsValue
 own-digests s kept None is = tt
 own-digests s kept (Some v) is =
     let there = find-some (λ (w : Voted). w.epoch == epoch_of s) s.past.voted v is in
     (All-contains (IsRightVote s.past.seen s.past.ended) s.past.voted v kept.honest.votes_rightly there.0).are_digests
 
-pub own-value : (s : LogState) → IsKept s → IfSome (own_value s) IsValue
+pub own-value : (s : LogState) → IsKeptLog s → IfSome (own_value s) IsValue
 own-value s kept = own-digests s kept (own_vote s.past.voted (epoch_of s)) refl
 
-pub kept-stating : (s : LogState) → IsKept s → MayState s → HasRoom s.past.signed (own_status_text s ∷ []) → IsKept (stating s)
+pub kept-stating : (s : LogState) → IsKeptLog s → MayState s → HasRoom s.past.signed (own_status_text s ∷ []) → IsKeptLog (stating s)
 kept-stating s kept may room = record {
   number = kept.number;
   honest = honest-stating s.council s.me s.past (record { epoch = epoch_of s; value = own_value s }) kept.honest refl may (own-fits s (own_vote s.past.voted (epoch_of s)) refl)
@@ -73,7 +73,7 @@ kept-stating s kept may room = record {
   newest = kept.newest;
 }
 
-right-confirmation : (s : LogState) (w : Newest) (name : List ℕ) → IsKept s → IsNewestDecision s.council s.past.seen s.past.ended w → IsRightConfirmation s.past.ended (confirmed_of s w name)
+right-confirmation : (s : LogState) (w : Newest) (name : List ℕ) → IsKeptLog s → IsNewestDecision s.council s.past.seen s.past.ended w → IsRightConfirmation s.past.ended (confirmed_of s w name)
 right-confirmation s w name kept is =
     let within = ending-within s.past.ended kept.honest.ends_in_order w.epoch (Decided is.changes w.root) is.decided in
     let n : ℕ = length s.past.ended - w.epoch in
@@ -82,9 +82,9 @@ right-confirmation s w name kept is =
     let same : table_of s ≡ base_of s.past.ended (w.epoch + 1) = ap (base_of s.past.ended) (sym now) ∙ base-newest s.past.ended w.epoch n is.last ∙ ap (base_of s.past.ended) next in
     record { changes = is.changes; decided = is.decided; newest = ap (λ t. newest_digest t name) same }
 
-pub kept-confirming : (s : LogState) (w : Newest) (name : List ℕ) → IsKept s → MayConfirm s w name → HasRoom s.past.signed (confirmation_text s w name ∷ []) → IsKept (after_confirm s w name)
+pub kept-confirming : (s : LogState) (w : Newest) (name : List ℕ) → IsKeptLog s → MayConfirm s w name → HasRoom s.past.signed (confirmation_text s w name ∷ []) → IsKeptLog (after_confirm s w name)
 kept-confirming s w name kept may room =
-    let is : IsNewestDecision s.council s.past.seen s.past.ended w = subst (IsNewest s.council s.past.seen s.past.ended) may.is_newest kept.newest in
+    let is : IsNewestDecision s.council s.past.seen s.past.ended w = subst (KeepsNewest s.council s.past.seen s.past.ended) may.is_newest kept.newest in
     let within = ending-within s.past.ended kept.honest.ends_in_order w.epoch (Decided is.changes w.root) is.decided in
     let certificate : Option (List ℕ) = newest_digest (table_of s) name in
     record {
@@ -97,7 +97,7 @@ kept-confirming s w name kept may room =
       newest = kept.newest;
     }
 
-pub kept-rolling : (s : LogState) (key : List ℕ) → IsKept s → MayRoll s.past.signed key → IsKept (after_roll s key)
+pub kept-rolling : (s : LogState) (key : List ℕ) → IsKeptLog s → MayRoll s.past.signed key → IsKeptLog (after_roll s key)
 kept-rolling s key kept may = record {
   number = kept.number;
   honest = honest-rolling s.council s.me s.past key kept.honest (valid-roll s.me s.past.signed.newest key kept.number may.not_last may.is_key may.readable)

@@ -28,7 +28,7 @@ use Rattle.epoch_log.specs.Calls.{AreEndorsers, IsProposed, IsTurn, MayDecide, M
 use Rattle.epoch_log.specs.Ending.{decided, may_end, skipped}
 use Rattle.epoch_log.specs.Record.{current, ending}
 use Rattle.epoch_log.specs.Right.{LeadsTo, SawEndorsements}
-use Rattle.epoch_log.specs.State.{IsKept, LogState, epoch_of, reports_of, table_of}
+use Rattle.epoch_log.specs.State.{IsKeptLog, LogState, epoch_of, reports_of, table_of}
 use Rattle.epoch_log.specs.declared.entries.Closing.{Closing}
 use Rattle.epoch_log.specs.declared.entries.Closing.TheVariants as closings
 use Rattle.epoch_log.proofs.Acting.{kept-casting, kept-proposing, kept-stating, own-value}
@@ -65,7 +65,7 @@ members council changes are = all-members council changes (recursion_from_All (A
 
 -- ---- calls
 
-pub kept-endorsed : (s : LogState) (change : Change) → IsKept s → AreEndorsers s.council change → IsKept (after_endorsed s change)
+pub kept-endorsed : (s : LogState) (change : Change) → IsKeptLog s → AreEndorsers s.council change → IsKeptLog (after_endorsed s change)
 kept-endorsed s change kept are = kept-seeing s (endorsements_of change) kept (endorsers-members s.council change are)
 
 pub saw-endorsed : (s : LogState) (change : Change) → SawEndorsements (after_endorsed s change).past.seen change
@@ -73,8 +73,8 @@ saw-endorsed s change =
     All-unmap (Contains (seen_after s.past.seen (endorsements_of change))) (λ a. seen_of (authority_party a) (endorse a (digest_of change.cert))) (endorsers_of change)
     (seen-has (endorsements_of change) s.past.seen)
 
-pub kept-vote : (s : LogState) (proposer : ℕ) (value : Value) (changes : List Change) → IsKept s → MayVote s value changes → IsProposed s proposer changes
-    → HasRoom s.past.signed (own_vote_text s value ∷ []) → IsKept (after_vote s proposer value changes)
+pub kept-vote : (s : LogState) (proposer : ℕ) (value : Value) (changes : List Change) → IsKeptLog s → MayVote s value changes → IsProposed s proposer changes
+    → HasRoom s.past.signed (own_vote_text s value ∷ []) → IsKeptLog (after_vote s proposer value changes)
 kept-vote s proposer value changes kept may proposed room =
     let rest : List SeenText = flat_map endorsements_of changes in
     let more : List SeenText = proposal_of s proposer value changes in
@@ -89,7 +89,7 @@ kept-vote s proposer value changes kept may proposed room =
       leads = record { reaches = may.open_to.reaches; are_changes = may.are_changes; endorsed = endorsed later changes (All-tail (Contains later) first rest has) };
     }) room
 
-pub kept-own : (s : LogState) (value : Value) → IsKept s → s.me < s.council.logs → IsKept (counting_own s value)
+pub kept-own : (s : LogState) (value : Value) → IsKeptLog s → s.me < s.council.logs → IsKeptLog (counting_own s value)
 kept-own s value kept member =
     let own : SeenText = seen_of (log_party s.me) (vote_claim s.me (epoch_of s) value) in
     let more : List SeenText = own ∷ [] in
@@ -97,20 +97,20 @@ kept-own s value kept member =
     kept-counting_vote (seeing s more) (s.me, value, None) saw
     (record { log = member; saw = All-head (Contains (seen_after s.past.seen more)) own [] (seen-has more s.past.seen) })
 
-pub kept-proposed : (s : LogState) (value : Value) (changes : List Change) → IsKept s → MayVote s value changes → All (SawEndorsements s.past.seen) changes
-    → HasRoom s.past.signed (proposal_texts s value) → IsKept (casting (proposing s value) (vote_of s value changes))
+pub kept-proposed : (s : LogState) (value : Value) (changes : List Change) → IsKeptLog s → MayVote s value changes → All (SawEndorsements s.past.seen) changes
+    → HasRoom s.past.signed (proposal_texts s value) → IsKeptLog (casting (proposing s value) (vote_of s value changes))
 kept-proposed s value changes kept may saw room =
     kept-casting (proposing s value) value changes (kept-proposing s value kept may.are_digests) may.open_to.not_voted may.open_to.not_stated
     (record { are_digests = may.are_digests; from_base = may.open_to.from_base; leads = record { reaches = may.open_to.reaches; are_changes = may.are_changes; endorsed = saw } })
     (second-room s.past.signed (text_of (propose_claim s value)) (own_vote_text s value) room)
 
-pub kept-propose : (s : LogState) (value : Value) (changes : List Change) → IsKept s → IsTurn s.council s.me (epoch_of s) → MayVote s value changes → All (SawEndorsements s.past.seen) changes
-    → HasRoom s.past.signed (proposal_texts s value) → IsKept (after_propose s value changes).0
+pub kept-propose : (s : LogState) (value : Value) (changes : List Change) → IsKeptLog s → IsTurn s.council s.me (epoch_of s) → MayVote s value changes → All (SawEndorsements s.past.seen) changes
+    → HasRoom s.past.signed (proposal_texts s value) → IsKeptLog (after_propose s value changes).0
 kept-propose s value changes kept turn may saw room =
     kept-closed (counting_own (casting (proposing s value) (vote_of s value changes)) value)
     (kept-own (casting (proposing s value) (vote_of s value changes)) value (kept-proposed s value changes kept may saw room) turn.0)
 
-pub kept-log_with_ballot : (s : LogState) (log : ℕ) (value : Value) (signature : Option (List ℕ)) → IsKept s → log < s.council.logs → IsKept (log_with_ballot s log value signature)
+pub kept-log_with_ballot : (s : LogState) (log : ℕ) (value : Value) (signature : Option (List ℕ)) → IsKeptLog s → log < s.council.logs → IsKeptLog (log_with_ballot s log value signature)
 kept-log_with_ballot s log value signature kept member =
     let one : SeenText = seen_of (log_party log) (vote_claim log (epoch_of s) value) in
     let more : List SeenText = one ∷ [] in
@@ -118,27 +118,27 @@ kept-log_with_ballot s log value signature kept member =
     kept-counting_vote (seeing s more) (log, value, signature) saw
     (record { log = member; saw = All-head (Contains (seen_after s.past.seen more)) one [] (seen-has more s.past.seen) })
 
-pub kept-ballot : (s : LogState) (log : ℕ) (value : Value) (signature : List ℕ) → IsKept s → log < s.council.logs → IsKept (after_ballot s log value signature).0
+pub kept-ballot : (s : LogState) (log : ℕ) (value : Value) (signature : List ℕ) → IsKeptLog s → log < s.council.logs → IsKeptLog (after_ballot s log value signature).0
 kept-ballot s log value signature kept member = kept-closed (log_with_ballot s log value (Some signature)) (kept-log_with_ballot s log value (Some signature) kept member)
 
-pub kept-with_report : (s : LogState) (log : ℕ) (value : Option Value) (signature : Option (List ℕ)) → IsKept s → log < s.council.logs → IfSome value IsValue
-    → IsKept (with_report s log value signature)
+pub kept-with_report : (s : LogState) (log : ℕ) (value : Option Value) (signature : Option (List ℕ)) → IsKeptLog s → log < s.council.logs → IfSome value IsValue
+    → IsKeptLog (with_report s log value signature)
 kept-with_report s log value signature kept member are =
     let one : SeenText = seen_of (log_party log) (status_claim log (epoch_of s) value) in
     let more : List SeenText = one ∷ [] in
     let saw = kept-seeing s more kept (All-cons (λ (t : SeenText). IsMember s.council t.party) one [] member (All-nil (λ (t : SeenText). IsMember s.council t.party))) in
     kept-counting_status (seeing s more) (log, value, signature) saw member are (All-head (Contains (seen_after s.past.seen more)) one [] (seen-has more s.past.seen))
 
-pub kept-status : (s : LogState) (log : ℕ) (value : Option Value) (signature : Option (List ℕ)) → IsKept s → log < s.council.logs → IfSome value IsValue → IsKept (after_status_seen s log value signature).0
+pub kept-status : (s : LogState) (log : ℕ) (value : Option Value) (signature : Option (List ℕ)) → IsKeptLog s → log < s.council.logs → IfSome value IsValue → IsKeptLog (after_status_seen s log value signature).0
 kept-status s log value signature kept member are = kept-closed (with_report s log value signature) (kept-with_report s log value signature kept member are)
 
-pub kept-state : (s : LogState) → IsKept s → MayState s → HasRoom s.past.signed (own_status_text s ∷ []) → IsKept (after_state s).0
+pub kept-state : (s : LogState) → IsKeptLog s → MayState s → HasRoom s.past.signed (own_status_text s ∷ []) → IsKeptLog (after_state s).0
 kept-state s kept may room = by (is_turn s.council s.me (epoch_of s + 1)) refl
   where
-    stated : IsKept (stating s)
+    stated : IsKeptLog (stating s)
     stated = kept-stating s kept may room
 
-    by : (b : Bool) → is_turn s.council s.me (epoch_of s + 1) ≡ b → IsKept (cond {A = LogState × Closing} b (after_status_seen (stating s) s.me (own_value s) None) (stating s, closings.Open)).0
+    by : (b : Bool) → is_turn s.council s.me (epoch_of s + 1) ≡ b → IsKeptLog (cond {A = LogState × Closing} b (after_status_seen (stating s) s.me (own_value s) None) (stating s, closings.Open)).0
     by true turn =
         let member = ltb-true s.me s.council.logs (and_parts (nat_lt s.me s.council.logs) (eqb ((epoch_of s + 1) % s.council.logs) s.me) turn).0 in
         kept-status (stating s) s.me (own_value s) None stated member (own-value s kept)
@@ -147,7 +147,7 @@ kept-state s kept may room = by (is_turn s.council s.me (epoch_of s + 1)) refl
 signed-logs : (votes : List (ℕ × List ℕ)) → map (λ (v : ℕ × Option (List ℕ)). v.0) (map (λ (v : ℕ × List ℕ). (v.0, Some v.1)) votes) ≡ map (λ (v : ℕ × List ℕ). v.0) votes
 signed-logs votes = map-map (λ (v : ℕ × Option (List ℕ)). v.0) (λ (v : ℕ × List ℕ). (v.0, Some v.1)) votes
 
-pub kept-decide : (s : LogState) (value : Value) (changes : List Change) (votes : List (ℕ × List ℕ)) → IsKept s → MayDecide s value changes votes → IsKept (after_decide s value changes votes)
+pub kept-decide : (s : LogState) (value : Value) (changes : List Change) (votes : List (ℕ × List ℕ)) → IsKeptLog s → MayDecide s value changes votes → IsKeptLog (after_decide s value changes votes)
 kept-decide s value changes votes kept may = by (may_end s.past) refl
   where
     cast : List SeenText
@@ -159,7 +159,7 @@ kept-decide s value changes votes kept may = by (may_end s.past) refl
     later : List SeenText
     later = seen_after s.past.seen more
 
-    saw : IsKept (seeing s more)
+    saw : IsKeptLog (seeing s more)
     saw = kept-seeing s more kept (All-append (λ (t : SeenText). IsMember s.council t.party) cast (flat_map endorsements_of changes)
         (All-map (λ (t : SeenText). IsMember s.council t.party) (λ (v : ℕ × List ℕ). seen_of (log_party v.0) (vote_claim v.0 (epoch_of s) value)) votes may.can.logs)
         (members s.council changes may.can.endorsers))
@@ -187,14 +187,14 @@ kept-decide s value changes votes kept may = by (may_end s.past) refl
     signed : List (ℕ × Option (List ℕ))
     signed = map (λ (v : ℕ × List ℕ). (v.0, Some v.1)) votes
 
-    by : (b : Bool) → may_end s.past ≡ b → IsKept (cond b (decided (seeing s more) changes value signed) (seeing s more))
+    by : (b : Bool) → may_end s.past ≡ b → IsKeptLog (cond b (decided (seeing s more) changes value signed) (seeing s more))
     by true room = kept-decided (seeing s more) changes value signed saw (ltb-true (current s.past.ended) (2 ^ 63) room) may.from_base
         (record { leads = leads; votes = subst (λ b. SawVotes s.council later (epoch_of s) (record { base = b; root = value.root })) may.from_base quorum })
         (All-map (λ (v : ℕ × Option (List ℕ)). Saw later (log_party v.0) (vote_claim v.0 (epoch_of s) value)) (λ (v : ℕ × List ℕ). (v.0, Some v.1)) votes votes-saw)
         (subst (λ l. s.council.quorum ≤ distinct_count l) (sym (signed-logs votes)) may.can.many)
     by false never = saw
 
-pub kept-skip : (s : LogState) (statuses : List SignedStatus) → IsKept s → MaySkip s statuses → IsKept (after_skip s statuses)
+pub kept-skip : (s : LogState) (statuses : List SignedStatus) → IsKeptLog s → MaySkip s statuses → IsKeptLog (after_skip s statuses)
 kept-skip s statuses kept may = by (may_end s.past) refl
   where
     more : List SeenText
@@ -206,13 +206,13 @@ kept-skip s statuses kept may = by (may_end s.past) refl
     logs-below : All (λ (x : SignedStatus). x.0 < s.council.logs) statuses
     logs-below = All-unmap (λ (x : Status). x.0 < s.council.logs) (λ (x : SignedStatus). (x.0, x.1)) statuses (All-unmap (λ log. log < s.council.logs) (λ (x : Status). x.0) (reports_of statuses) may.can.of_logs.below)
 
-    saw : IsKept (seeing s more)
+    saw : IsKeptLog (seeing s more)
     saw = kept-seeing s more kept (All-map (λ (t : SeenText). IsMember s.council t.party) (λ (x : SignedStatus). seen_of (log_party x.0) (status_claim x.0 (epoch_of s) x.1)) statuses logs-below)
 
     statuses-saw : All (λ (x : SignedStatus). Saw later (log_party x.0) (status_claim x.0 (epoch_of s) x.1)) statuses
     statuses-saw = All-unmap (Contains later) (λ (x : SignedStatus). seen_of (log_party x.0) (status_claim x.0 (epoch_of s) x.1)) statuses (seen-has more s.past.seen)
 
-    by : (b : Bool) → may_end s.past ≡ b → IsKept (cond b (skipped (seeing s more) (reports_of statuses)) (seeing s more))
+    by : (b : Bool) → may_end s.past ≡ b → IsKeptLog (cond b (skipped (seeing s more) (reports_of statuses)) (seeing s more))
     by true room = kept-skipped (seeing s more) (reports_of statuses) saw (ltb-true (current s.past.ended) (2 ^ 63) room)
         (record {
           are_seen = record {
@@ -224,14 +224,14 @@ kept-skip s statuses kept may = by (may_end s.past) refl
         })
     by false never = saw
 
-pub kept-learn : (s : LogState) (a : Announced) → IsKept s → IsMember s.council a.party → IsKept (after_learn s a)
+pub kept-learn : (s : LogState) (a : Announced) → IsKeptLog s → IsMember s.council a.party → IsKeptLog (after_learn s a)
 kept-learn s a kept member =
     let one : SeenText = seen_of a.party (roll_claim a) in
     kept-seeing s (one ∷ []) kept (All-cons (λ (t : SeenText). IsMember s.council t.party) one [] member (All-nil (λ (t : SeenText). IsMember s.council t.party)))
 
 -- ---- the beginning
 
-pub kept-fresh : (me : ℕ) (council : Council) (leaves : ℕ) → me < 2 ^ 16 → 0 < leaves → IsKept (fresh me council leaves)
+pub kept-fresh : (me : ℕ) (council : Council) (leaves : ℕ) → me < 2 ^ 16 → 0 < leaves → IsKeptLog (fresh me council leaves)
 unfolding ending
 kept-fresh me council leaves small some = record {
   number = small;

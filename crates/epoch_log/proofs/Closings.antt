@@ -26,10 +26,10 @@ use Rattle.ar_council.specs.Values.{confirm_claim, is_same_digest}
 use Rattle.ar_council.specs.Votes.{SawVotes}
 use Rattle.epoch_log.specs.Calls.{is_same_confirmation}
 use Rattle.epoch_log.specs.Ending.{with_ending}
-use Rattle.epoch_log.specs.Honest.{EndsInOrder, HonestLog}
+use Rattle.epoch_log.specs.Honest.{EndsInOrder, IsOfHonestLog}
 use Rattle.epoch_log.specs.Record.{LogRecord, base_of, current, ending}
 use Rattle.epoch_log.specs.Right.{IsRightConfirmation, IsRightDecision, IsRightSkip, IsRightVote, LeadsTo, newest_digest}
-use Rattle.epoch_log.specs.Told.{HasConfirmed, Told}
+use Rattle.epoch_log.specs.Told.{HasConfirmed, ToldByLog}
 use Rattle.epoch_log.specs.declared.entries.Confirmed.{Confirmed}
 use Rattle.epoch_log.specs.declared.entries.Ended.{Ended}
 use Rattle.epoch_log.specs.declared.entries.How.{How}
@@ -59,8 +59,8 @@ vote-on seen ended later v same right = record {
   leads = subst (λ t. LeadsTo seen v.epoch t v.changes v.root) (sym same) right.leads;
 }
 
-pub honest-ending : (council : Council) (me : ℕ) (past : LogRecord) (how : How) → HonestLog council me past → current past.ended < 2 ^ 63
-    → Closes council past.seen past.ended how → HonestLog council me (with_ending past how)
+pub honest-ending : (council : Council) (me : ℕ) (past : LogRecord) (how : How) → IsOfHonestLog council me past → current past.ended < 2 ^ 63
+    → Closes council past.seen past.ended how → IsOfHonestLog council me (with_ending past how)
 honest-ending council me past how h room closes =
     let ended : List Ended = past.ended in
     let e : ℕ = current ended in
@@ -128,17 +128,17 @@ one_confirmation c d e =
     λ i. record { epoch = epoch i; name = name i; certificate = certificate i; root = root i }
 
 told-confirmed : (me : ℕ) (past : LogRecord) (confirmed : List Confirmed) (epoch : ℕ) (name : List ℕ) (certificate : Option (List ℕ)) (root : List ℕ)
-    → HasConfirmed confirmed epoch name certificate root → Told me past.voted past.stated confirmed (confirm_claim me epoch name certificate root)
-unfolding Told
+    → HasConfirmed confirmed epoch name certificate root → ToldByLog me past.voted past.stated confirmed (confirm_claim me epoch name certificate root)
+unfolding ToldByLog
 told-confirmed me past confirmed epoch name None root has = (refl, has)
 told-confirmed me past confirmed epoch name (Some certificate) root has = (refl, has)
 
-pub honest-confirming : (council : Council) (me : ℕ) (past : LogRecord) (c : Confirmed) → HonestLog council me past
+pub honest-confirming : (council : Council) (me : ℕ) (past : LogRecord) (c : Confirmed) → IsOfHonestLog council me past
     → IsRightConfirmation past.ended c
     → IsValid (confirm_claim me c.epoch c.name c.certificate c.root)
     → is_roll (text_of (confirm_claim me c.epoch c.name c.certificate c.root)) ≡ false
     → HasRoom past.signed (text_of (confirm_claim me c.epoch c.name c.certificate c.root) ∷ [])
-    → HonestLog council me (record past {
+    → IsOfHonestLog council me (record past {
       confirmed = with_one is_same_confirmation past.confirmed c;
       signed = after_entry past.signed (text_of (confirm_claim me c.epoch c.name c.certificate c.root));
     })
@@ -159,7 +159,7 @@ honest-confirming council me past c h right valid plain room =
         sound = after_entry_keeps past.signed text h.signs_what_it_tells.sound (inl plain);
         told = signs-more me past.signed text past.voted past.voted past.stated past.stated past.confirmed confirmed'
             (same-within past.voted) (same-within past.stated) (one-keeps is_same_confirmation past.confirmed c) h.signs_what_it_tells
-            (own-text (Told me past.voted past.stated confirmed') (confirm_claim me c.epoch c.name c.certificate c.root) valid
+            (own-text (ToldByLog me past.voted past.stated confirmed') (confirm_claim me c.epoch c.name c.certificate c.root) valid
             (told-confirmed me past confirmed' c.epoch c.name c.certificate c.root (one-has is_same_confirmation past.confirmed c (λ d. one_confirmation d c))));
         votes = votes-kept me past.signed later kept past.voted h.signs_what_it_tells.votes;
         statuses = statuses-kept me past.signed later kept past.stated h.signs_what_it_tells.statuses;

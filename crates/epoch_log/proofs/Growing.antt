@@ -28,10 +28,10 @@ use Rattle.ar_council.specs.Seen.{seen_after}
 use Rattle.ar_council.specs.Values.{confirm_claim, status_claim, vote_claim}
 use Rattle.ar_council.proofs.Votes.{votes-more}
 use Rattle.ar_council.proofs.Texts.{own-text}
-use Rattle.epoch_log.specs.Honest.{HonestLog, IsUpToNow, SignsWhatItTells}
+use Rattle.epoch_log.specs.Honest.{IsOfHonestLog, IsUpToNow, SignsWhatItTells}
 use Rattle.epoch_log.specs.Record.{LogRecord, base_of, current}
-use Rattle.epoch_log.specs.Right.{AreSeen, Fits, IsRightVote, LeadsTo, SawEndorsements}
-use Rattle.epoch_log.specs.Told.{Told, value_of}
+use Rattle.epoch_log.specs.Right.{AreSeen, FitsVotes, IsRightVote, LeadsTo, SawEndorsements}
+use Rattle.epoch_log.specs.Told.{ToldByLog, value_of}
 use Rattle.epoch_log.specs.declared.entries.Confirmed.{Confirmed}
 use Rattle.epoch_log.specs.declared.entries.Stated.{Stated}
 use Rattle.epoch_log.specs.declared.entries.Voted.{Voted}
@@ -60,8 +60,8 @@ statuses-more council seen later within epoch statuses are = record {
       (λ s one. within (record { party = log_party s.0; text = text_of (status_claim s.0 epoch s.1) }) one) statuses are.saw;
 }
 
-pub honest-seeing : (council : Council) (me : ℕ) (past : LogRecord) (more : List SeenText) → HonestLog council me past → All (λ s. IsMember council s.party) more
-    → HonestLog council me (record past { seen = seen_after past.seen more })
+pub honest-seeing : (council : Council) (me : ℕ) (past : LogRecord) (more : List SeenText) → IsOfHonestLog council me past → All (λ s. IsMember council s.party) more
+    → IsOfHonestLog council me (record past { seen = seen_after past.seen more })
 honest-seeing council me past more h members =
     let later : List SeenText = seen_after past.seen more in
     let within : Within past.seen later = seen-keeps more past.seen in
@@ -89,8 +89,8 @@ honest-seeing council me past more h members =
 -- ---- more is told
 
 told-more : (me : ℕ) (voted voted' : List Voted) (stated stated' : List Stated) (confirmed confirmed' : List Confirmed) → Within voted voted' → Within stated stated' → Within confirmed confirmed'
-    → (claim : Claim) → Told me voted stated confirmed claim → Told me voted' stated' confirmed' claim
-unfolding Told
+    → (claim : Claim) → ToldByLog me voted stated confirmed claim → ToldByLog me voted' stated' confirmed' claim
+unfolding ToldByLog
 told-more me voted voted' stated stated' confirmed confirmed' v s c (endorse a d) t = t
 told-more me voted voted' stated stated' confirmed confirmed' v s c (handover d) t = t
 told-more me voted voted' stated stated' confirmed confirmed' v s c (propose log epoch base root) t = t
@@ -111,11 +111,11 @@ texts-more P Q weaker texts all =
 -- what the book of a record tells, where a text was entered and the entries are more
 pub signs-more : (me : ℕ) (book : RollBook) (text : List ℕ) (voted voted' : List Voted) (stated stated' : List Stated) (confirmed confirmed' : List Confirmed)
     → Within voted voted' → Within stated stated' → Within confirmed confirmed'
-    → SignsWhatItTells me book voted stated confirmed → IsTextOf (Told me voted' stated' confirmed') text
-    → All (IsTextOf (Told me voted' stated' confirmed')) (texts_of (after_entry book text))
+    → SignsWhatItTells me book voted stated confirmed → IsTextOf (ToldByLog me voted' stated' confirmed') text
+    → All (IsTextOf (ToldByLog me voted' stated' confirmed')) (texts_of (after_entry book text))
 signs-more me book text voted voted' stated stated' confirmed confirmed' v s c signs new =
-    entry-all (IsTextOf (Told me voted' stated' confirmed')) book text
-    (texts-more (Told me voted stated confirmed) (Told me voted' stated' confirmed') (told-more me voted voted' stated stated' confirmed confirmed' v s c) (texts_of book) signs.told)
+    entry-all (IsTextOf (ToldByLog me voted' stated' confirmed')) book text
+    (texts-more (ToldByLog me voted stated confirmed) (ToldByLog me voted' stated' confirmed') (told-more me voted voted' stated stated' confirmed confirmed' v s c) (texts_of book) signs.told)
     new
 
 abbrev pub has_vote : ℕ → List (List ℕ) → Voted → Type 0
@@ -141,20 +141,20 @@ confirmations-kept me book later within confirmed all =
 
 -- ---- a vote
 
-fits-more : (voted : List Voted) (v : Voted) (epoch : ℕ) (value : Option Value) → epoch ≢ v.epoch → Fits voted epoch value → Fits (voted ++ v ∷ []) epoch value
+fits-more : (voted : List Voted) (v : Voted) (epoch : ℕ) (value : Option Value) → epoch ≢ v.epoch → FitsVotes voted epoch value → FitsVotes (voted ++ v ∷ []) epoch value
 fits-more voted v epoch None other fits = All-push (λ w. w.epoch ≢ epoch) voted v fits (λ e. other (sym e))
 fits-more voted v epoch (Some value) other fits = (fits.0, (pushed-within voted v fits.0 fits.1.0, fits.1.1, fits.1.2, fits.1.3))
 
-told-vote : (me : ℕ) (past : LogRecord) (v : Voted) → Told me (past.voted ++ v ∷ []) past.stated past.confirmed (vote_claim me v.epoch (value_of v))
-unfolding Told
+told-vote : (me : ℕ) (past : LogRecord) (v : Voted) → ToldByLog me (past.voted ++ v ∷ []) past.stated past.confirmed (vote_claim me v.epoch (value_of v))
+unfolding ToldByLog
 told-vote me past v = (refl, (v, (Contains-push past.voted v, refl, refl)))
 
-pub honest-casting : (council : Council) (me : ℕ) (past : LogRecord) (v : Voted) → HonestLog council me past
+pub honest-casting : (council : Council) (me : ℕ) (past : LogRecord) (v : Voted) → IsOfHonestLog council me past
     → v.epoch ≡ current past.ended → All (λ w. w.epoch ≢ v.epoch) past.voted → All (λ t. t.epoch ≢ v.epoch) past.stated
     → IsRightVote past.seen past.ended v → IsValid (vote_claim me v.epoch (value_of v))
     → is_roll (text_of (vote_claim me v.epoch (value_of v))) ≡ false
     → HasRoom past.signed (text_of (vote_claim me v.epoch (value_of v)) ∷ [])
-    → HonestLog council me (record past { voted = past.voted ++ v ∷ []; signed = after_entry past.signed (text_of (vote_claim me v.epoch (value_of v))) })
+    → IsOfHonestLog council me (record past { voted = past.voted ++ v ∷ []; signed = after_entry past.signed (text_of (vote_claim me v.epoch (value_of v))) })
 honest-casting council me past v h now not-voted not-stated right valid plain room =
     let text : List ℕ = text_of (vote_claim me v.epoch (value_of v)) in
     let later : RollBook = after_entry past.signed text in
@@ -179,7 +179,7 @@ honest-casting council me past v h now not-voted not-stated right valid plain ro
         sound = after_entry_keeps past.signed text h.signs_what_it_tells.sound (inl plain);
         told = signs-more me past.signed text past.voted voted' past.stated past.stated past.confirmed past.confirmed
             (pushed-within past.voted v) (same-within past.stated) (same-within past.confirmed) h.signs_what_it_tells
-            (own-text (Told me voted' past.stated past.confirmed) (vote_claim me v.epoch (value_of v)) valid (told-vote me past v));
+            (own-text (ToldByLog me voted' past.stated past.confirmed) (vote_claim me v.epoch (value_of v)) valid (told-vote me past v));
         votes = All-push (has_vote me (texts_of later)) past.voted v (votes-kept me past.signed later kept past.voted h.signs_what_it_tells.votes) (entry-has past.signed text room);
         statuses = statuses-kept me past.signed later kept past.stated h.signs_what_it_tells.statuses;
         confirmations = confirmations-kept me past.signed later kept past.confirmed h.signs_what_it_tells.confirmations;
@@ -189,15 +189,15 @@ honest-casting council me past v h now not-voted not-stated right valid plain ro
 
 -- ---- a status
 
-told-status : (me : ℕ) (past : LogRecord) (s : Stated) → Told me past.voted (past.stated ++ s ∷ []) past.confirmed (status_claim me s.epoch s.value)
-unfolding Told
+told-status : (me : ℕ) (past : LogRecord) (s : Stated) → ToldByLog me past.voted (past.stated ++ s ∷ []) past.confirmed (status_claim me s.epoch s.value)
+unfolding ToldByLog
 told-status me past s = (refl, Contains-push past.stated s)
 
-pub honest-stating : (council : Council) (me : ℕ) (past : LogRecord) (s : Stated) → HonestLog council me past
-    → s.epoch ≡ current past.ended → All (λ t. t.epoch ≢ s.epoch) past.stated → Fits past.voted s.epoch s.value
+pub honest-stating : (council : Council) (me : ℕ) (past : LogRecord) (s : Stated) → IsOfHonestLog council me past
+    → s.epoch ≡ current past.ended → All (λ t. t.epoch ≢ s.epoch) past.stated → FitsVotes past.voted s.epoch s.value
     → IsValid (status_claim me s.epoch s.value) → is_roll (text_of (status_claim me s.epoch s.value)) ≡ false
     → HasRoom past.signed (text_of (status_claim me s.epoch s.value) ∷ [])
-    → HonestLog council me (record past { stated = past.stated ++ s ∷ []; signed = after_entry past.signed (text_of (status_claim me s.epoch s.value)) })
+    → IsOfHonestLog council me (record past { stated = past.stated ++ s ∷ []; signed = after_entry past.signed (text_of (status_claim me s.epoch s.value)) })
 honest-stating council me past s h now not-stated fits valid plain room =
     let text : List ℕ = text_of (status_claim me s.epoch s.value) in
     let later : RollBook = after_entry past.signed text in
@@ -209,7 +209,7 @@ honest-stating council me past s h now not-stated fits valid plain room =
       states_its_vote = record {
         once = all_pairs_push (λ a b. a.epoch ≢ b.epoch) past.stated s h.states_its_vote.once not-stated;
         up_to_now = All-push (λ t. IsUpToNow past.ended t.epoch) past.stated s h.states_its_vote.up_to_now (omega (arith, now), omega (arith, now));
-        fits = All-push (λ t. Fits past.voted t.epoch t.value) past.stated s h.states_its_vote.fits fits;
+        fits = All-push (λ t. FitsVotes past.voted t.epoch t.value) past.stated s h.states_its_vote.fits fits;
       };
       votes_rightly = h.votes_rightly;
       decides_rightly = h.decides_rightly;
@@ -219,7 +219,7 @@ honest-stating council me past s h now not-stated fits valid plain room =
         sound = after_entry_keeps past.signed text h.signs_what_it_tells.sound (inl plain);
         told = signs-more me past.signed text past.voted past.voted past.stated stated' past.confirmed past.confirmed
             (same-within past.voted) (pushed-within past.stated s) (same-within past.confirmed) h.signs_what_it_tells
-            (own-text (Told me past.voted stated' past.confirmed) (status_claim me s.epoch s.value) valid (told-status me past s));
+            (own-text (ToldByLog me past.voted stated' past.confirmed) (status_claim me s.epoch s.value) valid (told-status me past s));
         votes = votes-kept me past.signed later kept past.voted h.signs_what_it_tells.votes;
         statuses = All-push (has_status me (texts_of later)) past.stated s (statuses-kept me past.signed later kept past.stated h.signs_what_it_tells.statuses) (entry-has past.signed text room);
         confirmations = confirmations-kept me past.signed later kept past.confirmed h.signs_what_it_tells.confirmations;
@@ -229,13 +229,13 @@ honest-stating council me past s h now not-stated fits valid plain room =
 
 -- ---- a proposal, of which the record has no entry
 
-told-propose : (me : ℕ) (past : LogRecord) (epoch : ℕ) (base root : List ℕ) → Told me past.voted past.stated past.confirmed (propose me epoch base root)
-unfolding Told
+told-propose : (me : ℕ) (past : LogRecord) (epoch : ℕ) (base root : List ℕ) → ToldByLog me past.voted past.stated past.confirmed (propose me epoch base root)
+unfolding ToldByLog
 told-propose me past epoch base root = refl
 
-pub honest-proposing : (council : Council) (me : ℕ) (past : LogRecord) (epoch : ℕ) (base root : List ℕ) → HonestLog council me past
+pub honest-proposing : (council : Council) (me : ℕ) (past : LogRecord) (epoch : ℕ) (base root : List ℕ) → IsOfHonestLog council me past
     → IsValid (propose me epoch base root) → is_roll (text_of (propose me epoch base root)) ≡ false
-    → HonestLog council me (record past { signed = after_entry past.signed (text_of (propose me epoch base root)) })
+    → IsOfHonestLog council me (record past { signed = after_entry past.signed (text_of (propose me epoch base root)) })
 honest-proposing council me past epoch base root h valid plain =
     let text : List ℕ = text_of (propose me epoch base root) in
     let later : RollBook = after_entry past.signed text in
@@ -252,7 +252,7 @@ honest-proposing council me past epoch base root h valid plain =
         sound = after_entry_keeps past.signed text h.signs_what_it_tells.sound (inl plain);
         told = signs-more me past.signed text past.voted past.voted past.stated past.stated past.confirmed past.confirmed
             (same-within past.voted) (same-within past.stated) (same-within past.confirmed) h.signs_what_it_tells
-            (own-text (Told me past.voted past.stated past.confirmed) (propose me epoch base root) valid (told-propose me past epoch base root));
+            (own-text (ToldByLog me past.voted past.stated past.confirmed) (propose me epoch base root) valid (told-propose me past epoch base root));
         votes = votes-kept me past.signed later kept past.voted h.signs_what_it_tells.votes;
         statuses = statuses-kept me past.signed later kept past.stated h.signs_what_it_tells.statuses;
         confirmations = confirmations-kept me past.signed later kept past.confirmed h.signs_what_it_tells.confirmations;
@@ -262,16 +262,16 @@ honest-proposing council me past epoch base root h valid plain =
 
 -- ---- a Roll
 
-told-roll : (me : ℕ) (past : LogRecord) (generation : ℕ) (key : List ℕ) → Told me past.voted past.stated past.confirmed (roll (log_party me) generation key)
-unfolding Told
+told-roll : (me : ℕ) (past : LogRecord) (generation : ℕ) (key : List ℕ) → ToldByLog me past.voted past.stated past.confirmed (roll (log_party me) generation key)
+unfolding ToldByLog
 told-roll me past generation key = refl
 
-pub honest-rolling : (council : Council) (me : ℕ) (past : LogRecord) (key : List ℕ) → HonestLog council me past
+pub honest-rolling : (council : Council) (me : ℕ) (past : LogRecord) (key : List ℕ) → IsOfHonestLog council me past
     → IsValid (roll (log_party me) past.signed.newest key)
     → is_roll (text_of (roll (log_party me) past.signed.newest key)) ≡ true
     → named_generation (text_of (roll (log_party me) past.signed.newest key)) ≡ past.signed.newest
     → past.signed.newest < 999
-    → HonestLog council me (record past { signed = with_roll past.signed (text_of (roll (log_party me) past.signed.newest key)) })
+    → IsOfHonestLog council me (record past { signed = with_roll past.signed (text_of (roll (log_party me) past.signed.newest key)) })
 honest-rolling council me past key h valid is-roll named before =
     let text : List ℕ = text_of (roll (log_party me) past.signed.newest key) in
     let later : RollBook = with_roll past.signed text in
@@ -286,8 +286,8 @@ honest-rolling council me past key h valid is-roll named before =
       confirms_rightly = h.confirms_rightly;
       signs_what_it_tells = record {
         sound = roll_keeps past.signed text h.signs_what_it_tells.sound is-roll named before;
-        told = roll-all (IsTextOf (Told me past.voted past.stated past.confirmed)) past.signed text h.signs_what_it_tells.told
-            (own-text (Told me past.voted past.stated past.confirmed) (roll (log_party me) past.signed.newest key) valid (told-roll me past past.signed.newest key));
+        told = roll-all (IsTextOf (ToldByLog me past.voted past.stated past.confirmed)) past.signed text h.signs_what_it_tells.told
+            (own-text (ToldByLog me past.voted past.stated past.confirmed) (roll (log_party me) past.signed.newest key) valid (told-roll me past past.signed.newest key));
         votes = votes-kept me past.signed later kept past.voted h.signs_what_it_tells.votes;
         statuses = statuses-kept me past.signed later kept past.stated h.signs_what_it_tells.statuses;
         confirmations = confirmations-kept me past.signed later kept past.confirmed h.signs_what_it_tells.confirmations;

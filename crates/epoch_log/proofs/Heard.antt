@@ -13,7 +13,7 @@ use Rattle.epoch_log.specs.Calls.{SignedStatus, after_decide, after_skip, decisi
 use Rattle.epoch_log.specs.Ending.{decided, may_end, skipped}
 use Rattle.epoch_log.specs.Honest.{EndsInOrder}
 use Rattle.epoch_log.specs.Log.{IsLog, LogParts, moved, parts_of, state_in}
-use Rattle.epoch_log.specs.State.{IsKept, LogState, epoch_of, reports_of, table_of}
+use Rattle.epoch_log.specs.State.{IsKeptLog, LogState, epoch_of, reports_of, table_of}
 use Rattle.epoch_log.specs.Telling.{IsTableBehind}
 use Rattle.epoch_log.specs.declared.parts.Parts.{Parts}
 use Rattle.epoch_log.proofs.Applying.{sound-applied}
@@ -75,7 +75,7 @@ log-decide p q changes value votes from there behind log can are digests =
     let state : state_in q ≡ later = ap (λ (l : LogParts). l.state) there in
     let its : IsItsTable s later q.table = its-table s value changes votes p.table q.table log.kept.honest.ends_in_order log.table log.sound are behind in
     record {
-      kept = subst IsKept (sym state) (kept-decide s value changes votes log.kept (record { can = can; from_base = from; are_changes = are; are_digests = digests }));
+      kept = subst IsKeptLog (sym state) (kept-decide s value changes votes log.kept (record { can = can; from_base = from; are_changes = are; are_digests = digests }));
       table = its.is_its ∙ sym (ap table_of state);
       sound = its.sound;
     }

@@ -24,7 +24,7 @@ use Rattle.epoch_log.specs.Ending.{closed, closed_by, closed_by_statuses, decide
 use Rattle.epoch_log.specs.Honest.{EndsInOrder}
 use Rattle.epoch_log.specs.Record.{base_of, current, ending}
 use Rattle.epoch_log.specs.Right.{AreSeen, IsRightDecision, IsRightSkip, IsRightVote, LeadsTo}
-use Rattle.epoch_log.specs.State.{CountedStatus, CountedVote, IsKept, IsNewest, IsSeenVote, LogState, ballots_of, epoch_of, newest_value, reports_of, table_of}
+use Rattle.epoch_log.specs.State.{CountedStatus, CountedVote, IsKeptLog, KeepsNewest, IsSeenVote, LogState, ballots_of, epoch_of, newest_value, reports_of, table_of}
 use Rattle.epoch_log.specs.Told.{value_of}
 use Rattle.epoch_log.specs.declared.entries.Closing.{Closing}
 use Rattle.epoch_log.specs.declared.entries.Closing.TheVariants as closings
@@ -40,7 +40,7 @@ use Rattle.epoch_log.proofs.Growing.{honest-seeing, statuses-more}
 
 -- ---- more is seen
 
-newest-seeing : (council : Council) (seen later : List SeenText) → Within seen later → (ended : List Ended) (newest : Option Newest) → IsNewest council seen ended newest → IsNewest council later ended newest
+newest-seeing : (council : Council) (seen later : List SeenText) → Within seen later → (ended : List Ended) (newest : Option Newest) → KeepsNewest council seen ended newest → KeepsNewest council later ended newest
 newest-seeing council seen later within ended None is = is
 newest-seeing council seen later within ended (Some w) is = record {
   changes = is.changes;
@@ -52,7 +52,7 @@ newest-seeing council seen later within ended (Some w) is = record {
   many = is.many;
 }
 
-pub kept-seeing : (s : LogState) (more : List SeenText) → IsKept s → All (λ t. IsMember s.council t.party) more → IsKept (seeing s more)
+pub kept-seeing : (s : LogState) (more : List SeenText) → IsKeptLog s → All (λ t. IsMember s.council t.party) more → IsKeptLog (seeing s more)
 kept-seeing s more kept members =
     let later : List SeenText = seen_after s.past.seen more in
     let within : Within s.past.seen later = seen-keeps more s.past.seen in
@@ -67,7 +67,7 @@ kept-seeing s more kept members =
 
 -- ---- more is counted
 
-pub kept-counting_vote : (s : LogState) (v : CountedVote) → IsKept s → IsSeenVote s.council s.past.seen (epoch_of s) v → IsKept (counting_vote s v)
+pub kept-counting_vote : (s : LogState) (v : CountedVote) → IsKeptLog s → IsSeenVote s.council s.past.seen (epoch_of s) v → IsKeptLog (counting_vote s v)
 kept-counting_vote s v kept here = record {
   number = kept.number;
   honest = kept.honest;
@@ -76,8 +76,8 @@ kept-counting_vote s v kept here = record {
   newest = kept.newest;
 }
 
-pub kept-counting_status : (s : LogState) (status : CountedStatus) → IsKept s → status.0 < s.council.logs → IfSome status.1 IsValue
-    → Saw s.past.seen (log_party status.0) (status_claim status.0 (epoch_of s) status.1) → IsKept (counting_status s status)
+pub kept-counting_status : (s : LogState) (status : CountedStatus) → IsKeptLog s → status.0 < s.council.logs → IfSome status.1 IsValue
+    → Saw s.past.seen (log_party status.0) (status_claim status.0 (epoch_of s) status.1) → IsKeptLog (counting_status s status)
 kept-counting_status s status kept below value saw = record {
   number = kept.number;
   honest = kept.honest;
@@ -95,10 +95,10 @@ none-counted council seen epoch = record {
   saw = All-nil (λ (s : Status). Saw seen (log_party s.0) (status_claim s.0 epoch s.1));
 }
 
-pub kept-decided : (s : LogState) (changes : List Change) (value : Value) (votes : List (ℕ × Option (List ℕ))) → IsKept s → current s.past.ended < 2 ^ 63
+pub kept-decided : (s : LogState) (changes : List Change) (value : Value) (votes : List (ℕ × Option (List ℕ))) → IsKeptLog s → current s.past.ended < 2 ^ 63
     → value.base ≡ root_of (table_of s) → IsRightDecision s.council s.past.seen s.past.ended (epoch_of s) changes value.root
     → All (λ v. Saw s.past.seen (log_party v.0) (vote_claim v.0 (epoch_of s) value)) votes → s.council.quorum ≤ distinct_count (map (λ v. v.0) votes)
-    → IsKept (decided s changes value votes)
+    → IsKeptLog (decided s changes value votes)
 kept-decided s changes value votes kept room from right saw many =
     let ended : List Ended = s.past.ended in
     let e : ℕ = current ended in
@@ -129,8 +129,8 @@ kept-decided s changes value votes kept room from right saw many =
       };
     }
 
-newest-skipping : (council : Council) (seen : List SeenText) (ended : List Ended) (statuses : List Status) → EndsInOrder ended → (newest : Option Newest) → IsNewest council seen ended newest
-    → IsNewest council seen (with ended (current ended) (Skipped statuses)) newest
+newest-skipping : (council : Council) (seen : List SeenText) (ended : List Ended) (statuses : List Status) → EndsInOrder ended → (newest : Option Newest) → KeepsNewest council seen ended newest
+    → KeepsNewest council seen (with ended (current ended) (Skipped statuses)) newest
 newest-skipping council seen ended statuses order None none = λ epoch changes to is. elim (cases_eq (current ended) epoch) [
   | inl now ↦
       let here = ending-here ended (Skipped statuses) order in
@@ -155,7 +155,7 @@ newest-skipping council seen ended statuses order (Some w) is =
       many = is.many;
     }
 
-pub kept-skipped : (s : LogState) (statuses : List Status) → IsKept s → current s.past.ended < 2 ^ 63 → IsRightSkip s.council s.past.seen (epoch_of s) statuses → IsKept (skipped s statuses)
+pub kept-skipped : (s : LogState) (statuses : List Status) → IsKeptLog s → current s.past.ended < 2 ^ 63 → IsRightSkip s.council s.past.seen (epoch_of s) statuses → IsKeptLog (skipped s statuses)
 kept-skipped s statuses kept room right =
     let ended : List Ended = s.past.ended in
     let how : How = Skipped statuses in
@@ -175,15 +175,15 @@ kept-skipped s statuses kept room right =
 
 -- ---- the closing rule
 
-kept-statuses : (s : LogState) → IsKept s → current s.past.ended < 2 ^ 63 → IsKept (closed_by_statuses s).0
+kept-statuses : (s : LogState) → IsKeptLog s → current s.past.ended < 2 ^ 63 → IsKeptLog (closed_by_statuses s).0
 kept-statuses s kept room = by (excludes_all s.council (reports_of s.statuses)) refl
   where
     by : (b : Bool) → excludes_all s.council (reports_of s.statuses) ≡ b
-        → IsKept (cond {A = LogState × Closing} b (skipped s (reports_of s.statuses), closings.Skipped s.statuses) (s, closings.Open)).0
+        → IsKeptLog (cond {A = LogState × Closing} b (skipped s (reports_of s.statuses), closings.Skipped s.statuses) (s, closings.Open)).0
     by true is = kept-skipped s (reports_of s.statuses) kept room (record { are_seen = kept.statuses; excludes = excludes-each s.council (reports_of s.statuses) is })
     by false is = kept
 
-kept-by : (s : LogState) → IsKept s → current s.past.ended < 2 ^ 63 → (own : Option Voted) → own_vote s.past.voted (epoch_of s) ≡ own → IsKept (closed_by s own).0
+kept-by : (s : LogState) → IsKeptLog s → current s.past.ended < 2 ^ 63 → (own : Option Voted) → own_vote s.past.voted (epoch_of s) ≡ own → IsKeptLog (closed_by s own).0
 kept-by s kept room None is = kept-statuses s kept room
 kept-by s kept room (Some v) is = by (has_quorum s v) refl
   where
@@ -206,7 +206,7 @@ kept-by s kept room (Some v) is = by (has_quorum s v) refl
     leads = subst (λ n. LeadsTo s.past.seen n (base_of s.past.ended n) v.changes v.root) now right.leads
 
     by : (b : Bool) → has_quorum s v ≡ b
-        → IsKept (cond {A = LogState × Closing} b (decided s v.changes (value_of v) (votes_for s.votes (value_of v)), closings.Decided) (closed_by_statuses s)).0
+        → IsKeptLog (cond {A = LogState × Closing} b (decided s v.changes (value_of v) (votes_for s.votes (value_of v)), closings.Decided) (closed_by_statuses s)).0
     by true many =
         let enough : s.council.quorum ≤ log_count (ballots_of s.votes) (value_of v) = leb-true s.council.quorum (log_count (ballots_of s.votes) (value_of v)) many in
         let seen = quorum-seen s.council s.past.seen e s.votes (value_of v) kept.votes enough in
@@ -216,10 +216,10 @@ kept-by s kept room (Some v) is = by (has_quorum s v) refl
         (many-votes s.council.quorum s.votes (value_of v) enough)
     by false few = kept-statuses s kept room
 
-pub kept-closed : (s : LogState) → IsKept s → IsKept (closed s).0
+pub kept-closed : (s : LogState) → IsKeptLog s → IsKeptLog (closed s).0
 unfolding closed
 kept-closed s kept = by (may_end s.past) refl
   where
-    by : (b : Bool) → may_end s.past ≡ b → IsKept (cond {A = LogState × Closing} b (closed_by s (own_vote s.past.voted (epoch_of s))) (s, closings.Open)).0
+    by : (b : Bool) → may_end s.past ≡ b → IsKeptLog (cond {A = LogState × Closing} b (closed_by s (own_vote s.past.voted (epoch_of s))) (s, closings.Open)).0
     by true may = kept-by s kept (ltb-true (current s.past.ended) (2 ^ 63) may) (own_vote s.past.voted (epoch_of s)) refl
     by false never = kept

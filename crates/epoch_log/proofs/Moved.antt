@@ -23,7 +23,7 @@ use Rattle.domain_table.proofs.Applied.{none_sound}
 use Rattle.epoch_log.specs.Calls.{after_learn, after_roll, fresh, learning, rolling}
 use Rattle.epoch_log.specs.Log.{IsLog, LogParts, moved, parts_of, state_in}
 use Rattle.epoch_log.specs.Record.{base_of, ending}
-use Rattle.epoch_log.specs.State.{IsKept, LogState, table_of}
+use Rattle.epoch_log.specs.State.{IsKeptLog, LogState, table_of}
 use Rattle.epoch_log.specs.declared.parts.Parts.{Parts}
 use Rattle.epoch_log.proofs.Acting.{kept-rolling}
 use Rattle.epoch_log.proofs.Called.{kept-fresh}
@@ -31,14 +31,14 @@ use Rattle.epoch_log.proofs.Kept.{kept-seeing}
 use Rattle.ar_council.proofs.Members.{learned-member}
 use Rattle.ar_council.proofs.Readable.{readable}
 
-log-stands : (p q : Parts) (s : LogState) → state_in q ≡ s → q.table ≡ p.table → IsLog p → IsKept s → table_of s ≡ table_of (state_in p) → IsLog q
+log-stands : (p q : Parts) (s : LogState) → state_in q ≡ s → q.table ≡ p.table → IsLog p → IsKeptLog s → table_of s ≡ table_of (state_in p) → IsLog q
 log-stands p q s state same log kept table = record {
-  kept = subst IsKept (sym state) kept;
+  kept = subst IsKeptLog (sym state) kept;
   table = same ∙ log.table ∙ sym table ∙ sym (ap table_of state);
   sound = subst IsSound (sym same) log.sound;
 }
 
-pub log-moved : (p q : Parts) (s : LogState) → parts_of q ≡ moved (parts_of p) s → q.table ≡ p.table → IsLog p → IsKept s → table_of s ≡ table_of (state_in p) → IsLog q
+pub log-moved : (p q : Parts) (s : LogState) → parts_of q ≡ moved (parts_of p) s → q.table ≡ p.table → IsLog p → IsKeptLog s → table_of s ≡ table_of (state_in p) → IsLog q
 log-moved p q s there = log-stands p q s (ap (λ (l : LogParts). l.state) there)
 
 pub log-same : (p q : Parts) → parts_of q ≡ parts_of p → q.table ≡ p.table → IsLog p → IsLog q
@@ -55,7 +55,7 @@ pub log-fresh : (p : Parts) (me : ℕ) (keys : Directory) (leaves : ℕ) → par
 log-fresh p me keys leaves parts table small some =
     let state : state_in p ≡ fresh me (council_of keys) leaves = ap (λ (l : LogParts). l.state) parts in
     record {
-      kept = subst IsKept (sym state) (kept-fresh me (council_of keys) leaves small some);
+      kept = subst IsKeptLog (sym state) (kept-fresh me (council_of keys) leaves small some);
       table = table ∙ sym (fresh-table me keys leaves) ∙ sym (ap table_of state);
       sound = subst IsSound (sym table) none_sound;
     }

@@ -19,7 +19,7 @@ use Rattle.epoch_log.specs.Log.{IsLog, LogParts, moved, parts_of, state_in}
 use Rattle.epoch_log.specs.Plans.{IsDecision, IsOwnDecision, IsPlan, IsPlanIn, verdict_at, verdict_of}
 use Rattle.epoch_log.specs.Right.{IsRightVote, LeadsTo}
 use Rattle.epoch_log.specs.Record.{base_of}
-use Rattle.epoch_log.specs.State.{CountedVote, IsKept, LogState, ballots_of, epoch_of, reports_of, table_of}
+use Rattle.epoch_log.specs.State.{CountedVote, IsKeptLog, LogState, ballots_of, epoch_of, reports_of, table_of}
 use Rattle.epoch_log.specs.Told.{value_of}
 use Rattle.epoch_log.specs.declared.closing.Plan.TheVariants as plans
 use Rattle.epoch_log.specs.declared.closing.Verdict.{Verdict}
@@ -107,7 +107,7 @@ closes-decided p v is own =
 -- ---- the own vote
 
 -- the changes of the own vote lead from the base of the epoch to its root
-own-leads : (s : LogState) (v : Voted) → IsKept s → own_vote s.past.voted (epoch_of s) ≡ Some v → LeadsTo s.past.seen (epoch_of s) (table_of s) v.changes v.root
+own-leads : (s : LogState) (v : Voted) → IsKeptLog s → own_vote s.past.voted (epoch_of s) ≡ Some v → LeadsTo s.past.seen (epoch_of s) (table_of s) v.changes v.root
 own-leads s v kept is =
     let there : Contains s.past.voted v × (eqb v.epoch (epoch_of s) ≡ true) = find-some (λ (w : Voted). w.epoch == epoch_of s) s.past.voted v is in
     let right : IsRightVote s.past.seen s.past.ended v = All-contains (IsRightVote s.past.seen s.past.ended) s.past.voted v kept.honest.votes_rightly there.0 in
@@ -203,7 +203,7 @@ log-ended p q d log is there same =
     let later : LogState = decided s d.changes.items d.value (votes_for p.votes.items d.value) in
     let state : state_in q ≡ later = ap (λ (l : LogParts). l.state) there in
     record {
-      kept = subst IsKept (ap (λ (x : LogState × Closing). x.0) is.ends ∙ sym state) (kept-closed s log.kept);
+      kept = subst IsKeptLog (ap (λ (x : LogState × Closing). x.0) is.ends ∙ sym state) (kept-closed s log.kept);
       table = same ∙ sym (table-decided s d.changes.items d.value (votes_for p.votes.items d.value) d.table log.kept.honest.ends_in_order (ap (λ t. apply t (epoch_of s) d.changes.items) (sym log.table) ∙ is.applied))
           ∙ sym (ap table_of state);
       sound = subst IsSound (sym same) is.sound;
@@ -212,7 +212,7 @@ log-ended p q d log is there same =
 pub log-passed : (p q : Parts) (statuses : List Status) → IsLog p → closed (state_in p) ≡ (skipped (state_in p) statuses, closings.Skipped p.statuses.items)
     → parts_of q ≡ moved (parts_of p) (skipped (state_in p) statuses) → q.table ≡ p.table → IsLog q
 log-passed p q statuses log is there same =
-    log-moved p q (skipped (state_in p) statuses) there same log (subst IsKept (ap (λ (x : LogState × Closing). x.0) is) (kept-closed (state_in p) log.kept))
+    log-moved p q (skipped (state_in p) statuses) there same log (subst IsKeptLog (ap (λ (x : LogState × Closing). x.0) is) (kept-closed (state_in p) log.kept))
     (table-skipped (state_in p) statuses log.kept.honest.ends_in_order)
 
 -- ---- the own vote is told

@@ -25,10 +25,10 @@ use Rattle.epoch_log.specs.Calls.{with_status, with_vote}
 use Rattle.ar_base.proofs.Adding.{placed-exactly}
 use Rattle.epoch_log.specs.declared.entries.Closing.{Closing}
 use Rattle.epoch_log.specs.declared.entries.Closing.TheVariants as closings
-use Rattle.epoch_log.specs.Honest.{EndsInOrder, HonestLog}
+use Rattle.epoch_log.specs.Honest.{EndsInOrder, IsOfHonestLog}
 use Rattle.epoch_log.specs.Record.{LogRecord, after_ending, base_of, current}
-use Rattle.epoch_log.specs.Right.{Fits}
-use Rattle.epoch_log.specs.Told.{HasConfirmed, HasStated, HasVoted, Told, value_of}
+use Rattle.epoch_log.specs.Right.{FitsVotes}
+use Rattle.epoch_log.specs.Told.{HasConfirmed, HasStated, HasVoted, ToldByLog, value_of}
 use Rattle.epoch_log.specs.declared.entries.Confirmed.{Confirmed}
 use Rattle.epoch_log.specs.declared.entries.Ended.{Ended}
 use Rattle.epoch_log.specs.declared.entries.How.{How}
@@ -59,27 +59,27 @@ one-of {X} f xs x y apart a b same =
 
 -- ---- what is signed
 
-pub signed-told : (council : Council) (me : ℕ) (r : LogRecord) (claim : Claim) → HonestLog council me r → IsValid claim → Contains (texts_of r.signed) (text_of claim) → Told me r.voted r.stated r.confirmed claim
+pub signed-told : (council : Council) (me : ℕ) (r : LogRecord) (claim : Claim) → IsOfHonestLog council me r → IsValid claim → Contains (texts_of r.signed) (text_of claim) → ToldByLog me r.voted r.stated r.confirmed claim
 signed-told council me r claim h valid there =
-    text_is (Told me r.voted r.stated r.confirmed) claim valid.held
-    (All-contains (IsTextOf (Told me r.voted r.stated r.confirmed)) (texts_of r.signed) (text_of claim) h.signs_what_it_tells.told there)
+    text_is (ToldByLog me r.voted r.stated r.confirmed) claim valid.held
+    (All-contains (IsTextOf (ToldByLog me r.voted r.stated r.confirmed)) (texts_of r.signed) (text_of claim) h.signs_what_it_tells.told there)
 
-told-vote : (me : ℕ) (r : LogRecord) (epoch : ℕ) (value : Value) → Told me r.voted r.stated r.confirmed (vote_claim me epoch value) → HasVoted r.voted epoch value
-unfolding Told
+told-vote : (me : ℕ) (r : LogRecord) (epoch : ℕ) (value : Value) → ToldByLog me r.voted r.stated r.confirmed (vote_claim me epoch value) → HasVoted r.voted epoch value
+unfolding ToldByLog
 told-vote me r epoch value t = t.1
 
-told-status : (me : ℕ) (r : LogRecord) (epoch : ℕ) (value : Option Value) → Told me r.voted r.stated r.confirmed (status_claim me epoch value) → HasStated r.stated epoch value
-unfolding Told
+told-status : (me : ℕ) (r : LogRecord) (epoch : ℕ) (value : Option Value) → ToldByLog me r.voted r.stated r.confirmed (status_claim me epoch value) → HasStated r.stated epoch value
+unfolding ToldByLog
 told-status me r epoch None t = t.1
 told-status me r epoch (Some value) t = t.1
 
-told-confirm : (me : ℕ) (r : LogRecord) (epoch : ℕ) (name : List ℕ) (certificate : Option (List ℕ)) (root : List ℕ) → Told me r.voted r.stated r.confirmed (confirm_claim me epoch name certificate root)
+told-confirm : (me : ℕ) (r : LogRecord) (epoch : ℕ) (name : List ℕ) (certificate : Option (List ℕ)) (root : List ℕ) → ToldByLog me r.voted r.stated r.confirmed (confirm_claim me epoch name certificate root)
     → HasConfirmed r.confirmed epoch name certificate root
-unfolding Told
+unfolding ToldByLog
 told-confirm me r epoch name None root t = t.1
 told-confirm me r epoch name (Some certificate) root t = t.1
 
-pub votes-signed : (council : Council) (me : ℕ) (r : LogRecord) (epoch : ℕ) (value : Value) → HonestLog council me r → IsValid (vote_claim me epoch value)
+pub votes-signed : (council : Council) (me : ℕ) (r : LogRecord) (epoch : ℕ) (value : Value) → IsOfHonestLog council me r → IsValid (vote_claim me epoch value)
     → Contains (texts_of r.signed) (text_of (vote_claim me epoch value)) ↔ HasVoted r.voted epoch value
 votes-signed council me r epoch value h valid = (
   λ there. told-vote me r epoch value (signed-told council me r (vote_claim me epoch value) h valid there),
@@ -89,14 +89,14 @@ votes-signed council me r epoch value h valid = (
       (subst (λ e. Contains (texts_of r.signed) (text_of (vote_claim me e (value_of has.0)))) has.1.1 there),
 )
 
-pub statuses-signed : (council : Council) (me : ℕ) (r : LogRecord) (epoch : ℕ) (value : Option Value) → HonestLog council me r → IsValid (status_claim me epoch value)
+pub statuses-signed : (council : Council) (me : ℕ) (r : LogRecord) (epoch : ℕ) (value : Option Value) → IsOfHonestLog council me r → IsValid (status_claim me epoch value)
     → Contains (texts_of r.signed) (text_of (status_claim me epoch value)) ↔ HasStated r.stated epoch value
 statuses-signed council me r epoch value h valid = (
   λ there. told-status me r epoch value (signed-told council me r (status_claim me epoch value) h valid there),
   λ has. All-contains (λ (s : Stated). Contains (texts_of r.signed) (text_of (status_claim me s.epoch s.value))) r.stated (record { epoch = epoch; value = value }) h.signs_what_it_tells.statuses has,
 )
 
-pub confirmations-signed : (council : Council) (me : ℕ) (r : LogRecord) (epoch : ℕ) (name : List ℕ) (certificate : Option (List ℕ)) (root : List ℕ) → HonestLog council me r
+pub confirmations-signed : (council : Council) (me : ℕ) (r : LogRecord) (epoch : ℕ) (name : List ℕ) (certificate : Option (List ℕ)) (root : List ℕ) → IsOfHonestLog council me r
     → IsValid (confirm_claim me epoch name certificate root)
     → Contains (texts_of r.signed) (text_of (confirm_claim me epoch name certificate root)) ↔ HasConfirmed r.confirmed epoch name certificate root
 confirmations-signed council me r epoch name certificate root h valid = (
@@ -107,17 +107,17 @@ confirmations-signed council me r epoch name certificate root h valid = (
 
 -- ---- votes and statuses
 
-pub one-vote : (council : Council) (me : ℕ) (r : LogRecord) (epoch : ℕ) (value other : Value) → HonestLog council me r → HasVoted r.voted epoch value → HasVoted r.voted epoch other → value ≡ other
+pub one-vote : (council : Council) (me : ℕ) (r : LogRecord) (epoch : ℕ) (value other : Value) → IsOfHonestLog council me r → HasVoted r.voted epoch value → HasVoted r.voted epoch other → value ≡ other
 one-vote council me r epoch value other h a b =
     let same : a.0 ≡ b.0 = one-of (λ (v : Voted). v.epoch) r.voted a.0 b.0 h.votes_once.once a.1.0 b.1.0 (a.1.1 ∙ sym b.1.1) in
     sym a.1.2 ∙ ap value_of same ∙ b.1.2
 
-pub status-tells : (council : Council) (me : ℕ) (r : LogRecord) (epoch : ℕ) (value : Option Value) → HonestLog council me r → HasStated r.stated epoch value → Fits r.voted epoch value
+pub status-tells : (council : Council) (me : ℕ) (r : LogRecord) (epoch : ℕ) (value : Option Value) → IsOfHonestLog council me r → HasStated r.stated epoch value → FitsVotes r.voted epoch value
 status-tells council me r epoch value h has =
-    All-contains (λ (s : Stated). Fits r.voted s.epoch s.value) r.stated (record { epoch = epoch; value = value }) h.states_its_vote.fits has
+    All-contains (λ (s : Stated). FitsVotes r.voted s.epoch s.value) r.stated (record { epoch = epoch; value = value }) h.states_its_vote.fits has
 
 -- what a log states of an epoch in which it voted is what it voted for
-pub status-is-vote : (council : Council) (me : ℕ) (r : LogRecord) (epoch : ℕ) (value : Option Value) (cast : Value) → HonestLog council me r → HasStated r.stated epoch value → HasVoted r.voted epoch cast → value ≡ Some cast
+pub status-is-vote : (council : Council) (me : ℕ) (r : LogRecord) (epoch : ℕ) (value : Option Value) (cast : Value) → IsOfHonestLog council me r → HasStated r.stated epoch value → HasVoted r.voted epoch cast → value ≡ Some cast
 status-is-vote council me r epoch None cast h has voted =
     absurd (All-contains (λ (v : Voted). v.epoch ≢ epoch) r.voted voted.0 (status-tells council me r epoch None h has) voted.1.0 voted.1.1)
 status-is-vote council me r epoch (Some value) cast h has voted =

@@ -10,8 +10,8 @@ use Rattle.ar_council.specs.Seen.{SeesMembers}
 use Rattle.ar_council.specs.Council.{Council}
 use Rattle.ar_council.specs.Values.{status_claim, vote_claim}
 use Rattle.epoch_log.specs.Record.{LogRecord, current, ending}
-use Rattle.epoch_log.specs.Right.{Fits, IsRightConfirmation, IsRightDecision, IsRightSkip, IsRightVote}
-use Rattle.epoch_log.specs.Told.{Told, confirmation_claim, value_of}
+use Rattle.epoch_log.specs.Right.{FitsVotes, IsRightConfirmation, IsRightDecision, IsRightSkip, IsRightVote}
+use Rattle.epoch_log.specs.Told.{ToldByLog, confirmation_claim, value_of}
 use Rattle.epoch_log.specs.declared.entries.Confirmed.{Confirmed}
 use Rattle.epoch_log.specs.declared.entries.Ended.{Ended}
 use Rattle.epoch_log.specs.declared.entries.How.TheVariants.{Decided, Skipped}
@@ -36,7 +36,7 @@ pub record VotesOnce (ended : List Ended) (voted : List Voted) : Type 0 where
 pub record StatesItsVote (ended : List Ended) (voted : List Voted) (stated : List Stated) : Type 0 where
   pub once : AllPairs (λ s t. s.epoch ≢ t.epoch) stated
   pub up_to_now : All (λ s. IsUpToNow ended s.epoch) stated
-  pub fits : All (λ s. Fits voted s.epoch s.value) stated
+  pub fits : All (λ s. FitsVotes voted s.epoch s.value) stated
 
 -- 4. Each vote is right.
 abbrev pub VotesRightly : List SeenText → List Ended → List Voted → Type 0
@@ -59,7 +59,7 @@ ConfirmsRightly ended confirmed = All (IsRightConfirmation ended) confirmed
 -- 8. Its book is sound, has only texts of statements that its entries tell of, and the statement of each entry.
 pub record SignsWhatItTells (me : ℕ) (book : RollBook) (voted : List Voted) (stated : List Stated) (confirmed : List Confirmed) : Type 0 where
   pub sound : IsRollBook book
-  pub told : All (IsTextOf (Told me voted stated confirmed)) (texts_of book)
+  pub told : All (IsTextOf (ToldByLog me voted stated confirmed)) (texts_of book)
   pub votes : All (λ v. Contains (texts_of book) (text_of (vote_claim me v.epoch (value_of v)))) voted
   pub statuses : All (λ s. Contains (texts_of book) (text_of (status_claim me s.epoch s.value))) stated
   pub confirmations : All (λ c. Contains (texts_of book) (text_of (confirmation_claim me c))) confirmed
@@ -67,7 +67,7 @@ pub record SignsWhatItTells (me : ℕ) (book : RollBook) (voted : List Voted) (s
 -- 9. What it saw is of logs and authorities of the council (`SeesMembers`).
 
 -- The record is that of an honest log with this number.
-pub record HonestLog (council : Council) (me : ℕ) (r : LogRecord) : Type 0 where
+pub record IsOfHonestLog (council : Council) (me : ℕ) (r : LogRecord) : Type 0 where
   pub ends_in_order : EndsInOrder r.ended
   pub votes_once : VotesOnce r.ended r.voted
   pub states_its_vote : StatesItsVote r.ended r.voted r.stated

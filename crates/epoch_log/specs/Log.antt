@@ -4,7 +4,7 @@ use Rattle.ar_council.specs.Council.{council_of}
 use Rattle.party_keys.specs.Directory.{Directory}
 use Rattle.domain_table.specs.Sound.{IsSound}
 use Rattle.epoch_log.specs.Record.{LogRecord}
-use Rattle.epoch_log.specs.State.{IsKept, LogState, table_of}
+use Rattle.epoch_log.specs.State.{IsKeptLog, LogState, table_of}
 use Rattle.epoch_log.specs.declared.parts.Parts.{Parts}
 use Rattle.epoch_log.specs.declared.past.Record.{Record}
 
@@ -44,7 +44,7 @@ parts_of p = record { state = state_in p; keys = p.directory }
 
 -- What a log keeps: its record is honest with all that belongs to it, and its table is the base of the current epoch.
 pub record IsLog (p : Parts) : Type 0 where
-  pub kept : IsKept (state_in p)
+  pub kept : IsKeptLog (state_in p)
   pub table : p.table ≡ table_of (state_in p)
   pub sound : IsSound p.table
 

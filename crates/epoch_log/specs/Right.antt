@@ -69,9 +69,9 @@ pub record IsRightSkip (council : Council) (seen : List SeenText) (epoch : ℕ) 
 
 -- What is stated of an epoch fits the votes: no ballot where there is no vote of it, and else the vote's base and
 -- root.
-abbrev pub Fits : List Voted → ℕ → Option Value → Type 0
-Fits voted epoch None = All (λ v. v.epoch ≢ epoch) voted
-Fits voted epoch (Some value) = (v : Voted) × (Contains voted v × (v.epoch ≡ epoch) × (v.base ≡ value.base) × (v.root ≡ value.root))
+abbrev pub FitsVotes : List Voted → ℕ → Option Value → Type 0
+FitsVotes voted epoch None = All (λ v. v.epoch ≢ epoch) voted
+FitsVotes voted epoch (Some value) = (v : Voted) × (Contains voted v × (v.epoch ≡ epoch) × (v.base ≡ value.base) × (v.root ≡ value.root))
 
 -- ---- confirmations
 

@@ -13,7 +13,7 @@ use Rattle.domain_table.specs.Tables.{Table}
 use Rattle.domain_table.specs.Tree.{root_of}
 use Rattle.ar_council.specs.Council.{Council}
 use Rattle.ar_council.specs.Values.{vote_claim}
-use Rattle.epoch_log.specs.Honest.{HonestLog}
+use Rattle.epoch_log.specs.Honest.{IsOfHonestLog}
 use Rattle.epoch_log.specs.Record.{LogRecord, base_of, current, ending}
 use Rattle.epoch_log.specs.Right.{AreSeen}
 use Rattle.epoch_log.specs.declared.entries.Ended.{Ended}
@@ -77,15 +77,15 @@ pub record IsNewestDecision (council : Council) (seen : List SeenText) (ended : 
   pub many : council.quorum ≤ distinct_count (map (λ v. v.0) w.votes)
 
 -- the newest decision is the record's: there is none exactly where no epoch was decided
-abbrev pub IsNewest : Council → List SeenText → List Ended → Option Newest → Type 0
-IsNewest council seen ended None = (epoch : ℕ) (changes : List Change) (to : List ℕ) → ending ended epoch ≢ Some (Decided changes to)
-IsNewest council seen ended (Some w) = IsNewestDecision council seen ended w
+abbrev pub KeepsNewest : Council → List SeenText → List Ended → Option Newest → Type 0
+KeepsNewest council seen ended None = (epoch : ℕ) (changes : List Change) (to : List ℕ) → ending ended epoch ≢ Some (Decided changes to)
+KeepsNewest council seen ended (Some w) = IsNewestDecision council seen ended w
 
 -- What is kept of a log: its record is honest, what it has counted in the current epoch was seen, and the newest
 -- decision is the record's.
-pub record IsKept (s : LogState) : Type 0 where
+pub record IsKeptLog (s : LogState) : Type 0 where
   pub number : s.me < 2 ^ 16
-  pub honest : HonestLog s.council s.me s.past
+  pub honest : IsOfHonestLog s.council s.me s.past
   pub votes : All (IsSeenVote s.council s.past.seen (epoch_of s)) s.votes
   pub statuses : AreSeen s.council s.past.seen (epoch_of s) (reports_of s.statuses)
-  pub newest : IsNewest s.council s.past.seen s.past.ended s.newest
+  pub newest : KeepsNewest s.council s.past.seen s.past.ended s.newest

@@ -34,14 +34,14 @@ HasConfirmed confirmed epoch name certificate root =
 
 -- The log with this number may have signed a statement, as far as its entries tell: its votes, statuses and
 -- confirmations are exactly those of the entries; its proposals and Rolls have none; and it signs nothing else.
-unfoldable pub Told : ℕ → List Voted → List Stated → List Confirmed → Claim → Type 0
-Told me voted stated confirmed (propose log epoch base root) = log ≡ me
-Told me voted stated confirmed (vote log epoch base root) = (log ≡ me) × HasVoted voted epoch (value_with base root)
-Told me voted stated confirmed (status log epoch value) = (log ≡ me) × HasStated stated epoch value
-Told me voted stated confirmed (confirm signer epoch name certificate root) = (signer ≡ log_party me) × HasConfirmed confirmed epoch name (Some certificate) root
-Told me voted stated confirmed (confirm_absent signer epoch name root) = (signer ≡ log_party me) × HasConfirmed confirmed epoch name None root
-Told me voted stated confirmed (roll signer generation key) = signer ≡ log_party me
-Told me voted stated confirmed (endorse authority certificate) = ⊥
-Told me voted stated confirmed (handover certificate) = ⊥
-Told me voted stated confirmed (answer name certificate challenge) = ⊥
-Told me voted stated confirmed (object certificate) = ⊥
+unfoldable pub ToldByLog : ℕ → List Voted → List Stated → List Confirmed → Claim → Type 0
+ToldByLog me voted stated confirmed (propose log epoch base root) = log ≡ me
+ToldByLog me voted stated confirmed (vote log epoch base root) = (log ≡ me) × HasVoted voted epoch (value_with base root)
+ToldByLog me voted stated confirmed (status log epoch value) = (log ≡ me) × HasStated stated epoch value
+ToldByLog me voted stated confirmed (confirm signer epoch name certificate root) = (signer ≡ log_party me) × HasConfirmed confirmed epoch name (Some certificate) root
+ToldByLog me voted stated confirmed (confirm_absent signer epoch name root) = (signer ≡ log_party me) × HasConfirmed confirmed epoch name None root
+ToldByLog me voted stated confirmed (roll signer generation key) = signer ≡ log_party me
+ToldByLog me voted stated confirmed (endorse authority certificate) = ⊥
+ToldByLog me voted stated confirmed (handover certificate) = ⊥
+ToldByLog me voted stated confirmed (answer name certificate challenge) = ⊥
+ToldByLog me voted stated confirmed (object certificate) = ⊥

@@ -17,11 +17,11 @@ ghost use Rattle.ar_council.specs.Room.{HasRoom};
 ghost use Rattle.ar_council.specs.Values.{confirm_claim, status_claim, vote_claim};
 ghost use Rattle.epoch_log.specs.Calls.{AreEndorsers, IsProposed, IsTurn, MayConfirm, MayDecide, MaySkip, MayState, MayVote, SignedStatus, after_ballot, after_confirm, after_decide, after_endorsed, after_learn, after_propose, after_roll, after_skip, after_state, after_status_seen, after_vote, confirmation_text, fresh, own_status_text, own_vote_text, proposal_texts, with_status, with_vote};
 ghost use Rattle.epoch_log.specs.Ending.{closed, decided, excludes_all, may_end, own_vote, skipped};
-ghost use Rattle.epoch_log.specs.Honest.{EndsInOrder, HonestLog};
+ghost use Rattle.epoch_log.specs.Honest.{EndsInOrder, IsOfHonestLog};
 ghost use Rattle.epoch_log.specs.Later.{LogGrows};
 ghost use Rattle.epoch_log.specs.Record.{LogRecord};
 ghost use Rattle.epoch_log.specs.Right.{SawEndorsements};
-ghost use Rattle.epoch_log.specs.State.{CountedStatus, CountedVote, IsKept, LogState, SeesMore, ballots_of, epoch_of, reports_of, table_of};
+ghost use Rattle.epoch_log.specs.State.{CountedStatus, CountedVote, IsKeptLog, LogState, SeesMore, ballots_of, epoch_of, reports_of, table_of};
 ghost use Rattle.epoch_log.specs.Told.{HasConfirmed, HasStated, HasVoted, value_of};
 ghost use Rattle.epoch_log.specs.declared.entries.Closing.TheVariants as closings;
 ghost use Rattle.epoch_log.specs.declared.entries.Newest.{Newest};
@@ -31,13 +31,13 @@ ghost use Rattle.party_keys.specs.Learning.{Announced};
 /// A log that has done nothing yet is kept: its record is an honest log's.
 pub fn a_fresh_log_is_kept()
     ensures { (me : ℕ) (council : Council) (leaves : ℕ) → me < 2 ^ 16 → 0 < leaves
-        → IsKept (fresh me council leaves) }
+        → IsKeptLog (fresh me council leaves) }
 {}
 
 /// A log is kept where it queues a change of which authorities of the council endorse, and has then seen its endorsements.
 pub fn a_queued_change_keeps_a_log()
-    ensures kept { (s : LogState) (change : Change) → IsKept s → AreEndorsers s.council change
-        → IsKept (after_endorsed s change) }
+    ensures kept { (s : LogState) (change : Change) → IsKeptLog s → AreEndorsers s.council change
+        → IsKeptLog (after_endorsed s change) }
     ensures endorsed { (s : LogState) (change : Change)
         → SawEndorsements (after_endorsed s change).past.seen change }
 {}
@@ -90,86 +90,86 @@ pub fn a_record_only_grows()
 
 /// A log is kept where it votes for a proposal as it may, and has a leaf for its vote.
 pub fn a_vote_keeps_a_log()
-    ensures { (s : LogState) (proposer : ℕ) (value : Value) (changes : List Change) → IsKept s
+    ensures { (s : LogState) (proposer : ℕ) (value : Value) (changes : List Change) → IsKeptLog s
         → MayVote s value changes
         → IsProposed s proposer changes → HasRoom s.past.signed (own_vote_text s value ∷ [])
-        → IsKept (after_vote s proposer value changes) }
+        → IsKeptLog (after_vote s proposer value changes) }
 {}
 
 /// A log is kept where it proposes in its turn, as it may vote, changes whose endorsements it saw, and has leaves for the
 /// proposal and its vote; also where the epoch ends with it.
 pub fn a_proposal_keeps_a_log()
-    ensures { (s : LogState) (value : Value) (changes : List Change) → IsKept s
+    ensures { (s : LogState) (value : Value) (changes : List Change) → IsKeptLog s
         → IsTurn s.council s.me (epoch_of s)
         → MayVote s value changes → All (SawEndorsements s.past.seen) changes
         → HasRoom s.past.signed (proposal_texts s value)
-        → IsKept (after_propose s value changes).0 }
+        → IsKeptLog (after_propose s value changes).0 }
 {}
 
 /// A log is kept where it counts a ballot of a log of the council; also where the epoch ends with it.
 pub fn a_ballot_keeps_a_log()
-    ensures { (s : LogState) (log : ℕ) (value : Value) (signature : List ℕ) → IsKept s
+    ensures { (s : LogState) (log : ℕ) (value : Value) (signature : List ℕ) → IsKeptLog s
         → log < s.council.logs
-        → IsKept (after_ballot s log value signature).0 }
+        → IsKeptLog (after_ballot s log value signature).0 }
 {}
 
 /// A log is kept where it states what it did in the epoch, and has a leaf for that; also where the epoch ends with it.
 pub fn an_own_status_keeps_a_log()
-    ensures { (s : LogState) → IsKept s → MayState s
-        → HasRoom s.past.signed (own_status_text s ∷ []) → IsKept (after_state s).0 }
+    ensures { (s : LogState) → IsKeptLog s → MayState s
+        → HasRoom s.past.signed (own_status_text s ∷ []) → IsKeptLog (after_state s).0 }
 {}
 
 /// A log is kept where it counts a status of a log of the council; also where the epoch ends with it.
 pub fn a_status_keeps_a_log()
     ensures { (s : LogState) (log : ℕ) (value : Option Value) (signature : Option (List ℕ))
-        → IsKept s → log < s.council.logs
-        → IfSome value IsValue → IsKept (after_status_seen s log value signature).0 }
+        → IsKeptLog s → log < s.council.logs
+        → IfSome value IsValue → IsKeptLog (after_status_seen s log value signature).0 }
 {}
 
 /// A log is kept where it ends the epoch as decided, as it may.
 pub fn a_decision_keeps_a_log()
     ensures { (s : LogState) (value : Value) (changes : List Change) (votes : List (ℕ × List ℕ))
-        → IsKept s
-        → MayDecide s value changes votes → IsKept (after_decide s value changes votes) }
+        → IsKeptLog s
+        → MayDecide s value changes votes → IsKeptLog (after_decide s value changes votes) }
 {}
 
 /// A log is kept where it ends the epoch as skipped, as it may.
 pub fn a_skip_keeps_a_log()
-    ensures { (s : LogState) (statuses : List SignedStatus) → IsKept s → MaySkip s statuses
-        → IsKept (after_skip s statuses) }
+    ensures { (s : LogState) (statuses : List SignedStatus) → IsKeptLog s → MaySkip s statuses
+        → IsKeptLog (after_skip s statuses) }
 {}
 
 /// A log is kept where it confirms, by its newest decision, what a name has, and has a leaf for that.
 pub fn a_confirmation_keeps_a_log()
-    ensures { (s : LogState) (w : Newest) (name : List ℕ) → IsKept s → MayConfirm s w name
+    ensures { (s : LogState) (w : Newest) (name : List ℕ) → IsKeptLog s → MayConfirm s w name
         → HasRoom s.past.signed (confirmation_text s w name ∷ [])
-        → IsKept (after_confirm s w name) }
+        → IsKeptLog (after_confirm s w name) }
 {}
 
 /// A log is kept where it sees the Roll of a party of the council, and where it announces its own next key.
 pub fn rolls_keep_a_log()
-    ensures learn { (s : LogState) (a : Announced) → IsKept s → IsMember s.council a.party
-        → IsKept (after_learn s a) }
-    ensures roll { (s : LogState) (key : List ℕ) → IsKept s → MayRoll s.past.signed key
-        → IsKept (after_roll s key) }
+    ensures learn { (s : LogState) (a : Announced) → IsKeptLog s → IsMember s.council a.party
+        → IsKeptLog (after_learn s a) }
+    ensures roll { (s : LogState) (key : List ℕ) → IsKeptLog s → MayRoll s.past.signed key
+        → IsKeptLog (after_roll s key) }
 {}
 
 /// An honest log signed a vote, a status or a confirmation, of those that are valid, exactly where its record has the
 /// entry with these fields.
 pub fn what_is_signed_is_told()
     ensures votes { (council : Council) (me : ℕ) (r : LogRecord) (epoch : ℕ) (value : Value)
-        → HonestLog council me r
+        → IsOfHonestLog council me r
         → IsValid (vote_claim me epoch value)
         → Contains (texts_of r.signed) (text_of (vote_claim me epoch value))
         ↔ HasVoted r.voted epoch value }
     ensures statuses { (council : Council) (me : ℕ) (r : LogRecord) (epoch : ℕ)
-        (value : Option Value) → HonestLog council me r
+        (value : Option Value) → IsOfHonestLog council me r
         → IsValid (status_claim me epoch value)
         → Contains (texts_of r.signed) (text_of (status_claim me epoch value))
         ↔ HasStated r.stated epoch value }
     ensures confirmations { (council : Council) (me : ℕ) (r : LogRecord) (epoch : ℕ) (name : List ℕ)
         (certificate : Option (List ℕ)) (root : List ℕ)
-        → HonestLog council me r → IsValid (confirm_claim me epoch name certificate root)
+        → IsOfHonestLog council me r → IsValid (confirm_claim me epoch name certificate root)
         → Contains (texts_of r.signed) (text_of (confirm_claim me epoch name certificate root))
         ↔ HasConfirmed r.confirmed epoch name certificate root }
 {}
@@ -177,10 +177,10 @@ pub fn what_is_signed_is_told()
 /// An honest log votes for one value in an epoch, and what it states of an epoch in which it voted is what it voted for.
 pub fn an_honest_log_tells_one_thing()
     ensures votes { (council : Council) (me : ℕ) (r : LogRecord) (epoch : ℕ) (value other : Value)
-        → HonestLog council me r
+        → IsOfHonestLog council me r
         → HasVoted r.voted epoch value → HasVoted r.voted epoch other → value ≡ other }
     ensures status { (council : Council) (me : ℕ) (r : LogRecord) (epoch : ℕ) (value : Option Value)
-        (cast : Value) → HonestLog council me r
+        (cast : Value) → IsOfHonestLog council me r
         → HasStated r.stated epoch value → HasVoted r.voted epoch cast → value ≡ Some cast }
 {}
 

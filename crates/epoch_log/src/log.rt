@@ -14,7 +14,7 @@ ghost use Rattle.epoch_log.specs.Calls.{AreEndorsers, IsProposed, IsTurn, MaySta
 ghost use Rattle.epoch_log.specs.Foreseeing.{IsForeseen};
 ghost use Rattle.epoch_log.specs.Log.{moved, record_of};
 ghost use Rattle.epoch_log.specs.Right.{SawEndorsements};
-ghost use Rattle.epoch_log.specs.State.{IsKept, epoch_of, table_of};
+ghost use Rattle.epoch_log.specs.State.{IsKeptLog, epoch_of, table_of};
 ghost use Rattle.epoch_log.specs.Telling.{statuses_in, to_root, votes_in};
 
 use crate::parts::Parts;
@@ -67,7 +67,7 @@ impl EpochLog {
 
     /// Tells a proof what the log keeps. It does nothing.
     pub fn told(&self)
-        ensures kept { IsKept self.now.state }
+        ensures kept { IsKeptLog self.now.state }
         ensures council { self.now.state.council ≡ council_of self.now.keys }
         ensures sound { IsSound (table_of self.now.state) }
     {

@@ -4,7 +4,7 @@ use Rattle.std.specs.FinMap.{entries}
 use Rattle.sha2.specs.Sha256.{sha256}
 use Rattle.hash_tree.specs.Strings.{empty_string, entry_string, node_string, empty_digest, entry_digest, node_digest}
 use Rattle.hash_tree.specs.Entries.{Entry, Entries, entries_of, HasAscendingKeys, AgreeAmong, half, of_side}
-use Rattle.hash_tree.specs.Root.{by_count, string_below, strings_below, digest_below, digest_at}
+use Rattle.hash_tree.specs.Root.{by_count, string_below, strings_below, digest_below, subtree_digest}
 use Rattle.ar_base.specs.Apart.{IsIn}
 use Rattle.hash_tree.proofs.Maps.{entries-entries_of, half-entries_of, agree-half}
 
@@ -34,18 +34,18 @@ string-more left depth m at several =
     let same : 255 - left ≡ depth = omega arith in
     rw same at (string-several left m several)
 
-pub digest-none : (es : List Entry) (depth : ℕ) → length es < 1 → digest_at depth (entries_of es) ≡ empty_digest
+pub digest-none : (es : List Entry) (depth : ℕ) → length es < 1 → subtree_digest depth (entries_of es) ≡ empty_digest
 digest-none [] depth none = ap sha256 (string-none (256 - depth) (entries_of []) (entries-entries_of [] refl))
 digest-none (e ∷ es) depth none = absurd (omega arith)
 
 pub digest-one : (es : List Entry) (depth : ℕ) (d : Entry) → HasAscendingKeys es → 1 ≤ length es → length es < 2
-    → digest_at depth (entries_of es) ≡ entry_digest (get_or es 0 d).0 (get_or es 0 d).1
+    → subtree_digest depth (entries_of es) ≡ entry_digest (get_or es 0 d).0 (get_or es 0 d).1
 digest-one [] depth d ascending some one = absurd (omega arith)
 digest-one (e ∷ []) depth d ascending some one = ap sha256 (string-one (256 - depth) (entries_of (e ∷ [])) e (entries-entries_of (e ∷ []) ascending))
 digest-one (e ∷ f ∷ es) depth d ascending some one = absurd (omega arith)
 
 pub digest-more : (es : List Entry) (depth : ℕ) → HasAscendingKeys es → 2 ≤ length es → depth < 256
-    → digest_at depth (entries_of es) ≡ node_digest (digest_at (depth + 1) (entries_of (of_side depth 0 es))) (digest_at (depth + 1) (entries_of (of_side depth 1 es)))
+    → subtree_digest depth (entries_of es) ≡ node_digest (subtree_digest (depth + 1) (entries_of (of_side depth 0 es))) (subtree_digest (depth + 1) (entries_of (of_side depth 1 es)))
 digest-more es depth ascending several below =
     let left : 256 - depth ≡ suc (256 - (depth + 1)) = omega arith in
     let many : 2 ≤ length (entries (entries_of es)) = rw (entries-entries_of es ascending) several in
@@ -58,8 +58,8 @@ agree-of_side es depth side agree = rw half-entries_of at (agree-half depth side
 
 -- the same, from what is known of the halves
 pub digest-halves : (es : List Entry) (depth : ℕ) (left right : List Entry) (l r whole : List ℕ) → HasAscendingKeys es → 2 ≤ length es → depth < 256
-    → left ≡ of_side depth 0 es → right ≡ of_side depth 1 es → l ≡ digest_at (depth + 1) (entries_of left) → r ≡ digest_at (depth + 1) (entries_of right)
-    → whole ≡ node_digest l r → whole ≡ digest_at depth (entries_of es)
+    → left ≡ of_side depth 0 es → right ≡ of_side depth 1 es → l ≡ subtree_digest (depth + 1) (entries_of left) → r ≡ subtree_digest (depth + 1) (entries_of right)
+    → whole ≡ node_digest l r → whole ≡ subtree_digest depth (entries_of es)
 digest-halves es depth left right l r whole ascending several below is_left is_right hl hr h =
     let first = rw is_left at hl in
     let second = rw is_right at hr in

@@ -7,7 +7,7 @@ use Rattle.sha2.specs.Sha256.{sha256}
 use Rattle.hash_tree.specs.Strings.{node_digest}
 use Rattle.ar_base.specs.Bytes.{IsDigest}
 use Rattle.hash_tree.specs.Entries.{Entry, Entries, key_cmp, bit, half, HoldsDigests}
-use Rattle.hash_tree.specs.Root.{by_count, digest_at, digest_below}
+use Rattle.hash_tree.specs.Root.{by_count, subtree_digest, digest_below}
 use Rattle.hash_tree.specs.Path.{same_half, other_half, steps_below, bottom_below}
 use Rattle.hash_tree.specs.Kept.{listing, map_of, map_both, digest_of, Keeps, IsKept, HasHalves, AreHalves, IsStored, entry_of}
 use Rattle.hash_tree.specs.declared.bottom.Bottom.TheVariants.{Other}
@@ -69,14 +69,14 @@ pub keeps-kept : (node : Node) (depth : ℕ) (m : Entries) → Keeps depth node 
 keeps-kept node depth m k = subst (Keeps depth node) (sym (keeps-map node depth m k)) k
 
 -- the digest that is kept is the map's
-pub digest-kept : (node : Node) (depth : ℕ) (m : Entries) → Keeps depth node m → digest_of node ≡ digest_at depth m
+pub digest-kept : (node : Node) (depth : ℕ) (m : Entries) → Keeps depth node m → digest_of node ≡ subtree_digest depth m
 unfolding Keeps
 digest-kept Empty depth m k = sym (ap sha256 (string-none (256 - depth) m k))
 digest-kept (Leaf l) depth m k = k.1.hashed ∙ sym (ap sha256 (string-one (256 - depth) m (l.key, l.value) k.0))
 digest-kept (Branch' p digest left right) depth m k = k.0
 
 digest-halves : (depth : ℕ) (m : Entries) → depth < 256 → 2 ≤ length (entries m)
-    → digest_at depth m ≡ node_digest (digest_at (depth + 1) (half depth 0 m)) (digest_at (depth + 1) (half depth 1 m))
+    → subtree_digest depth m ≡ node_digest (subtree_digest (depth + 1) (half depth 0 m)) (subtree_digest (depth + 1) (half depth 1 m))
 digest-halves depth m below many =
     let left : 256 - depth ≡ suc (256 - (depth + 1)) = omega arith in
     ap (λ n. sha256 (string_at n)) left ∙ ap sha256 (string-more (256 - (depth + 1)) depth m (omega arith) many)
@@ -85,21 +85,21 @@ digest-halves depth m below many =
     string_at n = Rattle.hash_tree.specs.Root.string_below n m
 
 -- trees of the halves and their digest make a tree
-pub halves-kept : (p : _) (digest : List ℕ) (left right : Node) (depth : ℕ) (m : Entries) → digest ≡ digest_at depth m → HasHalves depth left right m
+pub halves-kept : (p : _) (digest : List ℕ) (left right : Node) (depth : ℕ) (m : Entries) → digest ≡ subtree_digest depth m → HasHalves depth left right m
     → Keeps depth (Branch' p digest left right) m
 unfolding Keeps
 halves-kept p digest left right depth m is halves = (is, halves)
 
-pub halves-kept_at : (p : _) (digest : List ℕ) (left right : Node) (depth : ℕ) (m n : Entries) → n ≡ m → digest ≡ digest_at depth n → HasHalves depth left right n
+pub halves-kept_at : (p : _) (digest : List ℕ) (left right : Node) (depth : ℕ) (m n : Entries) → n ≡ m → digest ≡ subtree_digest depth n → HasHalves depth left right n
     → Keeps depth (Branch' p digest left right) m
 halves-kept_at p digest left right depth m n same is halves = subst (Keeps depth (Branch' p digest left right)) same (halves-kept p digest left right depth n is halves)
 
 -- and the digest is that of theirs
 pub halves-digest : (digest : List ℕ) (left right : Node) (depth : ℕ) (m : Entries) → digest ≡ node_digest (digest_of left) (digest_of right) → HasHalves depth left right m
-    → digest ≡ digest_at depth m
+    → digest ≡ subtree_digest depth m
 halves-digest digest left right depth m is halves =
-    let dl : digest_of left ≡ digest_at (depth + 1) (half depth 0 m) = digest-kept left (depth + 1) _ halves.2 in
-    let dr : digest_of right ≡ digest_at (depth + 1) (half depth 1 m) = digest-kept right (depth + 1) _ halves.3 in
+    let dl : digest_of left ≡ subtree_digest (depth + 1) (half depth 0 m) = digest-kept left (depth + 1) _ halves.2 in
+    let dr : digest_of right ≡ subtree_digest (depth + 1) (half depth 1 m) = digest-kept right (depth + 1) _ halves.3 in
     is ∙ rw (dl, dr) (sym (digest-halves depth m halves.0 halves.1))
 
 -- what a node with two halves tells
@@ -179,7 +179,7 @@ steps-one left key m e one = steps-none left key m (omega (arith, ap length one)
 
 -- and one more than in the half that has the key's bit
 pub steps-parted : (depth : ℕ) (key : List ℕ) (m : Entries) → depth < 256 → 2 ≤ length (entries m)
-    → steps_below (256 - depth) key m ≡ steps_below (256 - (depth + 1)) key (half depth (bit key depth) m) ++ digest_at (depth + 1) (half depth (1 - bit key depth) m) ∷ []
+    → steps_below (256 - depth) key m ≡ steps_below (256 - (depth + 1)) key (half depth (bit key depth) m) ++ subtree_digest (depth + 1) (half depth (1 - bit key depth) m) ∷ []
 steps-parted depth key m below many =
     let left : 256 - depth ≡ suc (256 - (depth + 1)) = omega arith in
     let at : 255 - (256 - (depth + 1)) ≡ depth = omega arith in

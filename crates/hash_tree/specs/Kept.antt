@@ -5,7 +5,7 @@ use Rattle.std.specs.FinMap.{entries, contains_key}
 use Rattle.ar_base.specs.Bytes.{IsDigest}
 use Rattle.hash_tree.specs.Entries.{Entry, Entries, entries_of, half, Agree}
 use Rattle.hash_tree.specs.Strings.{empty_digest, entry_digest}
-use Rattle.hash_tree.specs.Root.{digest_at}
+use Rattle.hash_tree.specs.Root.{subtree_digest}
 use Rattle.hash_tree.specs.declared.node.Stored.{Stored}
 use Rattle.hash_tree.specs.declared.node.Branch.{Branch}
 use Rattle.hash_tree.specs.declared.node.Node.{Node}
@@ -43,7 +43,7 @@ unfoldable pub Keeps : ℕ → Node → Entries → Type 0
 Keeps depth Empty m = entries m ≡ []
 Keeps depth (Leaf s) m = (entries m ≡ entry_of s ∷ []) × IsStored s
 Keeps depth (Branch' p digest left right) m =
-    (digest ≡ digest_at depth m)
+    (digest ≡ subtree_digest depth m)
     × ((depth < 256) × (2 ≤ length (entries m)) × Keeps (depth + 1) left (half depth 0 m) × Keeps (depth + 1) right (half depth 1 m))
 
 -- a map has several entries, and these are the trees of its halves
@@ -88,7 +88,7 @@ lone_of left right = None
 -- what is left of a map: one entry alone, or several in a branch
 abbrev pub IsLeft : ℕ → Option Stored → Branch → Entries → Type 0
 IsLeft depth (Some s) branch m = (entries m ≡ entry_of s ∷ []) × IsStored s
-IsLeft depth None branch m = (branch.digest ≡ digest_at depth m) × HasHalves depth branch.left branch.right m
+IsLeft depth None branch m = (branch.digest ≡ subtree_digest depth m) × HasHalves depth branch.left branch.right m
 
 -- two trees are of one shape, with the same entries and the same digests
 abbrev pub AreSame : Node → Node → Type 0

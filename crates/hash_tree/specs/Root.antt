@@ -25,12 +25,12 @@ abbrev pub digest_below : ℕ → Entries → List ℕ
 digest_below left m = sha256 (string_below left m)
 
 -- the digest of a set of entries at a depth, the number of bits that are decided
-abbrev pub digest_at : ℕ → Entries → List ℕ
-digest_at depth m = digest_below (256 - depth) m
+abbrev pub subtree_digest : ℕ → Entries → List ℕ
+subtree_digest depth m = digest_below (256 - depth) m
 
 -- the root of the integrity tree over the entries
 abbrev pub root : Entries → List ℕ
-root m = digest_at 0 m
+root m = subtree_digest 0 m
 
 -- all strings that are hashed for a set of entries where this many bits are left
 unfoldable pub strings_below : ℕ → Entries → List (List ℕ)

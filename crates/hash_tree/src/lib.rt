@@ -21,7 +21,7 @@ pub use bottom::Bottom;
 pub use digests::{
     empty_digest, entry_digest, node_digest, pending_digest, pending_key, value_digest,
 };
-pub use roots::{digest_at, halves, have_ascending_keys, root_of};
+pub use roots::{halves, have_ascending_keys, root_of, subtree_digest};
 pub use steps::Steps;
 pub use trie::{Trie, Walk};
 

@@ -1,7 +1,7 @@
 ghost use Rattle.std.specs.Prelude.{◌≡◌, ℕ, ◌+◌, ◌-◌, ◌++◌, ◌<◌, ◌≤◌, length, IfOk, IsTrue, OnErr, OnOk};
 ghost use Rattle.std.specs.FinMap.{contains_key, get, insert, remove};
 ghost use Rattle.hash_tree.specs.Entries.{Entries, bit, half};
-ghost use Rattle.hash_tree.specs.Root.{digest_at};
+ghost use Rattle.hash_tree.specs.Root.{subtree_digest};
 ghost use Rattle.hash_tree.specs.Strings as strings;
 ghost use Rattle.hash_tree.specs.Path.{bottom_below, steps_below};
 ghost use Rattle.hash_tree.specs.Kept.{AgreesWith, AreHalves, AreTwo, HasHalves, IsKept, IsLeft, IsStored, Keeps, digest_of, lone_of, map_both, map_of, two_of};
@@ -218,7 +218,7 @@ impl Branch {
         requires agrees { AgreesWith depth entry.now.key (map_both self.old.left self.old.right) }
         requires stored { IsStored entry.now }
         ensures digest { OnOk result
-            (self.new.digest ≡ digest_at depth
+            (self.new.digest ≡ subtree_digest depth
             (insert (map_both self.old.left self.old.right) entry.now.key entry.now.value)) }
         ensures kept { OnOk result
             (HasHalves depth self.new.left self.new.right

@@ -15,7 +15,7 @@ pub fn root_of(entries: &[([u8; 32], [u8; 32])]) -> [u8; 32]
     requires { HasAscendingKeys entries.now }
     ensures { result ≡ tree.root (entries_of entries.now) }
 {
-    digest_at(entries, 0)
+    subtree_digest(entries, 0)
 }
 
 /// Whether the keys of the entries ascend strictly, as `root_of` asks for it.
@@ -26,11 +26,11 @@ pub fn have_ascending_keys(entries: &[([u8; 32], [u8; 32])]) -> bool
 }
 
 /// The digest at a depth, of entries whose keys agree in all bits before it.
-pub fn digest_at(entries: &[([u8; 32], [u8; 32])], depth: usize) -> [u8; 32]
+pub fn subtree_digest(entries: &[([u8; 32], [u8; 32])], depth: usize) -> [u8; 32]
     requires ascending { HasAscendingKeys entries.now }
     requires agreed { AgreeAmong depth (entries_of entries.now) }
     requires in_key { depth ≤ 256 }
-    ensures { result ≡ tree.digest_at depth (entries_of entries.now) }
+    ensures { result ≡ tree.subtree_digest depth (entries_of entries.now) }
 {
     let mut digest = [0; 32];
     put_digest(entries, depth, &mut digest);
@@ -47,7 +47,7 @@ fn put_digest(entries: &[([u8; 32], [u8; 32])], depth: usize, out: &mut [u8])
     requires agreed { AgreeAmong depth (entries_of entries.now) }
     requires in_key { depth ≤ 256 }
     requires room { length out.old ≡ 32 }
-    ensures { out.new ≡ tree.digest_at depth (entries_of entries.now) }
+    ensures { out.new ≡ tree.subtree_digest depth (entries_of entries.now) }
 {
     match entries {
         [] => out.copy_from_slice(&empty_digest()),
@@ -64,7 +64,7 @@ fn put_node(entries: &[([u8; 32], [u8; 32])], depth: usize, out: &mut [u8])
     requires several { 2 ≤ length entries.now }
     requires in_key { depth ≤ 256 }
     requires room { length out.old ≡ 32 }
-    ensures { out.new ≡ tree.digest_at depth (entries_of entries.now) }
+    ensures { out.new ≡ tree.subtree_digest depth (entries_of entries.now) }
 {
     let (left, right) = halves(entries, depth);
     let mut bytes = [NODE_TAG; 65];

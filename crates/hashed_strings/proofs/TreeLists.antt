@@ -4,7 +4,7 @@ use Rattle.std.specs.Prelude.{OnOk, Result, Ok, Err}
 use Rattle.std.specs.FinMap.{entries}
 use Rattle.hash_tree.specs.Strings.{empty_string, entry_string, node_string}
 use Rattle.hash_tree.specs.Entries.{Entry, Entries, AgreeAmong, HasAscendingKeys, entries_of, half, of_side}
-use Rattle.hash_tree.specs.Root.{digest_at, strings_below, strings_of}
+use Rattle.hash_tree.specs.Root.{subtree_digest, strings_below, strings_of}
 use Rattle.hash_tree.proofs.Few.{entries_of-entries}
 use Rattle.hash_tree.proofs.ByCount.{agree-of_side, string-more, string-none, string-one, strings-more}
 use Rattle.hash_tree.proofs.Maps.{ascending-of_side, entries-entries_of, half-entries_of}
@@ -44,7 +44,7 @@ put-one old new (e ∷ f ∷ es) depth d ascending some one is = absurd (omega a
 
 -- of several entries: the string of the node, and those of both halves
 pub put-several : (old first second new : List (List ℕ)) (es left right : List Entry) (depth : ℕ) (l r : List ℕ) → HasAscendingKeys es → 2 ≤ length es → depth < 256
-    → left ≡ of_side depth 0 es → right ≡ of_side depth 1 es → l ≡ digest_at (depth + 1) (entries_of left) → r ≡ digest_at (depth + 1) (entries_of right)
+    → left ≡ of_side depth 0 es → right ≡ of_side depth 1 es → l ≡ subtree_digest (depth + 1) (entries_of left) → r ≡ subtree_digest (depth + 1) (entries_of right)
     → first ≡ old ++ node_string l r ∷ [] → second ≡ first ++ strings_below (256 - (depth + 1)) (entries_of left)
     → new ≡ second ++ strings_below (256 - (depth + 1)) (entries_of right) → new ≡ old ++ strings_below (256 - depth) (entries_of es)
 put-several old first second new es left right depth l r ascending several below is_left is_right hl hr node one other =

@@ -5,7 +5,7 @@ ghost use Rattle.hash_tree.specs.Entries.{AgreeAmong, HasAscendingKeys, entries_
 ghost use Rattle.hash_tree.specs.Root.{strings_below};
 
 use ar_base::Items;
-use hash_tree::{digest_at, halves};
+use hash_tree::{halves, subtree_digest};
 use std::alloc::{AllocError, Global};
 
 /// Puts a string behind the others: a byte, and two texts. The only error is want of memory.
@@ -78,7 +78,10 @@ fn put_node(
         ++ strings_below (256 - depth) (entries_of entries.now)) }
 {
     let (left, right) = halves(entries, depth);
-    let digests = (digest_at(left, depth + 1), digest_at(right, depth + 1));
+    let digests = (
+        subtree_digest(left, depth + 1),
+        subtree_digest(right, depth + 1),
+    );
     put_string(alloc, strings, 0x02, &digests.0, &digests.1)?;
     put_tree(alloc, strings, left, depth + 1)?;
     put_tree(alloc, strings, right, depth + 1)

@@ -1,6 +1,6 @@
 -- What each call of a disk in memory owes to each disk.
 use Rattle.std.proofs.Common.{◌≡◌, ℕ, ◌≤◌, List, [], length, drop, Result, Ok, Err, refl, sym, ap, subst}
-use Rattle.kept_disk.specs.Disk.{Cut, Follows, Torn}
+use Rattle.kept_disk.specs.Disk.{Cut, ArisesBy, Torn}
 use Rattle.kept_disk.specs.Memory.{Becomes, DiskState, LeftSince, MayLeave, after_cut, after_look, after_sync, after_write, over_at, synced}
 use Rattle.kept_disk.specs.MemoryLaws.{cut-none, left-now, torn-none}
 use Rattle.kept_disk.specs.Moments.{Elapses}
@@ -14,7 +14,7 @@ Passes s new = Elapses (length s.events) (length new.events) (LeftSince s.seen s
 
 -- what a crash leaves now is what it left before, after this step
 abbrev Crashes : (List ℕ → List ℕ → Type 0) → DiskState → DiskState → Type 0
-Crashes step s new = Follows step (MayLeave s.seen s.events) (MayLeave new.seen new.events)
+Crashes step s new = ArisesBy step (MayLeave s.seen s.events) (MayLeave new.seen new.events)
 
 -- what a crash leaves now it left before
 abbrev Shrinks : DiskState → DiskState → Type 0

@@ -1,7 +1,7 @@
 -- A write and a cut of a disk in memory: what undoes them, and what a crash makes of them.
 use Rattle.std.proofs.Common.{◌≡◌, ⊎_elim, ℕ, ◌+◌, ◌≤◌, List, ◌∷◌, ◌++◌, length, take, drop, sym, ◌∙◌, ap, subst, arith, append_assoc, length-append, length-drop, length-take, take-append-drop}
 use Rattle.std.proofs.lemmas.List.{drop-drop, drop_at, take-take, take_at}
-use Rattle.kept_disk.specs.Disk.{Cut, Follows, Torn}
+use Rattle.kept_disk.specs.Disk.{Cut, ArisesBy, Torn}
 use Rattle.kept_disk.specs.Memory.{Event, MayLeave, over_at, undone}
 use Rattle.kept_disk.specs.MemoryLaws.{left-now}
 use Rattle.kept_disk.specs.declared.past.DiskChange.TheVariants as changes
@@ -44,7 +44,7 @@ module _ (file : List ℕ) (at : ℕ) (bytes : List ℕ) (inside : at ≤ length
 
   -- a crash leaves what the write made of what a crash left before
   pub write-crash : (es : List Event) (over : ℕ)
-      → Follows (Torn at (length bytes)) (MayLeave file es) (MayLeave written ((changes.Wrote at (length bytes) over, over_at file at (length bytes)) ∷ es))
+      → ArisesBy (Torn at (length bytes)) (MayLeave file es) (MayLeave written ((changes.Wrote at (length bytes) over, over_at file at (length bytes)) ∷ es))
   write-crash es over c left = ⊎_elim
       (λ now. (file, left-now file es, subst (λ (l : List ℕ). Torn at (length bytes) file l) (sym now) write-torn))
       (λ before. (before.0, subst (λ (l : List ℕ). MayLeave l es before.0) (write-undone over) before.1, before.2))
@@ -61,7 +61,7 @@ module _ (file : List ℕ) (len : ℕ) (inside : len ≤ length file) where
     no_longer = omega (arith, length-take len file);
   }
 
-  pub cut-crash : (es : List Event) → Follows (Cut len) (MayLeave file es) (MayLeave (take len file) ((changes.Cut (length (drop len file)), drop len file) ∷ es))
+  pub cut-crash : (es : List Event) → ArisesBy (Cut len) (MayLeave file es) (MayLeave (take len file) ((changes.Cut (length (drop len file)), drop len file) ∷ es))
   cut-crash es c left = ⊎_elim
       (λ now. (file, left-now file es, subst (λ (l : List ℕ). Cut len file l) (sym now) cut-whole))
       (λ before. (

@@ -19,8 +19,8 @@ pub record Cut (n : ℕ) (old new : List ℕ) : Type 0 where
   pub no_longer : length new ≤ length old
 
 -- what a crash leaves now is what it left before, after this step
-abbrev pub Follows : (List ℕ → List ℕ → Type 0) → (List ℕ → Type 0) → (List ℕ → Type 0) → Type 0
-Follows step old new = (c : List ℕ) → new c → (d : List ℕ) × old d × step d c
+abbrev pub ArisesBy : (List ℕ → List ℕ → Type 0) → (List ℕ → Type 0) → (List ℕ → Type 0) → Type 0
+ArisesBy step old new = (c : List ℕ) → new c → (d : List ℕ) × old d × step d c
 
 -- a crash leaves this and nothing else
 abbrev pub Only : List ℕ → (List ℕ → Type 0) → Type 0

@@ -62,8 +62,8 @@ pub record DiskState : Type 0 where
   pub faults : ℕ
 
 -- a disk that has these bytes, and on which nothing was done; it has no room
-abbrev pub fresh : List ℕ → DiskState
-fresh bytes = record { seen = bytes; events = []; fuel = record { fuse = None; room = 0; changes = 0 }; faults = 0 }
+abbrev pub fresh_disk : List ℕ → DiskState
+fresh_disk bytes = record { seen = bytes; events = []; fuel = record { fuse = None; room = 0; changes = 0 }; faults = 0 }
 
 -- the disk after a call that changed nothing
 abbrev pub after_look : DiskState → DiskState

@@ -1,6 +1,6 @@
 ghost use Rattle.std.specs.Prelude.{◌≡◌, ◌≤◌, ◌<◌, ◌+◌, ◌-◌, ◌++◌, ◌^◌, ℕ, List, Option, length, take, drop, min, IfOk, OnOk, OnErr};
 ghost use Rattle.ar_base.specs.Faults.{HasRisen};
-ghost use Rattle.kept_disk.specs.Disk.{Cut, Follows, Holds, Only, Torn};
+ghost use Rattle.kept_disk.specs.Disk.{Cut, ArisesBy, Holds, Only, Torn};
 ghost use Rattle.kept_disk.specs.Fuel.{Fuel, Spends, Wants};
 ghost use Rattle.kept_disk.specs.Moments.{Elapses};
 
@@ -75,7 +75,7 @@ pub trait Disk {
         ensures written { OnOk result (Holds (seen self.old) at bytes.now (seen self.new)) }
         ensures fits { OnOk result (at + length bytes.now < 2 ^ 64) }
         ensures held { held self.new ≡ held self.old }
-        ensures crash { Follows (Torn at (length bytes.now)) (may_leave self.old)
+        ensures crash { ArisesBy (Torn at (length bytes.now)) (may_leave self.old)
             (may_leave self.new) }
         ensures time { Elapses (moment self.old) (moment self.new) (left_since self.old)
             (left_since self.new) (may_leave self.new) }
@@ -90,7 +90,7 @@ pub trait Disk {
         requires { len ≤ length (seen self.old) }
         ensures cut { OnOk result (seen self.new ≡ take len (seen self.old)) }
         ensures held { held self.new ≡ held self.old }
-        ensures crash { Follows (Cut len) (may_leave self.old) (may_leave self.new) }
+        ensures crash { ArisesBy (Cut len) (may_leave self.old) (may_leave self.new) }
         ensures time { Elapses (moment self.old) (moment self.new) (left_since self.old)
             (left_since self.new) (may_leave self.new) }
         ensures spends { OnOk result

@@ -1,7 +1,7 @@
 ghost use Rattle.std.specs.Prelude.{◌≡◌, ◌<◌, ◌≤◌, ◌^◌, ◌↔◌, ◌+◌, ◌-◌, ◌++◌, Some, None, length, take, drop, max, min, vec_len, vec_capacity, if◌then◌else◌, IfOk, IsTrue, OnOk, OnErr};
 ghost use Rattle.ar_base.specs.Faults.{one_more};
 ghost use Rattle.kept_disk.specs.Fuel.{Suffices, spent};
-ghost use Rattle.kept_disk.specs.Memory.{Becomes, DiskState, MayLeave, LeftSince, after_cut, after_failure, after_look, after_sync, after_write, fresh, synced};
+ghost use Rattle.kept_disk.specs.Memory.{Becomes, DiskState, MayLeave, LeftSince, after_cut, after_failure, after_look, after_sync, after_write, fresh_disk, synced};
 ghost use Rattle.kept_disk.specs.MemoryLaws.{counts-now, left-now, left-synced, only-now};
 
 use crate::disk::Disk;
@@ -43,7 +43,7 @@ impl Model for MemDisk {
 impl MemDisk {
     /// A disk that has these bytes, with nothing unsynced, no fault, no fuse and no room. It takes no memory.
     pub fn new(alloc: Global, bytes: Vec<u8>) -> MemDisk
-        ensures { result ≡ fresh bytes.items }
+        ensures { result ≡ fresh_disk bytes.items }
     {
         MemDisk {
             bytes,
@@ -77,14 +77,14 @@ impl MemDisk {
 
     /// The disk that a crash leaves which takes all away that was not synced. The only error is want of memory.
     pub fn lost(&self, alloc: Global) -> Result<MemDisk, AllocError>
-        ensures { IfOk result (λ disk. disk ≡ fresh (synced self.now.seen self.now.events)) }
+        ensures { IfOk result (λ disk. disk ≡ fresh_disk (synced self.now.seen self.now.events)) }
     {
         Ok(MemDisk::new(alloc, self.past.synced(alloc, &self.bytes)?))
     }
 
     /// The disk that a crash leaves which takes nothing away. The only error is want of memory.
     pub fn kept(&self, alloc: Global) -> Result<MemDisk, AllocError>
-        ensures { IfOk result (λ disk. disk ≡ fresh self.now.seen) }
+        ensures { IfOk result (λ disk. disk ≡ fresh_disk self.now.seen) }
     {
         Ok(MemDisk::new(alloc, self.bytes.to_vec(alloc)?))
     }

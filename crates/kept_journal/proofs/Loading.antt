@@ -6,7 +6,7 @@ use Rattle.ar_bytes.proofs.Passing.{length-number_text}
 use Rattle.ar_bytes.specs.RoundTrip.{number_text}
 use Rattle.kept_journal.specs.Journal.{AreShort, IsJournal, Stands, journal, record_in, record_text, records, recovered}
 use Rattle.kept_journal.specs.Loaded.{IsLoaded}
-use Rattle.kept_journal.specs.Replays.{IsBad, IsStuck, Replays}
+use Rattle.kept_journal.specs.Replays.{IsBad, IsStuck, ReachesBy}
 use Rattle.kept_journal.proofs.Rereading.{fewer, journal_recovered, record_reads, some-behind}
 use Rattle.kept_journal.proofs.Stages.{records-push, short-push}
 
@@ -23,8 +23,8 @@ length-push texts text =
     ∙ omega (arith, length-append (records texts) (1 ∷ (record_text text ++ [])), length-append (record_text text) [], length-record text)
 
 module _ {P : Type 0} (takes : P → List ℕ → P → Type 0) where
-  pub replays-push : (first : P) (texts : List (List ℕ)) (text : List ℕ) (mid last : P) → Replays takes first texts mid → takes mid text last
-      → Replays takes first (texts ++ text ∷ []) last
+  pub replays-push : (first : P) (texts : List (List ℕ)) (text : List ℕ) (mid last : P) → ReachesBy takes first texts mid → takes mid text last
+      → ReachesBy takes first (texts ++ text ∷ []) last
   replays-push first [] text mid last replays step = (last, subst (λ (p : P). takes p text last) replays step, refl)
   replays-push first (t ∷ texts) text mid last replays step = (replays.0, replays.1, replays-push replays.0 texts text mid last replays.2 step)
 
@@ -36,7 +36,7 @@ module _ {P : Type 0} (takes : P → List ℕ → P → Type 0) where
     pub some : 0 < length rest
     pub end_is : end ≡ 8 + length (records texts)
     pub count_is : count ≡ length texts
-    pub replays : Replays takes first texts party
+    pub replays : ReachesBy takes first texts party
 
   module _ (mark file : List ℕ) (first : P) (marked : length mark ≡ 8) where
     pub begins_reading : file ≡ mark ++ drop 8 file → 9 < length file → IsReading mark file first first (drop 8 file) 8 0
@@ -85,7 +85,7 @@ module _ {P : Type 0} (takes : P → List ℕ → P → Type 0) where
           short = subst AreShort (sym same) so_far.short;
           end_is = so_far.end_is ∙ ap (λ (ts : List (List ℕ)). 8 + length (records ts)) (sym same);
           count_is = so_far.count_is ∙ ap length (sym same);
-          replays = subst (λ (ts : List (List ℕ)). Replays takes first ts party) (sym same) so_far.replays;
+          replays = subst (λ (ts : List (List ℕ)). ReachesBy takes first ts party) (sym same) so_far.replays;
         }
 
     pub is_bad : (party : P) (rest behind : List ℕ) (end count : ℕ) → IsReading mark file first party rest end count → 9 < length file
@@ -115,7 +115,7 @@ module _ {P : Type 0} (takes : P → List ℕ → P → Type 0) where
 
   module _ (determined : (party one other : P) (text : List ℕ) → takes party text one → takes party text other → one ≡ other) where
     same-front : (first last party : P) (texts before : List (List ℕ)) (gate : ℕ) (shut_behind behind : List ℕ) → gate ≢ 1 → AreShort texts → AreShort before
-        → Replays takes first texts last → Replays takes first before party → IsStuck takes party (record_in behind)
+        → ReachesBy takes first texts last → ReachesBy takes first before party → IsStuck takes party (record_in behind)
         → records before ++ 1 ∷ behind ≡ records texts ++ gate ∷ shut_behind → ⊥
     same-front first last party [] [] gate shut_behind behind shut short fits replays reached stuck is = shut (let one : 1 ≡ gate = cc in sym one)
     same-front first last party [] (x ∷ xs) gate shut_behind behind shut short fits replays reached stuck is = shut (let one : 1 ≡ gate = cc in sym one)
@@ -139,9 +139,9 @@ module _ {P : Type 0} (takes : P → List ℕ → P → Type 0) where
         let rests : other ≡ rest = ap (λ (p : List ℕ × List ℕ). p.1) both in
         let mid : reached.0 ≡ replays.0 = determined first reached.0 replays.0 t (subst (λ (y : List ℕ). takes first y reached.0) text reached.1) replays.1 in
         same-front replays.0 last party ts xs gate shut_behind behind shut short.1 fits.1 replays.2
-        (subst (λ (p : P). Replays takes p xs party) mid reached.2) stuck rests
+        (subst (λ (p : P). ReachesBy takes p xs party) mid reached.2) stuck rests
 
-    pub not_bad : (mark file : List ℕ) (texts : List (List ℕ)) (first last : P) (place : ℕ) → Stands mark texts file → Replays takes first texts last
+    pub not_bad : (mark file : List ℕ) (texts : List (List ℕ)) (first last : P) (place : ℕ) → Stands mark texts file → ReachesBy takes first texts last
         → ¬ IsBad takes mark first file place
     not_bad mark file texts first last place stands replays bad = ⊎_elim
         (λ short. absurd (omega (arith, short.0, bad.long)))

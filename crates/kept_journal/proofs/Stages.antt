@@ -1,7 +1,7 @@
 -- The calls of an append, one behind the other: what a crash leaves at each, and what stands at the end.
 use Rattle.std.proofs.Common.{◌≡◌, ◌≢◌, inl, inr, ℕ, ◌+◌, ◌<◌, ◌≤◌, ◌^◌, List, [], ◌∷◌, ◌++◌, length, get_or, sym, ◌∙◌, ap, subst, arith, append_assoc, length-append}
 use Rattle.std.proofs.lemmas.Bool.{cases_eq}
-use Rattle.kept_disk.specs.Disk.{Follows, Holds, Only, Torn}
+use Rattle.kept_disk.specs.Disk.{ArisesBy, Holds, Only, Torn}
 use Rattle.kept_disk.specs.Moments.{Elapses, LeavesOnly}
 use Rattle.kept_journal.specs.Appending.{staged_text}
 use Rattle.kept_journal.specs.Journal.{AreShort, IsBeforeOrAfter, Stands, journal, record_text, records, recovered}
@@ -77,13 +77,13 @@ module _ {D : Type 0} (seen : D → List ℕ) (may_leave : D → List ℕ → Ty
   at_start = started moment left_since d0 P (λ c left. inl (stands_now c (only_now d0 c left)))
 
   -- behind the first write
-  pub stands_written : (d1 : D) → Follows (Torn (end + 1) (length bytes)) (may_leave d0) (may_leave d1) → (c : List ℕ) → may_leave d1 c → Stands mark texts c
+  pub stands_written : (d1 : D) → ArisesBy (Torn (end + 1) (length bytes)) (may_leave d0) (may_leave d1) → (c : List ℕ) → may_leave d1 c → Stands mark texts c
   stands_written d1 follows c left =
       let from = follows c left in
       let torn = subst (λ (f : List ℕ). Torn (end + 1) (length bytes) f c) (s.durable from.0 from.1 ∙ rest-is) from.2 in
       shut_stands mark texts text s.short fits s.gate _ c s.shut (torn_behind front s.gate end size (length bytes) c torn)
 
-  pub first : (d1 : D) → Follows (Torn (end + 1) (length bytes)) (may_leave d0) (may_leave d1)
+  pub first : (d1 : D) → ArisesBy (Torn (end + 1) (length bytes)) (may_leave d0) (may_leave d1)
       → Elapses (moment d0) (moment d1) (left_since d0) (left_since d1) (may_leave d1) → LeavesOnly moment left_since d0 d1 P
   first d1 follows time = goes_on moment left_since d0 d0 d1 P (may_leave d1) at_start time (λ c now. inl (stands_written d1 follows c now))
 
@@ -94,7 +94,7 @@ module _ {D : Type 0} (seen : D → List ℕ) (may_leave : D → List ℕ → Ty
   staged_long d1 staged = omega (arith, ap length staged, length-staged front s.gate end size bytes)
 
   -- behind the first sync
-  pub second : (d1 d2 : D) → LeavesOnly moment left_since d0 d1 P → Follows (Torn (end + 1) (length bytes)) (may_leave d0) (may_leave d1)
+  pub second : (d1 d2 : D) → LeavesOnly moment left_since d0 d1 P → ArisesBy (Torn (end + 1) (length bytes)) (may_leave d0) (may_leave d1)
       → ((c : List ℕ) → may_leave d2 c → may_leave d1 c) → Elapses (moment d1) (moment d2) (left_since d1) (left_since d2) (may_leave d2)
       → LeavesOnly moment left_since d0 d2 P
   second d1 d2 so_far follows crash time =
@@ -105,7 +105,7 @@ module _ {D : Type 0} (seen : D → List ℕ) (may_leave : D → List ℕ → Ty
   staged_stands d1 c staged is = shut_stands mark texts text s.short fits s.gate bytes c s.shut (is ∙ staged)
 
   -- behind the write of the gate
-  stands_opened : (d1 d2 d3 : D) → seen d1 ≡ front ++ s.gate ∷ bytes → Only (seen d1) (may_leave d2) → Follows (Torn end 1) (may_leave d2) (may_leave d3)
+  stands_opened : (d1 d2 d3 : D) → seen d1 ≡ front ++ s.gate ∷ bytes → Only (seen d1) (may_leave d2) → ArisesBy (Torn end 1) (may_leave d2) (may_leave d3)
       → (c : List ℕ) → may_leave d3 c → P c
   stands_opened d1 d2 d3 staged only follows c left =
       let from = follows c left in
@@ -114,14 +114,14 @@ module _ {D : Type 0} (seen : D → List ℕ) (may_leave : D → List ℕ → Ty
       gate_stands mark texts text s.short fits (get_or c end 0) c (is ∙ ap (λ (l : List ℕ). front ++ get_or c end 0 ∷ l) bytes_are)
 
   pub third : (d1 d2 d3 : D) → LeavesOnly moment left_since d0 d2 P → seen d1 ≡ front ++ s.gate ∷ bytes → Only (seen d1) (may_leave d2)
-      → Follows (Torn end 1) (may_leave d2) (may_leave d3) → Elapses (moment d2) (moment d3) (left_since d2) (left_since d3) (may_leave d3)
+      → ArisesBy (Torn end 1) (may_leave d2) (may_leave d3) → Elapses (moment d2) (moment d3) (left_since d2) (left_since d3) (may_leave d3)
       → LeavesOnly moment left_since d0 d3 P
   third d1 d2 d3 so_far staged only follows time =
       goes_on moment left_since d0 d2 d3 P (may_leave d3) so_far time (stands_opened d1 d2 d3 staged only follows)
 
   -- behind the second sync
   pub fourth : (d1 d2 d3 d4 : D) → LeavesOnly moment left_since d0 d3 P → seen d1 ≡ front ++ s.gate ∷ bytes → Only (seen d1) (may_leave d2)
-      → Follows (Torn end 1) (may_leave d2) (may_leave d3) → ((c : List ℕ) → may_leave d4 c → may_leave d3 c)
+      → ArisesBy (Torn end 1) (may_leave d2) (may_leave d3) → ((c : List ℕ) → may_leave d4 c → may_leave d3 c)
       → Elapses (moment d3) (moment d4) (left_since d3) (left_since d4) (may_leave d4) → LeavesOnly moment left_since d0 d4 P
   fourth d1 d2 d3 d4 so_far staged only follows crash time =
       goes_on moment left_since d0 d3 d4 P (may_leave d4) so_far time (λ c now. stands_opened d1 d2 d3 staged only follows c (crash c now))

@@ -4,9 +4,9 @@ use Rattle.kept_journal.specs.Journal.{AreShort, mark_len, record_in, records}
 
 module _ {P : Type 0} (takes : P → List ℕ → P → Type 0) where
   -- it becomes this by these texts
-  abbrev pub Replays : P → List (List ℕ) → P → Type 0
-  Replays first [] last = last ≡ first
-  Replays first (text ∷ texts) last = (mid : P) × takes first text mid × Replays mid texts last
+  abbrev pub ReachesBy : P → List (List ℕ) → P → Type 0
+  ReachesBy first [] last = last ≡ first
+  ReachesBy first (text ∷ texts) last = (mid : P) × takes first text mid × ReachesBy mid texts last
 
   -- there is no whole record, or one that it does not take
   abbrev pub IsStuck : P → Option (List ℕ × List ℕ) → Type 0
@@ -22,5 +22,5 @@ module _ {P : Type 0} (takes : P → List ℕ → P → Type 0) where
     pub short : AreShort texts
     pub is : file ≡ mark ++ (records texts ++ 1 ∷ behind)
     pub place_is : place ≡ mark_len + length (records texts)
-    pub reached : Replays first texts party
+    pub reached : ReachesBy first texts party
     pub stuck : IsStuck party (record_in behind)

@@ -6,7 +6,7 @@ ghost use Rattle.kept_journal.specs.Appending.{SpendsAll, WantsAll, staged_text}
 ghost use Rattle.kept_journal.specs.Journal.{IsAsBefore, IsBeforeOrAfter, IsNoJournal, Stands, recovered};
 ghost use Rattle.kept_journal.specs.Fused.{with_fuse};
 ghost use Rattle.kept_journal.specs.Opening.{SpendsCost, WantsCost, opening};
-ghost use Rattle.kept_journal.specs.Replays.{IsBad, Replays};
+ghost use Rattle.kept_journal.specs.Replays.{IsBad, ReachesBy};
 
 use crate::opening::prepare;
 use crate::standing::Standing;
@@ -65,7 +65,7 @@ impl<K: Disk> Journal<K> {
         ensures stood { OnOk result (Stands mark.now (recovered (K.seen disk)) (K.seen disk)) }
         // What the party took.
         ensures replays { OnOk result
-            (Replays P.takes party.old (recovered (K.seen disk)) party.new) }
+            (ReachesBy P.takes party.old (recovered (K.seen disk)) party.new) }
         // What the journal is.
         ensures texts { IfOk result (λ journal.
             (journal.texts ≡ recovered (K.seen disk))

@@ -3,7 +3,7 @@
 ghost use Rattle.std.specs.Prelude.{◌≡◌, ◌+◌, ◌≤◌, ℕ, List, [], length};
 ghost use Rattle.kept_journal.specs.Journal.{IsNoJournal, Stands, recovered};
 ghost use Rattle.kept_journal.specs.Opening.{opening};
-ghost use Rattle.kept_journal.specs.Replays.{IsBad, Replays};
+ghost use Rattle.kept_journal.specs.Replays.{IsBad, ReachesBy};
 
 use crate::Replay;
 
@@ -19,7 +19,7 @@ pub fn a_file_that_can_be_replayed_is_not_refused<P: Replay>()
     ensures mark { (mark file : List ℕ) (texts : List (List ℕ)) → Stands mark texts file
         → ¬ IsNoJournal mark file }
     ensures records { (mark file : List ℕ) (texts : List (List ℕ)) (first last : P) (place : ℕ)
-        → Stands mark texts file → Replays P.takes first texts last
+        → Stands mark texts file → ReachesBy P.takes first texts last
         → ¬ IsBad P.takes mark first file place }
 {}
 

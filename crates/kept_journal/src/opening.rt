@@ -7,7 +7,7 @@ ghost use Rattle.kept_disk.specs.Moments.{LeavesOnly};
 ghost use Rattle.kept_journal.specs.Appending.{SpendsAll, WantsAll};
 ghost use Rattle.kept_journal.specs.Journal.{IsAsBefore, IsJournal, IsNoJournal, Stands, records, recovered};
 ghost use Rattle.kept_journal.specs.Opening.{SpendsCost, WantsCost, behind_gate, cutting, opening};
-ghost use Rattle.kept_journal.specs.Replays.{IsBad, Replays};
+ghost use Rattle.kept_journal.specs.Replays.{IsBad, ReachesBy};
 ghost use Rattle.kept_journal.specs.Settled.{IsSettled};
 
 use crate::reading::{begins, load};
@@ -101,7 +101,7 @@ fn resume<K: Disk, P: Replay>(
     requires file { file.now ≡ K.seen disk.old }
     requires only { Only (K.seen disk.old) (K.may_leave disk.old) }
     requires within { length file.now < 2 ^ 64 }
-    ensures replays { OnOk result (Replays P.takes party.old (recovered file.now) party.new) }
+    ensures replays { OnOk result (ReachesBy P.takes party.old (recovered file.now) party.new) }
     ensures ok { IfOk result (λ s.
         (s.mark ≡ mark.now) × IsSettled mark.now s.end s.count (K.seen disk.new)
         (K.may_leave disk.new)) }
@@ -141,7 +141,7 @@ pub(crate) fn prepare<K: Disk, P: Replay>(
     party: &mut P,
 ) -> Result<Standing, OpenFault>
     ensures replays { OnOk result
-        (Replays P.takes party.old (recovered (K.seen disk.old)) party.new) }
+        (ReachesBy P.takes party.old (recovered (K.seen disk.old)) party.new) }
     ensures ok { IfOk result (λ s.
         (s.mark ≡ mark.now) × IsSettled mark.now s.end s.count (K.seen disk.new)
         (K.may_leave disk.new)) }

@@ -22,7 +22,7 @@ use Rattle.key_roll.specs.declared.signed.SignedText.{SignedText}
 use Rattle.ar_statement.specs.declared.fault.BookFault.TheVariants.{Spent}
 use Rattle.key_roll.specs.Book.{RollBook, IsRollBook, texts_of}
 use Rattle.key_roll.specs.Due.{DueParts}
-use Rattle.key_roll.specs.Entry.{Serves, after_entry, due_at, due_of, entered, entered_new, has_room, leaf_of, with_text, with_roll, after_at}
+use Rattle.key_roll.specs.Entry.{LeafServes, after_entry, due_at, due_of, entered, entered_new, has_room, leaf_of, with_text, with_roll, after_at}
 use Rattle.key_roll.specs.Rolls.{is_roll, is_plain_of, is_roll_of, named_generation, plain_count, roll_count}
 
 -- an entry
@@ -213,7 +213,7 @@ apart book j k s t sound before at_j at_k same leaf = by (is_roll s.text) (is_ro
         omega (arith, leaf, leaf-plain book j s plain-s, leaf-plain book k t plain-t, first, g)
 
 -- no generation's leaf serves two texts
-pub one_text : (book : RollBook) (g leaf : ℕ) (first second : List ℕ) → IsRollBook book → Serves book g leaf first → Serves book g leaf second → first ≡ second
+pub one_text : (book : RollBook) (g leaf : ℕ) (first second : List ℕ) → IsRollBook book → LeafServes book g leaf first → LeafServes book g leaf second → first ≡ second
 one_text book g leaf first second sound a b =
     let s = a.1 in
     let t = b.1 in
@@ -237,7 +237,7 @@ one_text book g leaf first second sound a b =
 
 -- what a leaf serves it serves in each later book
 pub serves_later : (book later : RollBook) (more : List SignedText) (g leaf : ℕ) (text : List ℕ) → later.leaves ≡ book.leaves → later.list ≡ book.list ++ more
-    → Serves book g leaf text → Serves later g leaf text
+    → LeafServes book g leaf text → LeafServes later g leaf text
 serves_later book later more g leaf text leaves grown a =
     let s = a.1 in
     let within = slice_get_within book.list a.0 s a.2.0 in

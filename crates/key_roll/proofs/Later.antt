@@ -10,7 +10,7 @@ use Rattle.ar_base.proofs.Places.{one-place}
 use Rattle.ar_statement.specs.declared.fault.BookFault.TheVariants.{Spent}
 use Rattle.key_roll.specs.Book.{IsRollBook, RollBook, last_generation, texts_of}
 use Rattle.key_roll.specs.Due.{DueParts}
-use Rattle.key_roll.specs.Entry.{Serves, after_at, after_entry, due_at, due_of, entered, has_room, leaf_of, rolled, with_roll, with_text}
+use Rattle.key_roll.specs.Entry.{LeafServes, after_at, after_entry, due_at, due_of, entered, has_room, leaf_of, rolled, with_roll, with_text}
 use Rattle.key_roll.specs.Later.{IsLaterBook, IsServed}
 use Rattle.key_roll.specs.Rolls.{is_roll}
 use Rattle.key_roll.specs.declared.fault.RollFault.{RollFault}
@@ -47,7 +47,7 @@ entry_later book text = at (place_of (texts_of book) text)
 pub roll_later : (book : RollBook) (text : List ℕ) → IsLaterBook book (with_roll book text)
 roll_later book text = record { leaves = refl; newest = omega arith; list = (entry book.newest text ∷ [], refl) }
 
-pub serves_on : (book later : RollBook) (generation leaf : ℕ) (text : List ℕ) → IsLaterBook book later → Serves book generation leaf text → Serves later generation leaf text
+pub serves_on : (book later : RollBook) (generation leaf : ℕ) (text : List ℕ) → IsLaterBook book later → LeafServes book generation leaf text → LeafServes later generation leaf text
 serves_on book later generation leaf text is serves = serves_later book later is.list.0 generation leaf text is.leaves is.list.1 serves
 
 pub served_on : (book later : RollBook) (due : DueParts) → IsLaterBook book later → IsServed book due → IsServed later due

@@ -24,8 +24,8 @@ abbrev pub leaf_of : RollBook → ℕ → SignedText → ℕ
 leaf_of book place s = if is_roll s.text then book.leaves - 1 else plain_count s.generation (take place book.list)
 
 -- the leaf of a generation serves a text
-abbrev pub Serves : RollBook → ℕ → ℕ → List ℕ → Type 0
-Serves book generation leaf text =
+abbrev pub LeafServes : RollBook → ℕ → ℕ → List ℕ → Type 0
+LeafServes book generation leaf text =
     (place : ℕ) × (s : SignedText) × ((slice_get book.list place ≡ Some s) × (s.generation ≡ generation) × (s.text ≡ text) × (leaf_of book place s ≡ leaf))
 
 -- what is due for the entry at a place

@@ -35,6 +35,12 @@ pub record IsNext (keys : List KeyParts) (key : KeyParts) : Type 0 where
   pub last : slice_get keys (length keys - 1) ≡ Some newest
   pub is : key ≡ next_key newest
 
+-- a public key is that of the next one of the keys
+pub record IsOfNext (keys : List KeyParts) (public : LmsPublic) : Type 0 where
+  pub next : KeyParts
+  pub is_next : IsNext keys next
+  pub is : public ≡ public_of next
+
 -- a public key is that of the newest of the keys
 pub record IsNewest (keys : List KeyParts) (public : LmsPublic) : Type 0 where
   pub key : KeyParts

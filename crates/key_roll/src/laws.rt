@@ -7,7 +7,7 @@ ghost use Rattle.ar_statement.specs.declared.party.Party.{Party};
 ghost use Rattle.ar_base.specs.Places.{place_of};
 ghost use Rattle.key_roll.specs.Book.{RollBook, IsRollBook, last_generation, texts_of};
 ghost use Rattle.key_roll.specs.Due.{DueParts};
-ghost use Rattle.key_roll.specs.Entry.{Serves, after_entry, due_of, entered, rolled, with_roll};
+ghost use Rattle.key_roll.specs.Entry.{LeafServes, after_entry, due_of, entered, rolled, with_roll};
 ghost use Rattle.key_roll.specs.Later.{IsLaterBook, IsServed};
 ghost use Rattle.key_roll.specs.Rolls.{is_roll, named_generation};
 ghost use Rattle.key_roll.specs.declared.signed.SignedText.{SignedText};
@@ -17,14 +17,16 @@ use ar_statement::laws::a_text_is_of_one_statement;
 /// No generation's leaf serves two texts.
 pub fn no_leaf_serves_two_texts()
     ensures { (book : RollBook) (generation leaf : ℕ) (first second : List ℕ) → IsRollBook book
-        → Serves book generation leaf first → Serves book generation leaf second → first ≡ second }
+        → LeafServes book generation leaf first → LeafServes book generation leaf second
+        → first ≡ second }
 {}
 
 /// No generation's leaf serves two statements, of all that the types can hold.
 pub fn no_leaf_serves_two_statements()
     ensures { (book : RollBook) (generation leaf : ℕ) (first second : Claim) → IsRollBook book
         → IsHeld first → IsHeld second
-        → Serves book generation leaf (text_of first) → Serves book generation leaf (text_of second)
+        → LeafServes book generation leaf (text_of first)
+        → LeafServes book generation leaf (text_of second)
         → first ≡ second }
 {
     a_text_is_of_one_statement()
@@ -42,7 +44,7 @@ pub fn texts_tell_rolls()
 pub fn a_text_keeps_its_leaf()
     ensures { (book later : RollBook) (more : List SignedText) (generation leaf : ℕ) (text : List ℕ)
         → later.leaves ≡ book.leaves → later.list ≡ book.list ++ more
-        → Serves book generation leaf text → Serves later generation leaf text }
+        → LeafServes book generation leaf text → LeafServes later generation leaf text }
 {}
 
 /// Entries keep a book sound, also where the book holds the text or has no room for it.
@@ -69,7 +71,7 @@ pub fn books_only_grow()
         → IsLaterBook book last }
     ensures serves { (book later : RollBook) (generation leaf : ℕ) (text : List ℕ)
         → IsLaterBook book later
-        → Serves book generation leaf text → Serves later generation leaf text }
+        → LeafServes book generation leaf text → LeafServes later generation leaf text }
 {}
 
 /// What is due for a text is the leaf that serves it: in the book behind an entry or a Roll, in a book that holds the text,

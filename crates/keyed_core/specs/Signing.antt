@@ -5,21 +5,13 @@ use Rattle.ar_message.specs.Filling.{CanFill, filled}
 use Rattle.ar_message.specs.declared.sent.Sent.{Sent}
 use Rattle.ar_message.specs.declared.unsigned.Unsigned.{Unsigned}
 use Rattle.key_roll.specs.Book.{RollBook}
-use Rattle.key_roll.specs.Ring.{AreKeysOf, IsNext, RingParts}
-use Rattle.lms_tree.specs.Key.{public_of}
+use Rattle.key_roll.specs.Ring.{AreKeysOf, RingParts}
 use Rattle.lms_tree.specs.KeyParts.{KeyParts}
-use Rattle.lms_tree.specs.declared.public_key.LmsPublic.{LmsPublic}
 
 -- what stands under a lock, and its keys
 pub record KeyedParts (C : Type 0) : Type 0 where
   pub core : C
   pub ring : RingParts
-
--- a key is that of the next one of the keys
-pub record IsOfNext (keys : List KeyParts) (key : LmsPublic) : Type 0 where
-  pub next : KeyParts
-  pub is_next : IsNext keys next
-  pub is : key ≡ public_of next
 
 -- these keys sign what a step leaves blank, and are those of the book behind it
 pub record IsSignedBy (keys : List KeyParts) (book : RollBook) (len : ℕ) (unsigned : Unsigned) : Type 0 where

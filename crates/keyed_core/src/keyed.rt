@@ -1,6 +1,5 @@
 ghost use Rattle.std.specs.Prelude.{◌≡◌, ◌<◌, ◌≤◌, ◌++◌, ◌∷◌, [], length, IfOk, OnOk, OnErr};
-ghost use Rattle.key_roll.specs.Ring.{AreKeysOf, IsNewest, IsNext};
-ghost use Rattle.keyed_core.specs.Signing.{IsOfNext};
+ghost use Rattle.key_roll.specs.Ring.{AreKeysOf, IsNewest, IsNext, IsOfNext};
 ghost use Rattle.lms_tree.specs.Key.{public_of};
 ghost use Rattle.lms_tree.specs.KeyParts.{KeyParts};
 

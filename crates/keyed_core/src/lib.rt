@@ -5,6 +5,8 @@
 //! the same of each such party, a log as well as an authority, stands here: its keys are those of its book, and it goes on to
 //! its next key. What else it is asked is its core's own, and its answers are signed by the same words
 //! (`specs/Signing.antt`).
+//!
+//! Its tests: those of the crates above it.
 #![tactic(auto)]
 
 mod keyed;

@@ -22,9 +22,9 @@ pub struct LeafBook {
 // Clauses see which book it is, and how many leaves it has.
 impl Model for LeafBook {
     ghost use Rattle.std.specs.Prelude.{◌≡◌};
-    ghost use Rattle.leaf_book.specs.Book.{Book};
+    ghost use Rattle.leaf_book.specs.Book.{LeafBookParts};
 
-    ghost Value = { Book };
+    ghost Value = { LeafBookParts };
 
     ghost view = { λ book. record { table = book.table.shared.table_id; leaves = book.leaves } };
 

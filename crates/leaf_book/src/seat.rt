@@ -16,9 +16,9 @@ pub struct LeafSeat {
 // Clauses see the seat's book and what the seat knows. The share that it keeps is that of its view.
 impl Model for LeafSeat {
     ghost use Rattle.std.specs.Prelude.{◌≡◌, ◌<◌, []};
-    ghost use Rattle.leaf_book.specs.Book.{Seat};
+    ghost use Rattle.leaf_book.specs.Book.{LeafSeatParts};
 
-    ghost Value = { Seat };
+    ghost Value = { LeafSeatParts };
 
     ghost view = { λ s. record {
       book = record { table = s.seat.table_id; leaves = s.seat.me.0.leaves };

@@ -55,7 +55,7 @@ use Rattle.log_core.specs.Proposing.{proposal, proposed_value, proposing_checks,
 use Rattle.log_core.specs.Rolling.{rolling_checks, rolling_reply, rolling_row}
 use Rattle.log_core.specs.Row.{message_row, read_row, row}
 use Rattle.log_core.specs.Skipped.{signed_statuses, skip_checks, skip_reply, skip_row}
-use Rattle.log_core.specs.State.{CoreState, Input, Reply, passes, proposes, rolls, takes}
+use Rattle.log_core.specs.State.{CoreState, Input, LogStep, passes, proposes, rolls, takes}
 use Rattle.log_core.specs.Stated.{status_checks, status_reply, status_row}
 use Rattle.log_core.specs.Submit.{queueing, submit_checks, submit_reply, submit_row}
 use Rattle.log_core.proofs.KeptCore.{closed-same}
@@ -129,7 +129,7 @@ statuses-new keys me signed claims epoch (x ∷ statuses) all =
 
 -- ---- each row
 
-abbrev Sees : CoreState → List Claimed → Reply → Type 0
+abbrev Sees : CoreState → List Claimed → LogStep → Type 0
 Sees s claims reply = SeesClaims s.keys s.log.me reply.after.log.past.signed claims s.log.past.seen reply.after.log.past.seen
 
 -- what is seen behind a step is what stands here
@@ -140,7 +140,7 @@ closed-sees s claims counted more is all =
     subst (SeesClaims s.keys s.log.me (closed counted).0.past.signed claims s.log.past.seen) (sym ((closed-same counted).1 ∙ is))
     (these-new s.keys s.log.me (closed counted).0.past.signed claims s.log.past.seen more all)
 
-submit-sees : (s : CoreState) (change : Change) (reply : Reply) → submit_row s change ≡ Ok reply → Sees s (endorsements_in change) reply
+submit-sees : (s : CoreState) (change : Change) (reply : LogStep) → submit_row s change ≡ Ok reply → Sees s (endorsements_in change) reply
 unfolding submit_row
 submit-sees s change reply answer =
     let h = passed (submit_checks s change) (submit_reply s change) reply answer in
@@ -155,7 +155,7 @@ submit-sees s change reply answer =
     by false all =
         these-new s.keys s.log.me s.log.past.signed claims s.log.past.seen (endorsements_of change) (change-new s.keys s.log.me s.log.past.signed claims change all)
 
-proposed-sees : (s : CoreState) (p : Proposal) (reply : Reply) → proposed_row s p ≡ Ok reply → Sees s (proposal_signers p) reply
+proposed-sees : (s : CoreState) (p : Proposal) (reply : LogStep) → proposed_row s p ≡ Ok reply → Sees s (proposal_signers p) reply
 unfolding proposed_row
 proposed-sees s p reply answer =
     subst (Sees s claims) h.1
@@ -180,7 +180,7 @@ proposed-sees s p reply answer =
     first = subst (λ n. New s.keys s.log.me signed claims (seen_of (log_party p.log) (propose p.log n p.value.base p.value.root))) now
         (one-new s.keys s.log.me signed claims (signed_by (log_party p.log) (propose p.log p.epoch p.value.base p.value.root) p.signature) valid.0)
 
-ballot-sees : (s : CoreState) (log epoch : ℕ) (value : Value) (signature : List ℕ) (reply : Reply) → ballot_row s log epoch value signature ≡ Ok reply
+ballot-sees : (s : CoreState) (log epoch : ℕ) (value : Value) (signature : List ℕ) (reply : LogStep) → ballot_row s log epoch value signature ≡ Ok reply
     → Sees s (signed_by (log_party log) (vote_claim log epoch value) signature ∷ []) reply
 unfolding ballot_row
 ballot-sees s log epoch value signature reply answer =
@@ -196,7 +196,7 @@ ballot-sees s log epoch value signature reply answer =
     (one-new s.keys s.log.me signed claims c valid.0) in
     subst (Sees s claims) h.1 (closed-sees s claims counted more refl (one, tt))
 
-status-sees : (s : CoreState) (log epoch : ℕ) (value : Option Value) (signature : List ℕ) (reply : Reply) → status_row s log epoch value signature ≡ Ok reply
+status-sees : (s : CoreState) (log epoch : ℕ) (value : Option Value) (signature : List ℕ) (reply : LogStep) → status_row s log epoch value signature ≡ Ok reply
     → Sees s (signed_by (log_party log) (status_claim log epoch value) signature ∷ []) reply
 unfolding status_row
 status-sees s log epoch value signature reply answer =
@@ -212,7 +212,7 @@ status-sees s log epoch value signature reply answer =
     (one-new s.keys s.log.me signed claims c valid.0) in
     subst (Sees s claims) h.1 (closed-sees s claims counted more refl (one, tt))
 
-decision-sees : (s : CoreState) (d : Decision) (reply : Reply) → decision_row s d ≡ Ok reply → Sees s (decision_signers d) reply
+decision-sees : (s : CoreState) (d : Decision) (reply : LogStep) → decision_row s d ≡ Ok reply → Sees s (decision_signers d) reply
 unfolding decision_row
 decision-sees s d reply answer = subst (Sees s claims) h.1 (by (may_end s.log.past))
   where
@@ -247,7 +247,7 @@ decision-sees s d reply answer = subst (Sees s claims) h.1 (by (may_end s.log.pa
     by true = all
     by false = all
 
-skip-sees : (s : CoreState) (epoch : ℕ) (statuses : List LogStatus) (reply : Reply) → skip_row s epoch statuses ≡ Ok reply → Sees s (claimed_statuses epoch statuses) reply
+skip-sees : (s : CoreState) (epoch : ℕ) (statuses : List LogStatus) (reply : LogStep) → skip_row s epoch statuses ≡ Ok reply → Sees s (claimed_statuses epoch statuses) reply
 unfolding skip_row
 skip-sees s epoch statuses reply answer = subst (Sees s claims) h.1 (by (may_end s.log.past))
   where
@@ -275,7 +275,7 @@ skip-sees s epoch statuses reply answer = subst (Sees s claims) h.1 (by (may_end
     by true = all
     by false = all
 
-confirm-sees : (s : CoreState) (asked : ConfirmQuestion) (reply : Reply) → confirm_row s asked ≡ Ok reply → Sees s [] reply
+confirm-sees : (s : CoreState) (asked : ConfirmQuestion) (reply : LogStep) → confirm_row s asked ≡ Ok reply → Sees s [] reply
 unfolding confirm_row
 confirm-sees s asked reply answer =
     let h = passed (confirm_checks s asked) (confirm_reply s s.log.newest asked) reply answer in subst (Sees s []) h.1 (by s.log.newest)
@@ -289,7 +289,7 @@ learnt : (r : Result Learned LearnFault) (party : Party) (generation : ℕ) → 
 learnt (Ok how) party generation is = (how, refl)
 learnt (Err fault) party generation is = absurd cc
 
-roll_note-sees : (s : CoreState) (a : Announced) (reply : Reply) → roll_note_row s a ≡ Ok reply → Sees s (announced_in a) reply
+roll_note-sees : (s : CoreState) (a : Announced) (reply : LogStep) → roll_note_row s a ≡ Ok reply → Sees s (announced_in a) reply
 unfolding roll_note_row
 roll_note-sees s a reply answer =
     let h = passed (roll_note_checks s a) (roll_note_reply s a) reply answer in
@@ -301,7 +301,7 @@ roll_note-sees s a reply answer =
     (these-new s.keys s.log.me s.log.past.signed claims s.log.past.seen more
     (one-new s.keys s.log.me s.log.past.signed claims (signed_by a.party (roll_claim a) a.signature) valid.0, tt))
 
-rolling-sees : (s : CoreState) (key : LmsPublic) (reply : Reply) → rolling_row s key ≡ Ok reply → Sees s [] reply
+rolling-sees : (s : CoreState) (key : LmsPublic) (reply : LogStep) → rolling_row s key ≡ Ok reply → Sees s [] reply
 unfolding rolling_row
 rolling-sees s key reply answer =
     let h = passed (rolling_checks s) (rolling_reply s key) reply answer in
@@ -318,7 +318,7 @@ own-new : (s : CoreState) (counted : LogState) (t : SeenText) → t.party ≡ lo
     → New s.keys s.log.me (closed counted).0.past.signed [] t
 own-new s counted t own there = inl (own, subst (λ (book : RollBook). Contains (texts_of book) t.text) (sym (closed-same counted).2) there)
 
-proposing-sees : (s : CoreState) (reply : Reply) → proposing_row s ≡ Ok reply → Sees s [] reply
+proposing-sees : (s : CoreState) (reply : LogStep) → proposing_row s ≡ Ok reply → Sees s [] reply
 unfolding proposing_row
 proposing-sees s reply answer =
     let h = passed (proposing_checks s) (proposing_reply s) reply answer in
@@ -331,7 +331,7 @@ proposing-sees s reply answer =
     entry-has (after_entry s.log.past.signed first) (own_vote_text s.log value) (second-room s.log.past.signed first (own_vote_text s.log value) room) in
     subst (Sees s []) h.1 (closed-sees s [] counted (one ∷ []) refl (own-new s counted one refl there, tt))
 
-passing-sees : (s : CoreState) (reply : Reply) → passing_row s ≡ Ok reply → Sees s [] reply
+passing-sees : (s : CoreState) (reply : LogStep) → passing_row s ≡ Ok reply → Sees s [] reply
 unfolding passing_row
 passing-sees s reply answer = subst (Sees s []) h.1 (by (is_turn s.log.council s.log.me (epoch_of s.log + 1)))
   where
@@ -356,7 +356,7 @@ passing-sees s reply answer = subst (Sees s []) h.1 (by (is_turn s.log.council s
 
 -- ---- each input
 
-message-sees : (s : CoreState) (m : Message) (reply : Reply) → message_row s m ≡ Ok reply → Sees s (claimed_in m) reply
+message-sees : (s : CoreState) (m : Message) (reply : LogStep) → message_row s m ≡ Ok reply → Sees s (claimed_in m) reply
 message-sees s (messages.EndorseAsk owner cert) reply answer = absurd cc
 message-sees s (messages.Endorsed owner authority certificate signature) reply answer = absurd cc
 message-sees s (messages.Submit change) reply answer = submit-sees s change reply answer
@@ -375,11 +375,11 @@ message-sees s (messages.Confirmation client epoch name root body log log_signat
 message-sees s (messages.RollNote party generation key signature) reply answer =
     roll_note-sees s (record { party = party; generation = generation; key = key; signature = signature }) reply answer
 
-read-sees : (s : CoreState) (read : Result Message ℕ) (reply : Reply) → read_row s read ≡ Ok reply → Sees s (claimed_by read) reply
+read-sees : (s : CoreState) (read : Result Message ℕ) (reply : LogStep) → read_row s read ≡ Ok reply → Sees s (claimed_by read) reply
 read-sees s (Ok m) reply answer = message-sees s m reply answer
 read-sees s (Err place) reply answer = absurd cc
 
-pub input-sees : (s : CoreState) (input : Input) (reply : Reply) → row s input ≡ Ok reply → Sees s (claims_of input) reply
+pub input-sees : (s : CoreState) (input : Input) (reply : LogStep) → row s input ≡ Ok reply → Sees s (claims_of input) reply
 unfolding row claimed_in_bytes
 input-sees s (takes bytes) reply answer = read-sees s (message_in bytes) reply answer
 input-sees s proposes reply answer = proposing-sees s reply answer

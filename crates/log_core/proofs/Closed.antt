@@ -24,7 +24,7 @@ use Rattle.log_core.specs.Kept.{IsKeptCore}
 use Rattle.log_core.specs.Passing.{passing_checks, passing_judged, passing_reply, passing_row, status_drafts}
 use Rattle.log_sending.specs.Sending.{Composed, DraftMessage, none_composed, sealed, unsigned_of, with_drafts}
 use Rattle.party_keys.specs.Signers.{signed_by}
-use Rattle.log_core.specs.State.{CoreState, Reply}
+use Rattle.log_core.specs.State.{CoreState, LogStep}
 use Rattle.log_core.specs.Stated.{status_checks, status_judged, status_reply, status_row}
 use Rattle.log_sending.specs.declared.refusal.LogRefusal.{LogRefusal}
 use Rattle.log_sending.specs.declared.refusal.LogRefusal.TheVariants as refusals
@@ -36,7 +36,7 @@ use Rattle.log_sending.proofs.SignerLaws.{first-log}
 use Rattle.log_sending.proofs.Sealing.{sealed-drafts}
 
 -- a row that refuses leaves all as it was
-pub row-refused : (check : Check) (s : CoreState) (reply : Reply) (refusal : LogRefusal) → (refusal ≡ refusals.Memory) ⊎ (check ≡ Err refusal)
+pub row-refused : (check : Check) (s : CoreState) (reply : LogStep) (refusal : LogRefusal) → (refusal ≡ refusals.Memory) ⊎ (check ≡ Err refusal)
     → IsStep (Err refusal) s s (result_and check (Ok reply))
 row-refused check s reply refusal (inl wants) = (refl, inl wants)
 row-refused check s reply refusal (inr is) = (refl, inr (ap (λ c. result_and c (Ok reply)) is))

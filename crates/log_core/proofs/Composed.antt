@@ -31,7 +31,7 @@ use Rattle.log_core.specs.Rolling.{roll_draft, rolling_checks, rolling_reply, ro
 use Rattle.log_core.specs.Row.{row}
 use Rattle.log_sending.specs.Sending.{DraftMessage}
 use Rattle.log_core.specs.Skipped.{skip_checks, skip_reply, skip_row}
-use Rattle.log_core.specs.State.{CoreState, Input, Reply}
+use Rattle.log_core.specs.State.{CoreState, Input, LogStep}
 use Rattle.log_core.specs.Stated.{status_checks, status_reply, status_row}
 use Rattle.log_core.specs.Submit.{submit_checks, submit_reply, submit_row}
 use Rattle.log_sending.proofs.Blanks.{IsComposed}
@@ -42,7 +42,7 @@ use Rattle.log_core.proofs.ConfirmedDrafts.{confirmed-is_draft}
 use Rattle.ar_base.proofs.Lists.{both-lists}
 
 -- what a reply sends is composed, with the leaves of the book behind it
-abbrev Composed : Reply → Type 0
+abbrev Composed : LogStep → Type 0
 Composed reply = IsComposed reply.after.log.past.signed reply.after.signature_len reply.unsigned
 
 -- ---- the closing rule
@@ -71,7 +71,7 @@ open-composed s after draft is = record { drafts = draft ∷ []; ended = None; i
 
 -- ---- each row
 
-proposing-composed : (s : CoreState) (reply : Reply) → proposing_row s ≡ Ok reply → Composed reply
+proposing-composed : (s : CoreState) (reply : LogStep) → proposing_row s ≡ Ok reply → Composed reply
 unfolding proposing_row
 proposing-composed s reply answer =
     let h = passed (proposing_checks s) (proposing_reply s) reply answer in
@@ -80,7 +80,7 @@ proposing-composed s reply answer =
     propose-draft Logs s.log.me (epoch_of s.log) value.base value.root (proposal s) s.signature_len (text_of (propose_claim s.log value)) in
     subst Composed h.1 (closing-composed s s.log (proposal_draft s value (proposal s) ∷ []) (after_propose s.log value (proposal s)) (one, tt))
 
-passing-composed : (s : CoreState) (reply : Reply) → passing_row s ≡ Ok reply → Composed reply
+passing-composed : (s : CoreState) (reply : LogStep) → passing_row s ≡ Ok reply → Composed reply
 unfolding passing_row
 passing-composed s reply answer =
     let h = passed (passing_checks s) (passing_reply s) reply answer in
@@ -94,7 +94,7 @@ passing-composed s reply answer =
       tt,
     )
 
-rolling-composed : (s : CoreState) (key : LmsPublic) (reply : Reply) → rolling_row s key ≡ Ok reply → Composed reply
+rolling-composed : (s : CoreState) (key : LmsPublic) (reply : LogStep) → rolling_row s key ≡ Ok reply → Composed reply
 unfolding rolling_row
 rolling-composed s key reply answer =
     let h = passed (rolling_checks s) (rolling_reply s key) reply answer in
@@ -106,13 +106,13 @@ rolling-composed s key reply answer =
       each = (roll-is_draft Logs (log_party s.log.me) newest key s.signature_len (roll_text (log_party s.log.me) newest key), tt);
     })
 
-submit-composed : (s : CoreState) (change : Change) (reply : Reply) → submit_row s change ≡ Ok reply → Composed reply
+submit-composed : (s : CoreState) (change : Change) (reply : LogStep) → submit_row s change ≡ Ok reply → Composed reply
 unfolding submit_row
 submit-composed s change reply answer =
     let h = passed (submit_checks s change) (submit_reply s change) reply answer in
     subst Composed h.1 (record { drafts = []; ended = None; is = refl; each = tt })
 
-proposed-composed : (s : CoreState) (p : Proposal) (reply : Reply) → proposed_row s p ≡ Ok reply → Composed reply
+proposed-composed : (s : CoreState) (p : Proposal) (reply : LogStep) → proposed_row s p ≡ Ok reply → Composed reply
 unfolding proposed_row
 proposed-composed s p reply answer =
     let h = passed (proposed_checks s p) (proposed_reply s p) reply answer in
@@ -120,31 +120,31 @@ proposed-composed s p reply answer =
     (open-composed s (after_vote s.log p.log p.value p.changes) (ballot_draft s p.value)
     (ballot-is_draft (One (log_party (turn_of s.log.council (epoch_of s.log)))) s.log.me (epoch_of s.log) p.value.base p.value.root s.signature_len (own_vote_text s.log p.value)))
 
-ballot-composed : (s : CoreState) (log epoch : ℕ) (value : Value) (signature : List ℕ) (reply : Reply) → ballot_row s log epoch value signature ≡ Ok reply → Composed reply
+ballot-composed : (s : CoreState) (log epoch : ℕ) (value : Value) (signature : List ℕ) (reply : LogStep) → ballot_row s log epoch value signature ≡ Ok reply → Composed reply
 unfolding ballot_row
 ballot-composed s log epoch value signature reply answer =
     let h = passed (ballot_checks s log epoch value signature) (ballot_reply s log value signature) reply answer in
     subst Composed h.1 (closing-composed s s.log [] (after_ballot s.log log value signature) tt)
 
-status-composed : (s : CoreState) (log epoch : ℕ) (value : Option Value) (signature : List ℕ) (reply : Reply) → status_row s log epoch value signature ≡ Ok reply → Composed reply
+status-composed : (s : CoreState) (log epoch : ℕ) (value : Option Value) (signature : List ℕ) (reply : LogStep) → status_row s log epoch value signature ≡ Ok reply → Composed reply
 unfolding status_row
 status-composed s log epoch value signature reply answer =
     let h = passed (status_checks s log epoch value signature) (status_reply s log value signature) reply answer in
     subst Composed h.1 (closing-composed s s.log [] (after_status_seen s.log log value (Some signature)) tt)
 
-decision-composed : (s : CoreState) (d : Decision) (reply : Reply) → decision_row s d ≡ Ok reply → Composed reply
+decision-composed : (s : CoreState) (d : Decision) (reply : LogStep) → decision_row s d ≡ Ok reply → Composed reply
 unfolding decision_row
 decision-composed s d reply answer =
     let h = passed (decision_checks s d) (decision_reply s d) reply answer in
     subst Composed h.1 (record { drafts = []; ended = (decision_reply s d).unsigned.sent.ended; is = refl; each = tt })
 
-skip-composed : (s : CoreState) (epoch : ℕ) (statuses : List LogStatus) (reply : Reply) → skip_row s epoch statuses ≡ Ok reply → Composed reply
+skip-composed : (s : CoreState) (epoch : ℕ) (statuses : List LogStatus) (reply : LogStep) → skip_row s epoch statuses ≡ Ok reply → Composed reply
 unfolding skip_row
 skip-composed s epoch statuses reply answer =
     let h = passed (skip_checks s epoch statuses) (skip_reply s statuses) reply answer in
     subst Composed h.1 (record { drafts = []; ended = (skip_reply s statuses).unsigned.sent.ended; is = refl; each = tt })
 
-confirm-composed : (s : CoreState) (asked : ConfirmQuestion) (reply : Reply) → confirm_row s asked ≡ Ok reply → Composed reply
+confirm-composed : (s : CoreState) (asked : ConfirmQuestion) (reply : LogStep) → confirm_row s asked ≡ Ok reply → Composed reply
 unfolding confirm_row
 confirm-composed s asked reply answer =
     let h = passed (confirm_checks s asked) (confirm_reply s s.log.newest asked) reply answer in
@@ -154,13 +154,13 @@ confirm-composed s asked reply answer =
     by None = record { drafts = []; ended = None; is = refl; each = tt }
     by (Some w) = open-composed s (after_confirm s.log w asked.name) (confirmed_draft s w asked) (confirmed-is_draft s w asked)
 
-roll_note-composed : (s : CoreState) (a : Announced) (reply : Reply) → roll_note_row s a ≡ Ok reply → Composed reply
+roll_note-composed : (s : CoreState) (a : Announced) (reply : LogStep) → roll_note_row s a ≡ Ok reply → Composed reply
 unfolding roll_note_row
 roll_note-composed s a reply answer =
     let h = passed (roll_note_checks s a) (roll_note_reply s a) reply answer in
     subst Composed h.1 (record { drafts = []; ended = None; is = refl; each = tt })
 
-pub row-composed : (s : CoreState) (input : Input) (reply : Reply) → row s input ≡ Ok reply → Composed reply
+pub row-composed : (s : CoreState) (input : Input) (reply : LogStep) → row s input ≡ Ok reply → Composed reply
 row-composed s input reply answer = row-gives Composed s (record {
   submit = submit-composed s;
   proposed = proposed-composed s;

@@ -28,7 +28,7 @@ use Rattle.log_core.specs.Kept.{IsKeptCore}
 use Rattle.log_sending.specs.Sendable.{AreVoices}
 use Rattle.log_sending.specs.Sending.{Composed, none_composed, sealed, sent_votes, with_draft}
 use Rattle.log_sending.specs.Signers.{known}
-use Rattle.log_core.specs.State.{LogAnswer, CoreState, Reply}
+use Rattle.log_core.specs.State.{LogAnswer, CoreState, LogStep}
 use Rattle.log_sending.specs.declared.refusal.LogRefusal.{LogRefusal}
 use Rattle.log_sending.specs.declared.refusal.LogRefusal.TheVariants as refusals
 use Rattle.log_core.proofs.KeptEndings.{kept-confirm}
@@ -74,11 +74,11 @@ some-is newest w is = subst IsSome (sym is) refl
 pub has-newest : (s : CoreState) (asked : ConfirmQuestion) (composed : Composed) → confirmation_prepared s asked ≡ Ok composed → IsSome s.log.newest
 has-newest s asked composed is = let d = its-decision s asked composed is in some-is s.log.newest d.0 d.1
 
-abbrev answer-of : Result Composed LogRefusal → Reply → LogAnswer
+abbrev answer-of : Result Composed LogRefusal → LogStep → LogAnswer
 answer-of (Ok composed) reply = Ok reply
 answer-of (Err refusal) reply = Err refusal
 
-refused-by : (one other leaf : Check) (value : Composed) (reply : Reply) (refusal : LogRefusal) → given (one ∷ other ∷ []) value ≡ Err refusal
+refused-by : (one other leaf : Check) (value : Composed) (reply : LogStep) (refusal : LogRefusal) → given (one ∷ other ∷ []) value ≡ Err refusal
     → given (one ∷ other ∷ leaf ∷ []) reply ≡ Err refusal
 refused-by (Ok u) (Ok v) leaf value reply refusal is = absurd cc
 refused-by (Ok u) (Err other) leaf value reply refusal is = ap (λ (r : Result Composed LogRefusal). answer-of r reply) is
@@ -160,7 +160,7 @@ made-by s asked composed w due new unsigned kept prepared decided due-is news se
     row-made s asked composed w due kept prepared decided due-is
     ∙ sym (ap (λ (u : Unsigned). made u (core-with s new)) all ∙ ap (λ (n : LogParts). made reply.unsigned (core-with s n)) news)
   where
-    reply : Reply
+    reply : LogStep
     reply = open_reply s (after_confirm s.log w asked.name) (confirmed_draft s w asked ∷ [])
 
     book : RollBook

@@ -20,16 +20,16 @@ use Rattle.log_core.specs.Proposing.{proposing_row}
 use Rattle.log_core.specs.Rolling.{rolling_row}
 use Rattle.log_core.specs.Row.{message_row, read_row, row}
 use Rattle.log_core.specs.Skipped.{skip_row}
-use Rattle.log_core.specs.State.{LogAnswer, CoreState, Input, Reply, passes, proposes, rolls, takes}
+use Rattle.log_core.specs.State.{LogAnswer, CoreState, Input, LogStep, passes, proposes, rolls, takes}
 use Rattle.log_core.specs.Stated.{status_row}
 use Rattle.log_core.specs.Submit.{submit_row}
 
 -- a row's reply, where it does not refuse, has this property
-abbrev pub RepliesWith : (Reply → Type 0) → LogAnswer → Type 0
-RepliesWith P answer = (reply : Reply) → answer ≡ Ok reply → P reply
+abbrev pub RepliesWith : (LogStep → Type 0) → LogAnswer → Type 0
+RepliesWith P answer = (reply : LogStep) → answer ≡ Ok reply → P reply
 
 -- so has the reply of each row but that of a Roll
-pub record EachReplies (P : Reply → Type 0) (s : CoreState) : Type 0 where
+pub record EachReplies (P : LogStep → Type 0) (s : CoreState) : Type 0 where
   pub submit : (change : Change) → RepliesWith P (submit_row s change)
   pub proposed : (p : Proposal) → RepliesWith P (proposed_row s p)
   pub ballot : (log epoch : ℕ) (value : Value) (signature : List ℕ) → RepliesWith P (ballot_row s log epoch value signature)
@@ -41,7 +41,7 @@ pub record EachReplies (P : Reply → Type 0) (s : CoreState) : Type 0 where
   pub proposing : RepliesWith P (proposing_row s)
   pub passing : RepliesWith P (passing_row s)
 
-message-gives : (P : Reply → Type 0) (s : CoreState) → EachReplies P s → (m : Message) → RepliesWith P (message_row s m)
+message-gives : (P : LogStep → Type 0) (s : CoreState) → EachReplies P s → (m : Message) → RepliesWith P (message_row s m)
 message-gives P s each (messages.EndorseAsk owner cert) reply answer = absurd cc
 message-gives P s each (messages.Endorsed owner authority certificate signature) reply answer = absurd cc
 message-gives P s each (messages.Submit change) reply answer = each.submit change reply answer
@@ -62,12 +62,12 @@ message-gives P s each (messages.Confirmation client epoch name root body log lo
 message-gives P s each (messages.RollNote party generation key signature) reply answer =
     each.roll_note (record { party = party; generation = generation; key = key; signature = signature }) reply answer
 
-read-gives : (P : Reply → Type 0) (s : CoreState) → EachReplies P s → (read : Result Message ℕ) → RepliesWith P (read_row s read)
+read-gives : (P : LogStep → Type 0) (s : CoreState) → EachReplies P s → (read : Result Message ℕ) → RepliesWith P (read_row s read)
 read-gives P s each (Ok m) reply answer = message-gives P s each m reply answer
 read-gives P s each (Err place) reply answer = absurd cc
 
 -- the reply to each input but a Roll
-pub plain-gives : (P : Reply → Type 0) (s : CoreState) → EachReplies P s → (input : Input) → IsPlain input → RepliesWith P (row s input)
+pub plain-gives : (P : LogStep → Type 0) (s : CoreState) → EachReplies P s → (input : Input) → IsPlain input → RepliesWith P (row s input)
 unfolding row
 plain-gives P s each (takes bytes) plain reply answer = read-gives P s each (message_in bytes) reply answer
 plain-gives P s each proposes plain reply answer = each.proposing reply answer
@@ -75,7 +75,7 @@ plain-gives P s each passes plain reply answer = each.passing reply answer
 plain-gives P s each (rolls key) plain reply answer = absurd plain
 
 -- the reply to each input
-pub row-gives : (P : Reply → Type 0) (s : CoreState) → EachReplies P s → ((key : LmsPublic) → RepliesWith P (rolling_row s key)) → (input : Input)
+pub row-gives : (P : LogStep → Type 0) (s : CoreState) → EachReplies P s → ((key : LmsPublic) → RepliesWith P (rolling_row s key)) → (input : Input)
     → RepliesWith P (row s input)
 unfolding row
 row-gives P s each rolling (takes bytes) reply answer = read-gives P s each (message_in bytes) reply answer

@@ -25,21 +25,21 @@ use Rattle.log_core.specs.Proposed.{Proposal, proposed_checks, proposed_reply, p
 use Rattle.log_core.specs.Proposing.{proposal, proposal_draft, proposed_value, proposing_checks, proposing_reply, proposing_row}
 use Rattle.log_core.specs.Rolling.{rolling_checks, rolling_reply, rolling_row}
 use Rattle.log_core.specs.Row.{row}
-use Rattle.log_sending.specs.Sending.{DraftMessage, letter_of}
+use Rattle.log_sending.specs.Sending.{DraftMessage, sent_letter}
 use Rattle.log_core.specs.Skipped.{skip_checks, skip_reply, skip_row}
-use Rattle.log_core.specs.State.{LogAnswer, CoreState, Input, Reply, most_sent}
+use Rattle.log_core.specs.State.{LogAnswer, CoreState, Input, LogStep, most_sent}
 use Rattle.log_core.specs.Stated.{status_checks, status_reply, status_row}
 use Rattle.log_core.specs.Submit.{submit_checks, submit_reply, submit_row}
 use Rattle.log_core.proofs.EachRow.{row-gives}
 use Rattle.log_core.proofs.Passed.{passed}
 
 -- a reply sends few messages
-abbrev IsFew : Reply → Type 0
+abbrev IsFew : LogStep → Type 0
 IsFew reply = length reply.unsigned.sent.messages ≤ most_sent
 
 -- so does a row, where it answers
 abbrev SendsFew : LogAnswer → Type 0
-SendsFew answer = (reply : Reply) → answer ≡ Ok reply → IsFew reply
+SendsFew answer = (reply : LogStep) → answer ≡ Ok reply → IsFew reply
 
 -- ---- the closing rule
 
@@ -55,14 +55,14 @@ closing-one (closings.Skipped statuses) len before after = omega arith
 closing-few : (s : CoreState) (before : LogState) (drafts : List DraftMessage) (x : LogState × Closing) → length drafts ≤ 1 → IsFew (closing_reply s before drafts x)
 closing-few s before drafts x one =
     let more : List DraftMessage = closing_drafts x.1 s.signature_len before x.0 in
-    let all : length (map letter_of (drafts ++ more)) ≡ length (drafts ++ more) = length-map (drafts ++ more) letter_of in
+    let all : length (map sent_letter (drafts ++ more)) ≡ length (drafts ++ more) = length-map (drafts ++ more) sent_letter in
     let both : length (drafts ++ more) ≡ length drafts + length more = length-append drafts more in
     let other : length more ≤ 1 = closing-one x.1 s.signature_len before x.0 in
     omega (arith, all, both, other, one)
 
 -- ---- each row
 
-given-few : (checks : List Check) (reply : Reply) → IsFew reply → SendsFew (given checks reply)
+given-few : (checks : List Check) (reply : LogStep) → IsFew reply → SendsFew (given checks reply)
 given-few checks reply few r answer = subst IsFew (passed checks reply r answer).1 few
 
 proposing-few : (s : CoreState) → SendsFew (proposing_row s)

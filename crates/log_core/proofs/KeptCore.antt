@@ -15,7 +15,7 @@ use Rattle.ar_council.proofs.Lists.{Within}
 use Rattle.ar_council.specs.Council.{Council}
 use Rattle.epoch_log.specs.Ending.{closed, closed_by, closed_by_statuses, decided, excludes_all, has_quorum, may_end, own_vote, skipped, votes_for}
 use Rattle.epoch_log.specs.Right.{SawEndorsements}
-use Rattle.epoch_log.specs.State.{IsKept, LogState, epoch_of, reports_of, table_of}
+use Rattle.epoch_log.specs.State.{IsKeptLog, LogState, epoch_of, reports_of, table_of}
 use Rattle.epoch_log.specs.Told.{value_of}
 use Rattle.epoch_log.specs.declared.entries.Closing.{Closing}
 use Rattle.epoch_log.specs.declared.entries.Closing.TheVariants as closings
@@ -90,7 +90,7 @@ queue-few (closings.Skipped statuses) after queue = omega arith
 
 -- ---- a core
 
-pub core-kept : (s : CoreState) (after : LogState) (queue : List Change) → IsKeptCore s → IsKept after → CanBeSent after → after.council ≡ s.log.council
+pub core-kept : (s : CoreState) (after : LogState) (queue : List Change) → IsKeptCore s → IsKeptLog after → CanBeSent after → after.council ≡ s.log.council
     → All (SawEndorsements after.past.seen) queue → All (WasQueued s.keys) queue → length queue ≤ 256
     → IsKeptCore (core_after s after queue)
 core-kept s after queue kept log can same endorsed queued few = record {
@@ -105,12 +105,12 @@ core-kept s after queue kept log can same endorsed queued few = record {
 }
 
 -- a step that goes on in the epoch
-pub open-kept : (s : CoreState) (after : LogState) (drafts : List DraftMessage) → IsKeptCore s → IsKept after → CanBeSent after → after.council ≡ s.log.council
+pub open-kept : (s : CoreState) (after : LogState) (drafts : List DraftMessage) → IsKeptCore s → IsKeptLog after → CanBeSent after → after.council ≡ s.log.council
     → Within s.log.past.seen after.past.seen → IsKeptCore (open_reply s after drafts).after
 open-kept s after drafts kept log can same within = core-kept s after s.queue kept log can same (saw-more s.log.past.seen after.past.seen within s.queue kept.endorsed) kept.queued kept.few
 
 -- a step that ends with the closing rule
-pub closing-kept : (s : CoreState) (before : LogState) (drafts : List DraftMessage) (x : LogState × Closing) → IsKeptCore s → IsKept x.0 → CanBeSent x.0 → x.0.council ≡ s.log.council
+pub closing-kept : (s : CoreState) (before : LogState) (drafts : List DraftMessage) (x : LogState × Closing) → IsKeptCore s → IsKeptLog x.0 → CanBeSent x.0 → x.0.council ≡ s.log.council
     → Within s.log.past.seen x.0.past.seen → IsKeptCore (closing_reply s before drafts x).after
 closing-kept s before drafts x kept log can same within =
     core-kept s x.0 (queue_after x.1 x.0 s.queue) kept log can same
@@ -119,7 +119,7 @@ closing-kept s before drafts x kept log can same within =
     (omega (arith, queue-few x.1 x.0 s.queue, kept.few))
 
 -- the same, where what the log did was counted before the rule
-pub closed-kept : (s : CoreState) (before : LogState) (drafts : List DraftMessage) (counted : LogState) → IsKeptCore s → IsKept (closed counted).0 → CanBeSent counted → counted.council ≡ s.log.council
+pub closed-kept : (s : CoreState) (before : LogState) (drafts : List DraftMessage) (counted : LogState) → IsKeptCore s → IsKeptLog (closed counted).0 → CanBeSent counted → counted.council ≡ s.log.council
     → Within s.log.past.seen counted.past.seen → IsKeptCore (closing_reply s before drafts (closed counted)).after
 closed-kept s before drafts counted kept log can same within =
     let rule = closed-same counted in

@@ -52,18 +52,18 @@ use Rattle.epoch_log.proofs.Read.{table-skipped}
 use Rattle.epoch_log.specs.Calls.{AreEndorsers, MayDecide, MaySkip, SignedStatus, after_confirm, after_skip, confirmation_text, decision_seen, seeing, statuses_seen}
 use Rattle.epoch_log.specs.Ending.{decided, may_end, skipped}
 use Rattle.epoch_log.specs.Right.{IsRightDecision, SawEndorsements}
-use Rattle.epoch_log.specs.State.{IsKept, IsNewest, IsNewestDecision, LogState, epoch_of, reports_of, table_of}
+use Rattle.epoch_log.specs.State.{IsKeptLog, KeepsNewest, IsNewestDecision, LogState, epoch_of, reports_of, table_of}
 use Rattle.epoch_log.specs.declared.entries.Newest.{Newest}
 use Rattle.log_sending.specs.Closings.{still_wanted}
 use Rattle.log_core.specs.Confirming.{ConfirmQuestion, confirm_checks, confirm_reply, confirm_row, confirmed_draft, leaf_to_confirm}
 use Rattle.log_core.specs.Decided.{Decision, decision_checks, decision_reply, decision_row, decision_signers, decision_state, plain_votes}
 use Rattle.log_core.specs.Learning.{is_learned, roll_note_checks, roll_note_reply, roll_note_row}
-use Rattle.log_core.specs.Row.{IsInput, message_row, read_row, row}
+use Rattle.log_core.specs.Row.{IsLogInput, message_row, read_row, row}
 use Rattle.log_core.specs.Rolling.{rolling_checks, rolling_reply, rolling_row}
 use Rattle.ar_claims.specs.Lists.{endorsements_in, claimed_votes}
 use Rattle.log_core.specs.Skipped.{signed_statuses, skip_checks, skip_reply, skip_row}
 use Rattle.log_core.specs.Kept.{IsKeptCore, WasQueued}
-use Rattle.log_core.specs.State.{CoreState, Input, Reply, passes, proposes, rolls, takes}
+use Rattle.log_core.specs.State.{CoreState, Input, LogStep, passes, proposes, rolls, takes}
 use Rattle.log_sending.proofs.Ascending.{each-fits, rises}
 use Rattle.log_sending.proofs.Checked.{a-quorum, its-base, none-wins, not-last, room}
 use Rattle.log_core.proofs.Passed.{passed}
@@ -158,7 +158,7 @@ decision-may s d kept digests are votes hold = record {
     leads : (after : Table) × ((apply (table_of s.log) (epoch_of s.log) d.changes ≡ Some after) × (root_of after ≡ d.value.root))
     leads = applied (table_of s.log) (epoch_of s.log) d.changes d.value.root hold.1.1.1.0 hold.1.1.1.1.0
 
-pub kept-decision : (s : CoreState) (d : Decision) (reply : Reply) → IsKeptCore s → IsValue d.value → All IsChange d.changes → AreVotes d.votes
+pub kept-decision : (s : CoreState) (d : Decision) (reply : LogStep) → IsKeptCore s → IsValue d.value → All IsChange d.changes → AreVotes d.votes
     → decision_row s d ≡ Ok reply → IsKeptCore reply.after
 unfolding decision_row
 kept-decision s d reply kept digests are votes answer = subst KeepsReply h.1 here
@@ -195,7 +195,7 @@ stated-values : (statuses : List LogStatus) → AllByRecursion IsStatus statuses
 stated-values [] all = tt
 stated-values (x ∷ statuses) all = (all.0.1, stated-values statuses all.1)
 
-pub kept-skip_row : (s : CoreState) (epoch : ℕ) (statuses : List LogStatus) (reply : Reply) → IsKeptCore s → lists.AreStatuses statuses
+pub kept-skip_row : (s : CoreState) (epoch : ℕ) (statuses : List LogStatus) (reply : LogStep) → IsKeptCore s → lists.AreLogStatuses statuses
     → skip_row s epoch statuses ≡ Ok reply → IsKeptCore reply.after
 unfolding skip_row
 kept-skip_row s epoch statuses reply kept are answer = subst KeepsReply h.1 here
@@ -224,12 +224,12 @@ kept-skip_row s epoch statuses reply kept are answer = subst KeepsReply h.1 here
         core-kept s (after_skip s.log signed) s.queue kept (kept-skip s.log signed kept.log may) (skip-can s.log signed kept.sendable) grows.0
         (saw-more s.log.past.seen (after_skip s.log signed).past.seen grows.1 s.queue kept.endorsed) kept.queued kept.few
 
-pub skip-leaves : (s : CoreState) (epoch : ℕ) (statuses : List LogStatus) (reply : Reply) → IsKeptCore s → skip_row s epoch statuses ≡ Ok reply
+pub skip-leaves : (s : CoreState) (epoch : ℕ) (statuses : List LogStatus) (reply : LogStep) → IsKeptCore s → skip_row s epoch statuses ≡ Ok reply
     → (table_of reply.after.log ≡ table_of s.log) × (reply.after.queue ≡ s.queue)
 unfolding skip_row
 skip-leaves s epoch statuses reply kept answer =
     let h = passed (skip_checks s epoch statuses) (skip_reply s statuses) reply answer in
-    subst (λ (r : Reply). (table_of r.after.log ≡ table_of s.log) × (r.after.queue ≡ s.queue)) h.1 (by (may_end s.log.past), refl)
+    subst (λ (r : LogStep). (table_of r.after.log ≡ table_of s.log) × (r.after.queue ≡ s.queue)) h.1 (by (may_end s.log.past), refl)
   where
     seen : LogState
     seen = seeing s.log (statuses_seen (epoch_of s.log) (signed_statuses statuses))
@@ -240,9 +240,9 @@ skip-leaves s epoch statuses reply kept answer =
 
 -- ---- ConfirmAsk
 
-decided-root : (s : LogState) (w : Newest) → IsKept s → s.newest ≡ Some w → IsDigest w.root
+decided-root : (s : LogState) (w : Newest) → IsKeptLog s → s.newest ≡ Some w → IsDigest w.root
 decided-root s w kept is =
-    let last : IsNewestDecision s.council s.past.seen s.past.ended w = subst (IsNewest s.council s.past.seen s.past.ended) is kept.newest in
+    let last : IsNewestDecision s.council s.past.seen s.past.ended w = subst (KeepsNewest s.council s.past.seen s.past.ended) is kept.newest in
     let right : IsRightDecision s.council s.past.seen s.past.ended w.epoch last.changes w.root = kept.honest.decides_rightly w.epoch last.changes w.root last.decided in
     subst IsDigest right.leads.reaches.is_root (root-digest right.leads.reaches.table)
 
@@ -256,7 +256,7 @@ confirm-by s asked (Some w) is kept named leaf =
     (room s.log.past.signed (confirmation_text s.log w asked.name ∷ []) leaf))
     (confirm-can s.log w asked.name kept.sendable) refl (λ x there. there)
 
-pub kept-confirm : (s : CoreState) (asked : ConfirmQuestion) (reply : Reply) → IsKeptCore s → IsName asked.name → confirm_row s asked ≡ Ok reply → IsKeptCore reply.after
+pub kept-confirm : (s : CoreState) (asked : ConfirmQuestion) (reply : LogStep) → IsKeptCore s → IsName asked.name → confirm_row s asked ≡ Ok reply → IsKeptCore reply.after
 unfolding confirm_row
 kept-confirm s asked reply kept named answer =
     let h = passed (confirm_checks s asked) (confirm_reply s s.log.newest asked) reply answer in
@@ -278,7 +278,7 @@ note-member keys a is =
     learnt-verified (verified keys a.party text a.signature) (slice_get (keys_of keys a.party) (a.generation + 1)) a.key a.party a.generation is in
     member keys a.party (verified-has (keys_of keys a.party) a.party text a.signature fine)
 
-pub kept-roll_note : (s : CoreState) (a : Announced) (reply : Reply) → IsKeptCore s → roll_note_row s a ≡ Ok reply → IsKeptCore reply.after
+pub kept-roll_note : (s : CoreState) (a : Announced) (reply : LogStep) → IsKeptCore s → roll_note_row s a ≡ Ok reply → IsKeptCore reply.after
 unfolding roll_note_row
 kept-roll_note s a reply kept answer = subst KeepsReply h.1 (record {
   log = kept-learn s.log a kept.log (of-council (λ c. IsMember c a.party) s kept (note-member s.keys a h.0.0));
@@ -299,7 +299,7 @@ kept-roll_note s a reply kept answer = subst KeepsReply h.1 (record {
 
 -- ---- the order to roll
 
-pub kept-rolling_row : (s : CoreState) (key : LmsPublic) (reply : Reply) → IsKeptCore s → IsKeyText (key_text key) → IsTrue (is_readable (key_text key))
+pub kept-rolling_row : (s : CoreState) (key : LmsPublic) (reply : LogStep) → IsKeptCore s → IsKeyText (key_text key) → IsTrue (is_readable (key_text key))
     → rolling_row s key ≡ Ok reply → IsKeptCore reply.after
 unfolding rolling_row
 kept-rolling_row s key reply kept is-key readable answer = subst KeepsReply h.1 (record {
@@ -323,7 +323,7 @@ kept-rolling_row s key reply kept is-key readable answer = subst KeepsReply h.1 
 
 -- ---- each message
 
-pub kept-message : (s : CoreState) (m : Message) (reply : Reply) → IsKeptCore s → IsMessage m → message_row s m ≡ Ok reply → IsKeptCore reply.after
+pub kept-message : (s : CoreState) (m : Message) (reply : LogStep) → IsKeptCore s → IsMessage m → message_row s m ≡ Ok reply → IsKeptCore reply.after
 kept-message s (messages.EndorseAsk owner cert) reply kept is answer = absurd cc
 kept-message s (messages.Endorsed owner authority certificate signature) reply kept is answer = absurd cc
 kept-message s (messages.Submit change) reply kept is answer = kept-submit s change reply kept is answer
@@ -348,12 +348,12 @@ kept-message s (messages.RollNote party generation key signature) reply kept is 
 
 -- ---- each input
 
-read-kept : (s : CoreState) (bytes : List ℕ) (read : Result Message ℕ) (reply : Reply) → message_in bytes ≡ read → IsKeptCore s → AreBytes bytes
+read-kept : (s : CoreState) (bytes : List ℕ) (read : Result Message ℕ) (reply : LogStep) → message_in bytes ≡ read → IsKeptCore s → AreBytes bytes
     → read_row s read ≡ Ok reply → IsKeptCore reply.after
 read-kept s bytes (Ok m) reply was kept are answer = kept-message s m reply kept ((only_messages bytes m are).0 was).0 answer
 read-kept s bytes (Err place) reply was kept are answer = absurd cc
 
-pub kept-row : (s : CoreState) (input : Input) (reply : Reply) → IsKeptCore s → IsInput input → row s input ≡ Ok reply → IsKeptCore reply.after
+pub kept-row : (s : CoreState) (input : Input) (reply : LogStep) → IsKeptCore s → IsLogInput input → row s input ≡ Ok reply → IsKeptCore reply.after
 unfolding row
 kept-row s (takes bytes) reply kept is answer = read-kept s bytes (message_in bytes) reply refl kept is answer
 kept-row s proposes reply kept is answer = kept-proposing s reply kept answer

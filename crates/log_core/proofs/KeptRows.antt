@@ -38,7 +38,7 @@ use Rattle.log_core.specs.Proposing.{proposal, proposal_draft, proposed_value, p
 use Rattle.ar_claims.specs.Lists.{endorsements_in}
 use Rattle.log_core.specs.Stated.{status_checks, status_reply, status_row}
 use Rattle.log_core.specs.Kept.{IsKeptCore, WasQueued}
-use Rattle.log_core.specs.State.{CoreState, Reply}
+use Rattle.log_core.specs.State.{CoreState, LogStep}
 use Rattle.log_sending.specs.Queued.{is_queued}
 use Rattle.log_core.specs.Submit.{queueing, submit_checks, submit_reply, submit_row}
 use Rattle.log_sending.specs.Walk.{most_change_bytes, most_changes}
@@ -58,7 +58,7 @@ of-council P s kept fact = subst P (sym kept.council) fact
 
 -- ---- Submit
 
-pub kept-submit : (s : CoreState) (change : Change) (reply : Reply) → IsKeptCore s → IsChange change → submit_row s change ≡ Ok reply → IsKeptCore reply.after
+pub kept-submit : (s : CoreState) (change : Change) (reply : LogStep) → IsKeptCore s → IsChange change → submit_row s change ≡ Ok reply → IsKeptCore reply.after
 unfolding submit_row
 kept-submit s change reply kept is-change answer = subst KeepsReply h.1 (by (is_queued s.queue change) h.0.1.1.0)
   where
@@ -87,7 +87,7 @@ kept-submit s change reply kept is-change answer = subst KeepsReply h.1 (by (is_
 
 -- ---- Ballot
 
-pub kept-ballot_row : (s : CoreState) (log epoch : ℕ) (value : Value) (signature : List ℕ) (reply : Reply) → IsKeptCore s → IsSignature signature
+pub kept-ballot_row : (s : CoreState) (log epoch : ℕ) (value : Value) (signature : List ℕ) (reply : LogStep) → IsKeptCore s → IsSignature signature
     → ballot_row s log epoch value signature ≡ Ok reply → IsKeptCore reply.after
 unfolding ballot_row
 kept-ballot_row s log epoch value signature reply kept fits answer =
@@ -102,7 +102,7 @@ kept-ballot_row s log epoch value signature reply kept fits answer =
 
 -- ---- StatusNote
 
-pub kept-status_row : (s : CoreState) (log epoch : ℕ) (value : Option Value) (signature : List ℕ) (reply : Reply) → IsKeptCore s → IfSome value IsValue → IsSignature signature
+pub kept-status_row : (s : CoreState) (log epoch : ℕ) (value : Option Value) (signature : List ℕ) (reply : LogStep) → IsKeptCore s → IfSome value IsValue → IsSignature signature
     → status_row s log epoch value signature ≡ Ok reply → IsKeptCore reply.after
 unfolding status_row
 kept-status_row s log epoch value signature reply kept are fits answer =
@@ -136,7 +136,7 @@ state-grows s = by (is_turn s.council s.me (epoch_of s + 1))
         (rule.0, subst (Within s.past.seen) (sym rule.1) (seen-keeps more s.past.seen))
     by false = (refl, λ x there. there)
 
-pub kept-passing : (s : CoreState) (reply : Reply) → IsKeptCore s → passing_row s ≡ Ok reply → IsKeptCore reply.after
+pub kept-passing : (s : CoreState) (reply : LogStep) → IsKeptCore s → passing_row s ≡ Ok reply → IsKeptCore reply.after
 unfolding passing_row
 kept-passing s reply kept answer =
     let h = passed (passing_checks s) (passing_reply s) reply answer in
@@ -147,7 +147,7 @@ kept-passing s reply kept answer =
 
 -- ---- the order to propose
 
-pub kept-proposing : (s : CoreState) (reply : Reply) → IsKeptCore s → proposing_row s ≡ Ok reply → IsKeptCore reply.after
+pub kept-proposing : (s : CoreState) (reply : LogStep) → IsKeptCore s → proposing_row s ≡ Ok reply → IsKeptCore reply.after
 unfolding proposing_row
 kept-proposing s reply kept answer =
     subst KeepsReply h.1
@@ -239,7 +239,7 @@ proposed-may s p digests are hold = record {
     leads : (after : Table) × ((apply (table_of s.log) (epoch_of s.log) p.changes ≡ Some after) × (root_of after ≡ p.value.root))
     leads = applied (table_of s.log) (epoch_of s.log) p.changes p.value.root hold.1.1.1.1.1.1.0 hold.1.1.1.1.1.1.1.0
 
-pub kept-proposed : (s : CoreState) (p : Proposal) (reply : Reply) → IsKeptCore s → IsValue p.value → AreChanges p.changes → proposed_row s p ≡ Ok reply
+pub kept-proposed : (s : CoreState) (p : Proposal) (reply : LogStep) → IsKeptCore s → IsValue p.value → AreChanges p.changes → proposed_row s p ≡ Ok reply
     → IsKeptCore reply.after
 unfolding proposed_row
 kept-proposed s p reply kept digests are answer =

@@ -9,7 +9,7 @@ use Rattle.ar_message.specs.declared.sent.Sent.{Sent}
 use Rattle.ar_message.specs.declared.unsigned.Unsigned.{Unsigned}
 use Rattle.key_roll.specs.Book.{RollBook}
 use Rattle.key_roll.specs.Entry.{after_entry, roll_text}
-use Rattle.key_roll.specs.Ring.{IsNext}
+use Rattle.key_roll.specs.Ring.{IsNext, IsOfNext}
 use Rattle.key_roll.proofs.Rings.{next_keys}
 use Rattle.key_roll.proofs.Books.{IsSameBook, entry-same}
 use Rattle.lms_tree.specs.Key.{public_of}
@@ -34,16 +34,16 @@ use Rattle.log_core.specs.Decided.{Decision, decision_checks, decision_reply, de
 use Rattle.keyed_core.specs.Signing.{IsSignedBy, signed}
 use Rattle.keyed_core.proofs.Signed.{signed-sends}
 use Rattle.keyed_core.proofs.Signed as signing
-use Rattle.log_core.specs.Keyed.{IsOfNext, IsOwn, IsPlain, IsRingOf, SendsBy, parts_of}
+use Rattle.log_core.specs.Keyed.{IsOwn, IsPlain, IsRingOf, SendsBy, parts_of}
 use Rattle.log_core.specs.Kept.{IsKeptCore}
 use Rattle.log_core.specs.Learning.{roll_note_checks, roll_note_reply, roll_note_row}
 use Rattle.log_core.specs.Passing.{passing_checks, passing_reply, passing_row}
 use Rattle.log_core.specs.Proposed.{Proposal, proposed_checks, proposed_reply, proposed_row}
 use Rattle.log_core.specs.Proposing.{proposal, proposed_value, proposing_checks, proposing_reply, proposing_row}
 use Rattle.log_core.specs.Rolling.{rolling_checks, rolling_reply, rolling_row}
-use Rattle.log_core.specs.Row.{IsInput, row}
+use Rattle.log_core.specs.Row.{IsLogInput, row}
 use Rattle.log_core.specs.Skipped.{signed_statuses, skip_checks, skip_reply, skip_row}
-use Rattle.log_core.specs.State.{LogAnswer, CoreState, Input, Reply, most_sent, rolls}
+use Rattle.log_core.specs.State.{LogAnswer, CoreState, Input, LogStep, most_sent, rolls}
 use Rattle.log_core.specs.Steps.{IsStep}
 use Rattle.log_core.specs.Stated.{status_checks, status_reply, status_row}
 use Rattle.log_sending.specs.Queued.{is_queued}
@@ -59,7 +59,7 @@ use Rattle.log_core.proofs.KeptEndings.{kept-row}
 
 -- ---- keys that a log is asked to go on to
 
-pub next_is_input : (key : LmsPublic) → IsKeyText (key_text key) → HasWidths key → IsInput (rolls key)
+pub next_is_input : (key : LmsPublic) → IsKeyText (key_text key) → HasWidths key → IsLogInput (rolls key)
 next_is_input key text widths = (text, readable key widths)
 
 -- ---- what a step keeps of a log's book
@@ -98,13 +98,13 @@ pub record IsSameKeys (s later : CoreState) : Type 0 where
   pub book : IsSameBook s.log.past.signed later.log.past.signed
   pub len : later.signature_len ≡ s.signature_len
 
-abbrev Same : CoreState → Reply → Type 0
+abbrev Same : CoreState → LogStep → Type 0
 Same s reply = IsSameKeys s reply.after
 
 of-book : (s later : CoreState) → IsSameBook s.log.past.signed later.log.past.signed → later.signature_len ≡ s.signature_len → IsSameKeys s later
 of-book s later book len = record { book = book; len = len }
 
-proposing-same : (s : CoreState) (reply : Reply) → proposing_row s ≡ Ok reply → Same s reply
+proposing-same : (s : CoreState) (reply : LogStep) → proposing_row s ≡ Ok reply → Same s reply
 unfolding proposing_row
 proposing-same s reply answer =
     let h = passed (proposing_checks s) (proposing_reply s) reply answer in
@@ -118,7 +118,7 @@ proposing-same s reply answer =
     (then-same book first second (entry-same book (text_of (propose_claim s.log value))) (entry-same first (own_vote_text s.log value))) (closed-same counted) in
     subst (Same s) h.1 (of-book s (proposing_reply s).after same refl)
 
-passing-same : (s : CoreState) (reply : Reply) → passing_row s ≡ Ok reply → Same s reply
+passing-same : (s : CoreState) (reply : LogStep) → passing_row s ≡ Ok reply → Same s reply
 unfolding passing_row
 passing-same s reply answer =
     let h = passed (passing_checks s) (passing_reply s) reply answer in
@@ -133,7 +133,7 @@ passing-same s reply answer =
         stated (closed-same _)
     by false = stated
 
-submit-same : (s : CoreState) (change : Change) (reply : Reply) → submit_row s change ≡ Ok reply → Same s reply
+submit-same : (s : CoreState) (change : Change) (reply : LogStep) → submit_row s change ≡ Ok reply → Same s reply
 unfolding submit_row
 submit-same s change reply answer =
     let h = passed (submit_checks s change) (submit_reply s change) reply answer in
@@ -143,25 +143,25 @@ submit-same s change reply answer =
     by true = of-book s s (itself s.log.past.signed) refl
     by false = of-book s (queueing s change) (itself s.log.past.signed) refl
 
-proposed-same : (s : CoreState) (p : Proposal) (reply : Reply) → proposed_row s p ≡ Ok reply → Same s reply
+proposed-same : (s : CoreState) (p : Proposal) (reply : LogStep) → proposed_row s p ≡ Ok reply → Same s reply
 unfolding proposed_row
 proposed-same s p reply answer =
     let h = passed (proposed_checks s p) (proposed_reply s p) reply answer in
     subst (Same s) h.1 (of-book s (proposed_reply s p).after (entry-same s.log.past.signed (own_vote_text s.log p.value)) refl)
 
-ballot-same : (s : CoreState) (log epoch : ℕ) (value : Value) (signature : List ℕ) (reply : Reply) → ballot_row s log epoch value signature ≡ Ok reply → Same s reply
+ballot-same : (s : CoreState) (log epoch : ℕ) (value : Value) (signature : List ℕ) (reply : LogStep) → ballot_row s log epoch value signature ≡ Ok reply → Same s reply
 unfolding ballot_row
 ballot-same s log epoch value signature reply answer =
     let h = passed (ballot_checks s log epoch value signature) (ballot_reply s log value signature) reply answer in
     subst (Same s) h.1 (of-book s (ballot_reply s log value signature).after (closed-same _) refl)
 
-status-same : (s : CoreState) (log epoch : ℕ) (value : Option Value) (signature : List ℕ) (reply : Reply) → status_row s log epoch value signature ≡ Ok reply → Same s reply
+status-same : (s : CoreState) (log epoch : ℕ) (value : Option Value) (signature : List ℕ) (reply : LogStep) → status_row s log epoch value signature ≡ Ok reply → Same s reply
 unfolding status_row
 status-same s log epoch value signature reply answer =
     let h = passed (status_checks s log epoch value signature) (status_reply s log value signature) reply answer in
     subst (Same s) h.1 (of-book s (status_reply s log value signature).after (closed-same _) refl)
 
-decision-same : (s : CoreState) (d : Decision) (reply : Reply) → decision_row s d ≡ Ok reply → Same s reply
+decision-same : (s : CoreState) (d : Decision) (reply : LogStep) → decision_row s d ≡ Ok reply → Same s reply
 unfolding decision_row
 decision-same s d reply answer =
     let h = passed (decision_checks s d) (decision_reply s d) reply answer in
@@ -175,7 +175,7 @@ decision-same s d reply answer =
     by true = itself s.log.past.signed
     by false = itself s.log.past.signed
 
-skip-same : (s : CoreState) (epoch : ℕ) (statuses : List LogStatus) (reply : Reply) → skip_row s epoch statuses ≡ Ok reply → Same s reply
+skip-same : (s : CoreState) (epoch : ℕ) (statuses : List LogStatus) (reply : LogStep) → skip_row s epoch statuses ≡ Ok reply → Same s reply
 unfolding skip_row
 skip-same s epoch statuses reply answer =
     let h = passed (skip_checks s epoch statuses) (skip_reply s statuses) reply answer in
@@ -188,7 +188,7 @@ skip-same s epoch statuses reply answer =
     by true = itself s.log.past.signed
     by false = itself s.log.past.signed
 
-confirm-same : (s : CoreState) (asked : ConfirmQuestion) (reply : Reply) → confirm_row s asked ≡ Ok reply → Same s reply
+confirm-same : (s : CoreState) (asked : ConfirmQuestion) (reply : LogStep) → confirm_row s asked ≡ Ok reply → Same s reply
 unfolding confirm_row
 confirm-same s asked reply answer =
     let h = passed (confirm_checks s asked) (confirm_reply s s.log.newest asked) reply answer in
@@ -198,13 +198,13 @@ confirm-same s asked reply answer =
     by None = of-book s s (itself s.log.past.signed) refl
     by (Some w) = of-book s (confirm_reply s (Some w) asked).after (entry-same s.log.past.signed (confirmation_text s.log w asked.name)) refl
 
-roll_note-same : (s : CoreState) (a : Announced) (reply : Reply) → roll_note_row s a ≡ Ok reply → Same s reply
+roll_note-same : (s : CoreState) (a : Announced) (reply : LogStep) → roll_note_row s a ≡ Ok reply → Same s reply
 unfolding roll_note_row
 roll_note-same s a reply answer =
     let h = passed (roll_note_checks s a) (roll_note_reply s a) reply answer in
     subst (Same s) h.1 (of-book s (roll_note_reply s a).after (itself s.log.past.signed) refl)
 
-row-same : (s : CoreState) (input : Input) (reply : Reply) → IsPlain input → row s input ≡ Ok reply → Same s reply
+row-same : (s : CoreState) (input : Input) (reply : LogStep) → IsPlain input → row s input ≡ Ok reply → Same s reply
 row-same s input reply plain answer = plain-gives (Same s) s (record {
   submit = submit-same s;
   proposed = proposed-same s;
@@ -224,17 +224,17 @@ keys-stay : (s later : CoreState) (keys : List KeyParts) → IsRingOf s keys →
 keys-stay s later keys is same =
     signing.keys-stay s.log.past.signed later.log.past.signed keys s.signature_len later.signature_len same.book same.len is
 
-abbrev reply-of : Unsigned → CoreState → Reply
+abbrev reply-of : Unsigned → CoreState → LogStep
 reply-of unsigned later = record { unsigned = unsigned; after = later }
 
-row-fills : (s : CoreState) (input : Input) (keys : List KeyParts) (later : CoreState) (unsigned : Unsigned) → IsKeptCore s → IsInput input
+row-fills : (s : CoreState) (input : Input) (keys : List KeyParts) (later : CoreState) (unsigned : Unsigned) → IsKeptCore s → IsLogInput input
     → row s input ≡ Ok (record { unsigned = unsigned; after = later }) → IsRingOf later keys → CanFill keys unsigned
 row-fills s input keys later unsigned kept is answer are =
     composed-fill later.log.past.signed later.signature_len keys unsigned
     (kept-row s input (reply-of unsigned later) kept is answer).log.honest.signs_what_it_tells.sound are (row-composed s input (reply-of unsigned later) answer)
 
 -- a step with no other key
-pub plain-signs : (s : CoreState) (input : Input) (keys : List KeyParts) (later : CoreState) (unsigned : Unsigned) → IsKeptCore s → IsInput input → IsPlain input
+pub plain-signs : (s : CoreState) (input : Input) (keys : List KeyParts) (later : CoreState) (unsigned : Unsigned) → IsKeptCore s → IsLogInput input → IsPlain input
     → IsRingOf s keys → row s input ≡ Ok (record { unsigned = unsigned; after = later }) → IsSignedBy keys later.log.past.signed later.signature_len unsigned
 plain-signs s input keys later unsigned kept is plain are answer =
     let stays : IsRingOf later keys = keys-stay s later keys are (row-same s input (reply-of unsigned later) plain answer) in
@@ -246,7 +246,7 @@ rolled-ring : (s : CoreState) (key : LmsPublic) (keys : List KeyParts) (next : K
 rolled-ring s key keys next are behind =
     next_keys s.log.past.signed (roll_text (log_party s.log.me) s.log.past.signed.newest key) s.signature_len keys next are behind
 
-rolled-is : (s : CoreState) (key : LmsPublic) (reply : Reply) → rolling_row s key ≡ Ok reply → rolling_reply s key ≡ reply
+rolled-is : (s : CoreState) (key : LmsPublic) (reply : LogStep) → rolling_row s key ≡ Ok reply → rolling_reply s key ≡ reply
 unfolding rolling_row
 rolled-is s key reply answer = (passed (rolling_checks s) (rolling_reply s key) reply answer).1
 
@@ -257,21 +257,21 @@ rolls-row s key = refl
 -- ---- the order to roll, with the keys that have the next behind them
 
 pub rolled-signs : (s : CoreState) (keys more : List KeyParts) (next : KeyParts) (later : CoreState) (unsigned : Unsigned) → IsKeptCore s
-    → IsInput (rolls (public_of next)) → IsRingOf s keys → IsNext keys next → more ≡ keys ++ next ∷ []
+    → IsLogInput (rolls (public_of next)) → IsRingOf s keys → IsNext keys next → more ≡ keys ++ next ∷ []
     → rolling_row s (public_of next) ≡ Ok (record { unsigned = unsigned; after = later }) → IsSignedBy more later.log.past.signed later.signature_len unsigned
 rolled-signs s keys more next later unsigned kept is are behind more-is answer =
     let after : IsRingOf (rolling_reply s (public_of next)).after (keys ++ next ∷ []) = rolled-ring s (public_of next) keys next are behind in
     let stays : IsRingOf later (keys ++ next ∷ []) =
-    subst (λ (r : Reply). IsRingOf r.after (keys ++ next ∷ [])) (rolled-is s (public_of next) (reply-of unsigned later) answer) after in
+    subst (λ (r : LogStep). IsRingOf r.after (keys ++ next ∷ [])) (rolled-is s (public_of next) (reply-of unsigned later) answer) after in
     let fills : CanFill (keys ++ next ∷ []) unsigned =
     row-fills s (rolls (public_of next)) (keys ++ next ∷ []) later unsigned kept is (rolls-row s (public_of next) ∙ answer) stays in
     subst (λ (k : List KeyParts). IsSignedBy k later.log.past.signed later.signature_len unsigned) (sym more-is) (record { fills = fills; stays = stays })
 
-pub roll-signs : (result : Result Unsigned LogRefusal) (s later : CoreState) (key : LmsPublic) (keys : List KeyParts) (next : KeyParts) → IsKeptCore s → IsInput (rolls key)
+pub roll-signs : (result : Result Unsigned LogRefusal) (s later : CoreState) (key : LmsPublic) (keys : List KeyParts) (next : KeyParts) → IsKeptCore s → IsLogInput (rolls key)
     → IsStep result s later (rolling_row s key) → IsRingOf s keys → IsNext keys next → key ≡ public_of next
     → IfOk result (λ unsigned. IsSignedBy (keys ++ next ∷ []) later.log.past.signed later.signature_len unsigned)
 roll-signs (Ok unsigned) s later key keys next kept input step are behind is =
-    let input : IsInput (rolls (public_of next)) = subst (λ (k : LmsPublic). IsInput (rolls k)) is input in
+    let input : IsLogInput (rolls (public_of next)) = subst (λ (k : LmsPublic). IsLogInput (rolls k)) is input in
     let answer : rolling_row s (public_of next) ≡ Ok (reply-of unsigned later) = subst (λ (k : LmsPublic). rolling_row s k ≡ Ok (reply-of unsigned later)) is step in
     rolled-signs s keys (keys ++ next ∷ []) next later unsigned kept input are behind refl answer
 roll-signs (Err refusal) s later key keys next kept input step are behind is = tt

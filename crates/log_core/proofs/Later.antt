@@ -25,7 +25,7 @@ use Rattle.log_core.specs.Proposing.{proposal, proposed_value, proposing_checks,
 use Rattle.log_core.specs.Rolling.{rolling_checks, rolling_reply, rolling_row}
 use Rattle.log_core.specs.Row.{row}
 use Rattle.log_core.specs.Skipped.{signed_statuses, skip_checks, skip_reply, skip_row}
-use Rattle.log_core.specs.State.{CoreState, Input, Reply}
+use Rattle.log_core.specs.State.{CoreState, Input, LogStep}
 use Rattle.log_core.specs.Stated.{status_checks, status_reply, status_row}
 use Rattle.log_core.specs.Submit.{queueing, submit_checks, submit_reply, submit_row}
 use Rattle.log_core.proofs.Composed.{row-composed}
@@ -36,10 +36,10 @@ use Rattle.log_sending.specs.Queued.{is_queued}
 
 -- ---- the record
 
-abbrev Adds : CoreState → Reply → Type 0
+abbrev Adds : CoreState → LogStep → Type 0
 Adds s reply = LogGrows s.log.past reply.after.log.past
 
-submit-adds : (s : CoreState) (change : Change) (reply : Reply) → submit_row s change ≡ Ok reply → Adds s reply
+submit-adds : (s : CoreState) (change : Change) (reply : LogStep) → submit_row s change ≡ Ok reply → Adds s reply
 unfolding submit_row
 submit-adds s change reply answer = subst (Adds s) (passed (submit_checks s change) (submit_reply s change) reply answer).1 (by (is_queued s.queue change))
   where
@@ -47,42 +47,42 @@ submit-adds s change reply answer = subst (Adds s) (passed (submit_checks s chan
     by true = same_record s.log.past
     by false = change_adds s.log change
 
-proposing-adds : (s : CoreState) (reply : Reply) → proposing_row s ≡ Ok reply → Adds s reply
+proposing-adds : (s : CoreState) (reply : LogStep) → proposing_row s ≡ Ok reply → Adds s reply
 unfolding proposing_row
 proposing-adds s reply answer =
     subst (Adds s) (passed (proposing_checks s) (proposing_reply s) reply answer).1 (proposal_adds s.log (proposed_value s) (proposal s))
 
-proposed-adds : (s : CoreState) (p : Proposal) (reply : Reply) → proposed_row s p ≡ Ok reply → Adds s reply
+proposed-adds : (s : CoreState) (p : Proposal) (reply : LogStep) → proposed_row s p ≡ Ok reply → Adds s reply
 unfolding proposed_row
 proposed-adds s p reply answer =
     subst (Adds s) (passed (proposed_checks s p) (proposed_reply s p) reply answer).1 (vote_adds s.log p.log p.value p.changes)
 
-ballot-adds : (s : CoreState) (log epoch : ℕ) (value : Value) (signature : List ℕ) (reply : Reply) → ballot_row s log epoch value signature ≡ Ok reply → Adds s reply
+ballot-adds : (s : CoreState) (log epoch : ℕ) (value : Value) (signature : List ℕ) (reply : LogStep) → ballot_row s log epoch value signature ≡ Ok reply → Adds s reply
 unfolding ballot_row
 ballot-adds s log epoch value signature reply answer =
     subst (Adds s) (passed (ballot_checks s log epoch value signature) (ballot_reply s log value signature) reply answer).1 (ballot_adds s.log log value signature)
 
-status-adds : (s : CoreState) (log epoch : ℕ) (value : Option Value) (signature : List ℕ) (reply : Reply) → status_row s log epoch value signature ≡ Ok reply → Adds s reply
+status-adds : (s : CoreState) (log epoch : ℕ) (value : Option Value) (signature : List ℕ) (reply : LogStep) → status_row s log epoch value signature ≡ Ok reply → Adds s reply
 unfolding status_row
 status-adds s log epoch value signature reply answer =
     subst (Adds s) (passed (status_checks s log epoch value signature) (status_reply s log value signature) reply answer).1
     (status_adds s.log log value (Some signature))
 
-passing-adds : (s : CoreState) (reply : Reply) → passing_row s ≡ Ok reply → Adds s reply
+passing-adds : (s : CoreState) (reply : LogStep) → passing_row s ≡ Ok reply → Adds s reply
 unfolding passing_row
 passing-adds s reply answer = subst (Adds s) (passed (passing_checks s) (passing_reply s) reply answer).1 (state_adds s.log)
 
-decision-adds : (s : CoreState) (d : Decision) (reply : Reply) → decision_row s d ≡ Ok reply → Adds s reply
+decision-adds : (s : CoreState) (d : Decision) (reply : LogStep) → decision_row s d ≡ Ok reply → Adds s reply
 unfolding decision_row
 decision-adds s d reply answer =
     subst (Adds s) (passed (decision_checks s d) (decision_reply s d) reply answer).1 (decision_adds s.log d.value d.changes (plain_votes d.votes))
 
-skip-adds : (s : CoreState) (epoch : ℕ) (statuses : List LogStatus) (reply : Reply) → skip_row s epoch statuses ≡ Ok reply → Adds s reply
+skip-adds : (s : CoreState) (epoch : ℕ) (statuses : List LogStatus) (reply : LogStep) → skip_row s epoch statuses ≡ Ok reply → Adds s reply
 unfolding skip_row
 skip-adds s epoch statuses reply answer =
     subst (Adds s) (passed (skip_checks s epoch statuses) (skip_reply s statuses) reply answer).1 (skip_adds s.log (signed_statuses statuses))
 
-confirm-adds : (s : CoreState) (asked : ConfirmQuestion) (reply : Reply) → confirm_row s asked ≡ Ok reply → Adds s reply
+confirm-adds : (s : CoreState) (asked : ConfirmQuestion) (reply : LogStep) → confirm_row s asked ≡ Ok reply → Adds s reply
 unfolding confirm_row
 confirm-adds s asked reply answer = subst (Adds s) (passed (confirm_checks s asked) (confirm_reply s s.log.newest asked) reply answer).1 (by s.log.newest)
   where
@@ -90,15 +90,15 @@ confirm-adds s asked reply answer = subst (Adds s) (passed (confirm_checks s ask
     by None = same_record s.log.past
     by (Some w) = confirm_adds s.log w asked.name
 
-roll_note-adds : (s : CoreState) (a : Announced) (reply : Reply) → roll_note_row s a ≡ Ok reply → Adds s reply
+roll_note-adds : (s : CoreState) (a : Announced) (reply : LogStep) → roll_note_row s a ≡ Ok reply → Adds s reply
 unfolding roll_note_row
 roll_note-adds s a reply answer = subst (Adds s) (passed (roll_note_checks s a) (roll_note_reply s a) reply answer).1 (learn_adds s.log a)
 
-rolling-adds : (s : CoreState) (key : LmsPublic) (reply : Reply) → rolling_row s key ≡ Ok reply → Adds s reply
+rolling-adds : (s : CoreState) (key : LmsPublic) (reply : LogStep) → rolling_row s key ≡ Ok reply → Adds s reply
 unfolding rolling_row
 rolling-adds s key reply answer = subst (Adds s) (passed (rolling_checks s) (rolling_reply s key) reply answer).1 (roll_adds s.log (key_text key))
 
-pub row-adds : (s : CoreState) (input : Input) (reply : Reply) → row s input ≡ Ok reply → Adds s reply
+pub row-adds : (s : CoreState) (input : Input) (reply : LogStep) → row s input ≡ Ok reply → Adds s reply
 row-adds s input reply answer = row-gives (Adds s) s (record {
   submit = submit-adds s;
   proposed = proposed-adds s;
@@ -130,12 +130,12 @@ each-due book [] all = tt
 each-due book (blank ∷ blanks) all =
     (ap (λ (text : List ℕ). due_of book text) (due_is_for book all.0.0 blank.due all.0.1) ∙ all.0.1, each-due book blanks all.1)
 
-pub row-served : (s : CoreState) (input : Input) (reply : Reply) → row s input ≡ Ok reply → AllByRecursion (IsServedIn reply.after.log.past.signed) reply.unsigned.blanks
+pub row-served : (s : CoreState) (input : Input) (reply : LogStep) → row s input ≡ Ok reply → AllByRecursion (IsServedIn reply.after.log.past.signed) reply.unsigned.blanks
 row-served s input reply answer =
     each-served reply.after.log.past.signed reply.unsigned.blanks
     (composed-due reply.after.log.past.signed reply.after.signature_len reply.unsigned (row-composed s input reply answer))
 
-pub row-due : (s : CoreState) (input : Input) (reply : Reply) → row s input ≡ Ok reply → AllByRecursion (IsDueOf reply.after.log.past.signed) reply.unsigned.blanks
+pub row-due : (s : CoreState) (input : Input) (reply : LogStep) → row s input ≡ Ok reply → AllByRecursion (IsDueOf reply.after.log.past.signed) reply.unsigned.blanks
 row-due s input reply answer =
     each-due reply.after.log.past.signed reply.unsigned.blanks
     (composed-due reply.after.log.past.signed reply.after.signature_len reply.unsigned (row-composed s input reply answer))

@@ -30,7 +30,7 @@ use Rattle.log_core.specs.Kept.{IsKeptCore, WasQueued}
 use Rattle.log_core.specs.Proposing.{proposal, proposal_draft, proposed_value, proposing_checks, proposing_judged, proposing_reply, proposing_row, turn_checks, turn_judged}
 use Rattle.log_sending.specs.Sendable.{CanBeTold}
 use Rattle.log_sending.specs.Sending.{Composed, DraftMessage, none_composed, sealed, with_draft, with_drafts}
-use Rattle.log_core.specs.State.{CoreState, Reply}
+use Rattle.log_core.specs.State.{CoreState, LogStep}
 use Rattle.log_sending.specs.Walk.{most_change_bytes, most_changes}
 use Rattle.log_sending.specs.declared.refusal.LogRefusal.{LogRefusal}
 use Rattle.log_sending.specs.declared.refusal.LogRefusal.TheVariants as refusals
@@ -145,7 +145,7 @@ propose-told s value changes f kept is told =
 
 -- ---- the step
 
-abbrev reply-of : CoreState → Value → List Change → Reply
+abbrev reply-of : CoreState → Value → List Change → LogStep
 reply-of s value changes = closing_reply s s.log (proposal_draft s value changes ∷ []) (after_propose s.log value changes)
 
 pub propose-step : (s : CoreState) (value : Value) (changes : List Change) (ready : Composed) (unsigned : Unsigned) (parts : LogParts)

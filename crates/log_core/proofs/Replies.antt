@@ -4,7 +4,7 @@ use Rattle.ar_cert.specs.Changes.{Change}
 use Rattle.ar_message.specs.declared.unsigned.Unsigned.{Unsigned}
 use Rattle.epoch_log.specs.Log.{LogParts}
 use Rattle.log_core.specs.Kept.{IsKeptCore}
-use Rattle.log_core.specs.State.{LogAnswer, CoreState, Reply}
+use Rattle.log_core.specs.State.{LogAnswer, CoreState, LogStep}
 
 -- the core with a log and a queue
 abbrev pub core-of : CoreState → LogParts → List Change → CoreState
@@ -15,5 +15,5 @@ abbrev pub made : Unsigned → CoreState → LogAnswer
 made unsigned after = Ok (record { unsigned = unsigned; after = after })
 
 -- what is kept of a reply
-abbrev pub KeepsReply : Reply → Type 0
+abbrev pub KeepsReply : LogStep → Type 0
 KeepsReply reply = IsKeptCore reply.after

@@ -9,7 +9,7 @@ use Rattle.party_keys.specs.Signers.{Claimed}
 use Rattle.log_core.specs.Claimed.{IsOwnSigned, claims_of}
 use Rattle.log_core.specs.Row.{row}
 use Rattle.log_core.specs.Sees.{IsOwnOrVerified, SeesVerified}
-use Rattle.log_core.specs.State.{CoreState, Input, Reply}
+use Rattle.log_core.specs.State.{CoreState, Input, LogStep}
 use Rattle.log_core.proofs.Claiming.{input-sees}
 
 was-verified : (keys : Directory) (me : ℕ) (signed : RollBook) (claims : List Claimed) (before : List SeenText) (t : SeenText)
@@ -18,6 +18,6 @@ was-verified keys me signed claims before t (inl old) = inl old
 was-verified keys me signed claims before t (inr (inl own)) = inr (inl own.0)
 was-verified keys me signed claims before t (inr (inr claimed)) = inr (inr (claimed.0, claimed.2))
 
-pub row-sees : (s : CoreState) (input : Input) (reply : Reply) → row s input ≡ Ok reply → SeesVerified s.keys s.log.me s.log.past.seen reply.after.log.past.seen
+pub row-sees : (s : CoreState) (input : Input) (reply : LogStep) → row s input ≡ Ok reply → SeesVerified s.keys s.log.me s.log.past.seen reply.after.log.past.seen
 row-sees s input reply answer t there =
     was-verified s.keys s.log.me reply.after.log.past.signed (claims_of input) s.log.past.seen t (input-sees s input reply answer t there)

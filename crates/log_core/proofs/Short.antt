@@ -4,9 +4,9 @@ use Rattle.ar_base.proofs.Places.{not-less}
 use Rattle.ar_bytes.specs.Reading.{whole}
 use Rattle.ar_message.specs.Messages.{longest, message_at, message_in}
 use Rattle.log_core.specs.Row.{read_row, row}
-use Rattle.log_core.specs.State.{CoreState, Reply, takes}
+use Rattle.log_core.specs.State.{CoreState, LogStep, takes}
 
-pub row-short : (s : CoreState) (bytes : List ℕ) (reply : Reply) → row s (takes bytes) ≡ Ok reply → length bytes ≤ longest
+pub row-short : (s : CoreState) (bytes : List ℕ) (reply : LogStep) → row s (takes bytes) ≡ Ok reply → length bytes ≤ longest
 unfolding row message_in
 row-short s bytes reply answer = by (nat_lt longest (length bytes)) refl answer
   where

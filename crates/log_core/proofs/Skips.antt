@@ -22,7 +22,7 @@ use Rattle.log_core.specs.Steps.{IsStep, ended_epoch}
 use Rattle.log_core.specs.Kept.{IsKeptCore}
 use Rattle.log_sending.specs.Reported.{most_reported}
 use Rattle.log_core.specs.Skipped.{signed_statuses, skip_checks, skip_judged, skip_reply, skip_row}
-use Rattle.log_core.specs.State.{LogAnswer, CoreState, Reply}
+use Rattle.log_core.specs.State.{LogAnswer, CoreState, LogStep}
 use Rattle.log_sending.specs.declared.refusal.LogRefusal.{LogRefusal}
 use Rattle.log_sending.specs.declared.refusal.LogRefusal.TheVariants as refusals
 use Rattle.log_sending.proofs.Checked.{none-wins}
@@ -66,7 +66,7 @@ one-could keys statuses n q most logs quorum not is = by (excludes_all (council_
 
 -- ---- the step
 
-pub can-skip : (s : CoreState) (epoch : ℕ) (statuses : List LogStatus) → IsKeptCore s → lists.AreStatuses statuses → skip_judged s epoch statuses ≡ Ok tt
+pub can-skip : (s : CoreState) (epoch : ℕ) (statuses : List LogStatus) → IsKeptCore s → lists.AreLogStatuses statuses → skip_judged s epoch statuses ≡ Ok tt
     → CanSkip s.log (signed_statuses statuses)
 unfolding skip_judged
 can-skip s epoch statuses kept are is =
@@ -80,7 +80,7 @@ skip-made : (s : CoreState) (epoch : ℕ) (statuses : List LogStatus) → skip_j
 unfolding skip_judged skip_row
 skip-made s epoch statuses is = ap (λ c. result_and c (Ok (skip_reply s statuses))) is
 
-abbrev refusal-of : Check → Reply → LogAnswer
+abbrev refusal-of : Check → LogStep → LogAnswer
 refusal-of (Ok u) reply = Ok reply
 refusal-of (Err refusal) reply = Err refusal
 
@@ -94,7 +94,7 @@ skip-refused s epoch statuses refusal (inr is) = (refl, inr (ap (λ c. result_an
 abbrev log-skipped : CoreState → List LogStatus → LogParts
 log-skipped s statuses = record { state = after_skip s.log (signed_statuses statuses); keys = s.keys }
 
-pub skip-keeps : (s : CoreState) (epoch : ℕ) (statuses : List LogStatus) (signed : List SignedStatus) (new : LogParts) → IsKeptCore s → lists.AreStatuses statuses
+pub skip-keeps : (s : CoreState) (epoch : ℕ) (statuses : List LogStatus) (signed : List SignedStatus) (new : LogParts) → IsKeptCore s → lists.AreLogStatuses statuses
     → skip_judged s epoch statuses ≡ Ok tt → signed ≡ signed_statuses statuses → new ≡ moved (log-in s) (after_skip s.log signed) → IsKeptCore (core-with s new)
 skip-keeps s epoch statuses signed new kept are judged same is =
     subst (λ (n : LogParts). IsKeptCore (core-with s n)) (sym (is ∙ ap (λ (l : List SignedStatus). moved (log-in s) (after_skip s.log l)) same))

@@ -30,7 +30,7 @@ use Rattle.log_core.specs.Proposing.{proposal, proposed_value, proposing_checks,
 use Rattle.log_core.specs.Rolling.{rolling_checks, rolling_reply, rolling_row}
 use Rattle.log_core.specs.Row.{row}
 use Rattle.log_core.specs.Skipped.{signed_statuses, skip_checks, skip_reply, skip_row}
-use Rattle.log_core.specs.State.{LogAnswer, CoreState, Input, Reply}
+use Rattle.log_core.specs.State.{LogAnswer, CoreState, Input, LogStep}
 use Rattle.log_core.specs.Stated.{status_checks, status_reply, status_row}
 use Rattle.log_sending.specs.Queued.{is_queued}
 use Rattle.log_core.specs.Submit.{queueing, submit_checks, submit_reply, submit_row}
@@ -42,12 +42,12 @@ abbrev IsSame : LogState → LogState → Type 0
 IsSame s later = (later.me ≡ s.me) × (later.council ≡ s.council)
 
 -- a reply leaves the log the same
-abbrev Stays : CoreState → Reply → Type 0
+abbrev Stays : CoreState → LogStep → Type 0
 Stays s reply = IsSame s.log reply.after.log
 
 -- so does a row, where it answers
 abbrev StaysBy : CoreState → LogAnswer → Type 0
-StaysBy s answer = (reply : Reply) → answer ≡ Ok reply → Stays s reply
+StaysBy s answer = (reply : LogStep) → answer ≡ Ok reply → Stays s reply
 
 -- ---- the closing rule
 
@@ -76,7 +76,7 @@ rule-same s = by (may_end s.past)
 
 -- ---- each row
 
-given-stays : (s : CoreState) (checks : List Check) (reply : Reply) → Stays s reply → StaysBy s (given checks reply)
+given-stays : (s : CoreState) (checks : List Check) (reply : LogStep) → Stays s reply → StaysBy s (given checks reply)
 given-stays s checks reply stays r answer = subst (Stays s) (passed checks reply r answer).1 stays
 
 proposing-stays : (s : CoreState) → StaysBy s (proposing_row s)

@@ -25,7 +25,7 @@ same-logs : (statuses : List LogStatus) → logs_of (reports_of (signed_statuses
 same-logs [] = refl
 same-logs (x ∷ statuses) = ap (λ l. x.log ∷ l) (same-logs statuses)
 
-pub are-statuses : (keys : Directory) (epoch : ℕ) (statuses : List LogStatus) → lists.AreStatuses statuses → signers keys (claimed_statuses epoch statuses) ≡ Ok tt
+pub are-statuses : (keys : Directory) (epoch : ℕ) (statuses : List LogStatus) → lists.AreLogStatuses statuses → signers keys (claimed_statuses epoch statuses) ≡ Ok tt
     → AreStatuses (length keys.logs) (reports_of (signed_statuses statuses))
 are-statuses keys epoch statuses are holds = record {
   ascending = subst IsStrictlyIncreasing (sym (same-logs statuses)) (rises (λ (x : LogStatus). x.log) IsStatus 0 statuses are.1);
@@ -34,7 +34,7 @@ are-statuses keys epoch statuses are holds = record {
 }
 
 -- the same of lists that are theirs
-pub are-plain : (keys : Directory) (epoch : ℕ) (statuses list : List LogStatus) (plain : List Status) → lists.AreStatuses statuses → list ≡ statuses
+pub are-plain : (keys : Directory) (epoch : ℕ) (statuses list : List LogStatus) (plain : List Status) → lists.AreLogStatuses statuses → list ≡ statuses
     → signers keys (claimed_statuses epoch list) ≡ Ok tt → plain ≡ reports_of (signed_statuses list) → AreStatuses (length keys.logs) plain
 are-plain keys epoch statuses list plain are same holds is =
-    subst (AreStatuses (length keys.logs)) (sym is) (are-statuses keys epoch list (subst lists.AreStatuses (sym same) are) holds)
+    subst (AreStatuses (length keys.logs)) (sym is) (are-statuses keys epoch list (subst lists.AreLogStatuses (sym same) are) holds)

@@ -12,7 +12,7 @@ use Rattle.ar_base.specs.FirstFailing.{first_error}
 use Rattle.log_core.specs.Steps.{IsStep}
 use Rattle.log_core.specs.Kept.{IsKeptCore}
 use Rattle.ar_claims.specs.Lists.{endorsements_in}
-use Rattle.log_core.specs.State.{LogAnswer, CoreState, Reply}
+use Rattle.log_core.specs.State.{LogAnswer, CoreState, LogStep}
 use Rattle.log_sending.specs.Queued.{is_queued}
 use Rattle.log_core.specs.Submit.{queueing, submit_checks, submit_judged, submit_reply, submit_row}
 use Rattle.log_sending.specs.declared.refusal.LogRefusal.{LogRefusal}
@@ -41,11 +41,11 @@ judged-row s change queued is =
     let h = judged-holds s change queued is in
     ap (λ c. result_and c (Ok (submit_reply s change))) h.0 ∙ ap (λ b. Ok (record { unsigned = nothing; after = cond b s (queueing s change) })) h.1
 
-abbrev refusal-in : {A : Type 0} → Result A LogRefusal → Reply → LogAnswer
+abbrev refusal-in : {A : Type 0} → Result A LogRefusal → LogStep → LogAnswer
 refusal-in (Ok a) reply = Ok reply
 refusal-in (Err refusal) reply = Err refusal
 
-pub given-refused : {A : Type 0} (check : Check) (value : A) (reply : Reply) (refusal : LogRefusal) → result_and check (Ok value) ≡ Err refusal → result_and check (Ok reply) ≡ Err refusal
+pub given-refused : {A : Type 0} (check : Check) (value : A) (reply : LogStep) (refusal : LogRefusal) → result_and check (Ok value) ≡ Err refusal → result_and check (Ok reply) ≡ Err refusal
 given-refused (Ok u) value reply refusal is = absurd cc
 given-refused (Err e) value reply refusal is = ap (λ r. refusal-in r reply) is
 

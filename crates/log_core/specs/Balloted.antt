@@ -11,7 +11,7 @@ use Rattle.log_core.specs.Steps.{given}
 use Rattle.log_core.specs.Replies.{closing_reply}
 use Rattle.log_sending.specs.Signers.{signers}
 use Rattle.party_keys.specs.Signers.{signed_by}
-use Rattle.log_core.specs.State.{LogAnswer, CoreState, Reply}
+use Rattle.log_core.specs.State.{LogAnswer, CoreState, LogStep}
 
 -- the log has signed; it is of this log's epoch, which is its turn
 abbrev pub ballot_checks : CoreState → ℕ → ℕ → Value → List ℕ → List Check
@@ -22,7 +22,7 @@ ballot_checks s log epoch value signature =
     ∷ []
 
 -- it is seen and counted, and the closing rule follows
-abbrev pub ballot_reply : CoreState → ℕ → Value → List ℕ → Reply
+abbrev pub ballot_reply : CoreState → ℕ → Value → List ℕ → LogStep
 ballot_reply s log value signature = closing_reply s s.log [] (after_ballot s.log log value signature)
 
 unfoldable pub ballot_row : CoreState → ℕ → ℕ → Value → List ℕ → LogAnswer

@@ -14,9 +14,9 @@ use Rattle.log_sending.specs.Checks.{Check, has_decision, leaves_left}
 use Rattle.log_core.specs.Steps.{given}
 use Rattle.log_core.specs.Replies.{open_reply}
 use Rattle.log_sending.specs.Showing.{body_in}
-use Rattle.log_sending.specs.Sending.{Composed, DraftMessage, Place, none_composed, own_votes, place_for, sent_votes, with_draft}
+use Rattle.log_sending.specs.Sending.{Composed, DraftMessage, SigningPlace, none_composed, own_votes, place_for, sent_votes, with_draft}
 use Rattle.log_sending.specs.Signers.{known}
-use Rattle.log_core.specs.State.{LogAnswer, CoreState, Reply}
+use Rattle.log_core.specs.State.{LogAnswer, CoreState, LogStep}
 use Rattle.log_sending.specs.declared.refusal.LogRefusal.{LogRefusal}
 
 -- what a client asks: to confirm a name, by two authorities of the client's choice
@@ -54,7 +54,7 @@ confirmed_len s w asked = length (message_text (LogConfirmed (confirming_of s w 
 
 -- Where its signatures are due, in a message of so many bytes. Behind the votes stand the log's number, its signature
 -- behind two bytes, and the numbers of the authorities; where its own ballot was counted at once, that signature is due too.
-abbrev pub confirmed_places : CoreState → Newest → List ℕ → ℕ → List Place
+abbrev pub confirmed_places : CoreState → Newest → List ℕ → ℕ → List SigningPlace
 confirmed_places s w name len =
     own_votes s.signature_len (newest_vote_text s.log w) (len - (s.signature_len + 8)) w.votes
     ++ place_for (len - (s.signature_len + 4)) (confirmation_text s.log w name) ∷ []
@@ -83,7 +83,7 @@ confirm_checks s asked =
     ∷ []
 
 -- by the newest decision the log confirms what the name has
-abbrev pub confirm_reply : CoreState → Option Newest → ConfirmQuestion → Reply
+abbrev pub confirm_reply : CoreState → Option Newest → ConfirmQuestion → LogStep
 confirm_reply s None asked = record { unsigned = nothing; after = s }
 confirm_reply s (Some w) asked = open_reply s (after_confirm s.log w asked.name) (confirmed_draft s w asked ∷ [])
 

@@ -15,7 +15,7 @@ use Rattle.log_sending.specs.Closings.{still_wanted}
 use Rattle.log_sending.specs.Sending.{unsigned_of}
 use Rattle.ar_claims.specs.Lists.{endorsements_in, claimed_votes}
 use Rattle.log_sending.specs.Signers.{signers}
-use Rattle.log_core.specs.State.{LogAnswer, CoreState, Reply}
+use Rattle.log_core.specs.State.{LogAnswer, CoreState, LogStep}
 
 -- a decision of an epoch
 pub record Decision : Type 0 where
@@ -44,7 +44,7 @@ abbrev pub decision_state : CoreState → Decision → LogState
 decision_state s d = after_decide s.log d.value d.changes (plain_votes d.votes)
 
 -- the epoch ended as decided, unless it is the last that a statement can name
-abbrev pub decision_reply : CoreState → Decision → Reply
+abbrev pub decision_reply : CoreState → Decision → LogStep
 decision_reply s d = record {
   unsigned = unsigned_of (decision_state s d).past.signed [] (ended_epoch s.log (Some d.value.root));
   after = core_after s (decision_state s d) (if may_end s.log.past then still_wanted (decision_state s d) s.queue else s.queue);

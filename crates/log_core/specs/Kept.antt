@@ -4,7 +4,7 @@ use Rattle.ar_cert.specs.Changes.{Change, IsChange}
 use Rattle.party_keys.specs.Directory.{Directory}
 use Rattle.ar_council.specs.Council.{council_of}
 use Rattle.epoch_log.specs.Right.{SawEndorsements}
-use Rattle.epoch_log.specs.State.{IsKept}
+use Rattle.epoch_log.specs.State.{IsKeptLog}
 use Rattle.log_sending.specs.Checks.{most_queued}
 use Rattle.log_sending.specs.Sendable.{CanBeSent}
 use Rattle.ar_claims.specs.Lists.{endorsements_in}
@@ -19,7 +19,7 @@ pub record WasQueued (keys : Directory) (change : Change) : Type 0 where
 -- The sizes of the log's council are those of its directory, what it may have to send fits into messages, and the
 -- endorsements of each queued change were seen and are valid.
 pub record IsKeptCore (s : CoreState) : Type 0 where
-  pub log : IsKept s.log
+  pub log : IsKeptLog s.log
   pub sendable : CanBeSent s.log
   pub council : s.log.council ≡ council_of s.keys
   pub logs : 0 < s.log.council.logs

@@ -2,25 +2,20 @@
 use Rattle.std.specs.Prelude.{◌≡◌, List, [], ◌∷◌, ◌++◌, Result}
 use Rattle.ar_message.specs.declared.sent.Sent.{Sent}
 use Rattle.ar_message.specs.declared.unsigned.Unsigned.{Unsigned}
-use Rattle.key_roll.specs.Ring.{AreKeysOf, IsNext}
+use Rattle.key_roll.specs.Ring.{AreKeysOf, IsNext, IsOfNext}
 use Rattle.keyed_core.specs.Signing as signing
 use Rattle.lms_tree.specs.KeyParts.{KeyParts}
-use Rattle.lms_tree.specs.declared.public_key.LmsPublic.{LmsPublic}
-use Rattle.log_core.specs.State.{LogAnswer, CoreState, Input, Reply, passes, proposes, rolls, takes}
+use Rattle.log_core.specs.State.{LogAnswer, CoreState, Input, LogStep, passes, proposes, rolls, takes}
 use Rattle.log_sending.specs.declared.refusal.LogRefusal.{LogRefusal}
 use Rattle.log_sending.specs.declared.refusal.LogRefusal.TheVariants.{Memory}
 
 -- what stands under a lock, and its keys
-abbrev pub LogParts : Type 0
-LogParts = signing.KeyedParts CoreState
+abbrev pub KeyedLogParts : Type 0
+KeyedLogParts = signing.KeyedParts CoreState
 
 -- the keys are those of the log's book
 abbrev pub IsRingOf : CoreState → List KeyParts → Type 0
 IsRingOf s keys = AreKeysOf s.log.past.signed s.signature_len keys
-
--- a key is that of the next one of the keys
-abbrev pub IsOfNext : List KeyParts → LmsPublic → Type 0
-IsOfNext keys key = signing.IsOfNext keys key
 
 -- where a log is asked to go on to a key, it is that of its next one
 abbrev pub IsOwn : List KeyParts → Input → Type 0
@@ -44,7 +39,7 @@ AreBehind passes keys later = later ≡ keys
 AreBehind (rolls key) keys later = (next : KeyParts) → IsNext keys next → later ≡ keys ++ next ∷ []
 
 -- where a log stands behind a reply, and what it sends
-abbrev pub parts_of : Reply → CoreState × Unsigned
+abbrev pub parts_of : LogStep → CoreState × Unsigned
 parts_of reply = (reply.after, reply.unsigned)
 
 -- the answer with the log's signatures in what it sends

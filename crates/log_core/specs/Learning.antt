@@ -9,7 +9,7 @@ use Rattle.party_keys.specs.declared.learning.Learned.{Learned}
 use Rattle.epoch_log.specs.Calls.{after_learn}
 use Rattle.log_sending.specs.Checks.{Check}
 use Rattle.log_core.specs.Steps.{given, learn_refusal}
-use Rattle.log_core.specs.State.{LogAnswer, CoreState, Reply}
+use Rattle.log_core.specs.State.{LogAnswer, CoreState, LogStep}
 
 -- the signer has signed, and no other key is known as its next
 abbrev pub is_learned : Result Learned LearnFault → Party → ℕ → Check
@@ -19,7 +19,7 @@ abbrev pub roll_note_checks : CoreState → Announced → List Check
 roll_note_checks s a = is_learned (learned s.keys a) a.party a.generation ∷ []
 
 -- the directory learns the key, unless it knows it, and the Roll is seen
-abbrev pub roll_note_reply : CoreState → Announced → Reply
+abbrev pub roll_note_reply : CoreState → Announced → LogStep
 roll_note_reply s a = record {
   unsigned = nothing;
   after = record { log = after_learn s.log a; keys = after_learning s.keys a; queue = s.queue; signature_len = s.signature_len };

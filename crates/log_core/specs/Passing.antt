@@ -11,7 +11,7 @@ use Rattle.ar_base.specs.FirstFailing.{first_error}
 use Rattle.log_core.specs.Steps.{given}
 use Rattle.log_core.specs.Replies.{closing_reply}
 use Rattle.log_sending.specs.Sending.{DraftMessage, draft_with}
-use Rattle.log_core.specs.State.{LogAnswer, CoreState, Reply}
+use Rattle.log_core.specs.State.{LogAnswer, CoreState, LogStep}
 
 -- it has not stated in the epoch, and there is a leaf for its status
 abbrev pub passing_checks : CoreState → List Check
@@ -28,7 +28,7 @@ abbrev pub status_drafts : CoreState → List DraftMessage
 status_drafts s = if is_turn s.log.council s.log.me (epoch_of s.log + 1) then [] else status_draft s ∷ []
 
 -- it states what it did; where it counts statuses itself, its own is counted at once, and the closing rule follows
-abbrev pub passing_reply : CoreState → Reply
+abbrev pub passing_reply : CoreState → LogStep
 passing_reply s = closing_reply s s.log (status_drafts s) (after_state s.log)
 
 unfoldable pub passing_row : CoreState → LogAnswer

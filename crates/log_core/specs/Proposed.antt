@@ -16,7 +16,7 @@ use Rattle.log_core.specs.Replies.{open_reply}
 use Rattle.log_sending.specs.Sending.{Composed, DraftMessage, draft_with, none_composed, with_draft}
 use Rattle.ar_claims.specs.Lists.{endorsements_in}
 use Rattle.log_sending.specs.Signers.{signers}
-use Rattle.log_core.specs.State.{LogAnswer, CoreState, Reply}
+use Rattle.log_core.specs.State.{LogAnswer, CoreState, LogStep}
 use Rattle.log_sending.specs.declared.refusal.LogRefusal.{LogRefusal}
 
 -- a proposal of a log in an epoch
@@ -53,7 +53,7 @@ ballot_draft s value =
     (Ballot s.log.me (epoch_of s.log) value.base value.root (zeros s.signature_len)) s.signature_len 0 (own_vote_text s.log value)
 
 -- the log votes for it
-abbrev pub proposed_reply : CoreState → Proposal → Reply
+abbrev pub proposed_reply : CoreState → Proposal → LogStep
 proposed_reply s p = open_reply s (after_vote s.log p.log p.value p.changes) (ballot_draft s p.value ∷ [])
 
 unfoldable pub proposed_row : CoreState → Proposal → LogAnswer

@@ -15,7 +15,7 @@ use Rattle.ar_base.specs.FirstFailing.{first_error}
 use Rattle.log_core.specs.Steps.{given}
 use Rattle.log_core.specs.Replies.{closing_reply}
 use Rattle.log_sending.specs.Sending.{DraftMessage, draft_with}
-use Rattle.log_core.specs.State.{LogAnswer, CoreState, Reply}
+use Rattle.log_core.specs.State.{LogAnswer, CoreState, LogStep}
 use Rattle.log_sending.specs.Walk.{most_change_bytes, most_changes, walk}
 use Rattle.log_sending.specs.declared.refusal.LogRefusal.{LogRefusal}
 
@@ -46,7 +46,7 @@ proposal_draft s value changes =
     s.signature_len 0 (text_of (propose_claim s.log value))
 
 -- the log proposes what it walked over, and counts its own vote at once; the closing rule follows
-abbrev pub proposing_reply : CoreState → Reply
+abbrev pub proposing_reply : CoreState → LogStep
 proposing_reply s =
     closing_reply s s.log (proposal_draft s (proposed_value s) (proposal s) ∷ []) (after_propose s.log (proposed_value s) (proposal s))
 

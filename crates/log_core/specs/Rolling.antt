@@ -12,7 +12,7 @@ use Rattle.epoch_log.specs.Calls.{after_roll}
 use Rattle.log_sending.specs.Checks.{Check, has_next}
 use Rattle.log_core.specs.Steps.{given}
 use Rattle.log_sending.specs.Sending.{DraftMessage, draft_with, unsigned_of}
-use Rattle.log_core.specs.State.{LogAnswer, CoreState, Reply}
+use Rattle.log_core.specs.State.{LogAnswer, CoreState, LogStep}
 
 -- the newest generation is not the last
 abbrev pub rolling_checks : CoreState → List Check
@@ -25,7 +25,7 @@ roll_draft s key =
     (roll_text (log_party s.log.me) s.log.past.signed.newest key)
 
 -- its Roll is entered, and its own directory takes the key; nothing is added to what it saw
-abbrev pub rolling_reply : CoreState → LmsPublic → Reply
+abbrev pub rolling_reply : CoreState → LmsPublic → LogStep
 rolling_reply s key = record {
   unsigned = unsigned_of (after_roll s.log (key_text key)).past.signed (roll_draft s key ∷ []) None;
   after = record {

@@ -62,8 +62,8 @@ IsReadable passes = Unit {0}
 IsReadable (rolls key) = Unit {0}
 
 -- an input as a program has it: bytes are bytes, and a key is one that can be read
-abbrev pub IsInput : Input → Type 0
-IsInput (takes bytes) = AreBytes bytes
-IsInput proposes = Unit {0}
-IsInput passes = Unit {0}
-IsInput (rolls key) = IsKeyText (key_text key) × IsTrue (is_readable (key_text key))
+abbrev pub IsLogInput : Input → Type 0
+IsLogInput (takes bytes) = AreBytes bytes
+IsLogInput proposes = Unit {0}
+IsLogInput passes = Unit {0}
+IsLogInput (rolls key) = IsKeyText (key_text key) × IsTrue (is_readable (key_text key))

@@ -10,7 +10,7 @@ use Rattle.log_core.specs.Replies.{core_after}
 use Rattle.log_sending.specs.Sending.{unsigned_of}
 use Rattle.ar_claims.specs.Lists.{status_value, claimed_statuses}
 use Rattle.log_sending.specs.Signers.{signers}
-use Rattle.log_core.specs.State.{LogAnswer, CoreState, Reply}
+use Rattle.log_core.specs.State.{LogAnswer, CoreState, LogStep}
 
 -- the statuses of a message, as the log keeps them
 abbrev pub signed_statuses : List LogStatus → List SignedStatus
@@ -25,7 +25,7 @@ skip_checks s epoch statuses =
     ∷ []
 
 -- The epoch ended as skipped, unless it is the last. The table does not ripen, and the queue stays.
-abbrev pub skip_reply : CoreState → List LogStatus → Reply
+abbrev pub skip_reply : CoreState → List LogStatus → LogStep
 skip_reply s statuses = record {
   unsigned = unsigned_of s.log.past.signed [] (ended_epoch s.log None);
   after = core_after s (after_skip s.log (signed_statuses statuses)) s.queue;

@@ -27,13 +27,13 @@ pub data Input : Type 0 where
   rolls : (key : LmsPublic) → Input
 
 -- what a step sends, where its own signatures are due, and what the log is behind it
-pub record Reply : Type 0 where
+pub record LogStep : Type 0 where
   pub unsigned : Unsigned
   pub after : CoreState
 
 -- the answer of a row: a refusal, which leaves the log as it is, or what the step makes
 abbrev pub LogAnswer : Type 0
-LogAnswer = Result Reply LogRefusal
+LogAnswer = Result LogStep LogRefusal
 
 -- the most messages that a step sends: a proposal, and the decision where the log's own vote is a quorum
 abbrev pub most_sent : ℕ

@@ -11,7 +11,7 @@ use Rattle.log_core.specs.Steps.{given}
 use Rattle.log_core.specs.Replies.{closing_reply}
 use Rattle.log_sending.specs.Signers.{signers}
 use Rattle.party_keys.specs.Signers.{signed_by}
-use Rattle.log_core.specs.State.{LogAnswer, CoreState, Reply}
+use Rattle.log_core.specs.State.{LogAnswer, CoreState, LogStep}
 
 -- the log has signed; it is of this log's epoch, behind which is its turn
 abbrev pub status_checks : CoreState → ℕ → ℕ → Option Value → List ℕ → List Check
@@ -22,7 +22,7 @@ status_checks s log epoch value signature =
     ∷ []
 
 -- it is seen, and counted where it is the log's first; the closing rule follows
-abbrev pub status_reply : CoreState → ℕ → Option Value → List ℕ → Reply
+abbrev pub status_reply : CoreState → ℕ → Option Value → List ℕ → LogStep
 status_reply s log value signature = closing_reply s s.log [] (after_status_seen s.log log value (Some signature))
 
 unfoldable pub status_row : CoreState → ℕ → ℕ → Option Value → List ℕ → LogAnswer

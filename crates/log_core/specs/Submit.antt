@@ -10,7 +10,7 @@ use Rattle.log_sending.specs.Checks.{Check, has_place}
 use Rattle.log_core.specs.Steps.{given}
 use Rattle.ar_claims.specs.Lists.{endorsements_in}
 use Rattle.log_sending.specs.Signers.{signers}
-use Rattle.log_core.specs.State.{LogAnswer, CoreState, Reply}
+use Rattle.log_core.specs.State.{LogAnswer, CoreState, LogStep}
 use Rattle.log_sending.specs.Queued.{is_queued}
 use Rattle.log_core.specs.Replies.{core_after}
 use Rattle.log_sending.specs.declared.refusal.LogRefusal.{LogRefusal}
@@ -33,7 +33,7 @@ abbrev pub queueing : CoreState → Change → CoreState
 queueing s change = core_after s (after_endorsed s.log change) (s.queue ++ change ∷ [])
 
 -- where it is queued already, nothing changes
-abbrev pub submit_reply : CoreState → Change → Reply
+abbrev pub submit_reply : CoreState → Change → LogStep
 submit_reply s change = record { unsigned = nothing; after = if is_queued s.queue change then s else queueing s change }
 
 unfoldable pub submit_row : CoreState → Change → LogAnswer

@@ -66,7 +66,7 @@ impl LogCore {
     {
         let mut front = Signers::new(alloc);
         front.add_votes(epoch, value, votes)?;
-        self.have_signed(alloc, front, changes)
+        self.have_signed(front, changes)
     }
 
     /// The checks of a decision, in their order.

@@ -19,14 +19,14 @@ ghost use Rattle.log_sending.specs.Checks.{Check};
 ghost use Rattle.log_core.specs.Steps.{given};
 ghost use Rattle.log_core.specs.Kept.{IsKeptCore};
 ghost use Rattle.log_core.specs.Rolling.{rolling_row};
-ghost use Rattle.log_core.specs.Row.{IsInput, row};
+ghost use Rattle.log_core.specs.Row.{IsLogInput, row};
 ghost use Rattle.log_core.specs.Claimed.{SeesClaims, claims_of};
 ghost use Rattle.log_core.specs.Sees.{SeesVerified};
 ghost use Rattle.ar_claims.specs.Lists.{endorsements_in};
 ghost use Rattle.log_sending.specs.Signers.{signers};
 ghost use Rattle.log_core.specs.Skipped.{skip_row};
 ghost use Rattle.ar_message.specs.Messages.{longest};
-ghost use Rattle.log_core.specs.State.{CoreState, Input, Reply, most_sent, takes};
+ghost use Rattle.log_core.specs.State.{CoreState, Input, LogStep, most_sent, takes};
 ghost use Rattle.log_sending.specs.Queued.{is_queued};
 ghost use Rattle.log_sending.specs.Walk.{StandIn, bytes_of};
 ghost use Rattle.log_core.specs.Proposing.{proposal, proposed_value};
@@ -35,10 +35,10 @@ ghost use Rattle.log_sending.specs.declared.refusal.LogRefusal.{LogRefusal};
 /// The first check of a row that refuses is its answer, whatever stands behind it; where none does, the answer is what the
 /// step makes.
 pub fn the_first_refusal_is_the_answer()
-    ensures refused { (holding behind : List Check) (refusal : LogRefusal) (reply : Reply)
+    ensures refused { (holding behind : List Check) (refusal : LogRefusal) (reply : LogStep)
         → All (λ c. c ≡ Ok tt) holding
         → given (holding ++ Err refusal ∷ behind) reply ≡ Err refusal }
-    ensures made { (checks : List Check) (reply : Reply) → All (λ c. c ≡ Ok tt) checks
+    ensures made { (checks : List Check) (reply : LogStep) → All (λ c. c ≡ Ok tt) checks
         → given checks reply ≡ Ok reply }
 {}
 
@@ -56,7 +56,8 @@ pub fn a_proposal_is_of_the_queue()
 
 /// A skip that another log tells of leaves the table as it is, also what is ripe in it, and the queue.
 pub fn a_skip_leaves_table_and_queue()
-    ensures { (s : CoreState) (epoch : ℕ) (statuses : List LogStatus) (reply : Reply) → IsKeptCore s
+    ensures { (s : CoreState) (epoch : ℕ) (statuses : List LogStatus) (reply : LogStep)
+        → IsKeptCore s
         → skip_row s epoch statuses ≡ Ok reply
         → (table_of reply.after.log ≡ table_of s.log) × (reply.after.queue ≡ s.queue) }
 {}
@@ -64,23 +65,23 @@ pub fn a_skip_leaves_table_and_queue()
 /// Whatever a log is asked, what is kept of it stays: its record is an honest log's, what it counts was seen, and the
 /// endorsements of each queued change were seen and are valid.
 pub fn each_row_keeps_a_log()
-    ensures { (s : CoreState) (input : Input) (reply : Reply) → IsKeptCore s → IsInput input
+    ensures { (s : CoreState) (input : Input) (reply : LogStep) → IsKeptCore s → IsLogInput input
         → row s input ≡ Ok reply → IsKeptCore reply.after }
 {}
 
 /// Whatever a log is asked, its record only grows: what it saw, signed, voted, stated, ended and confirmed
 /// stays as it was, and what is new stands behind it.
 pub fn each_row_only_adds()
-    ensures { (s : CoreState) (input : Input) (reply : Reply) → row s input ≡ Ok reply
+    ensures { (s : CoreState) (input : Input) (reply : LogStep) → row s input ≡ Ok reply
         → LogGrows s.log.past reply.after.log.past }
 {}
 
 /// Each signature of its own that a log sends is that of a generation and a leaf that serve its text in the
 /// book behind the step, and is what that book has due for the text.
 pub fn each_own_signature_is_of_the_book()
-    ensures served { (s : CoreState) (input : Input) (reply : Reply) → row s input ≡ Ok reply
+    ensures served { (s : CoreState) (input : Input) (reply : LogStep) → row s input ≡ Ok reply
         → All (λ blank. IsServed reply.after.log.past.signed blank.due) reply.unsigned.blanks }
-    ensures due { (s : CoreState) (input : Input) (reply : Reply) → row s input ≡ Ok reply
+    ensures due { (s : CoreState) (input : Input) (reply : LogStep) → row s input ≡ Ok reply
         → All (λ blank. due_of reply.after.log.past.signed blank.due.text ≡ Some blank.due)
         reply.unsigned.blanks }
 {}
@@ -88,14 +89,14 @@ pub fn each_own_signature_is_of_the_book()
 /// Whatever a log newly sees it has verified under its directory: there is a signature by the party that the step accepted;
 /// or it is the log's own, which it counts at once.
 pub fn what_is_newly_seen_was_verified()
-    ensures { (s : CoreState) (input : Input) (reply : Reply) → row s input ≡ Ok reply
+    ensures { (s : CoreState) (input : Input) (reply : LogStep) → row s input ≡ Ok reply
         → SeesVerified s.keys s.log.me s.log.past.seen reply.after.log.past.seen }
 {}
 
 /// Whatever a log newly sees stands in the bytes that it takes, with a signature that it verified under the keys that it
 /// knew; or it is the log's own, which it counts at once, and stands in the log's book.
 pub fn what_is_newly_seen_was_claimed()
-    ensures { (s : CoreState) (input : Input) (reply : Reply) → row s input ≡ Ok reply
+    ensures { (s : CoreState) (input : Input) (reply : LogStep) → row s input ≡ Ok reply
         → SeesClaims s.keys s.log.me reply.after.log.past.signed (claims_of input)
         s.log.past.seen reply.after.log.past.seen }
 {}
@@ -113,35 +114,37 @@ pub fn queued_endorsements_need_no_second_look()
 
 /// Where a signature of the log's own is due a message has zero bytes, as many as the signature has.
 pub fn each_own_signature_is_zero_bytes()
-    ensures { (s : CoreState) (input : Input) (reply : Reply) → row s input ≡ Ok reply
+    ensures { (s : CoreState) (input : Input) (reply : LogStep) → row s input ≡ Ok reply
         → All (IsZero reply.after.signature_len reply.unsigned.sent.messages)
         reply.unsigned.blanks }
 {}
 
 /// What a step leaves blank the log's keys can sign: those of each generation up to the newest of its book.
 pub fn each_step_can_be_signed()
-    ensures { (s : CoreState) (input : Input) (reply : Reply) (keys : List KeyParts) → IsKeptCore s
-        → IsInput input → row s input ≡ Ok reply
+    ensures { (s : CoreState) (input : Input) (reply : LogStep) (keys : List KeyParts)
+        → IsKeptCore s
+        → IsLogInput input → row s input ≡ Ok reply
         → AreKeysOf reply.after.log.past.signed reply.after.signature_len keys
         → CanFill keys reply.unsigned }
 {}
 
 /// A step sends at most two messages.
 pub fn each_step_sends_few()
-    ensures step { (s : CoreState) (input : Input) (reply : Reply) → row s input ≡ Ok reply
+    ensures step { (s : CoreState) (input : Input) (reply : LogStep) → row s input ≡ Ok reply
         → length reply.unsigned.sent.messages ≤ most_sent }
-    ensures roll { (s : CoreState) (key : LmsPublic) (reply : Reply) → rolling_row s key ≡ Ok reply
+    ensures roll { (s : CoreState) (key : LmsPublic) (reply : LogStep)
+        → rolling_row s key ≡ Ok reply
         → length reply.unsigned.sent.messages ≤ most_sent }
 {}
 
 /// Whatever a log is asked, it stays the log with its number, of the same council.
 pub fn each_row_keeps_number_and_council()
-    ensures { (s : CoreState) (input : Input) (reply : Reply) → row s input ≡ Ok reply
+    ensures { (s : CoreState) (input : Input) (reply : LogStep) → row s input ≡ Ok reply
         → (reply.after.log.me ≡ s.log.me) × (reply.after.log.council ≡ s.log.council) }
 {}
 
 /// A log takes no message of more than 4,194,304 bytes.
 pub fn no_long_message_is_taken()
-    ensures { (s : CoreState) (bytes : List ℕ) (reply : Reply) → row s (takes bytes) ≡ Ok reply
+    ensures { (s : CoreState) (bytes : List ℕ) (reply : LogStep) → row s (takes bytes) ≡ Ok reply
         → length bytes ≤ longest }
 {}

@@ -5,7 +5,7 @@ ghost use Rattle.key_roll.specs.Ring.{ring_signature_len};
 ghost use Rattle.lms_tree.specs.LmsKind.{leaves_of};
 ghost use Rattle.log_core.specs.Inputs.{input_of};
 ghost use Rattle.log_core.specs.Keyed.{AreBehind, IsOwn, IsPlain, SendsBy};
-ghost use Rattle.log_core.specs.Row.{IsInput, IsReadable, row};
+ghost use Rattle.log_core.specs.Row.{IsLogInput, IsReadable, row};
 ghost use Rattle.log_core.specs.State.{most_sent};
 ghost use Rattle.log_sending.specs.declared.refusal.LogRefusal.TheVariants as refusals;
 
@@ -28,7 +28,7 @@ pub type Log = Keyed<LogCore>;
 
 /// Tells a proof what is true of what a program asks. It does nothing.
 fn input_told(input: &LogInput)
-    ensures { IsInput (input_of input.now) }
+    ensures { IsLogInput (input_of input.now) }
 {
     match input {
         LogInput::Take(bytes) => are_bytes(bytes),

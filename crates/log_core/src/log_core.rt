@@ -1,7 +1,7 @@
 ghost use Rattle.std.specs.Prelude.{◌≡◌, ◌<◌, ◌^◌, [], length, ⊤};
 ghost use Rattle.ar_council.specs.Council.{council_of};
 ghost use Rattle.epoch_log.specs.Calls.{fresh};
-ghost use Rattle.epoch_log.specs.Honest.{HonestLog};
+ghost use Rattle.epoch_log.specs.Honest.{IsOfHonestLog};
 ghost use Rattle.epoch_log.specs.Log.{record_of};
 ghost use Rattle.epoch_log.specs.State.{epoch_of};
 ghost use Rattle.log_core.specs.Kept.{IsKeptCore};
@@ -150,7 +150,7 @@ impl LogCore {
     /// What the log remembers, which is what an honest log does.
     pub fn record(&self) -> &Record
         ensures value { record_of result.now ≡ self.now.log.past }
-        ensures honest { HonestLog self.now.log.council self.now.log.me self.now.log.past }
+        ensures honest { IsOfHonestLog self.now.log.council self.now.log.me self.now.log.past }
     {
         self.log.record()
     }

@@ -49,7 +49,7 @@ impl LogCore {
     {
         let mut front = Signers::new(alloc);
         front.add(&propose_statement(log, epoch, value), signature)?;
-        self.have_signed(alloc, front, changes)
+        self.have_signed(front, changes)
     }
 
     /// That the log has done nothing in the epoch, that it may vote for this value, and that it has a leaf for the vote.

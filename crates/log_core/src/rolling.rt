@@ -3,7 +3,7 @@
 ghost use Rattle.std.specs.Prelude.{◌≡◌, Err, IfOk};
 ghost use Rattle.log_core.specs.Rolling.{roll_draft, rolling_row};
 ghost use Rattle.log_sending.specs.Sending.{none_composed, with_draft};
-ghost use Rattle.log_core.specs.Row.{IsInput};
+ghost use Rattle.log_core.specs.Row.{IsLogInput};
 ghost use Rattle.log_core.specs.State.{rolls};
 ghost use Rattle.log_core.specs.Steps.{IsStep, roll_refusal};
 
@@ -30,7 +30,7 @@ fn roll_refusal(fault: RollFault) -> LogRefusal
 /// Tells a proof that a log can be asked to go on to a key. It does nothing.
 #[tactic(auto, using(crate::proofs::Keyed::next_is_input))]
 pub(crate) fn next_told(key: &LmsPublic)
-    ensures { IsInput (rolls key.now) }
+    ensures { IsLogInput (rolls key.now) }
 {
     key_told(key);
 }

@@ -65,7 +65,7 @@ impl LogCore {
     {
         check_endorsements(alloc, self.log.directory(), change)?;
         taken_alone(self.log.table().judge(self.log.epoch(), change))?;
-        let queued = is_queued(alloc, &self.queue, change)?;
+        let queued = is_queued(&self.queue, change);
         if !queued {
             has_place(&self.queue)?;
         }

@@ -39,7 +39,6 @@ impl LogCore {
     /// verified when it was queued, and are not verified again.
     pub(crate) fn have_signed<'a>(
         &self,
-        alloc: Global,
         front: Signers<'a>,
         changes: &'a [Change],
     ) -> Result<(), LogRefusal>
@@ -50,7 +49,7 @@ impl LogCore {
     {
         self.told();
         let mut all = front;
-        all.add_changes(alloc, &self.queue, changes)?;
+        all.add_changes(&self.queue, changes)?;
         all.check(self.log.directory())
     }
 }

@@ -5,20 +5,20 @@ use Rattle.lms_tree.specs.KeyParts.{KeyParts}
 use Rattle.kept_disk.specs.Moments.{LeavesOnly}
 use Rattle.kept_journal.proofs.Moments.{weaker}
 use Rattle.kept_journal.specs.Journal.{IsBeforeOrAfter}
-use Rattle.log_core.specs.Keyed.{AreBehind, IsOwn, LogParts, signed_answer}
+use Rattle.log_core.specs.Keyed.{AreBehind, IsOwn, KeyedLogParts, signed_answer}
 use Rattle.log_journal.proofs.Replayed.{reply_of, steps_of}
 use Rattle.log_journal.proofs.Spelled.{says_it}
 use Rattle.log_journal.specs.Steps.{standing_of}
 use Rattle.log_journal.specs.Steps as steps
 use Rattle.log_core.proofs.Short.{row-short}
 use Rattle.log_core.specs.Row.{row}
-use Rattle.log_core.specs.State.{LogAnswer, CoreState, Input, Reply, passes, proposes, rolls, takes}
+use Rattle.log_core.specs.State.{LogAnswer, CoreState, Input, LogStep, passes, proposes, rolls, takes}
 use Rattle.log_journal.specs.Inputs.{IsShortInput, IsWhole, input_text, mark}
 use Rattle.log_sending.specs.declared.refusal.LogRefusal.{LogRefusal}
 use Rattle.log_sending.specs.declared.refusal.LogRefusal.TheVariants.{Memory}
 
 -- an input that is taken is short enough for a record
-pub short_input : (s : CoreState) (input : Input) (reply : Reply) → row s input ≡ Ok reply → IsShortInput input
+pub short_input : (s : CoreState) (input : Input) (reply : LogStep) → row s input ≡ Ok reply → IsShortInput input
 short_input s (takes bytes) reply answer = row-short s bytes reply answer
 short_input s proposes reply answer = tt
 short_input s passes reply answer = tt
@@ -33,7 +33,7 @@ pub sent_short : (keys : List KeyParts) (s new : CoreState) (input : Input) (sen
 sent_short keys s new input sent answer = let r = reply_of keys (row s input) new sent answer in short_input s input r.0 r.1
 
 -- a step that was answered takes the text of its input
-pub taken : (old new : LogParts) (input : Input) (sent : Sent) → IsWhole input → IsOwn old.ring.keys input
+pub taken : (old new : KeyedLogParts) (input : Input) (sent : Sent) → IsWhole input → IsOwn old.ring.keys input
     → signed_answer new.ring.keys (row old.core input) ≡ Ok (new.core, sent) → AreBehind input old.ring.keys new.ring.keys
     → steps.takes (standing_of old) (input_text input) (standing_of new)
 taken old new input sent whole own answer behind =

@@ -10,8 +10,8 @@ use Rattle.lms_tree.specs.declared.public_key.LmsPublic.{LmsPublic}
 use Rattle.log_core.specs.Keyed.{AreBehind, IsOwn, IsPlain, SendsBy, signed_answer}
 use Rattle.log_core.specs.Rolling.{rolling_row}
 use Rattle.log_core.specs.Row.{row}
-use Rattle.log_core.specs.State.{LogAnswer, CoreState, Input, Reply, passes, proposes, rolls, takes}
-use Rattle.log_journal.specs.Steps.{LogStanding, Steps}
+use Rattle.log_core.specs.State.{LogAnswer, CoreState, Input, LogStep, passes, proposes, rolls, takes}
+use Rattle.log_journal.specs.Steps.{LogStanding, TakesInput}
 use Rattle.log_sending.specs.declared.refusal.LogRefusal.{LogRefusal}
 use Rattle.log_sending.specs.declared.refusal.LogRefusal.TheVariants.{Memory}
 
@@ -20,20 +20,20 @@ same-ok a b e = cc
 
 -- an answer that was signed has a reply
 pub reply_of : (keys : List KeyParts) (answer : LogAnswer) (new : CoreState) (sent : Sent) → signed_answer keys answer ≡ Ok (new, sent)
-    → (reply : Reply) × (answer ≡ Ok reply) × (new ≡ reply.after)
+    → (reply : LogStep) × (answer ≡ Ok reply) × (new ≡ reply.after)
 reply_of keys (Ok reply) new sent e =
     (reply, refl, sym (ap (λ (p : CoreState × Sent). p.0) (same-ok (reply.after, filled keys reply.unsigned) (new, sent) e)))
 reply_of keys (Err refusal) new sent e = absurd cc
 
 -- a step that was answered
 pub steps_of : (old new : LogStanding) (input : Input) (sent : Sent) → IsOwn old.keys input
-    → signed_answer new.keys (row old.core input) ≡ Ok (new.core, sent) → AreBehind input old.keys new.keys → Steps old input new
+    → signed_answer new.keys (row old.core input) ≡ Ok (new.core, sent) → AreBehind input old.keys new.keys → TakesInput old input new
 steps_of old new input sent own answer behind =
     let r = reply_of new.keys (row old.core input) new.core sent answer in
     record { own = own; reply = r.0; row_is = r.1; core_is = r.2; keys_are = behind }
 
 -- a refusal of the row is no step
-pub no_step : (old : LogStanding) (input : Input) (refusal : LogRefusal) → row old.core input ≡ Err refusal → (later : LogStanding) → ¬ Steps old input later
+pub no_step : (old : LogStanding) (input : Input) (refusal : LogRefusal) → row old.core input ≡ Err refusal → (later : LogStanding) → ¬ TakesInput old input later
 no_step old input refusal answer later step = let never : ◌≡◌ {A = LogAnswer} (Ok step.reply) (Err refusal) = sym step.row_is ∙ answer in absurd cc
 
 pub plain_own : (keys : List KeyParts) (input : Input) → IsPlain input → IsOwn keys input
@@ -78,7 +78,7 @@ rolls-row s key = refl
 -- a roll that was answered, to this key
 pub rolled_steps : (old new : LogStanding) (key newest : LmsPublic) (sent : Sent) → IsNewest old.keys newest → IsNewest new.keys key
     → ((next : KeyParts) → IsNext old.keys next → SendsBy (old.keys ++ next ∷ []) (Ok sent) old.core new.core (rolling_row old.core (public_of next)))
-    → ((next : KeyParts) → IsNext old.keys next → new.keys ≡ old.keys ++ next ∷ []) → Steps old (rolls key) new
+    → ((next : KeyParts) → IsNext old.keys next → new.keys ≡ old.keys ++ next ∷ []) → TakesInput old (rolls key) new
 rolled_steps old new key newest sent had has sends behind =
     let next = next_of old.keys newest had in
     let is : key ≡ public_of next.0 = newest_next old.keys new.keys next.0 key (behind next.0 next.1) has in
@@ -94,7 +94,7 @@ rolled_steps old new key newest sent had has sends behind =
 -- a roll that was refused
 pub roll_refused : (old : LogStanding) (key : LmsPublic) (refusal : LogRefusal)
     → ((next : KeyParts) → IsNext old.keys next → (refusal ≡ Memory) ⊎ (rolling_row old.core (public_of next) ≡ Err refusal)) → refusal ≢ Memory
-    → (later : LogStanding) → ¬ Steps old (rolls key) later
+    → (later : LogStanding) → ¬ TakesInput old (rolls key) later
 roll_refused old key refusal refuses other later step =
     let answer : rolling_row old.core (public_of step.own.next) ≡ Err refusal =
     ⊎_elim (λ memory. absurd (other memory)) (λ is. is) (refuses step.own.next step.own.is_next) in

@@ -1,10 +1,10 @@
 -- What contracts see of a log with its journal.
 use Rattle.std.specs.Prelude.{◌≡◌}
 use Rattle.kept_journal.specs.Settled.{JournalParts}
-use Rattle.log_core.specs.Keyed.{LogParts}
+use Rattle.log_core.specs.Keyed.{KeyedLogParts}
 
 pub record KeptParts (K : Type 0) : Type 0 where
-  pub log : LogParts
+  pub log : KeyedLogParts
   pub journal : JournalParts K
 
 -- all is as it was; of the room for more keys nothing is said

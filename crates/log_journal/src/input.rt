@@ -15,7 +15,7 @@ use std::alloc::{AllocError, Global};
 const LONGEST: usize = 4_194_304;
 
 /// The record of an input; of a message that is too long for a log, that of its front.
-pub(crate) fn record_of_input(alloc: Global, input: &LogInput) -> Result<KeptText, AllocError>
+pub fn record_of_input(alloc: Global, input: &LogInput) -> Result<KeptText, AllocError>
     ensures { IfOk result (λ made.
         IsShortInput (input_of input.now) → made ≡ input_text (input_of input.now)) }
 {
@@ -39,7 +39,7 @@ pub fn input_told(input: &LogInput)
 
 /// What a text of a journal says: an input, but for the key of a roll.
 #[derive(Clone, Copy)]
-pub(crate) enum Said<'a> {
+pub enum Said<'a> {
     /// To take a message, to propose, or to state what the log did.
     Plain(LogInput<'a>),
     /// To go on to this key.
@@ -49,7 +49,7 @@ pub(crate) enum Said<'a> {
 }
 
 /// What a text says.
-pub(crate) fn read_text<'a>(text: &'a [u8]) -> Said<'a>
+pub fn read_text<'a>(text: &'a [u8]) -> Said<'a>
     ensures { IsSaid result (input_in text.now) }
 {
     match text {

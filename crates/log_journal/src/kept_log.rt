@@ -1,21 +1,22 @@
 ghost use Rattle.std.specs.Prelude.{◌≡◌, ◌≢◌, ◌≤◌, ◌+◌, ◌++◌, ◌∷◌, ◌⊎◌, ◌↔◌, [], ℕ, List, Ok, Err, true, false, length, IfOk, IfErr, OnOk, IsErrOf};
 ghost use Rattle.ar_base.specs.Faults.{HasRisen};
-ghost use Rattle.epoch_log.specs.Honest.{HonestLog};
+ghost use Rattle.epoch_log.specs.Honest.{IsOfHonestLog};
 ghost use Rattle.epoch_log.specs.Log.{record_of};
 ghost use Rattle.kept_disk.specs.Disk.{Only};
 ghost use Rattle.kept_disk.specs.Moments.{LeavesOnly};
 ghost use Rattle.kept_journal.specs.Appending.{SpendsAll, WantsAll, staged_text};
 ghost use Rattle.kept_journal.specs.Journal.{IsAsBefore, IsBeforeOrAfter, IsNoJournal, Stands, recovered};
 ghost use Rattle.kept_journal.specs.Opening.{SpendsCost, WantsCost, opening};
-ghost use Rattle.kept_journal.specs.Replays.{IsBad, Replays};
+ghost use Rattle.kept_journal.specs.Replays.{IsBad, ReachesBy};
 ghost use Rattle.log_core.specs.Inputs.{input_of};
-ghost use Rattle.log_core.specs.Keyed.{AreBehind, IsOfNext, IsOwn, signed_answer};
+ghost use Rattle.key_roll.specs.Ring.{IsOfNext};
+ghost use Rattle.log_core.specs.Keyed.{AreBehind, IsOwn, signed_answer};
 ghost use Rattle.log_core.specs.Row.{row};
 ghost use Rattle.log_core.specs.State.{most_sent};
 ghost use Rattle.log_journal.specs.Inputs.{input_text, mark};
 ghost use Rattle.kept_journal.specs.Fused.{with_fuse};
 ghost use Rattle.log_journal.specs.Kept.{IsAsItWas};
-ghost use Rattle.log_journal.specs.Steps.{new_log, standing_of, takes};
+ghost use Rattle.log_journal.specs.Steps.{new_standing, standing_of, takes};
 ghost use Rattle.log_journal.specs.declared.refusal.KeptRefusal.TheVariants as refusals;
 
 use crate::KeptRefusal;
@@ -83,7 +84,7 @@ impl<K: Disk> KeptLog<K> {
         ensures stood { OnOk result (Stands mark (recovered (K.seen disk)) (K.seen disk)) }
         // Which log it is.
         ensures replays { IfOk result (λ kept.
-            Replays takes (new_log number directory key) (recovered (K.seen disk))
+            ReachesBy takes (new_standing number directory key) (recovered (K.seen disk))
             (standing_of kept.log)) }
         ensures texts { IfOk result (λ kept.
             (kept.journal.texts ≡ recovered (K.seen disk))
@@ -116,7 +117,7 @@ impl<K: Disk> KeptLog<K> {
         ensures not_journal { IfErr result (λ e.
             e.1 ≡ OpenFault.NotJournal → IsNoJournal mark (K.seen disk)) }
         ensures bad { IfErr result (λ e. (place : ℕ) → e.1 ≡ OpenFault.BadRecord place
-            → IsBad takes mark (new_log number directory key) (K.seen disk) place) }
+            → IsBad takes mark (new_standing number directory key) (K.seen disk) place) }
     {
         let log = match new_log(alloc, number, directory, key) {
             Ok(log) => log,
@@ -213,7 +214,7 @@ impl<K: Disk> KeptLog<K> {
     /// What the log remembers, which is what an honest log does. After `DiskFault` it is the record with that input.
     pub fn record(&self) -> &Record
         ensures value { record_of result.now ≡ self.now.log.core.log.past }
-        ensures honest { HonestLog self.now.log.core.log.council self.now.log.core.log.me
+        ensures honest { IsOfHonestLog self.now.log.core.log.council self.now.log.core.log.me
             self.now.log.core.log.past }
     {
         self.log.core.record()

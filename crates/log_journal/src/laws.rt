@@ -5,12 +5,12 @@ ghost use Rattle.ar_base.specs.Prefixes.{BeginsWith};
 ghost use Rattle.epoch_log.specs.Later.{LogGrows};
 ghost use Rattle.key_roll.specs.Later.{IsServed};
 ghost use Rattle.kept_journal.specs.Journal.{IsNoJournal, Stands};
-ghost use Rattle.kept_journal.specs.Replays.{IsBad, Replays};
+ghost use Rattle.kept_journal.specs.Replays.{IsBad, ReachesBy};
 ghost use Rattle.log_core.specs.Row.{row};
-ghost use Rattle.log_core.specs.State.{Input, Reply};
+ghost use Rattle.log_core.specs.State.{Input, LogStep};
 ghost use Rattle.log_journal.specs.Inputs.{IsWhole, input_in, input_text, mark};
 ghost use Rattle.log_journal.specs.Lives.{Lead, Life};
-ghost use Rattle.log_journal.specs.Steps.{LogStanding, Steps, takes};
+ghost use Rattle.log_journal.specs.Steps.{LogStanding, TakesInput, takes};
 
 /// The text of an input says it, and no other.
 pub fn a_text_says_its_input()
@@ -24,7 +24,7 @@ pub fn a_file_that_can_be_replayed_is_not_refused()
         → ¬ IsNoJournal mark file }
     ensures records { (file : List ℕ) (texts : List (List ℕ)) (first last : LogStanding) (place : ℕ)
         → Stands mark texts file
-        → Replays takes first texts last → ¬ IsBad takes mark first file place }
+        → ReachesBy takes first texts last → ¬ IsBad takes mark first file place }
 {}
 
 /// What was answered in a life of a file stands in it in each later life, whatever crashes and openings come between: its texts
@@ -39,13 +39,13 @@ pub fn what_was_answered_is_kept()
 /// each signature of its own that it sent stands in its book at the generation and leaf of that signature.
 pub fn what_was_signed_is_kept()
     ensures { (first before after last : LogStanding) (texts answered more : List (List ℕ))
-        (input : Input) (reply : Reply)
+        (input : Input) (reply : LogStep)
         (left : List ℕ) (lives : List Life) (final : List (List ℕ))
-        → Replays takes first (texts ++ answered) before → Steps before input after
+        → ReachesBy takes first (texts ++ answered) before → TakesInput before input after
         → row before.core input ≡ Ok reply → IsWhole input
         → Lead texts (record { answered = answered ++ (input_text input ∷ more); left = left }
         ∷ lives) final
-        → Replays takes first final last
+        → ReachesBy takes first final last
         → LogGrows after.core.log.past last.core.log.past × All (λ blank.
         IsServed last.core.log.past.signed blank.due) reply.unsigned.blanks }
 {}

@@ -10,7 +10,7 @@
 //! Its tests: `disk_tests`, module `log_journal_tests`, `arpki_journal`, by its stored lines, and `tools/crash`.
 #![tactic(auto)]
 
-pub use input::input_told;
+pub use input::{Said, input_told, read_text, record_of_input};
 pub use kept_disk::{Disk, MemDisk};
 pub use kept_journal::OpenFault;
 pub use kept_log::KeptLog;

@@ -6,7 +6,7 @@ ghost use Rattle.log_core.specs.Inputs.{input_of};
 ghost use Rattle.log_core.specs.Keyed.{IsPlain};
 ghost use Rattle.log_core.specs.State.{rolls};
 ghost use Rattle.log_journal.specs.Determined.{one_standing};
-ghost use Rattle.log_journal.specs.Steps.{LogStanding, Steps, standing_of, takes};
+ghost use Rattle.log_journal.specs.Steps.{LogStanding, TakesInput, standing_of, takes};
 
 use crate::input::{Said, read_text};
 use kept_journal::{Replay, ReplayFault};
@@ -47,9 +47,9 @@ fn fault_of(refusal: LogRefusal) -> ReplayFault
 fn take_again(alloc: Global, log: &mut Log, input: &LogInput) -> Result<(), ReplayFault>
     requires { IsPlain (input_of input.now) }
     ensures taken { OnOk result
-        (Steps (standing_of log.old) (input_of input.now) (standing_of log.new)) }
+        (TakesInput (standing_of log.old) (input_of input.now) (standing_of log.new)) }
     ensures stuck { IsErrOf result ReplayFault.Stuck → (later : LogStanding)
-        → ¬ Steps (standing_of log.old) (input_of input.now) later }
+        → ¬ TakesInput (standing_of log.old) (input_of input.now) later }
 {
     match answer(log, alloc, input) {
         Ok(_) => Ok(()),
@@ -75,9 +75,9 @@ fn newest_told(log: &Log)
 /// A log goes on to its next key again, which is to be this one.
 fn roll_again(alloc: Global, log: &mut Log, key: &LmsPublic) -> Result<(), ReplayFault>
     ensures taken { OnOk result
-        (Steps (standing_of log.old) (rolls key.now) (standing_of log.new)) }
+        (TakesInput (standing_of log.old) (rolls key.now) (standing_of log.new)) }
     ensures stuck { IsErrOf result ReplayFault.Stuck → (later : LogStanding)
-        → ¬ Steps (standing_of log.old) (rolls key.now) later }
+        → ¬ TakesInput (standing_of log.old) (rolls key.now) later }
 {
     newest_told(log);
     match log.roll(alloc) {

@@ -11,7 +11,7 @@ use Rattle.kept_disk.specs.Memory.{DiskState, synced}
 use Rattle.kept_journal.specs.Appending.{WantsAll}
 use Rattle.kept_journal.specs.Journal.{Stands, recovered}
 use Rattle.kept_journal.specs.Opening.{SpendsCost, WantsCost, opening}
-use Rattle.kept_journal.specs.Replays.{Replays}
+use Rattle.kept_journal.specs.Replays.{ReachesBy}
 use Rattle.kept_journal.proofs.Costs.{opening_around}
 use Rattle.kept_journal.proofs.Rereading.{stands_recovered}
 use Rattle.log_journal.specs.Inputs.{mark}
@@ -133,7 +133,7 @@ pub opened : (new : LogStanding) (bytes changes : ℕ) (first disk : DiskState) 
     → disk.seen ≡ first.seen → disk.fuel.fuse ≡ first.fuel.fuse → disk.faults ≡ first.faults → first.fuel.fuse ≡ None
     → length first.seen + 9 + bytes ≤ disk.fuel.room → changes + 3 ≤ disk.fuel.changes
     → (kept.journal.texts ≡ recovered disk.seen) × (kept.journal.count ≡ length (recovered disk.seen)) × (kept.journal.stopped ≡ false)
-    → Replays takes new (recovered disk.seen) (standing_of kept.log)
+    → ReachesBy takes new (recovered disk.seen) (standing_of kept.log)
     → SpendsCost (Some disk.fuel) (Some kept.journal.disk.fuel) (opening disk.seen) → kept.journal.disk.faults ≡ disk.faults
     → IsOpened new (recovered first.seen) bytes changes first kept
 opened new bytes changes first disk kept same fuse faultless unlimited room few journal became spends uncounted =
@@ -143,7 +143,7 @@ opened new bytes changes first disk kept same fuse faultless unlimited room few 
       going = journal.2;
       stand = journal.0 ∙ ap recovered same;
       counts = journal.1 ∙ ap (λ (file : List ℕ). length (recovered file)) same;
-      became = subst (λ (file : List ℕ). Replays takes new (recovered file) (standing_of kept.log)) same became;
+      became = subst (λ (file : List ℕ). ReachesBy takes new (recovered file) (standing_of kept.log)) same became;
       unlimited = ap (λ (f : Fuel). f.fuse) is ∙ ap (λ (o : Option ℕ). option_map (λ k. k - (opening disk.seen).calls) o) (fuse ∙ unlimited);
       room = omega (arith, ap (λ (f : Fuel). f.room) is, room, around.bytes, ap (λ (file : List ℕ). length file) same);
       changes = omega (arith, ap (λ (f : Fuel). f.changes) is, few, around.changes);
@@ -176,15 +176,15 @@ module _ (texts : List (List ℕ)) (many : ℕ) (image : List ℕ) (within : man
   pub lost_counts : length (recovered image) ≡ many
   lost_counts = ap length lost_is ∙ length-take-le many texts within
 
-  module _ (new last : LogStanding) (all : Replays takes new texts last) where
-    split-all : Replays takes new (take many texts ++ drop many texts) last
-    split-all = subst (λ (ts : List (List ℕ)). Replays takes new ts last) (sym (take-append-drop many texts)) all
+  module _ (new last : LogStanding) (all : ReachesBy takes new texts last) where
+    split-all : ReachesBy takes new (take many texts ++ drop many texts) last
+    split-all = subst (λ (ts : List (List ℕ)). ReachesBy takes new ts last) (sym (take-append-drop many texts)) all
 
-    pub lost_replays : (here : LogStanding) × Replays takes new (recovered image) here
+    pub lost_replays : (here : LogStanding) × ReachesBy takes new (recovered image) here
     lost_replays =
         let front = front_replays new last (take many texts) (drop many texts) split-all in
-        (front.0, subst (λ (ts : List (List ℕ)). Replays takes new ts front.0) (sym lost_is) front.1)
+        (front.0, subst (λ (ts : List (List ℕ)). ReachesBy takes new ts front.0) (sym lost_is) front.1)
 
-    pub rest_of : (here : LogStanding) → Replays takes new (recovered image) here → Replays takes here (drop many texts) last
+    pub rest_of : (here : LogStanding) → ReachesBy takes new (recovered image) here → ReachesBy takes here (drop many texts) last
     rest_of here became =
-        rest_replays new here last (take many texts) (drop many texts) split-all (subst (λ (ts : List (List ℕ)). Replays takes new ts here) lost_is became)
+        rest_replays new here last (take many texts) (drop many texts) split-all (subst (λ (ts : List (List ℕ)). ReachesBy takes new ts here) lost_is became)

@@ -7,7 +7,7 @@ use Rattle.kept_disk.specs.Fuel.{Fuel}
 use Rattle.kept_journal.specs.Appending.{SpendsAll, WantsAll, staged_text}
 use Rattle.kept_disk.specs.Moments.{LeavesOnly}
 use Rattle.kept_journal.specs.Journal.{IsBeforeOrAfter, Stands}
-use Rattle.kept_journal.specs.Replays.{Replays}
+use Rattle.kept_journal.specs.Replays.{ReachesBy}
 use Rattle.kept_journal.proofs.Loading.{replays-push}
 use Rattle.kept_journal.proofs.Spending.{none_spent, then_spent, then_wants}
 use Rattle.log_core.specs.Keyed.{IsOwn}
@@ -15,7 +15,7 @@ use Rattle.log_core.specs.Row.{row}
 use Rattle.log_core.specs.State.{Input}
 use Rattle.log_journal.specs.Inputs.{IsWhole, input_text, mark}
 use Rattle.log_journal.specs.Kept.{KeptParts}
-use Rattle.log_journal.specs.Steps.{LogStanding, Steps, standing_of, takes}
+use Rattle.log_journal.specs.Steps.{LogStanding, TakesInput, standing_of, takes}
 use Rattle.log_journal.proofs.Replayed.{no_step}
 use Rattle.log_journal.proofs.Spelled.{says_it}
 use Rattle.log_restart.specs.Inputs.{record_cost, records_cost}
@@ -30,9 +30,9 @@ same-input : (a b : Input) → Some a ≡ Some b → a ≡ b
 same-input a b e = cc
 
 -- what the text of an input is taken as is that input
-pub steps_here : (here later : LogStanding) (input : Input) → IsWhole input → takes here (input_text input) later → Steps here input later
+pub steps_here : (here later : LogStanding) (input : Input) → IsWhole input → takes here (input_text input) later → TakesInput here input later
 steps_here here later input whole step =
-    subst (λ (i : Input). Steps here i later) (same-input step.input input (sym step.says ∙ says_it input whole)) step.steps
+    subst (λ (i : Input). TakesInput here i later) (same-input step.input input (sym step.says ∙ says_it input whole)) step.steps
 
 pub own_here : (here later : LogStanding) (input : Input) → IsWhole input → takes here (input_text input) later → IsOwn here.keys input
 own_here here later input whole step = (steps_here here later input whole step).own
@@ -46,9 +46,9 @@ not_refused here later input refusal whole step answer = no_step here input refu
 
 -- what took those before it has to take it
 pub takes_next : (first here last : LogStanding) (front back all : List (List ℕ)) (text : List ℕ) → all ≡ front ++ text ∷ back
-    → Replays takes first all last → Replays takes first front here → (later : LogStanding) × takes here text later
+    → ReachesBy takes first all last → ReachesBy takes first front here → (later : LogStanding) × takes here text later
 takes_next first here last front back all text is replays part =
-    let rest = rest_replays first here last front (text ∷ back) (subst (λ (ts : List (List ℕ)). Replays takes first ts last) is replays) part in
+    let rest = rest_replays first here last front (text ∷ back) (subst (λ (ts : List (List ℕ)). ReachesBy takes first ts last) is replays) part in
     (rest.0, rest.1)
 
 -- ---- what comes of it
@@ -112,7 +112,7 @@ module _ {D : Type 0} (seen held : D → List ℕ) (may_leave : D → List ℕ �
     going = second.going;
     stand = second.stand ∙ ap (λ (ts : List (List ℕ)). ts ++ text ∷ []) first.stand ∙ append_assoc old.journal.texts front (text ∷ [])
         ∙ ap (λ (ts : List (List ℕ)). old.journal.texts ++ ts) (sym is);
-    became = subst (λ (ts : List (List ℕ)). Replays takes (standing_of old.log) ts (standing_of new.log)) (sym is)
+    became = subst (λ (ts : List (List ℕ)). ReachesBy takes (standing_of old.log) ts (standing_of new.log)) (sym is)
         (replays-push takes (standing_of old.log) front text (standing_of mid.log) (standing_of new.log) first.became
         (subst (λ (s : LogStanding). takes (standing_of mid.log) text s) (sym second.became.2) second.became.1));
     spent = then_spent (fuel old.journal.disk) (fuel mid.journal.disk) (fuel new.journal.disk)

@@ -2,16 +2,16 @@
 use Rattle.std.proofs.Common.{◌≡◌, inl, ℕ, ◌+◌, ◌*◌, ◌≤◌, Bool, true, false, List, [], ◌++◌, length, take, drop, refl, sym, ◌∙◌, ap, subst, arith, length-drop, None, Some}
 use Rattle.std.proofs.lemmas.List.{drop-map, length-map, take-append-drop}
 use Rattle.std.proofs.lemmas.List.Sums.{sum_by-take-drop}
-use Rattle.kept_disk.specs.Memory.{DiskState, fresh}
+use Rattle.kept_disk.specs.Memory.{DiskState, fresh_disk}
 use Rattle.kept_journal.specs.Fused.{with_fuse}
 use Rattle.kept_journal.specs.Journal.{Stands, recovered}
-use Rattle.kept_journal.specs.Replays.{Replays}
+use Rattle.kept_journal.specs.Replays.{ReachesBy}
 use Rattle.kept_journal.specs.Settled.{JournalParts}
-use Rattle.log_core.specs.Keyed.{LogParts}
+use Rattle.log_core.specs.Keyed.{KeyedLogParts}
 use Rattle.log_core.specs.declared.step.LogInput.{LogInput}
 use Rattle.log_journal.specs.Inputs.{mark}
 use Rattle.log_journal.specs.Kept.{KeptParts}
-use Rattle.log_journal.specs.Steps.{LogStanding, new_log, standing_of, takes}
+use Rattle.log_journal.specs.Steps.{LogStanding, new_standing, standing_of, takes}
 use Rattle.lms_tree.specs.KeyParts.{KeyParts}
 use Rattle.party_keys.specs.Directory.{Directory}
 use Rattle.log_restart.specs.Inputs.{text_of, texts_of, total_len}
@@ -19,30 +19,30 @@ use Rattle.key_roll.specs.Book.{RollBook}
 use Rattle.log_restart.specs.Restarted.{IsOpened, RanFirst, new_log_of, recovered_of, told_of}
 use Rattle.log_restart.specs.Running.{FailedAt, TookAll}
 use Rattle.log_restart.specs.declared.beginning.Beginning.{Beginning}
-use Rattle.log_restart.specs.declared.told.Told.{Told}
+use Rattle.log_restart.specs.declared.told.RestartReport.{RestartReport}
 use Rattle.log_restart.proofs.Ran.{HasRoom, faults, fuel, has_room, held, lost_counts, lost_is, lost_replays, lost_stands, ran_first, rest_of, seen}
 use Rattle.log_restart.proofs.Replaying.{one_last}
 
 -- ---- the first run
 
-module _ (disk : DiskState) (empty : disk ≡ fresh []) (new : LogStanding) where
+module _ (disk : DiskState) (empty : disk ≡ fresh_disk []) (new : LogStanding) where
   pub empty_stands : Stands mark (recovered disk.seen) disk.seen
   empty_stands = subst (λ (d : DiskState). Stands mark (recovered d.seen) d.seen) (sym empty) (tt, inl (omega arith, refl))
 
-  pub empty_replays : (last : LogStanding) × Replays takes new (recovered disk.seen) last
-  empty_replays = (new, subst (λ (d : DiskState). Replays takes new (recovered d.seen) new) (sym empty) refl)
+  pub empty_replays : (last : LogStanding) × ReachesBy takes new (recovered disk.seen) last
+  empty_replays = (new, subst (λ (d : DiskState). ReachesBy takes new (recovered d.seen) new) (sym empty) refl)
 
-  pub begun : (here : LogStanding) → Replays takes new (recovered disk.seen) here → here ≡ new
-  begun here became = subst (λ (d : DiskState). Replays takes new (recovered d.seen) here) empty became
+  pub begun : (here : LogStanding) → ReachesBy takes new (recovered disk.seen) here → here ≡ new
+  begun here became = subst (λ (d : DiskState). ReachesBy takes new (recovered d.seen) here) empty became
 
   module _ (texts : List (List ℕ)) (total many calls : ℕ) (kept old : KeptParts DiskState) (is : IsOpened new (recovered disk.seen) (total + 6 * many) (4 * many) disk kept)
       (total_is : total ≡ total_len texts) (many_is : many ≡ length texts) (log : old.log ≡ kept.log) (journal : old.journal ≡ with_fuse kept.journal calls) where
     pub fused_going : old.journal.stopped ≡ false
     fused_going = ap (λ (j : JournalParts DiskState). j.stopped) journal ∙ is.going
 
-    pub fused_replays : (last : LogStanding) → Replays takes new texts last → Replays takes (standing_of old.log) texts last
+    pub fused_replays : (last : LogStanding) → ReachesBy takes new texts last → ReachesBy takes (standing_of old.log) texts last
     fused_replays last replays =
-        subst (λ (s : LogStanding). Replays takes s texts last) (sym (ap (λ (l : LogParts). standing_of l) log ∙ begun (standing_of kept.log) is.became)) replays
+        subst (λ (s : LogStanding). ReachesBy takes s texts last) (sym (ap (λ (l : KeyedLogParts). standing_of l) log ∙ begun (standing_of kept.log) is.became)) replays
 
     fused-room : HasRoom texts (Some calls) old
     fused-room =
@@ -63,7 +63,7 @@ module _ (disk : DiskState) (empty : disk ≡ fresh []) (new : LogStanding) wher
 
 -- ---- the second run
 
-module _ (inputs : List LogInput) (many : ℕ) (lost : DiskState) (image : List ℕ) (within : many ≤ length inputs) (is_lost : lost ≡ fresh image)
+module _ (inputs : List LogInput) (many : ℕ) (lost : DiskState) (image : List ℕ) (within : many ≤ length inputs) (is_lost : lost ≡ fresh_disk image)
     (stands : Stands mark (take many (texts_of inputs)) image) (new : LogStanding) where
   within-texts : many ≤ length (texts_of inputs)
   within-texts = omega (arith, within, length-map inputs text_of)
@@ -74,7 +74,7 @@ module _ (inputs : List LogInput) (many : ℕ) (lost : DiskState) (image : List 
   pub found_stands : Stands mark (recovered lost.seen) lost.seen
   found_stands = lost_stands (texts_of inputs) many lost.seen within-texts here-stands
 
-  pub found_replays : (last : LogStanding) → Replays takes new (texts_of inputs) last → (here : LogStanding) × Replays takes new (recovered lost.seen) here
+  pub found_replays : (last : LogStanding) → ReachesBy takes new (texts_of inputs) last → (here : LogStanding) × ReachesBy takes new (recovered lost.seen) here
   found_replays last all = lost_replays (texts_of inputs) many lost.seen within-texts here-stands new last all
 
   pub found_unlimited : lost.fuel.fuse ≡ None
@@ -89,9 +89,9 @@ module _ (inputs : List LogInput) (many : ℕ) (lost : DiskState) (image : List 
 
   module _ (total : ℕ) (total_is : total ≡ total_len (texts_of inputs))
       (kept : KeptParts DiskState) (is : IsOpened new (recovered lost.seen) (total + 6 * length inputs) (4 * length inputs) lost kept) where
-    pub rest_replays_on : (last : LogStanding) → Replays takes new (texts_of inputs) last → Replays takes (standing_of kept.log) (texts_of (drop many inputs)) last
+    pub rest_replays_on : (last : LogStanding) → ReachesBy takes new (texts_of inputs) last → ReachesBy takes (standing_of kept.log) (texts_of (drop many inputs)) last
     rest_replays_on last all =
-        subst (λ (ts : List (List ℕ)). Replays takes (standing_of kept.log) ts last) (sym rest-texts)
+        subst (λ (ts : List (List ℕ)). ReachesBy takes (standing_of kept.log) ts last) (sym rest-texts)
         (rest_of (texts_of inputs) many lost.seen within-texts here-stands new last all (standing_of kept.log) is.became)
 
     few-left : length (texts_of (drop many inputs)) ≤ length inputs
@@ -113,11 +113,11 @@ module _ (inputs : List LogInput) (many : ℕ) (lost : DiskState) (image : List 
         stands_then
 
     -- where it stands, in the end
-    pub last_is : (last later : LogStanding) → Replays takes new (texts_of inputs) last → Replays takes (standing_of kept.log) (texts_of (drop many inputs)) later → later ≡ last
+    pub last_is : (last later : LogStanding) → ReachesBy takes new (texts_of inputs) last → ReachesBy takes (standing_of kept.log) (texts_of (drop many inputs)) later → later ≡ last
     last_is last later all took = one_last (standing_of kept.log) later last (texts_of (drop many inputs)) took (rest_replays_on last all)
 
 -- what is told, by what it comes to
-pub told_same : (told : Told) (recovered many inputs all : ℕ) (book last : RollBook) → told ≡ told_of recovered inputs book → recovered ≡ many → inputs ≡ all → book ≡ last
+pub told_same : (told : RestartReport) (recovered many inputs all : ℕ) (book last : RollBook) → told ≡ told_of recovered inputs book → recovered ≡ many → inputs ≡ all → book ≡ last
     → told ≡ told_of many all last
 told_same told recovered many inputs all book last tells is_many is_all is_last =
     tells ∙ ap (λ (n : ℕ). told_of n inputs book) is_many ∙ ap (λ (n : ℕ). told_of many n book) is_all ∙ ap (λ (b : RollBook). told_of many all b) is_last
@@ -125,7 +125,7 @@ told_same told recovered many inputs all book last tells is_many is_all is_last 
 -- two beginnings that are one
 pub same_new : (number : ℕ) (again first : Beginning) → (again.directory ≡ first.directory) × (again.key ≡ first.key) → new_log_of number again ≡ new_log_of number first
 same_new number again first same =
-    ap (λ (d : Directory). new_log number d again.key) same.0 ∙ ap (λ (k : KeyParts). new_log number first.directory k) same.1
+    ap (λ (d : Directory). new_standing number d again.key) same.0 ∙ ap (λ (k : KeyParts). new_standing number first.directory k) same.1
 
 -- how many are recovered
 pub few_recovered : (inputs : List LogInput) (calls : ℕ) → recovered_of (length (texts_of inputs)) calls ≤ length inputs

@@ -2,18 +2,18 @@
 use Rattle.std.specs.Prelude.{◌≡◌, ◌↔◌, ◌⊎◌, ℕ, ◌*◌, ◌+◌, ◌/◌, ◌<◌, ◌≤◌, false, min, List, length, take, None}
 use Rattle.kept_disk.specs.Memory.{DiskState, synced}
 use Rattle.kept_journal.specs.Journal.{Stands}
-use Rattle.kept_journal.specs.Replays.{Replays}
+use Rattle.kept_journal.specs.Replays.{ReachesBy}
 use Rattle.key_roll.specs.Book.{RollBook}
 use Rattle.log_journal.specs.Inputs.{mark}
 use Rattle.log_journal.specs.Kept.{KeptParts}
-use Rattle.log_journal.specs.Steps.{LogStanding, new_log, standing_of, takes}
+use Rattle.log_journal.specs.Steps.{LogStanding, new_standing, standing_of, takes}
 use Rattle.log_restart.specs.Books.{book_digest}
 use Rattle.log_restart.specs.declared.beginning.Beginning.{Beginning}
-use Rattle.log_restart.specs.declared.told.Told.{Told}
+use Rattle.log_restart.specs.declared.told.RestartReport.{RestartReport}
 
 -- the log with this number that has done nothing yet
 abbrev pub new_log_of : ℕ → Beginning → LogStanding
-new_log_of number beginning = new_log number beginning.directory beginning.key
+new_log_of number beginning = new_standing number beginning.directory beginning.key
 
 -- how many of so many inputs stand in the file, where so many calls of the disk pass behind its opening: each takes four
 abbrev pub recovered_of : ℕ → ℕ → ℕ
@@ -21,7 +21,7 @@ recovered_of many calls = min many (calls / 4)
 
 -- what is told of it: how many of so many inputs were recovered, and how many statements the log has signed in the end, with their
 -- digest
-abbrev pub told_of : ℕ → ℕ → RollBook → Told
+abbrev pub told_of : ℕ → ℕ → RollBook → RestartReport
 told_of recovered many book = record {
   recovered = recovered;
   inputs = many;
@@ -51,7 +51,7 @@ pub record AreRestarted (texts : List (List ℕ)) (calls : ℕ) (before after : 
 
 -- The texts that were recovered from what the first run left were taken again, and then the others: so much is told of the log in
 -- the end, and its file stands for all texts, as a read gives it and as the last sync kept it.
-pub record RanAgain (texts : List (List ℕ)) (recovered : ℕ) (book : RollBook) (told : Told) (after : DiskState) : Type 0 where
+pub record RanAgain (texts : List (List ℕ)) (recovered : ℕ) (book : RollBook) (told : RestartReport) (after : DiskState) : Type 0 where
   pub tells : told ≡ told_of recovered (length texts) book
   pub stands : Stands mark texts after.seen
   pub lasts : Stands mark texts (synced after.seen after.events)
@@ -62,7 +62,7 @@ pub record IsOpened (new : LogStanding) (texts : List (List ℕ)) (bytes calls :
   pub going : kept.journal.stopped ≡ false
   pub stand : kept.journal.texts ≡ texts
   pub counts : kept.journal.count ≡ length texts
-  pub became : Replays takes new texts (standing_of kept.log)
+  pub became : ReachesBy takes new texts (standing_of kept.log)
   pub unlimited : kept.journal.disk.fuel.fuse ≡ None
   pub room : bytes ≤ kept.journal.disk.fuel.room
   pub changes : calls ≤ kept.journal.disk.fuel.changes

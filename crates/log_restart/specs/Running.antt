@@ -4,7 +4,7 @@ use Rattle.ar_base.specs.Faults.{HasRisen}
 use Rattle.kept_disk.specs.Fuel.{Fuel}
 use Rattle.kept_journal.specs.Appending.{SpendsAll, WantsAll}
 use Rattle.kept_journal.specs.Journal.{IsBeforeOrAfter, Stands}
-use Rattle.kept_journal.specs.Replays.{Replays}
+use Rattle.kept_journal.specs.Replays.{ReachesBy}
 use Rattle.log_journal.specs.Inputs.{mark}
 use Rattle.log_journal.specs.Kept.{KeptParts}
 use Rattle.log_journal.specs.Steps.{standing_of, takes}
@@ -14,7 +14,7 @@ use Rattle.log_restart.specs.Inputs.{record_cost, records_cost}
 pub record Took {D : Type 0} (fuel : D → Option Fuel) (faults : D → ℕ) (old new : KeptParts D) (texts : List (List ℕ)) : Type 0 where
   pub going : new.journal.stopped ≡ false
   pub stand : new.journal.texts ≡ old.journal.texts ++ texts
-  pub became : Replays takes (standing_of old.log) texts (standing_of new.log)
+  pub became : ReachesBy takes (standing_of old.log) texts (standing_of new.log)
   pub spent : SpendsAll (fuel old.journal.disk) (fuel new.journal.disk) (4 * length texts) (records_cost texts) (4 * length texts)
   pub uncounted : faults new.journal.disk ≡ faults old.journal.disk
 

@@ -1,5 +1,5 @@
 ghost use Rattle.std.specs.Prelude.{◌≡◌, []};
-ghost use Rattle.kept_disk.specs.Memory.{fresh};
+ghost use Rattle.kept_disk.specs.Memory.{fresh_disk};
 
 use kept_disk::MemDisk;
 use std::alloc::Global;
@@ -16,7 +16,7 @@ pub struct Disks {
 impl Disks {
     /// Two empty disks. It takes no memory.
     pub fn empty(alloc: Global) -> Disks
-        ensures { (result.before ≡ fresh []) × (result.after ≡ fresh []) }
+        ensures { (result.before ≡ fresh_disk []) × (result.after ≡ fresh_disk []) }
     {
         Disks {
             before: MemDisk::new(alloc, Vec::new(alloc)),

@@ -11,7 +11,7 @@ pub use beginning::Beginning;
 pub use disks::Disks;
 pub use inputs::{MOST_INPUT_BYTES, total_len};
 pub use restarting::restart;
-pub use told::Told;
+pub use told::RestartReport;
 
 mod beginning;
 mod books;

@@ -2,7 +2,7 @@
 
 ghost use Rattle.std.specs.Prelude.{◌≡◌, ◌≢◌, ◌≤◌, ◌+◌, ℕ, None, length, IfOk, IfSome, OnOk};
 ghost use Rattle.kept_journal.specs.Journal.{Stands, recovered};
-ghost use Rattle.kept_journal.specs.Replays.{Replays};
+ghost use Rattle.kept_journal.specs.Replays.{ReachesBy};
 ghost use Rattle.log_journal.specs.Inputs.{mark};
 ghost use Rattle.log_journal.specs.Steps.{LogStanding, takes};
 ghost use Rattle.log_restart.specs.Restarted.{IsOpened, new_log_of};
@@ -67,7 +67,7 @@ pub(crate) fn open_with_room(
 ) -> Result<KeptLog<MemDisk>, AllocError>
     requires stands { Stands mark (recovered disk.seen) disk.seen }
     requires replays { (last : LogStanding)
-        × Replays takes (new_log_of number beginning) (recovered disk.seen) last }
+        × ReachesBy takes (new_log_of number beginning) (recovered disk.seen) last }
     requires unlimited { disk.fuel.fuse ≡ None }
     ensures { IfOk result (λ kept.
         IsOpened (new_log_of number beginning) (recovered disk.seen) bytes changes disk kept) }

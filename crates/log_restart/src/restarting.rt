@@ -2,9 +2,9 @@
 
 ghost use Rattle.std.specs.Prelude.{◌≡◌, ◌≤◌, ◌+◌, ◌*◌, ◌++◌, ℕ, [], false, None, drop, length, take, IfOk, OnOk, OnErr};
 ghost use Rattle.epoch_log.specs.Log.{record_of};
-ghost use Rattle.kept_disk.specs.Memory.{fresh, synced};
+ghost use Rattle.kept_disk.specs.Memory.{fresh_disk, synced};
 ghost use Rattle.kept_journal.specs.Journal.{Stands, recovered};
-ghost use Rattle.kept_journal.specs.Replays.{Replays};
+ghost use Rattle.kept_journal.specs.Replays.{ReachesBy};
 ghost use Rattle.log_journal.specs.Inputs.{mark};
 ghost use Rattle.log_journal.specs.Steps.{LogStanding, standing_of, takes};
 ghost use Rattle.log_restart.specs.Inputs.{most_input_bytes, records_cost, texts_of, total_len};
@@ -14,7 +14,7 @@ use crate::books::book_digest;
 use crate::inputs::total_len;
 use crate::opening::open_with_room;
 use crate::running::ask_all;
-use crate::{Beginning, Disks, Told};
+use crate::{Beginning, Disks, RestartReport};
 use epoch_log::Record;
 use kept_disk::MemDisk;
 use log_core::LogInput;
@@ -42,7 +42,7 @@ fn open_for(
     requires small { total ≤ most_input_bytes }
     requires stands { Stands mark (recovered disk.seen) disk.seen }
     requires replays { (last : LogStanding)
-        × Replays takes (new_log_of number beginning) (recovered disk.seen) last }
+        × ReachesBy takes (new_log_of number beginning) (recovered disk.seen) last }
     requires unlimited { disk.fuel.fuse ≡ None }
     ensures { IfOk result (λ kept.
         IsOpened (new_log_of number beginning) (recovered disk.seen) (total + 6 * inputs)
@@ -63,11 +63,11 @@ fn run_first(
     total: usize,
     calls: u64,
 ) -> Result<MemDisk, AllocError>
-    requires empty { disk ≡ fresh [] }
+    requires empty { disk ≡ fresh_disk [] }
     requires total { total ≡ total_len (texts_of inputs.now) }
     requires small { total ≤ most_input_bytes }
     requires replays { (last : LogStanding)
-        × Replays takes (new_log_of number beginning) (texts_of inputs.now) last }
+        × ReachesBy takes (new_log_of number beginning) (texts_of inputs.now) last }
     ensures { IfOk result (λ before. RanFirst (texts_of inputs.now) calls before) }
 {
     let mut kept = open_for(alloc, number, beginning, disk, inputs.len(), total)?;
@@ -87,14 +87,14 @@ fn ask_rest(
     requires within { from ≤ length inputs.now }
     requires going { kept.old.journal.stopped ≡ false }
     requires replays { (last : LogStanding)
-        × Replays takes (standing_of kept.old.log) (texts_of (drop from inputs.now)) last }
+        × ReachesBy takes (standing_of kept.old.log) (texts_of (drop from inputs.now)) last }
     requires unlimited { kept.old.journal.disk.fuel.fuse ≡ None }
     requires room { records_cost (texts_of (drop from inputs.now))
         ≤ kept.old.journal.disk.fuel.room }
     requires changes { 4 * length (texts_of (drop from inputs.now))
         ≤ kept.old.journal.disk.fuel.changes }
     ensures became { OnOk result
-        (Replays takes (standing_of kept.old.log) (texts_of (drop from inputs.now))
+        (ReachesBy takes (standing_of kept.old.log) (texts_of (drop from inputs.now))
         (standing_of kept.new.log)) }
     ensures stands { OnOk result
         (Stands mark (kept.old.journal.texts
@@ -111,10 +111,15 @@ fn ask_rest(
 
 /// What is told of a log with this record in the end, of which so many of so many inputs were recovered. The only error is want
 /// of memory.
-fn tell(alloc: Global, past: &Record, recovered: u64, inputs: usize) -> Result<Told, AllocError>
+fn tell(
+    alloc: Global,
+    past: &Record,
+    recovered: u64,
+    inputs: usize,
+) -> Result<RestartReport, AllocError>
     ensures { IfOk result (λ told. told ≡ told_of recovered inputs (record_of past.now).signed) }
 {
-    Ok(Told {
+    Ok(RestartReport {
         recovered,
         inputs: inputs as u64,
         signed: past.signed.list().len() as u64,
@@ -131,16 +136,16 @@ fn run_again(
     before: &MemDisk,
     inputs: &[LogInput],
     total: usize,
-) -> Result<(Told, MemDisk), AllocError>
+) -> Result<(RestartReport, MemDisk), AllocError>
     requires total { total ≡ total_len (texts_of inputs.now) }
     requires small { total ≤ most_input_bytes }
     requires replays { (last : LogStanding)
-        × Replays takes (new_log_of number beginning) (texts_of inputs.now) last }
+        × ReachesBy takes (new_log_of number beginning) (texts_of inputs.now) last }
     requires lost { (many : ℕ) × (many ≤ length inputs.now)
         × Stands mark (take many (texts_of inputs.now)) (synced before.now.seen before.now.events) }
     ensures { (many : ℕ) (last : LogStanding) → many ≤ length inputs.now
         → Stands mark (take many (texts_of inputs.now)) (synced before.now.seen before.now.events)
-        → Replays takes (new_log_of number beginning) (texts_of inputs.now) last
+        → ReachesBy takes (new_log_of number beginning) (texts_of inputs.now) last
         → IfOk result (λ ended.
         RanAgain (texts_of inputs.now) many last.core.log.past.signed ended.0 ended.1) }
 {
@@ -167,15 +172,15 @@ pub fn restart(
     inputs: &[LogInput],
     calls: u64,
     disks: &mut Disks,
-) -> Result<Told, AllocError>
-    requires empty { (disks.old.before ≡ fresh []) × (disks.old.after ≡ fresh []) }
+) -> Result<RestartReport, AllocError>
+    requires empty { (disks.old.before ≡ fresh_disk []) × (disks.old.after ≡ fresh_disk []) }
     requires same { (again.directory ≡ first.directory) × (again.key ≡ first.key) }
     requires small { total_len (texts_of inputs.now) ≤ most_input_bytes }
     requires replays { (last : LogStanding)
-        × Replays takes (new_log_of number first) (texts_of inputs.now) last }
+        × ReachesBy takes (new_log_of number first) (texts_of inputs.now) last }
     // What is told of the log that the inputs make of the new one.
     ensures told { (last : LogStanding)
-        → Replays takes (new_log_of number first) (texts_of inputs.now) last
+        → ReachesBy takes (new_log_of number first) (texts_of inputs.now) last
         → IfOk result (λ told.
         told ≡ told_of (recovered_of (length inputs.now) calls)
         (length inputs.now) last.core.log.past.signed) }

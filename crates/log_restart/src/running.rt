@@ -1,7 +1,7 @@
 //! A log that is kept is asked things again, one behind the other.
 
 ghost use Rattle.std.specs.Prelude.{◌≡◌, ◌≢◌, [], ◌∷◌, true, false, Ok};
-ghost use Rattle.kept_journal.specs.Replays.{Replays};
+ghost use Rattle.kept_journal.specs.Replays.{ReachesBy};
 ghost use Rattle.log_journal.specs.Steps.{LogStanding, standing_of, takes};
 ghost use Rattle.log_journal.specs.declared.refusal.KeptRefusal.TheVariants as refusals;
 ghost use Rattle.log_restart.specs.Inputs.{text_of, texts_of};
@@ -53,7 +53,7 @@ pub(crate) fn ask_all<K: Disk>(
 ) -> Result<bool, AllocError>
     requires going { kept.old.journal.stopped ≡ false }
     requires replays { (last : LogStanding)
-        × Replays takes (standing_of kept.old.log) (texts_of inputs.now) last }
+        × ReachesBy takes (standing_of kept.old.log) (texts_of inputs.now) last }
     ensures took { result ≡ Ok true
         → TookAll K.seen K.held K.fuel K.faults kept.old kept.new (texts_of inputs.now) }
     ensures failed { result ≡ Ok false

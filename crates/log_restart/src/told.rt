@@ -1,6 +1,6 @@
 /// What is told of a log that restarted.
 #[derive(Clone, Copy, Debug, PartialEq, Eq)]
-pub struct Told {
+pub struct RestartReport {
     /// How many inputs were recovered.
     pub recovered: u64,
     /// How many there are.

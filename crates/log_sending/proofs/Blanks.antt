@@ -22,7 +22,7 @@ use Rattle.ar_message.specs.Sending.{Letter}
 use Rattle.ar_message.specs.declared.unsigned.Blank.{Blank}
 use Rattle.ar_message.specs.declared.unsigned.Unsigned.{Unsigned}
 use Rattle.log_sending.specs.Blanks.{IsDraft, IsZero, StandsAt}
-use Rattle.log_sending.specs.Sending.{DraftMessage, Place, blanks_by, blanks_from, if_own, letter_of, own_places, place_for, unsigned_of}
+use Rattle.log_sending.specs.Sending.{DraftMessage, SigningPlace, blanks_by, blanks_from, if_own, sent_letter, own_places, place_for, unsigned_of}
 
 -- ---- bytes at the end of others
 
@@ -48,7 +48,7 @@ stands-end len behind back whole ends many =
 
 -- ---- lists in which some entries are the log's own
 
-stands-if : (own : Bool) (len : ℕ) (whole : List ℕ) (place : Place) → (own ≡ true → StandsAt (zeros len) place.at whole)
+stands-if : (own : Bool) (len : ℕ) (whole : List ℕ) (place : SigningPlace) → (own ≡ true → StandsAt (zeros len) place.at whole)
     → AllByRecursion (λ p. StandsAt (zeros len) p.at whole) (if_own own place)
 stands-if true len whole place stands = (stands refl, tt)
 stands-if false len whole place stands = tt
@@ -91,38 +91,38 @@ at-seam {X} done x rest =
     let less : length done < length all = omega (arith, many) in
     slice_get_read all (length all) (length done) x refl less (sym (get_or-append_seam done x rest x))
 
-zero-places : (len : ℕ) (book : RollBook) (letters : List Letter) (number : ℕ) (draft : DraftMessage) → slice_get letters number ≡ Some (letter_of draft)
-    → (own : List Place) → AllByRecursion (λ place. StandsAt (zeros len) place.at (message_text draft.message)) own
+zero-places : (len : ℕ) (book : RollBook) (letters : List Letter) (number : ℕ) (draft : DraftMessage) → slice_get letters number ≡ Some (sent_letter draft)
+    → (own : List SigningPlace) → AllByRecursion (λ place. StandsAt (zeros len) place.at (message_text draft.message)) own
     → AllByRecursion (IsZero len letters) (flat_map (λ place. blanks_by (due_of book place.text) number place) own)
 zero-places len book letters number draft named [] stands = tt
 zero-places len book letters number draft named (place ∷ own) stands =
-    both-lists (IsZero len letters) (blanks_by (due_of book place.text) number place) (flat_map (λ (p : Place). blanks_by (due_of book p.text) number p) own)
+    both-lists (IsZero len letters) (blanks_by (due_of book place.text) number place) (flat_map (λ (p : SigningPlace). blanks_by (due_of book p.text) number p) own)
     (one (due_of book place.text)) (zero-places len book letters number draft named own stands.1)
   where
     one : (o : Option DueParts) → AllByRecursion (IsZero len letters) (blanks_by o number place)
     one None = tt
-    one (Some due) = (record { letter = letter_of draft; named = named; zero_bytes = stands.0 }, tt)
+    one (Some due) = (record { letter = sent_letter draft; named = named; zero_bytes = stands.0 }, tt)
 
 zero-blanks : (len : ℕ) (book : RollBook) (all done rest : List DraftMessage) (number : ℕ) → all ≡ done ++ rest → length done ≡ number → AllByRecursion (IsDraft len) rest
-    → AllByRecursion (IsZero len (map letter_of all)) (blanks_from book number rest)
+    → AllByRecursion (IsZero len (map sent_letter all)) (blanks_from book number rest)
 zero-blanks len book all done [] number is many each = tt
 zero-blanks len book all done (draft ∷ rest) number is many each =
     let next : all ≡ (done ++ draft ∷ []) ++ rest = is ∙ sym (append_assoc done (draft ∷ []) rest) in
     let more : length (done ++ draft ∷ []) ≡ number + 1 = length_push done draft ∙ ap (λ n. n + 1) many in
     let here : slice_get all number ≡ Some draft = subst (λ n. slice_get all n ≡ Some draft) many (subst (λ l. slice_get l (length done) ≡ Some draft) (sym is) (at-seam done draft rest)) in
-    let named : slice_get (map letter_of all) number ≡ Some (letter_of draft) = slice_get-map letter_of all number ∙ ap (λ o. option_map letter_of o) here in
-    both-lists (IsZero len (map letter_of all)) (flat_map (λ (p : Place). blanks_by (due_of book p.text) number p) draft.own) (blanks_from book (number + 1) rest)
-    (zero-places len book (map letter_of all) number draft named draft.own each.0)
+    let named : slice_get (map sent_letter all) number ≡ Some (sent_letter draft) = slice_get-map sent_letter all number ∙ ap (λ o. option_map sent_letter o) here in
+    both-lists (IsZero len (map sent_letter all)) (flat_map (λ (p : SigningPlace). blanks_by (due_of book p.text) number p) draft.own) (blanks_from book (number + 1) rest)
+    (zero-places len book (map sent_letter all) number draft named draft.own each.0)
     (zero-blanks len book all (done ++ draft ∷ []) rest (number + 1) next more each.1)
 
 -- a blank is due for a text that the book holds
 abbrev pub IsDueIn : RollBook → Blank → Type 0
 IsDueIn book blank = (text : List ℕ) × (due_of book text ≡ Some blank.due)
 
-due-places : (book : RollBook) (number : ℕ) (own : List Place) → AllByRecursion (IsDueIn book) (flat_map (λ place. blanks_by (due_of book place.text) number place) own)
+due-places : (book : RollBook) (number : ℕ) (own : List SigningPlace) → AllByRecursion (IsDueIn book) (flat_map (λ place. blanks_by (due_of book place.text) number place) own)
 due-places book number [] = tt
 due-places book number (place ∷ own) =
-    both-lists (IsDueIn book) (blanks_by (due_of book place.text) number place) (flat_map (λ (p : Place). blanks_by (due_of book p.text) number p) own)
+    both-lists (IsDueIn book) (blanks_by (due_of book place.text) number place) (flat_map (λ (p : SigningPlace). blanks_by (due_of book p.text) number p) own)
     (one (due_of book place.text) refl) (due-places book number own)
   where
     one : (o : Option DueParts) → due_of book place.text ≡ o → AllByRecursion (IsDueIn book) (blanks_by o number place)
@@ -132,7 +132,7 @@ due-places book number (place ∷ own) =
 due-blanks : (book : RollBook) (number : ℕ) (drafts : List DraftMessage) → AllByRecursion (IsDueIn book) (blanks_from book number drafts)
 due-blanks book number [] = tt
 due-blanks book number (draft ∷ drafts) =
-    both-lists (IsDueIn book) (flat_map (λ (p : Place). blanks_by (due_of book p.text) number p) draft.own) (blanks_from book (number + 1) drafts)
+    both-lists (IsDueIn book) (flat_map (λ (p : SigningPlace). blanks_by (due_of book p.text) number p) draft.own) (blanks_from book (number + 1) drafts)
     (due-places book number draft.own) (due-blanks book (number + 1) drafts)
 
 -- ---- what is due can be signed
@@ -193,15 +193,15 @@ pub composed-zero : (book : RollBook) (len : ℕ) (unsigned : Unsigned) → IsCo
 composed-zero book len unsigned made =
     let from : List DraftMessage = made.drafts in
     subst (λ (u : Unsigned). All (IsZero len u.sent.messages) u.blanks) made.is
-    (All-from_recursion (IsZero len (map letter_of from)) (blanks_from book 0 from) (zero-blanks len book from [] from 0 refl refl made.each))
+    (All-from_recursion (IsZero len (map sent_letter from)) (blanks_from book 0 from) (zero-blanks len book from [] from 0 refl refl made.each))
 
 pub composed-fill : (book : RollBook) (len : ℕ) (keys : List KeyParts) (unsigned : Unsigned) → IsRollBook book → AreKeysOf book len keys → IsComposed book len unsigned
     → CanFill keys unsigned
 composed-fill book len keys unsigned sound are made =
     let from : List DraftMessage = made.drafts in
     subst (CanFill keys) made.is
-    (All-from_recursion (IsBlank keys (lengths (map letter_of from))) (blanks_from book 0 from)
-    (all-fit book len keys (map letter_of from) sound are (blanks_from book 0 from) (zero-blanks len book from [] from 0 refl refl made.each) (due-blanks book 0 from)))
+    (All-from_recursion (IsBlank keys (lengths (map sent_letter from))) (blanks_from book 0 from)
+    (all-fit book len keys (map sent_letter from) sound are (blanks_from book 0 from) (zero-blanks len book from [] from 0 refl refl made.each) (due-blanks book 0 from)))
 
 -- each blank is due for a text that the book holds
 pub composed-due : (book : RollBook) (len : ℕ) (unsigned : Unsigned) → IsComposed book len unsigned → AllByRecursion (IsDueIn book) unsigned.blanks

@@ -6,7 +6,7 @@ use Rattle.std.proofs.lemmas.Slice.Eq.{bytes_eq-Decides}
 use Rattle.cert_policy.specs.declared.manner.Manner.{Manner}
 use Rattle.ar_cert.specs.Changes.{Change}
 use Rattle.domain_table.specs.declared.refusal.ChangeRefusal.{ChangeRefusal}
-use Rattle.domain_table.specs.Applying.{after_answer, apply, apply_each, judge_ripe, ripen, taken}
+use Rattle.domain_table.specs.Applying.{after_answer, apply, apply_each, judge_ripe, ripen, taking_change}
 use Rattle.domain_table.specs.Tables.{Table}
 use Rattle.domain_table.specs.Tree.{root_of}
 use Rattle.log_sending.specs.Checks.{all_taken, same_root}
@@ -15,8 +15,8 @@ use Rattle.log_sending.specs.declared.refusal.LogRefusal.TheVariants as refusals
 use Rattle.log_sending.proofs.Checked.{holds}
 
 step : (index : ℕ) (table : Table) (epoch : ℕ) (change : Change) (changes : List Change) (answer : Result Manner ChangeRefusal)
-    → ((manner : Manner) → result_ok (judged_from (index + 1) (taken table epoch change manner) epoch changes) ≡ apply_each (taken table epoch change manner) epoch changes)
-    → result_ok (behind_one answer index (λ manner. judged_from (index + 1) (taken table epoch change manner) epoch changes))
+    → ((manner : Manner) → result_ok (judged_from (index + 1) (taking_change table epoch change manner) epoch changes) ≡ apply_each (taking_change table epoch change manner) epoch changes)
+    → result_ok (behind_one answer index (λ manner. judged_from (index + 1) (taking_change table epoch change manner) epoch changes))
     ≡ option_and_then (λ t. apply_each t epoch changes) (after_answer table epoch change answer)
 step index table epoch change changes (Ok manner) rest = rest manner
 step index table epoch change changes (Err refusal) rest = refl
@@ -27,7 +27,7 @@ unfolding judged_from apply_each
 judged-each [] index table epoch = refl
 judged-each (change ∷ changes) index table epoch =
     step index table epoch change changes (judge_ripe table change)
-    (λ manner. judged-each changes (index + 1) (taken table epoch change manner) epoch)
+    (λ manner. judged-each changes (index + 1) (taking_change table epoch change manner) epoch)
 
 pub judged-applies : (table : Table) (epoch : ℕ) (changes : List Change) → result_ok (judged table epoch changes) ≡ apply table epoch changes
 judged-applies table epoch changes = judged-each changes 0 (ripen table epoch) epoch
@@ -44,7 +44,7 @@ unfolding apply_each
 refused-here table epoch change changes refusal is = (table, change, refl, refl, is)
 
 refused-later : (table : Table) (epoch : ℕ) (change : Change) (changes : List Change) (manner : Manner) (place : ℕ) (refusal : ChangeRefusal) → judge_ripe table change ≡ Ok manner
-    → Refuses (taken table epoch change manner) epoch changes place refusal → Refuses table epoch (change ∷ changes) (suc place) refusal
+    → Refuses (taking_change table epoch change manner) epoch changes place refusal → Refuses table epoch (change ∷ changes) (suc place) refusal
 unfolding apply_each
 refused-later table epoch change changes manner place refusal is rest = (
   rest.0,
@@ -64,12 +64,12 @@ refused-each : (changes : List Change) (index : ℕ) (table : Table) (epoch at :
 unfolding judged_from
 refused-each [] index table epoch at refusal is = absurd cc
 refused-each (change ∷ changes) index table epoch at refusal is =
-    by (judge_ripe table change) refl is (λ manner. refused-each changes (index + 1) (taken table epoch change manner) epoch at refusal)
+    by (judge_ripe table change) refl is (λ manner. refused-each changes (index + 1) (taking_change table epoch change manner) epoch at refusal)
   where
     by : (answer : Result Manner ChangeRefusal) → judge_ripe table change ≡ answer
-        → behind_one answer index (λ manner. judged_from (index + 1) (taken table epoch change manner) epoch changes) ≡ Err (at, refusal)
-        → ((manner : Manner) → judged_from (index + 1) (taken table epoch change manner) epoch changes ≡ Err (at, refusal)
-        → (place : ℕ) × ((index + 1 + place ≡ at) × Refuses (taken table epoch change manner) epoch changes place refusal))
+        → behind_one answer index (λ manner. judged_from (index + 1) (taking_change table epoch change manner) epoch changes) ≡ Err (at, refusal)
+        → ((manner : Manner) → judged_from (index + 1) (taking_change table epoch change manner) epoch changes ≡ Err (at, refusal)
+        → (place : ℕ) × ((index + 1 + place ≡ at) × Refuses (taking_change table epoch change manner) epoch changes place refusal))
         → (place : ℕ) × ((index + place ≡ at) × Refuses table epoch (change ∷ changes) place refusal)
     by (Ok manner) was same each =
         let rest = each manner same in

@@ -6,7 +6,7 @@ use Rattle.std.specs.List.{AllByRecursion}
 use Rattle.std.proofs.lemmas.List.Elements.{All-cons, All-from_recursion, All-nil, recursion_from_All}
 use Rattle.cert_policy.specs.declared.manner.Manner.{Manner}
 use Rattle.ar_cert.specs.Changes.{Change, IsChange}
-use Rattle.domain_table.specs.Applying.{after_answer, apply, apply_each, judge, ripen, taken}
+use Rattle.domain_table.specs.Applying.{after_answer, apply, apply_each, judge, ripen, taking_change}
 use Rattle.domain_table.specs.Sound.{IsSound}
 use Rattle.domain_table.specs.Tables.{Table}
 use Rattle.domain_table.specs.declared.refusal.ChangeRefusal.{ChangeRefusal}
@@ -64,7 +64,7 @@ more t new e i c rest sound is =
     by (judge t e c) is ∙ ap (λ u. judged_from (i + 1) u e rest) (sym (settled t new e i c sound is))
   where
     by : (answer : Result Manner ChangeRefusal) → table_behind answer i (ripen t e) e c ≡ Ok new
-        → behind_one answer i (λ manner. judged_from (i + 1) (taken (ripen t e) e c manner) e rest) ≡ judged_from (i + 1) new e rest
+        → behind_one answer i (λ manner. judged_from (i + 1) (taking_change (ripen t e) e c manner) e rest) ≡ judged_from (i + 1) new e rest
     by (Ok manner) same = ap (λ r. judged_from (i + 1) (table-or r new) e rest) same
     by (Err refusal) same = absurd cc
 
@@ -74,7 +74,7 @@ unfolding judged_from
 refused t e i c rest refusal is = by (judge t e c) is
   where
     by : (answer : Result Manner ChangeRefusal) → table_behind answer i (ripen t e) e c ≡ Err refusal
-        → table_in (behind_one answer i (λ manner. judged_from (i + 1) (taken (ripen t e) e c manner) e rest)) ≡ Err refusal
+        → table_in (behind_one answer i (λ manner. judged_from (i + 1) (taking_change (ripen t e) e c manner) e rest)) ≡ Err refusal
     by (Ok manner) same = absurd cc
     by (Err why) same = same
 
@@ -90,8 +90,8 @@ first-of (first ∷ rest) c some is =
 
 pub each_more : (t new : Table) (e i : ℕ) (cs : List Change) (c : Change) → IsSound t → 1 ≤ length cs → c ≡ get_or cs 0 c → table_behind (judge t e c) i (ripen t e) e c ≡ Ok new
     → judged_from i (ripen t e) e cs ≡ judged_from (i + 1) (ripen new e) e (take (length cs - 1) (drop 1 cs))
-each_more t new e i cs c sound some is taken =
-    ap (judged_from i (ripen t e) e) (first-of cs c some is) ∙ more t new e i c (take (length cs - 1) (drop 1 cs)) sound taken
+each_more t new e i cs c sound some is taking_change =
+    ap (judged_from i (ripen t e) e) (first-of cs c some is) ∙ more t new e i c (take (length cs - 1) (drop 1 cs)) sound taking_change
 
 pub each_refused : (t : Table) (e i : ℕ) (cs : List Change) (c : Change) (refusal : LogRefusal) → 1 ≤ length cs → c ≡ get_or cs 0 c
     → (refusal ≡ refusals.Memory) ⊎ (table_behind (judge t e c) i (ripen t e) e c ≡ Err refusal)
@@ -108,7 +108,7 @@ each_none t e i (c ∷ cs) none = absurd (omega (arith, none))
 -- what the rest of a list keeps
 pub each_sound : (t new : Table) (e i : ℕ) (cs : List Change) (c : Change) → e < 2 ^ 64 → IsSound t → All IsChange cs → 1 ≤ length cs → c ≡ get_or cs 0 c
     → table_behind (judge t e c) i (ripen t e) e c ≡ Ok new → IsSound new × All IsChange (take (length cs - 1) (drop 1 cs))
-each_sound t new e i cs c low sound are some is taken =
+each_sound t new e i cs c low sound are some is taking_change =
     let all : AllByRecursion IsChange (c ∷ take (length cs - 1) (drop 1 cs)) =
     recursion_from_All IsChange (c ∷ take (length cs - 1) (drop 1 cs)) (subst (All IsChange) (first-of cs c some is) are) in
-    (sound-behind t new e i c low sound all.0 taken, All-from_recursion IsChange (take (length cs - 1) (drop 1 cs)) all.1)
+    (sound-behind t new e i c low sound all.0 taking_change, All-from_recursion IsChange (take (length cs - 1) (drop 1 cs)) all.1)

@@ -9,6 +9,5 @@ pub mod Sealing
 pub mod Sendable
 pub mod SignerLaws
 pub mod Taken
-pub mod TwoNames
 pub mod Walks
 pub mod ZeroBytes

@@ -15,7 +15,7 @@ use Rattle.ar_statement.specs.Claims.{value_text}
 use Rattle.vote_quorum.specs.declared.value.Value.{Value}
 use Rattle.ar_statement.specs.Ranges.{IsValue}
 use Rattle.epoch_log.specs.State.{CountedStatus}
-use Rattle.log_sending.specs.Sending.{Place, if_own, own_places, place_for, sent_status, sent_vote}
+use Rattle.log_sending.specs.Sending.{SigningPlace, if_own, own_places, place_for, sent_status, sent_vote}
 use Rattle.ar_cert.proofs.Lengths.{length-flag_text}
 
 pub vote_len : (len : ℕ) (v : ℕ × Option (List ℕ)) → length (vote_text (sent_vote len v)) ≡ 4 + length (unwrap_or v.1 (zeros len))
@@ -52,7 +52,7 @@ some_ballot-len value v is digests =
 
 -- ---- the places of a list, entry by entry
 
-pub own_first : {A : Type 0} (is_own : A → Bool) (size : A → ℕ) (len : ℕ) (text : List ℕ) (at : ℕ) (xs : List A) (x : A) (before : List Place)
+pub own_first : {A : Type 0} (is_own : A → Bool) (size : A → ℕ) (len : ℕ) (text : List ℕ) (at : ℕ) (xs : List A) (x : A) (before : List SigningPlace)
     → 1 ≤ length xs → x ≡ get_or xs 0 x
     → (before ++ if_own (is_own x) (place_for (at + size x - len) text)) ++ own_places is_own size len text (at + size x) (take (length xs - 1) (drop 1 xs))
     ≡ before ++ own_places is_own size len text at xs
@@ -60,20 +60,20 @@ own_first is_own size len text at [] x before some is = absurd (omega (arith, so
 own_first {A} is_own size len text at (y ∷ ys) x before some is =
     let less : length (y ∷ ys) - 1 ≡ length ys = omega arith in
     let rest : take (length (y ∷ ys) - 1) (drop 1 (y ∷ ys)) ≡ ys = ap (λ n. take n ys) less ∙ take-length ys in
-    let here : A → List Place = λ z. if_own (is_own z) (place_for (at + size z - len) text) in
+    let here : A → List SigningPlace = λ z. if_own (is_own z) (place_for (at + size z - len) text) in
     append_assoc before (here x) (own_places is_own size len text (at + size x) (take (length (y ∷ ys) - 1) (drop 1 (y ∷ ys))))
     ∙ ap (λ (l : List A). before ++ (here x ++ own_places is_own size len text (at + size x) l)) rest
     ∙ ap (λ (z : A). before ++ (here z ++ own_places is_own size len text (at + size z) ys)) is
 
 -- the same where the entry's parts are given: its length, whether its signature is the log's own, its place and its text
-pub own_step : {A : Type 0} (is_own : A → Bool) (size : A → ℕ) (len : ℕ) (text : List ℕ) (at : ℕ) (xs : List A) (x : A) (before : List Place)
-    → (n : ℕ) (own : Bool) (place : ℕ) (signed : List ℕ) (mid after : List Place) → 1 ≤ length xs → x ≡ get_or xs 0 x
+pub own_step : {A : Type 0} (is_own : A → Bool) (size : A → ℕ) (len : ℕ) (text : List ℕ) (at : ℕ) (xs : List A) (x : A) (before : List SigningPlace)
+    → (n : ℕ) (own : Bool) (place : ℕ) (signed : List ℕ) (mid after : List SigningPlace) → 1 ≤ length xs → x ≡ get_or xs 0 x
     → n ≡ size x → own ≡ is_own x → place ≡ at + n - len → signed ≡ text → mid ≡ before ++ if_own own (place_for place signed)
     → after ≡ mid ++ own_places is_own size len text (at + n) (take (length xs - 1) (drop 1 xs)) → after ≡ before ++ own_places is_own size len text at xs
 own_step {A} is_own size len text at xs x before n own place signed mid after some is n-is own-is place-is signed-is mid-is after-is =
     let tail : List A = take (length xs - 1) (drop 1 xs) in
     after-is
-    ∙ ap (λ (l : List Place). l ++ own_places is_own size len text (at + n) tail)
+    ∙ ap (λ (l : List SigningPlace). l ++ own_places is_own size len text (at + n) tail)
     (mid-is
     ∙ ap (λ (b : Bool). before ++ if_own b (place_for place signed)) own-is
     ∙ ap (λ (p : ℕ). before ++ if_own (is_own x) (place_for p signed)) place-is

@@ -10,7 +10,7 @@ use Rattle.std.proofs.lemmas.List.Sums.{sum_by-cons}
 use Rattle.std.proofs.lemmas.Slice.Eq.{bytes_eq-Decides}
 use Rattle.std.proofs.lemmas.List.Elements.{All-contains, All-contains_itself, All-from_recursion, All-weaker, recursion_from_All}
 use Rattle.ar_base.specs.Counting.{one_if}
-use Rattle.vote_quorum.specs.Statuses.{IsMostReported, Leads, Status, is_for, report_count}
+use Rattle.vote_quorum.specs.Statuses.{IsMostReported, ComesBefore, Status, is_for, report_count}
 use Rattle.vote_quorum.specs.declared.value.Value.{Value}
 use Rattle.vote_quorum.proofs.Reported.{first_of_all, one_most}
 use Rattle.ar_council.proofs.Lists.{find-none, find-nothing, find-some}
@@ -19,19 +19,19 @@ use Rattle.epoch_log.proofs.Counted.{counted-root}
 
 -- ---- the test of leading
 
-from-test : (root other : List ℕ) (count others : ℕ) → comes_before root count other others ≡ true → Leads root count other others
+from-test : (root other : List ℕ) (count others : ℕ) → comes_before root count other others ≡ true → ComesBefore root count other others
 from-test root other count others is = by (nat_lt others count) refl is
   where
     least : Bool
     least = is_le (slice_cmp nat_cmp root other)
 
-    by : (b : Bool) → nat_lt others count ≡ b → (b || (eqb others count && least)) ≡ true → Leads root count other others
+    by : (b : Bool) → nat_lt others count ≡ b → (b || (eqb others count && least)) ≡ true → ComesBefore root count other others
     by true less fine = let l = ltb-true others count less in (omega (arith, l), λ same. absurd (omega (arith, l, same)))
     by false more fine =
         let two = and_parts (eqb others count) least fine in
         (let same = eqb-true others count two.0 in omega (arith, same), λ _. two.1)
 
-to-test : (root other : List ℕ) (count others : ℕ) → Leads root count other others → comes_before root count other others ≡ true
+to-test : (root other : List ℕ) (count others : ℕ) → ComesBefore root count other others → comes_before root count other others ≡ true
 to-test root other count others leads = by (nat_lt others count) refl
   where
     least : Bool
@@ -88,14 +88,14 @@ its-count all s v there is = counted (λ (t : Status). is_for v.root t.1) all s 
 -- ---- what comes before each is the most reported
 
 leads-each : (all : List Status) (v : Value) → reports_first all (Some v) ≡ true → (other : List ℕ) → 0 < report_count other all
-    → Leads v.root (report_count v.root all) other (report_count other all)
+    → ComesBefore v.root (report_count v.root all) other (report_count other all)
 leads-each all v first other some =
     let found = some-counted (λ (t : Status). is_for other t.1) all some in
     let w = counted-root other found.0.1 found.1.1 in
     let tests = All-from_recursion (λ (t : Status). comes_before_reported all v.root t.1 ≡ true) all (all-each (λ (t : Status). comes_before_reported all v.root t.1) all first) in
     let one : comes_before_reported all v.root found.0.1 ≡ true = All-contains (λ (t : Status). comes_before_reported all v.root t.1 ≡ true) all found.0 tests found.1.0 in
     let two : comes_before v.root (report_count v.root all) w.0.root (report_count w.0.root all) ≡ true = subst (λ o. comes_before_reported all v.root o ≡ true) w.1.0 one in
-    subst (λ root. Leads v.root (report_count v.root all) root (report_count root all)) w.1.1 (from-test v.root w.0.root (report_count v.root all) (report_count w.0.root all) two)
+    subst (λ root. ComesBefore v.root (report_count v.root all) root (report_count root all)) w.1.1 (from-test v.root w.0.root (report_count v.root all) (report_count w.0.root all) two)
 
 first-most : (all : List Status) (s : Status) (v : Value) → Contains all s → s.1 ≡ Some v → reports_first all (Some v) ≡ true
     → IsMostReported all (Some v.root) (report_count v.root all)
@@ -109,8 +109,8 @@ most-first all root count v same most =
     by None = refl
     by (Some w) =
         to-test v.root w.root (report_count v.root all) (report_count w.root all)
-        (subst (λ r. Leads r (report_count r all) w.root (report_count w.root all)) (sym same)
-        (subst (λ n. Leads root n w.root (report_count w.root all)) (sym most.counted) (most.leads w.root)))
+        (subst (λ r. ComesBefore r (report_count r all) w.root (report_count w.root all)) (sym same)
+        (subst (λ n. ComesBefore root n w.root (report_count w.root all)) (sym most.counted) (most.leads w.root)))
 
 -- ---- the definition gives it
 

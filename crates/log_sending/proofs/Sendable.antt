@@ -10,7 +10,7 @@ use Rattle.ar_base.specs.Adding.{placed}
 use Rattle.ar_bytes.specs.Ascending.{Ascend}
 use Rattle.ar_bytes.proofs.Ascending.{Ascend-placed}
 use Rattle.ar_cert.specs.Changes.{Change, IsSignature}
-use Rattle.ar_message.specs.Lists.{AreChanges, AreStatuses, AreVotes, IsStatus, IsVote}
+use Rattle.ar_message.specs.Lists.{AreChanges, AreLogStatuses, AreVotes, IsStatus, IsVote}
 use Rattle.ar_message.specs.Filling.{zeros}
 use Rattle.ar_statement.specs.declared.text.SeenText.{SeenText}
 use Rattle.ar_statement.specs.Ranges.{IsValue}
@@ -25,7 +25,7 @@ use Rattle.epoch_log.proofs.Acting.{own-value}
 use Rattle.epoch_log.specs.Calls.{SignedStatus, after_ballot, after_confirm, after_propose, after_roll, after_skip, after_state, after_status_seen, casting, counting_own, counting_status, counting_vote, is_turn, own_value, proposing, seeing, stating, statuses_seen, vote_of, with_status, with_vote}
 use Rattle.epoch_log.specs.Ending.{closed, closed_by, closed_by_statuses, decided, excludes_all, has_quorum, may_end, own_vote, skipped, votes_for}
 use Rattle.epoch_log.specs.Foreseeing.{IsForeseen}
-use Rattle.epoch_log.specs.State.{CountedStatus, CountedVote, IsKept, LogState, ballots_of, epoch_of, reports_of}
+use Rattle.epoch_log.specs.State.{CountedStatus, CountedVote, IsKeptLog, LogState, ballots_of, epoch_of, reports_of}
 use Rattle.epoch_log.specs.Told.{value_of}
 use Rattle.epoch_log.specs.declared.entries.Closing.{Closing}
 use Rattle.epoch_log.specs.declared.entries.Closing.TheVariants as closings
@@ -174,7 +174,7 @@ statuses-ascend len logs less few least (s ∷ statuses) asc =
     (asc.0, (omega (arith, asc.1.0, few), asc.1.1, filled len s.2 less asc.1.2), statuses-ascend len logs less few (s.0 + 1) statuses asc.2)
 
 -- the statuses that skip an epoch are statuses of a message
-pub statuses-sent : (len logs : ℕ) (statuses : List CountedStatus) → len < 2 ^ 16 → logs ≤ 16 → AreReports logs 0 statuses → AreStatuses (sent_statuses len statuses)
+pub statuses-sent : (len logs : ℕ) (statuses : List CountedStatus) → len < 2 ^ 16 → logs ≤ 16 → AreReports logs 0 statuses → AreLogStatuses (sent_statuses len statuses)
 statuses-sent len logs statuses less few are =
     let many = no-more (λ (s : CountedStatus). s.0) (IsReport logs) logs 0 statuses (λ s is. is.0) (omega arith) are in
     (omega (arith, length-map statuses (sent_status len), many, few), statuses-ascend len logs less few 0 statuses are)
@@ -276,7 +276,7 @@ status-seen-can s log value signature can member is fits =
     closes (counting_status (seeing s more) (log, value, signature)) (status-can (seeing s more) (log, value, signature) (seeing-can s more can) (member, is, fits))
 
 -- the log's own status
-pub state-can : (s : LogState) → CanBeSent s → IsKept s → Closes s.council.logs (after_state s)
+pub state-can : (s : LogState) → CanBeSent s → IsKeptLog s → Closes s.council.logs (after_state s)
 state-can s can kept = by (is_turn s.council s.me (epoch_of s + 1)) refl
   where
     by : (b : Bool) → is_turn s.council s.me (epoch_of s + 1) ≡ b

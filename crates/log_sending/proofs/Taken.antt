@@ -7,7 +7,7 @@ use Rattle.std.proofs.lemmas.List.Sums.{sum_by-cons}
 use Rattle.cert_policy.specs.declared.manner.Manner.{Manner}
 use Rattle.ar_cert.specs.Changes.{Change, change_text}
 use Rattle.domain_table.specs.declared.refusal.ChangeRefusal.{ChangeRefusal}
-use Rattle.domain_table.specs.Applying.{after_answer, apply_each, judge_ripe, taken}
+use Rattle.domain_table.specs.Applying.{after_answer, apply_each, judge_ripe, taking_change}
 use Rattle.domain_table.specs.Tables.{Table}
 use Rattle.log_sending.specs.Walk.{StandIn, bytes_of, taken_first, walk}
 
@@ -21,13 +21,13 @@ unfolding apply_each
 applies-none table epoch = (table, refl)
 
 applies-one : (table : Table) (epoch : ℕ) (change : Change) (changes : List Change) (manner : Manner) → judge_ripe table change ≡ Ok manner
-    → Applies (taken table epoch change manner) epoch changes → Applies table epoch (change ∷ changes)
+    → Applies (taking_change table epoch change manner) epoch changes → Applies table epoch (change ∷ changes)
 unfolding apply_each
 applies-one table epoch change changes manner was rest =
     (rest.0, ap (λ answer. option_and_then (λ t. apply_each t epoch changes) (after_answer table epoch change answer)) was ∙ rest.1)
 
 applies-first : (answer : Result Manner ChangeRefusal) (table : Table) (epoch left : ℕ) (change : Change) (over : List Change) (rest : Manner → List Change)
-    → judge_ripe table change ≡ answer → Applies table epoch over → ((manner : Manner) → Applies (taken table epoch change manner) epoch (rest manner))
+    → judge_ripe table change ≡ answer → Applies table epoch over → ((manner : Manner) → Applies (taking_change table epoch change manner) epoch (rest manner))
     → Applies table epoch (taken_first answer change left over rest)
 applies-first (Err refusal) table epoch left change over rest was passed each = passed
 applies-first (Ok manner) table epoch left change over rest was passed each = by (nat_le (length (change_text change)) left)
@@ -47,11 +47,11 @@ walk-applies [] epoch many left table = applies-none table epoch
 walk-applies (change ∷ queue) epoch many left table =
     applies-if (eqb many 0) table epoch
     (taken_first (judge_ripe table change) change left (walk epoch table many left queue)
-    (λ manner. walk epoch (taken table epoch change manner) (many - 1) (left - length (change_text change)) queue))
+    (λ manner. walk epoch (taking_change table epoch change manner) (many - 1) (left - length (change_text change)) queue))
     (applies-first (judge_ripe table change) table epoch left change (walk epoch table many left queue)
-    (λ manner. walk epoch (taken table epoch change manner) (many - 1) (left - length (change_text change)) queue)
+    (λ manner. walk epoch (taking_change table epoch change manner) (many - 1) (left - length (change_text change)) queue)
     refl (walk-applies queue epoch many left table)
-    (λ manner. walk-applies queue epoch (many - 1) (left - length (change_text change)) (taken table epoch change manner)))
+    (λ manner. walk-applies queue epoch (many - 1) (left - length (change_text change)) (taking_change table epoch change manner)))
 
 -- ---- it is of the queue
 
@@ -75,11 +75,11 @@ walk-all P [] epoch many left table all = tt
 walk-all P (change ∷ queue) epoch many left table all =
     all-if P (eqb many 0)
     (taken_first (judge_ripe table change) change left (walk epoch table many left queue)
-    (λ manner. walk epoch (taken table epoch change manner) (many - 1) (left - length (change_text change)) queue))
+    (λ manner. walk epoch (taking_change table epoch change manner) (many - 1) (left - length (change_text change)) queue))
     (all-first P (judge_ripe table change) left change (walk epoch table many left queue)
-    (λ manner. walk epoch (taken table epoch change manner) (many - 1) (left - length (change_text change)) queue)
+    (λ manner. walk epoch (taking_change table epoch change manner) (many - 1) (left - length (change_text change)) queue)
     all.0 (walk-all P queue epoch many left table all.1)
-    (λ manner. walk-all P queue epoch (many - 1) (left - length (change_text change)) (taken table epoch change manner) all.1))
+    (λ manner. walk-all P queue epoch (many - 1) (left - length (change_text change)) (taking_change table epoch change manner) all.1))
 
 -- ---- it is few, and short
 
@@ -119,12 +119,12 @@ walk-fits [] epoch many left table = (omega arith, omega arith)
 walk-fits (change ∷ queue) epoch many left table =
     fits-if (eqb many 0) many left
     (taken_first (judge_ripe table change) change left (walk epoch table many left queue)
-    (λ manner. walk epoch (taken table epoch change manner) (many - 1) (left - length (change_text change)) queue))
+    (λ manner. walk epoch (taking_change table epoch change manner) (many - 1) (left - length (change_text change)) queue))
     refl
     (λ some. fits-first (judge_ripe table change) many left change (walk epoch table many left queue)
-    (λ manner. walk epoch (taken table epoch change manner) (many - 1) (left - length (change_text change)) queue)
+    (λ manner. walk epoch (taking_change table epoch change manner) (many - 1) (left - length (change_text change)) queue)
     some (walk-fits queue epoch many left table)
-    (λ manner. walk-fits queue epoch (many - 1) (left - length (change_text change)) (taken table epoch change manner)))
+    (λ manner. walk-fits queue epoch (many - 1) (left - length (change_text change)) (taking_change table epoch change manner)))
 
 -- ---- it stands in the queue in its order
 
@@ -151,9 +151,9 @@ walk-stands [] epoch many left table = tt
 walk-stands (change ∷ queue) epoch many left table =
     stands-if (eqb many 0)
     (taken_first (judge_ripe table change) change left (walk epoch table many left queue)
-    (λ manner. walk epoch (taken table epoch change manner) (many - 1) (left - length (change_text change)) queue))
+    (λ manner. walk epoch (taking_change table epoch change manner) (many - 1) (left - length (change_text change)) queue))
     (change ∷ queue)
     (stands-first (judge_ripe table change) left change queue (walk epoch table many left queue)
-    (λ manner. walk epoch (taken table epoch change manner) (many - 1) (left - length (change_text change)) queue)
+    (λ manner. walk epoch (taking_change table epoch change manner) (many - 1) (left - length (change_text change)) queue)
     (walk-stands queue epoch many left table)
-    (λ manner. walk-stands queue epoch (many - 1) (left - length (change_text change)) (taken table epoch change manner)))
+    (λ manner. walk-stands queue epoch (many - 1) (left - length (change_text change)) (taking_change table epoch change manner)))

@@ -8,7 +8,7 @@ use Rattle.std.proofs.lemmas.List.Elements.{All-cons, All-nil}
 use Rattle.cert_policy.specs.declared.manner.Manner.{Manner}
 use Rattle.ar_cert.specs.Changes.{Change, IsChange, change_text}
 use Rattle.domain_table.specs.declared.refusal.ChangeRefusal.{ChangeRefusal}
-use Rattle.domain_table.specs.Applying.{after_answer, answer_of, apply, apply_each, judge, judge_ripe, ripen, taken}
+use Rattle.domain_table.specs.Applying.{after_answer, answer_of, apply, apply_each, judge, judge_ripe, ripen, taking_change}
 use Rattle.domain_table.specs.Sound.{IsSound}
 use Rattle.domain_table.specs.Tables.{Table}
 use Rattle.domain_table.specs.Tree.{root_of}
@@ -28,19 +28,19 @@ unfolding walk
 walk-none epoch table many left [] none = refl
 walk-none epoch table many left (change ∷ queue) none =
     ap (λ n. cond (eqb n 0) [] (taken_first (judge_ripe table change) change left (walk epoch table many left queue)
-    (λ manner. walk epoch (taken table epoch change manner) (many - 1) (left - length (change_text change)) queue))) none
+    (λ manner. walk epoch (taking_change table epoch change manner) (many - 1) (left - length (change_text change)) queue))) none
 
 -- by how the first change is judged, where one more may be taken
 walk-first : (epoch : ℕ) (table : Table) (many left : ℕ) (change : Change) (queue : List Change) (answer : Result Manner ChangeRefusal) → 0 < many
     → judge_ripe table change ≡ answer
     → walk epoch table many left (change ∷ queue)
-    ≡ taken_first answer change left (walk epoch table many left queue) (λ manner. walk epoch (taken table epoch change manner) (many - 1) (left - length (change_text change)) queue)
+    ≡ taken_first answer change left (walk epoch table many left queue) (λ manner. walk epoch (taking_change table epoch change manner) (many - 1) (left - length (change_text change)) queue)
 unfolding walk
 walk-first epoch table many left change queue answer some is =
     ap (λ b. cond b [] (taken_first (judge_ripe table change) change left (walk epoch table many left queue)
-    (λ manner. walk epoch (taken table epoch change manner) (many - 1) (left - length (change_text change)) queue))) (eqb-some many some)
+    (λ manner. walk epoch (taking_change table epoch change manner) (many - 1) (left - length (change_text change)) queue))) (eqb-some many some)
     ∙ ap (λ a. taken_first a change left (walk epoch table many left queue)
-    (λ manner. walk epoch (taken table epoch change manner) (many - 1) (left - length (change_text change)) queue)) is
+    (λ manner. walk epoch (taking_change table epoch change manner) (many - 1) (left - length (change_text change)) queue)) is
 
 walk-over : (epoch : ℕ) (table : Table) (many left : ℕ) (change : Change) (queue : List Change) (refusal : ChangeRefusal) → judge_ripe table change ≡ Err refusal
     → walk epoch table many left (change ∷ queue) ≡ walk epoch table many left queue
@@ -51,14 +51,14 @@ walk-stop : (epoch : ℕ) (table : Table) (many left : ℕ) (change : Change) (q
     → judge_ripe table change ≡ Ok manner → walk epoch table many left (change ∷ queue) ≡ []
 walk-stop epoch table many left change queue manner some long is =
     walk-first epoch table many left change queue (Ok manner) some is
-    ∙ ap (λ b. cond b (change ∷ walk epoch (taken table epoch change manner) (many - 1) (left - length (change_text change)) queue) []) (lt-leb (length (change_text change)) left long)
+    ∙ ap (λ b. cond b (change ∷ walk epoch (taking_change table epoch change manner) (many - 1) (left - length (change_text change)) queue) []) (lt-leb (length (change_text change)) left long)
 
 walk-take : (epoch : ℕ) (table : Table) (many left : ℕ) (change : Change) (queue : List Change) (manner : Manner) → 0 < many → length (change_text change) ≤ left
     → judge_ripe table change ≡ Ok manner
-    → walk epoch table many left (change ∷ queue) ≡ change ∷ walk epoch (taken table epoch change manner) (many - 1) (left - length (change_text change)) queue
+    → walk epoch table many left (change ∷ queue) ≡ change ∷ walk epoch (taking_change table epoch change manner) (many - 1) (left - length (change_text change)) queue
 walk-take epoch table many left change queue manner some short is =
     walk-first epoch table many left change queue (Ok manner) some is
-    ∙ ap (λ b. cond b (change ∷ walk epoch (taken table epoch change manner) (many - 1) (left - length (change_text change)) queue) []) (le-leb (length (change_text change)) left short)
+    ∙ ap (λ b. cond b (change ∷ walk epoch (taking_change table epoch change manner) (many - 1) (left - length (change_text change)) queue) []) (le-leb (length (change_text change)) left short)
 
 -- ---- a step of the walk
 
@@ -102,7 +102,7 @@ over-long w after change sound some long ok epochs tables took none =
       leads = λ queue. ap (apply after.table after.epoch) (nothing queue) ∙ ap (λ t. apply t after.epoch (left_of w (change ∷ queue))) tables ∙ ap (λ e. apply w.table e (left_of w (change ∷ queue))) epochs;
     }
 
-taken-alone : (t after : Table) (e : ℕ) (change : Change) (manner : Manner) → judge t e change ≡ Ok manner → Some after ≡ apply t e (change ∷ []) → after ≡ taken (ripen t e) e change manner
+taken-alone : (t after : Table) (e : ℕ) (change : Change) (manner : Manner) → judge t e change ≡ Ok manner → Some after ≡ apply t e (change ∷ []) → after ≡ taking_change (ripen t e) e change manner
 unfolding apply_each
 taken-alone t after e change manner is behind =
     ap (λ o. unwrap_or o after) (behind ∙ ap (λ answer. option_and_then (λ u. apply_each u e []) (after_answer (ripen t e) e change answer)) is)
@@ -113,9 +113,9 @@ sound-ripe t e low sound = sound-applied t (ripen t e) e [] low sound (All-nil I
 
 -- what is taken has nothing more to ripen
 ripe-still : (t : Table) (e : ℕ) (change : Change) (manner : Manner) → e < 2 ^ 64 → IsSound t → judge t e change ≡ Ok manner
-    → ripen (taken (ripen t e) e change manner) e ≡ taken (ripen t e) e change manner
+    → ripen (taking_change (ripen t e) e change manner) e ≡ taking_change (ripen t e) e change manner
 ripe-still t e change manner low sound is =
-    ripen_none (taken (ripen t e) e change manner) e
+    ripen_none (taking_change (ripen t e) e change manner) e
     (still_none (ripen t e) e change manner (sound-ripe t e low sound) (judged (ripen t e) change manner is) (ripened_once t e))
 
 -- one that is taken
@@ -126,7 +126,7 @@ pub over-taken : (w after : Walker) (change : Change) (len : ℕ) → w.epoch < 
 over-taken w after change len low sound is-change size some short ok epochs behind took fewer less =
     let e : ℕ = w.epoch in
     let m = manner-in (judge w.table e change) ok in
-    let ripe : Table = taken (ripen w.table e) e change m.0 in
+    let ripe : Table = taking_change (ripen w.table e) e change m.0 in
     let table : after.table ≡ ripe = taken-alone w.table after.table e change m.0 m.1 behind in
     let still : ripen after.table after.epoch ≡ ripe = ap (ripen after.table) epochs ∙ ap (λ t. ripen t e) table ∙ ripe-still w.table e change m.0 low sound m.1 in
     let many : after.many ≡ w.many - 1 = omega (arith, fewer) in

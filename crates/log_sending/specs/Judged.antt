@@ -3,7 +3,7 @@ use Rattle.std.specs.Prelude.{ℕ, ◌+◌, List, [], ◌∷◌, Result, Ok, Err
 use Rattle.ar_cert.specs.Changes.{Change}
 use Rattle.cert_policy.specs.declared.manner.Manner.{Manner}
 use Rattle.domain_table.specs.declared.refusal.ChangeRefusal.{ChangeRefusal}
-use Rattle.domain_table.specs.Applying.{judge_ripe, ripen, taken}
+use Rattle.domain_table.specs.Applying.{judge_ripe, ripen, taking_change}
 use Rattle.domain_table.specs.Tables.{Table}
 use Rattle.log_sending.specs.declared.refusal.LogRefusal.{LogRefusal}
 use Rattle.log_sending.specs.declared.refusal.LogRefusal.TheVariants as refusals
@@ -25,7 +25,7 @@ behind_one (Err refusal) index rest = Err (index, refusal)
 unfoldable pub judged_from : ℕ → Table → ℕ → List Change → TableJudgement
 judged_from index table epoch [] = Ok table
 judged_from index table epoch (change ∷ changes) =
-    behind_one (judge_ripe table change) index (λ manner. judged_from (index + 1) (taken table epoch change manner) epoch changes)
+    behind_one (judge_ripe table change) index (λ manner. judged_from (index + 1) (taking_change table epoch change manner) epoch changes)
 
 -- the changes of an epoch, on the table that is ripened once, before the first
 abbrev pub judged : Table → ℕ → List Change → TableJudgement

@@ -4,7 +4,7 @@ use Rattle.std.specs.Result.{result_map_both}
 use Rattle.ar_base.specs.Gives.{with_error}
 use Rattle.ar_cert.specs.Changes.{Change}
 use Rattle.cert_policy.specs.declared.manner.Manner.{Manner}
-use Rattle.domain_table.specs.Applying.{taken}
+use Rattle.domain_table.specs.Applying.{taking_change}
 use Rattle.domain_table.specs.Tables.{Table}
 use Rattle.domain_table.specs.Tree.{root_of}
 use Rattle.domain_table.specs.declared.refusal.ChangeRefusal.{ChangeRefusal}
@@ -17,7 +17,7 @@ use Rattle.log_sending.specs.declared.refusal.LogRefusal.TheVariants as refusals
 
 -- the table behind a change that is judged so on a ripe table, or the refusal of the change with this index
 abbrev pub table_behind : Result Manner ChangeRefusal → ℕ → Table → ℕ → Change → Result Table LogRefusal
-table_behind answer index table epoch change = result_map_both (taken table epoch change) (refusals.BadChange index) answer
+table_behind answer index table epoch change = result_map_both (taking_change table epoch change) (refusals.BadChange index) answer
 
 -- the table behind changes that are judged so, or the refusal of the first that is refused
 abbrev pub table_in : TableJudgement → Result Table LogRefusal

@@ -5,7 +5,7 @@ use Rattle.std.specs.List.{AllByRecursion}
 use Rattle.ar_bytes.specs.Ascending.{Ascend}
 use Rattle.ar_cert.specs.Changes.{IsSignature}
 use Rattle.ar_statement.specs.Claims.{most_parties}
-use Rattle.ar_message.specs.Lists.{AreChanges, AreStatuses, AreVotes}
+use Rattle.ar_message.specs.Lists.{AreChanges, AreLogStatuses, AreVotes}
 use Rattle.ar_statement.specs.Ranges.{IsValue}
 use Rattle.epoch_log.specs.State.{CountedStatus, CountedVote, LogState}
 use Rattle.epoch_log.specs.declared.foreseeing.Foreseen.{Foreseen}
@@ -53,4 +53,4 @@ pub record CanBeSent (s : LogState) : Type 0 where
 abbrev pub CanBeTold : ℕ → Foreseen → Type 0
 CanBeTold len foreseen.Open = Unit {0}
 CanBeTold len (foreseen.Decided changes w) = AreChanges changes × AreVotes (sent_votes len w.votes)
-CanBeTold len (foreseen.Skipped statuses) = AreStatuses (sent_statuses len statuses)
+CanBeTold len (foreseen.Skipped statuses) = AreLogStatuses (sent_statuses len statuses)

@@ -4,7 +4,7 @@ use Rattle.std.specs.List.{sum_by}
 use Rattle.cert_policy.specs.declared.manner.Manner.{Manner}
 use Rattle.ar_cert.specs.Changes.{Change, change_text}
 use Rattle.domain_table.specs.declared.refusal.ChangeRefusal.{ChangeRefusal}
-use Rattle.domain_table.specs.Applying.{apply, judge_ripe, ripen, taken}
+use Rattle.domain_table.specs.Applying.{apply, judge_ripe, ripen, taking_change}
 use Rattle.domain_table.specs.Sound.{IsSound}
 use Rattle.domain_table.specs.Tables.{Table}
 use Rattle.domain_table.specs.Tree.{root_of}
@@ -31,7 +31,7 @@ walk epoch table many left [] = []
 walk epoch table many left (change ∷ queue) =
     if many == 0 then []
     else taken_first (judge_ripe table change) change left (walk epoch table many left queue)
-    (λ manner. walk epoch (taken table epoch change manner) (many - 1) (left - length (change_text change)) queue)
+    (λ manner. walk epoch (taking_change table epoch change manner) (many - 1) (left - length (change_text change)) queue)
 
 -- how many bytes the texts of changes have
 abbrev pub bytes_of : List Change → ℕ

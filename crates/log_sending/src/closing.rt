@@ -3,7 +3,7 @@
 
 ghost use Rattle.std.specs.Prelude.{◌≡◌, ◌<◌, Result, filter, IfOk, OnOk};
 ghost use Rattle.std.specs.Result.{is_ok};
-ghost use Rattle.ar_message.specs.Lists.{AreChanges, AreStatuses, AreVotes};
+ghost use Rattle.ar_message.specs.Lists.{AreChanges, AreLogStatuses, AreVotes};
 ghost use Rattle.ar_message.specs.Messages.{message_text};
 ghost use Rattle.ar_message.specs.declared.message.Message.TheVariants.{Decision};
 ghost use Rattle.cert_policy.specs.declared.manner.Manner.{Manner};
@@ -99,7 +99,7 @@ fn skip_bytes(
     epoch: u64,
     statuses: &[CountedStatus],
 ) -> Result<Vec<u8>, AllocError>
-    requires { AreStatuses (sent_statuses len statuses.now) }
+    requires { AreLogStatuses (sent_statuses len statuses.now) }
     ensures { IfOk result (λ bytes. bytes.items ≡ message_text (skip_of len epoch statuses.now)) }
 {
     match sent_statuses(alloc, len, statuses) {
@@ -116,7 +116,7 @@ fn add_skip(
     statuses: &[CountedStatus],
     drafts: &mut DraftMessages<'static>,
 ) -> Result<(), AllocError>
-    requires { AreStatuses (sent_statuses len statuses.now) }
+    requires { AreLogStatuses (sent_statuses len statuses.now) }
     ensures { OnOk result
         (drafts.new ≡ with_draft drafts.old
         (skip_draft len (own_status_text log.now.state)

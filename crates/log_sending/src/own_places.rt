@@ -7,7 +7,7 @@ ghost use Rattle.std.specs.List.{AllByRecursion};
 ghost use Rattle.ar_bytes.specs.Joined.{optional_text};
 ghost use Rattle.ar_cert.specs.Changes.{IsSignature};
 ghost use Rattle.ar_council.specs.Values.{status_claim, vote_claim};
-ghost use Rattle.ar_message.specs.Lists.{AreStatuses, AreVotes, IsStatus, IsVote, status_text, vote_text};
+ghost use Rattle.ar_message.specs.Lists.{AreLogStatuses, AreVotes, IsStatus, IsVote, status_text, vote_text};
 ghost use Rattle.ar_message.specs.Filling.{zeros};
 ghost use Rattle.ar_statement.specs.Claims.{claim_of, value_text, text_of};
 ghost use Rattle.log_sending.specs.Sending.{if_own, own_places, own_statuses, own_votes, place_for, sent_status, sent_statuses, sent_vote, sent_votes};
@@ -210,7 +210,7 @@ pub(crate) fn sent_statuses(
     len: usize,
     statuses: &[CountedStatus],
 ) -> Result<Statuses, AllocError>
-    requires { AreStatuses (sent_statuses len statuses.now) }
+    requires { AreLogStatuses (sent_statuses len statuses.now) }
     ensures { IfOk result (λ sent. sent ≡ sent_statuses len statuses.now) }
 {
     let mut list = Vec::new(alloc);

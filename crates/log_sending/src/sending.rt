@@ -26,9 +26,9 @@ pub struct OwnPlace<'a> {
 // Clauses see the place and the text.
 impl<'a> Model for OwnPlace<'a> {
     ghost use Rattle.ar_statement.specs.Claims.{claim_of, text_of};
-    ghost use Rattle.log_sending.specs.Sending.{Place};
+    ghost use Rattle.log_sending.specs.Sending.{SigningPlace};
 
-    ghost Value = { Place };
+    ghost Value = { SigningPlace };
 
     ghost view = { λ p. record { at = p.at; text = text_of (claim_of p.statement) } };
 }
@@ -59,9 +59,9 @@ struct Numbered<'a> {
 // Clauses see the number and the place.
 impl<'a> Model for Numbered<'a> {
     ghost use Rattle.std.specs.Prelude.{ℕ};
-    ghost use Rattle.log_sending.specs.Sending.{Place};
+    ghost use Rattle.log_sending.specs.Sending.{SigningPlace};
 
-    ghost Value = { ℕ × Place };
+    ghost Value = { ℕ × SigningPlace };
 
     ghost view = { λ p. (p.message, p.own) };
 }

@@ -5,7 +5,7 @@ ghost use Rattle.std.specs.Option.{option_map};
 ghost use Rattle.log_sending.specs.Showing.{absence, body_by, body_in};
 
 use ar_cert::Cert;
-use ar_message::{Body, Steps};
+use ar_message::{Body, PathSteps};
 use ar_names::Name;
 use domain_table::Table;
 use std::alloc::{AllocError, Global};
@@ -19,11 +19,11 @@ fn absence(alloc: Global, at_key: Found, path: &Path) -> Result<Body, AllocError
     match at_key {
         Found::Absent { bottom } => Ok(Body::Absent {
             bottom,
-            path: Steps::of_path(alloc, path)?,
+            path: PathSteps::of_path(alloc, path)?,
         }),
         Found::Present { .. } => Ok(Body::Absent {
             bottom: Bottom::Empty,
-            path: Steps {
+            path: PathSteps {
                 bytes: Vec::new(alloc),
             },
         }),
@@ -44,7 +44,7 @@ fn body_by(
     match certificate {
         Some(certificate) => Ok(Body::Present {
             cert: certificate.copy(alloc)?,
-            path: Steps::of_path(alloc, path)?,
+            path: PathSteps::of_path(alloc, path)?,
         }),
         None => absence(alloc, at_key, path),
     }

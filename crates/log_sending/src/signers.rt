@@ -142,35 +142,25 @@ impl<'a> Signers<'a> {
     }
 
     // The endorsements of a change, unless an equal one is queued.
-    fn add_unqueued(
-        &mut self,
-        alloc: Global,
-        queue: &[Change],
-        change: &'a Change,
-    ) -> Result<(), AllocError>
+    fn add_unqueued(&mut self, queue: &[Change], change: &'a Change) -> Result<(), AllocError>
         ensures { OnOk result
             (self.new ≡ self.old
             ++ flat_map endorsements_in (unqueued queue.now (change.now ∷ []))) }
     {
-        if is_queued(alloc, queue, change)? {
+        if is_queued(queue, change) {
             return Ok(());
         }
         self.add_endorsements(change)
     }
 
     /// The endorsements of each change of which no equal one is queued, change by change.
-    pub fn add_changes(
-        &mut self,
-        alloc: Global,
-        queue: &[Change],
-        changes: &'a [Change],
-    ) -> Result<(), AllocError>
+    pub fn add_changes(&mut self, queue: &[Change], changes: &'a [Change]) -> Result<(), AllocError>
         ensures { OnOk result
             (self.new ≡ self.old ++ flat_map endorsements_in (unqueued queue.now changes.now)) }
     {
         if let [change, rest @ ..] = changes {
-            self.add_unqueued(alloc, queue, change)?;
-            self.add_changes(alloc, queue, rest)?;
+            self.add_unqueued(queue, change)?;
+            self.add_changes(queue, rest)?;
         }
         Ok(())
     }

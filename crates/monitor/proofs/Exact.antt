@@ -20,10 +20,10 @@ use Rattle.party_keys.specs.Directory.{Directory, keys_of, role_keys}
 use Rattle.party_keys.specs.Signatures.{answer_under, verified}
 use Rattle.monitor.specs.declared.item.Item.{Item}
 use Rattle.monitor.specs.declared.report.Conflict.{Conflict}
-use Rattle.monitor.specs.Items.{Ascend, Sworn, sworn_in, sworn_of}
+use Rattle.monitor.specs.Items.{AscendByLine, Sworn, sworn_in, sworn_of}
 use Rattle.monitor.specs.Reports.{Names, conflict_of, conflicts_of, first_conflict, members, report_of}
 use Rattle.monitor.specs.Rules.{rule_of}
-use Rattle.monitor.specs.Standing.{Contradicts, IsNoLater, IsPair, IsShown}
+use Rattle.monitor.specs.Standing.{Contradicts, IsNoLater, IsPair, IsSwornIn}
 use Rattle.monitor.proofs.Least.{Beaten, Rising, beaten, clash, placed}
 use Rattle.monitor.proofs.Pairs.{all-mapped, contained, one-signer, pairs, shown}
 use Rattle.monitor.proofs.Shown.{one-text, ruled}
@@ -45,7 +45,7 @@ unmapped {X} {Y} h P (x ∷ xs) all = by (h x) refl all (λ rest. unmapped h P x
     by (Some z) e all later = (λ y some. subst P (same_Some z y (sym e ∙ some)) all.0, later all.1)
 
 -- what holds of all valid statements holds of each that is shown
-of-shown : (keys : Directory) (items : List Item) (P : Sworn → Type 0) (s : Sworn) → AllByRecursion P (sworn_of keys items) → IsShown keys items s → P s
+of-shown : (keys : Directory) (items : List Item) (P : Sworn → Type 0) (s : Sworn) → AllByRecursion P (sworn_of keys items) → IsSwornIn keys items s → P s
 of-shown keys items P s all (i, has, is) =
     let each = All-from_recursion (λ (j : Item). (t : Sworn) → result_ok (sworn_in keys j) ≡ Some t → P t) items (unmapped (λ j. result_ok (sworn_in keys j)) P items all) in
     All-contains (λ (j : Item). (t : Sworn) → result_ok (sworn_in keys j) ≡ Some t → P t) items i each has s (ap result_ok is)
@@ -75,7 +75,7 @@ rising keys (i ∷ items) up =
     by (Some s) e rest = (subst (λ n. AllByRecursion (λ t. n < t.line) (sworn_of keys items)) (line-of keys i s e) above, rest)
 
 -- of two items one stands above the other, or they are one
-ordered : (items : List Item) (i j : Item) → Ascend items → Contains items i → Contains items j → (i.line < j.line) ⊎ ((j.line < i.line) ⊎ (i ≡ j))
+ordered : (items : List Item) (i j : Item) → AscendByLine items → Contains items i → Contains items j → (i.line < j.line) ⊎ ((j.line < i.line) ⊎ (i ≡ j))
 ordered items i j up a b =
     let at-a : get_or items a.0 i ≡ i = a.2 in
     let at-b : get_or items b.0 i ≡ j = get_or_default items b.0 i j b.1 ∙ b.2 in
@@ -128,7 +128,7 @@ listed keys sworn Client number c less e = absurd (omega (arith, less))
 -- ---- who contradicts himself is named
 
 -- two that are shown and contradict each other, the first above the second: a pair of the party is found that is no later
-found-of : (keys : Directory) (items : List Item) (who : Party) (s t : Sworn) (k : ℕ) → Ascend items → IsShown keys items s → IsShown keys items t
+found-of : (keys : Directory) (items : List Item) (who : Party) (s t : Sworn) (k : ℕ) → AscendByLine items → IsSwornIn keys items s → IsSwornIn keys items t
     → s.line < t.line → signer_of t.claim ≡ who → rule_of s t ≡ Some k
     → (c : Conflict) × (conflict_of (sworn_of keys items) who ≡ Some c) × ((c.second < t.line) ⊎ ((c.second ≡ t.line) × (c.first ≤ s.line)))
 found-of keys items who s t k up shown-s shown-t less signer rule =
@@ -138,7 +138,7 @@ found-of keys items who s t k up shown-s shown-t less signer rule =
     let of-t = of-shown keys items (λ (y : Sworn). AllByRecursion (λ (x : Sworn). Beaten who (first_conflict who [] (sworn_of keys items)) x y) (sworn_of keys items)) t all shown-t in
     of-shown keys items (λ (x : Sworn). Beaten who (first_conflict who [] (sworn_of keys items)) x t) s of-t shown-s less signer k rule
 
-named-by : (keys : Directory) (items : List Item) (who : Party) (s t : Sworn) (k : ℕ) → Ascend items → IsShown keys items s → IsShown keys items t
+named-by : (keys : Directory) (items : List Item) (who : Party) (s t : Sworn) (k : ℕ) → AscendByLine items → IsSwornIn keys items s → IsSwornIn keys items t
     → s.line < t.line → signer_of t.claim ≡ who → rule_of s t ≡ Some k → Names (report_of keys items) who
 unfolding report_of
 named-by keys items who s t k up shown-s (j, has, is) less signer rule =
@@ -150,7 +150,7 @@ named-by keys items who s t k up shown-s (j, has, is) less signer rule =
     let of-party = placed who [] sworn found.0 (rising keys items up.in_order) found.1 in
     (found.0, listed keys sworn who.role who.number found.0 known found.1, of-party.0)
 
-pub exactly : (keys : Directory) (items : List Item) (who : Party) → Ascend items → Contradicts keys items who → Names (report_of keys items) who
+pub exactly : (keys : Directory) (items : List Item) (who : Party) → AscendByLine items → Contradicts keys items who → Names (report_of keys items) who
 exactly keys items who up c =
     let above = shown-line keys c.shown.0 c.s c.shown.2 in
     let below = shown-line keys c.shown_later.0 c.t c.shown_later.2 in
@@ -182,10 +182,10 @@ from keys items c has =
     each role count =
         all-mapped (conflict_of (sworn_of keys items)) (Contains (members role count)) Of (λ who d in-it e. (who, e)) (members role count) (contained (members role count))
 
-pub told-pair : (keys : Directory) (items : List Item) (c : Conflict) → Ascend items → Contains (report_of keys items).conflicts c → IsPair keys items c
+pub told-pair : (keys : Directory) (items : List Item) (c : Conflict) → AscendByLine items → Contains (report_of keys items).conflicts c → IsPair keys items c
 told-pair keys items c up has =
     let of = from keys items c has in
-    let f = pairs (IsShown keys items) of.0 [] (sworn_of keys items) c tt (shown keys items) of.1 in
+    let f = pairs (IsSwornIn keys items) of.0 [] (sworn_of keys items) c tt (shown keys items) of.1 in
     let order = placed of.0 [] (sworn_of keys items) c (rising keys items up.in_order) of.1 in
     let later : signer_of f.t.claim ≡ c.party = one_party (signer_of f.t.claim) c.party f.signer in
     record {
@@ -201,7 +201,7 @@ told-pair keys items c up has =
       rule_is = f.rule_is;
     }
 
-pub told-least : (keys : Directory) (items : List Item) (c d : Conflict) → Ascend items → Contains (report_of keys items).conflicts c → IsPair keys items d → d.party ≡ c.party → IsNoLater c d
+pub told-least : (keys : Directory) (items : List Item) (c d : Conflict) → AscendByLine items → Contains (report_of keys items).conflicts c → IsPair keys items d → d.party ≡ c.party → IsNoLater c d
 told-least keys items c d up has pair same =
     let of = from keys items c has in
     let order = placed of.0 [] (sworn_of keys items) c (rising keys items up.in_order) of.1 in
@@ -212,7 +212,7 @@ told-least keys items c d up has pair same =
     (subst (λ n. (found.0.second < n) ⊎ ((found.0.second ≡ n) × (found.0.first ≤ d.first))) pair.second
     (subst (λ n. (found.0.second < pair.t.line) ⊎ ((found.0.second ≡ pair.t.line) × (found.0.first ≤ n))) pair.first found.2))
 
-pub told-once : (keys : Directory) (items : List Item) (c d : Conflict) → Ascend items → Contains (report_of keys items).conflicts c → Contains (report_of keys items).conflicts d
+pub told-once : (keys : Directory) (items : List Item) (c d : Conflict) → AscendByLine items → Contains (report_of keys items).conflicts c → Contains (report_of keys items).conflicts d
     → c.party ≡ d.party → c ≡ d
 told-once keys items c d up has has-d same =
     let of = from keys items c has in

@@ -9,10 +9,10 @@ use Rattle.ar_statement.specs.declared.party.Party.{Party}
 use Rattle.ar_statement.specs.Claims.{Claim, confirmation_by, log_party, status, vote}
 use Rattle.vote_quorum.specs.declared.value.Value.{Value}
 use Rattle.ar_council.specs.Council.{Council}
-use Rattle.epoch_log.specs.Honest.{HonestLog}
+use Rattle.epoch_log.specs.Honest.{IsOfHonestLog}
 use Rattle.epoch_log.specs.Record.{LogRecord, base_of, ending}
 use Rattle.epoch_log.specs.Right.{IsRightConfirmation, newest_digest}
-use Rattle.epoch_log.specs.Told.{HasConfirmed, HasStated, HasVoted, Told}
+use Rattle.epoch_log.specs.Told.{HasConfirmed, HasStated, HasVoted, ToldByLog}
 use Rattle.epoch_log.specs.declared.entries.How.{How}
 use Rattle.epoch_log.specs.declared.entries.How.TheVariants.{Decided}
 use Rattle.epoch_log.specs.declared.entries.Stated.{Stated}
@@ -22,27 +22,27 @@ use Rattle.monitor.proofs.Shown.{a-confirmation, a-status, a-vote, both}
 
 -- ---- what the record tells of a statement
 
-told-vote : (me : ℕ) (r : LogRecord) (claim : Claim) (log epoch : ℕ) (value : Value) → claim ≡ vote log epoch value.base value.root → Told me r.voted r.stated r.confirmed claim
+told-vote : (me : ℕ) (r : LogRecord) (claim : Claim) (log epoch : ℕ) (value : Value) → claim ≡ vote log epoch value.base value.root → ToldByLog me r.voted r.stated r.confirmed claim
     → (log ≡ me) × HasVoted r.voted epoch value
-unfolding Told
-told-vote me r claim log epoch value is t = subst (Told me r.voted r.stated r.confirmed) is t
+unfolding ToldByLog
+told-vote me r claim log epoch value is t = subst (ToldByLog me r.voted r.stated r.confirmed) is t
 
-told-status : (me : ℕ) (r : LogRecord) (claim : Claim) (log epoch : ℕ) (value : Option Value) → claim ≡ status log epoch value → Told me r.voted r.stated r.confirmed claim
+told-status : (me : ℕ) (r : LogRecord) (claim : Claim) (log epoch : ℕ) (value : Option Value) → claim ≡ status log epoch value → ToldByLog me r.voted r.stated r.confirmed claim
     → (log ≡ me) × HasStated r.stated epoch value
-unfolding Told
-told-status me r claim log epoch value is t = subst (Told me r.voted r.stated r.confirmed) is t
+unfolding ToldByLog
+told-status me r claim log epoch value is t = subst (ToldByLog me r.voted r.stated r.confirmed) is t
 
 told-confirmation : (me : ℕ) (r : LogRecord) (claim : Claim) (signer : Party) (epoch : ℕ) (name : List ℕ) (certificate : Option (List ℕ)) (root : List ℕ)
-    → claim ≡ confirmation_by signer epoch name certificate root → Told me r.voted r.stated r.confirmed claim
+    → claim ≡ confirmation_by signer epoch name certificate root → ToldByLog me r.voted r.stated r.confirmed claim
     → (signer ≡ log_party me) × HasConfirmed r.confirmed epoch name certificate root
-unfolding Told
-told-confirmation me r claim signer epoch name None root is t = subst (Told me r.voted r.stated r.confirmed) is t
-told-confirmation me r claim signer epoch name (Some certificate) root is t = subst (Told me r.voted r.stated r.confirmed) is t
+unfolding ToldByLog
+told-confirmation me r claim signer epoch name None root is t = subst (ToldByLog me r.voted r.stated r.confirmed) is t
+told-confirmation me r claim signer epoch name (Some certificate) root is t = subst (ToldByLog me r.voted r.stated r.confirmed) is t
 
 -- ---- votes and statuses
 
 -- two votes of one epoch are one
-pub one-ballot : (council : Council) (me : ℕ) (r : LogRecord) (one other : Claim) → HonestLog council me r → Told me r.voted r.stated r.confirmed one → Told me r.voted r.stated r.confirmed other
+pub one-ballot : (council : Council) (me : ℕ) (r : LogRecord) (one other : Claim) → IsOfHonestLog council me r → ToldByLog me r.voted r.stated r.confirmed one → ToldByLog me r.voted r.stated r.confirmed other
     → are_votes one other ≡ true → one ≡ other
 one-ballot council me r one other h told told-other e =
     let found = both (λ (v w : ℕ × Value). v.0 == w.0) (vote_in one) (vote_in other) e in
@@ -61,7 +61,7 @@ one-ballot council me r one other h told told-other e =
     is-v.1 ∙ same ∙ sym is-w.1
 
 -- a status of an epoch says what the vote of the epoch is for
-pub not-denied : (council : Council) (me : ℕ) (r : LogRecord) (one other : Claim) → HonestLog council me r → Told me r.voted r.stated r.confirmed one → Told me r.voted r.stated r.confirmed other
+pub not-denied : (council : Council) (me : ℕ) (r : LogRecord) (one other : Claim) → IsOfHonestLog council me r → ToldByLog me r.voted r.stated r.confirmed one → ToldByLog me r.voted r.stated r.confirmed other
     → is_denied one other ≡ true → ⊥
 not-denied council me r one other h told told-other e =
     let found = both (λ (v : ℕ × Value) (s : ℕ × Option Value). v.0 == s.0 && not (is_value s.1 v.1)) (vote_in one) (status_in other) e in
@@ -87,7 +87,7 @@ not-denied council me r one other h told told-other e =
         cc
 
 -- two statuses of one epoch are one
-pub one-status : (council : Council) (me : ℕ) (r : LogRecord) (one other : Claim) → HonestLog council me r → Told me r.voted r.stated r.confirmed one → Told me r.voted r.stated r.confirmed other
+pub one-status : (council : Council) (me : ℕ) (r : LogRecord) (one other : Claim) → IsOfHonestLog council me r → ToldByLog me r.voted r.stated r.confirmed one → ToldByLog me r.voted r.stated r.confirmed other
     → are_statuses one other ≡ true → one ≡ other
 one-status council me r one other h told told-other e =
     let found = both (λ (s t : ℕ × Option Value). s.0 == t.0) (status_in one) (status_in other) e in
@@ -109,7 +109,7 @@ one-status council me r one other h told told-other e =
 -- ---- confirmations
 
 -- two confirmations for one epoch have one root, and those of one name are one
-pub one-answer : (council : Council) (me : ℕ) (r : LogRecord) (one other : Claim) → HonestLog council me r → Told me r.voted r.stated r.confirmed one → Told me r.voted r.stated r.confirmed other
+pub one-answer : (council : Council) (me : ℕ) (r : LogRecord) (one other : Claim) → IsOfHonestLog council me r → ToldByLog me r.voted r.stated r.confirmed one → ToldByLog me r.voted r.stated r.confirmed other
     → are_confirmations one other ≡ true → one ≡ other
 one-answer council me r one other h told told-other e =
     let found = both differ (confirmation_in one) (confirmation_in other) (and_parts (is_of_log one) _ e).1 in

@@ -12,7 +12,7 @@ use Rattle.ar_statement.specs.declared.party.Party.{Party}
 use Rattle.ar_statement.specs.declared.party.Role.{Role}
 use Rattle.party_keys.specs.Directory.{Directory}
 use Rattle.monitor.specs.declared.item.Item.{Item}
-use Rattle.monitor.specs.Items.{Ascend, Sworn, sworn_in, sworn_of}
+use Rattle.monitor.specs.Items.{AscendByLine, Sworn, sworn_in, sworn_of}
 use Rattle.monitor.specs.Reports.{conflict_of, conflict_with, conflicts_of, first_conflict, members}
 use Rattle.monitor.specs.declared.report.Conflict.{Conflict}
 
@@ -72,7 +72,7 @@ ended who xs k le = ap (first_conflict who (take k xs)) (drop-all xs k le)
 -- ---- how many there are
 
 -- the lines of items count at least as they stand
-pub climbs : (items : List Item) (k : ℕ) (d : Item) → Ascend items → k < length items → k < (get_or items k d).line
+pub climbs : (items : List Item) (k : ℕ) (d : Item) → AscendByLine items → k < length items → k < (get_or items k d).line
 climbs items zero d a within = a.least zero d within
 climbs items (suc k) d a within =
     let below = climbs items k d a (omega (arith, within)) in
@@ -88,7 +88,7 @@ fewer {X} {Y} f (x ∷ xs) = by (f x) (fewer f xs)
     by None rest = omega (arith, rest)
     by (Some y) rest = omega (arith, rest)
 
-pub few : (keys : Directory) (items : List Item) (d : Item) → Ascend items → 0 < length items → length (sworn_of keys items) ≤ (get_or items (length items - 1) d).line
+pub few : (keys : Directory) (items : List Item) (d : Item) → AscendByLine items → 0 < length items → length (sworn_of keys items) ≤ (get_or items (length items - 1) d).line
 few keys items d a some =
     let last = climbs items (length items - 1) d a (omega (arith, some)) in
     let all = fewer (λ i. result_ok (sworn_in keys i)) items in

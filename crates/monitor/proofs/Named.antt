@@ -7,14 +7,14 @@ use Rattle.ar_statement.specs.Ranges.{IsValid}
 use Rattle.ar_council.specs.Council.{Council}
 use Rattle.party_keys.specs.Directory.{Directory}
 use Rattle.key_roll.specs.Book.{RollBook}
-use Rattle.epoch_log.specs.Honest.{HonestLog}
+use Rattle.epoch_log.specs.Honest.{IsOfHonestLog}
 use Rattle.epoch_log.specs.Record.{LogRecord}
-use Rattle.epoch_log.specs.Told.{Told}
-use Rattle.authority_core.specs.Honest.{HonestAuthority, ToldBy}
+use Rattle.epoch_log.specs.Told.{ToldByLog}
+use Rattle.authority_core.specs.Honest.{IsOfHonestAuthority, ToldBy}
 use Rattle.authority_core.specs.Record.{AuthorityRecord}
 use Rattle.monitor.specs.declared.item.Item.{Item}
 use Rattle.monitor.specs.Items.{Sworn}
-use Rattle.monitor.specs.Standing.{IsShown, StandIn, StandsAt}
+use Rattle.monitor.specs.Standing.{IsSwornIn, StandIn, StandsAt}
 use Rattle.monitor.specs.Reports.{Names, report_of}
 use Rattle.monitor.proofs.Authorities.{no-answer, no-ballot, no-status, no-status-pair}
 use Rattle.monitor.proofs.Logs.{not-denied, one-answer, one-ballot, one-status}
@@ -23,7 +23,7 @@ use Rattle.monitor.proofs.Shown.{fitted, one-text, ruled}
 use Rattle.monitor.proofs.Stood.{one-leaf, one-roll, stood, sworn-says}
 
 -- what stands in a book of texts of which P holds
-record Told-of (P : Claim → Type 0) (book : RollBook) (s : Sworn) : Type 0 where
+record ToldByLog-of (P : Claim → Type 0) (book : RollBook) (s : Sworn) : Type 0 where
   at : StandsAt book s
   valid : IsValid s.claim
   holds : P s.claim
@@ -35,7 +35,7 @@ apart s t is-s is-t differ same =
     let yes : bytes_eq s.text t.text ≡ true = (bytes_eq-Decides s.text t.text).1 (sym is-s ∙ ap text_of same ∙ is-t) in
     cc
 
-pub honest-log : (keys : Directory) (items : List Item) (council : Council) (me : ℕ) (r : LogRecord) → HonestLog council me r
+pub honest-log : (keys : Directory) (items : List Item) (council : Council) (me : ℕ) (r : LogRecord) → IsOfHonestLog council me r
     → StandIn r.signed keys items (log_party me) → ¬ Names (report_of keys items) (log_party me)
 honest-log keys items council me r h stand names =
     let pair = named keys items (log_party me) names in
@@ -54,15 +54,15 @@ honest-log keys items council me r h stand names =
     })
   where
     P : Claim → Type 0
-    P = Told me r.voted r.stated r.confirmed
+    P = ToldByLog me r.voted r.stated r.confirmed
 
-    told-of : (s : Sworn) → IsShown keys items s → signer_of s.claim ≡ log_party me → Told-of P r.signed s
+    told-of : (s : Sworn) → IsSwornIn keys items s → signer_of s.claim ≡ log_party me → ToldByLog-of P r.signed s
     told-of s (i, has, is) signer =
         let at = stand s (i, has, is) signer in
         let what = stood P r.signed s.text s.claim at.0 at.1 h.signs_what_it_tells.told at.4 (sworn-says keys i s is) in
         record { at = at; valid = what.0; holds = what.1.0; is = what.1.1 }
 
-pub honest-authority : (keys : Directory) (items : List Item) (council : Council) (me : ℕ) (r : AuthorityRecord) → HonestAuthority council me r
+pub honest-authority : (keys : Directory) (items : List Item) (council : Council) (me : ℕ) (r : AuthorityRecord) → IsOfHonestAuthority council me r
     → StandIn r.signed keys items (authority_party me) → ¬ Names (report_of keys items) (authority_party me)
 honest-authority keys items council me r h stand names =
     let pair = named keys items (authority_party me) names in
@@ -82,7 +82,7 @@ honest-authority keys items council me r h stand names =
     P : Claim → Type 0
     P = ToldBy council me r.seen r.asked r.kept
 
-    told-of : (s : Sworn) → IsShown keys items s → signer_of s.claim ≡ authority_party me → Told-of P r.signed s
+    told-of : (s : Sworn) → IsSwornIn keys items s → signer_of s.claim ≡ authority_party me → ToldByLog-of P r.signed s
     told-of s (i, has, is) signer =
         let at = stand s (i, has, is) signer in
         let what = stood P r.signed s.text s.claim at.0 at.1 h.told at.4 (sworn-says keys i s is) in

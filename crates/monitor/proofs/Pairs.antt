@@ -20,7 +20,7 @@ use Rattle.monitor.specs.declared.report.Conflict.{Conflict}
 use Rattle.monitor.specs.Items.{Sworn, sworn_in, sworn_of}
 use Rattle.monitor.specs.Reports.{Names, conflict_of, conflict_with, conflicts_of, first_against, first_conflict, members, report_of}
 use Rattle.monitor.specs.Rules.{are_two_of_one, rule_fitting, rule_of}
-use Rattle.monitor.specs.Standing.{Contradicts, IsShown}
+use Rattle.monitor.specs.Standing.{Contradicts, IsSwornIn}
 use Rattle.monitor.proofs.Shown.{chosen}
 
 -- what holds of each value that is given of a list's elements holds of all that is given
@@ -36,9 +36,9 @@ all-mapped {X} {Y} h Q P each (x ∷ xs) all = by (h x) refl (all-mapped h Q P e
 pub contained : {X : Type 0} (xs : List X) → AllByRecursion (Contains xs) xs
 contained xs = recursion_from_All (Contains xs) xs (All-contains_itself xs)
 
-pub shown : (keys : Directory) (items : List Item) → AllByRecursion (IsShown keys items) (sworn_of keys items)
+pub shown : (keys : Directory) (items : List Item) → AllByRecursion (IsSwornIn keys items) (sworn_of keys items)
 shown keys items =
-    all-mapped (λ i. result_ok (sworn_in keys i)) (Contains items) (IsShown keys items)
+    all-mapped (λ i. result_ok (sworn_in keys i)) (Contains items) (IsSwornIn keys items)
     (λ i s has e. (i, has, gave (sworn_in keys i) s e)) items (contained items)
 
 -- a pair that is printed is of two statements that contradict each other, the later of the party
@@ -105,11 +105,11 @@ pub named : (keys : Directory) (items : List Item) (who : Party) → Names (repo
 unfolding report_of
 named keys items who (c, has, is) =
     let sworn = sworn_of keys items in
-    let P = Found (IsShown keys items) in
+    let P = Found (IsSwornIn keys items) in
     let all = shown keys items in
     let logs = conflicts_of LogServer (length keys.logs) sworn in
     let authorities = conflicts_of Authority (length keys.authorities) sworn in
-    let each = both-lists P logs authorities (of-role (IsShown keys items) LogServer (length keys.logs) sworn all) (of-role (IsShown keys items) Authority (length keys.authorities) sworn all) in
+    let each = both-lists P logs authorities (of-role (IsSwornIn keys items) LogServer (length keys.logs) sworn all) (of-role (IsSwornIn keys items) Authority (length keys.authorities) sworn all) in
     let f : P c = All-contains P (logs ++ authorities) c (All-from_recursion P (logs ++ authorities) each) has in
     let later : signer_of f.t.claim ≡ who = one_party (signer_of f.t.claim) c.party f.signer ∙ is in
     record {

@@ -14,7 +14,7 @@ use Rattle.party_keys.specs.Signatures.{claim_in, verified}
 use Rattle.party_keys.specs.declared.fault.VerifyFault.{VerifyFault}
 use Rattle.party_keys.proofs.Claims.{one_claim}
 use Rattle.key_roll.specs.Book.{IsRollBook, RollBook, texts_of}
-use Rattle.key_roll.specs.Entry.{Serves}
+use Rattle.key_roll.specs.Entry.{LeafServes}
 use Rattle.key_roll.specs.Rolls.{is_roll, named_generation}
 use Rattle.key_roll.specs.declared.signed.SignedText.{SignedText}
 use Rattle.key_roll.proofs.Books.{is_roll-kind, leaf-roll, named-roll, one_text}
@@ -52,7 +52,7 @@ sworn-says keys i s e =
 -- ---- what stands in a book
 
 -- a text that a leaf serves is in the book
-pub served : (book : RollBook) (g leaf : ℕ) (text : List ℕ) → Serves book g leaf text → Contains (texts_of book) text
+pub served : (book : RollBook) (g leaf : ℕ) (text : List ℕ) → LeafServes book g leaf text → Contains (texts_of book) text
 served book g leaf text (place, s, facts) =
     let at : slice_get book.list place ≡ Some s = facts.0 in
     let within = slice_get_within book.list place s at in
@@ -65,7 +65,7 @@ served book g leaf text (place, s, facts) =
     subst (Contains (texts_of book)) facts.2 there
 
 -- what holds of the statement of each text of a book holds of what a text says that stands in it
-pub stood : (P : Claim → Type 0) (book : RollBook) (text : List ℕ) (claim : Claim) (g leaf : ℕ) → All (IsTextOf P) (texts_of book) → Serves book g leaf text → claim_in text ≡ Some claim
+pub stood : (P : Claim → Type 0) (book : RollBook) (text : List ℕ) (claim : Claim) (g leaf : ℕ) → All (IsTextOf P) (texts_of book) → LeafServes book g leaf text → claim_in text ≡ Some claim
     → IsValid claim × (P claim × (text_of claim ≡ text))
 stood P book text claim g leaf all serves is =
     let t : IsTextOf P text = All-contains (IsTextOf P) (texts_of book) text all (served book g leaf text serves) in
@@ -82,11 +82,11 @@ one-leaf book s t sound (g, l, gen-s, leaf-s, at) (h, m, gen-t, leaf-t, there) e
     let leaves = both (λ a b. a == b) s.leaf t.leaf parts.1 in
     let same-g : g ≡ h = same_Some g h (sym gen-s ∙ generations.2 ∙ ap (λ n. Some n) (eqb-true generations.0 generations.1 generations.4) ∙ sym generations.3 ∙ gen-t) in
     let same-l : l ≡ m = same_Some l m (sym leaf-s ∙ leaves.2 ∙ ap (λ n. Some n) (eqb-true leaves.0 leaves.1 leaves.4) ∙ sym leaves.3 ∙ leaf-t) in
-    one_text book h m s.text t.text sound (subst (λ n. Serves book n m s.text) same-g (subst (λ n. Serves book g n s.text) same-l at)) there
+    one_text book h m s.text t.text sound (subst (λ n. LeafServes book n m s.text) same-g (subst (λ n. LeafServes book g n s.text) same-l at)) there
 
 -- a Roll that stands in a book has the last leaf of the generation that it names
 roll-leaf : (book : RollBook) (text : List ℕ) (claim : Claim) (g leaf named : ℕ) → IsRollBook book → IsValid claim → text_of claim ≡ text
-    → (signer : Party) × (key : List ℕ) × (claim ≡ roll signer named key) → Serves book g leaf text → Serves book named (book.leaves - 1) text
+    → (signer : Party) × (key : List ℕ) × (claim ≡ roll signer named key) → LeafServes book g leaf text → LeafServes book named (book.leaves - 1) text
 roll-leaf book text claim g leaf named sound valid is (signer, key, says) (place, s, facts) =
     let text-is : s.text ≡ text_of (roll signer named key) = facts.2 ∙ sym is ∙ ap text_of says in
     let held = (subst IsValid says valid).held in
@@ -108,4 +108,4 @@ one-roll book s t sound valid-s valid-t is-s is-t (g, l, gen-s, leaf-s, at) (h, 
     let same : rolls.0 ≡ rolls.1 = eqb-true rolls.0 rolls.1 rolls.4 in
     let first = roll-leaf book s.text s.claim g l rolls.0 sound valid-s is-s (a-roll s.claim rolls.0 rolls.2) at in
     let second = roll-leaf book t.text t.claim h m rolls.1 sound valid-t is-t (a-roll t.claim rolls.1 rolls.3) there in
-    one_text book rolls.1 (book.leaves - 1) s.text t.text sound (subst (λ n. Serves book n (book.leaves - 1) s.text) same first) second
+    one_text book rolls.1 (book.leaves - 1) s.text t.text sound (subst (λ n. LeafServes book n (book.leaves - 1) s.text) same first) second

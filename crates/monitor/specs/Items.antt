@@ -13,7 +13,7 @@ use Rattle.monitor.specs.declared.report.Ignored.{Ignored}
 use Rattle.monitor.specs.declared.report.Ignored.TheVariants.{Form, Unknown, Bad}
 
 -- lines count from 1, and those of the items ascend
-pub record Ascend (items : List Item) : Type 0 where
+pub record AscendByLine (items : List Item) : Type 0 where
   pub least : All (λ i. 1 ≤ i.line) items
   pub in_order : AllPairs (λ i j. i.line < j.line) items
 

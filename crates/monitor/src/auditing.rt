@@ -1,5 +1,5 @@
 ghost use Rattle.std.specs.Prelude.{◌≡◌, IfOk, length};
-ghost use Rattle.monitor.specs.Items.{Ascend, sworn_of};
+ghost use Rattle.monitor.specs.Items.{AscendByLine, sworn_of};
 ghost use Rattle.monitor.specs.Reports.{report_of};
 
 use crate::item::Item;
@@ -13,7 +13,7 @@ use std::alloc::{AllocError, Global};
 
 /// How many items are evidence.
 fn count(sworn: &[Sworn], _directory: &Directory, items: &[Item]) -> u32
-    requires ascend { Ascend items.now }
+    requires ascend { AscendByLine items.now }
     requires sworn { sworn.now ≡ sworn_of _directory.now items.now }
     ensures { result ≡ length sworn.now }
 {
@@ -29,7 +29,7 @@ fn count(sworn: &[Sworn], _directory: &Directory, items: &[Item]) -> u32
 /// The only error is want of memory.
 #[tactic(auto, unfolding(crate::specs::Reports::report_of))]
 pub fn audit(alloc: Global, directory: &Directory, items: &[Item]) -> Result<Report, AllocError>
-    requires ascend { Ascend items.now }
+    requires ascend { AscendByLine items.now }
     ensures { IfOk result (λ report. report ≡ report_of directory.now items.now) }
 {
     let sorted = sort(alloc, directory, items)?;

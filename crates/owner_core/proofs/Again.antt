@@ -1,17 +1,17 @@
 -- What was signed is signed again as the same bytes.
 use Rattle.std.proofs.Common.{◌≡◌, ℕ, List, ◌++◌, Result, Ok, Err, refl, ap, sym, ◌∙◌}
-use Rattle.sign_book.specs.Book.{Book, IsSound}
+use Rattle.sign_book.specs.Book.{Book, IsSignBook}
 use Rattle.sign_book.specs.Entry.{after_entry, leaf_of}
 use Rattle.ar_statement.specs.declared.fault.BookFault.{BookFault}
 use Rattle.ar_statement.specs.Claims.{Claim, text_of}
 use Rattle.lms_tree.specs.Key.{signature_of}
 use Rattle.owner_core.specs.declared.refusal.OwnerRefusal.{OwnerRefusal}
 use Rattle.owner_core.specs.State.{Owner}
-use Rattle.owner_core.specs.Signing.{after_signing, signed, signed_at}
+use Rattle.owner_core.specs.Signing.{after_signing, signed_by_owner, signed_at}
 
 -- a book keeps the leaf of a text: what `a_statement_keeps_its_leaf` says
 abbrev pub Keeps : Type 0
-Keeps = (book later : Book) (more : List (List ℕ)) (text : List ℕ) (leaf : ℕ) → IsSound later → leaf_of book text ≡ Ok leaf
+Keeps = (book later : Book) (more : List (List ℕ)) (text : List ℕ) (leaf : ℕ) → IsSignBook later → leaf_of book text ≡ Ok leaf
     → later.texts ≡ (after_entry book text).texts ++ more → (leaf_of later text ≡ Ok leaf) × (after_entry later text ≡ later)
 
 -- what a row gives, where it gives
@@ -29,10 +29,10 @@ again after text bytes leaf here stays are =
     ap (signed_at after text) here
     ∙ ap okay (ap (λ book. (signature_of after.key leaf text, record after { book = book })) stays ∙ ap (λ (b : List ℕ). (b, after)) (sym are))
 
-pub handed : Keeps → (me later after : Owner) (more : List (List ℕ)) (claim : Claim) (bytes : List ℕ) → IsSound after.book → after.key ≡ me.key
-    → signed me claim ≡ Ok (bytes, later) → after.book.texts ≡ later.book.texts ++ more → signed after claim ≡ Ok (bytes, after)
+pub handed : Keeps → (me later after : Owner) (more : List (List ℕ)) (claim : Claim) (bytes : List ℕ) → IsSignBook after.book → after.key ≡ me.key
+    → signed_by_owner me claim ≡ Ok (bytes, later) → after.book.texts ≡ later.book.texts ++ more → signed_by_owner after claim ≡ Ok (bytes, after)
 handed keeps me later after more claim bytes sound key e grown = at (leaf_of me.book (text_of claim)) refl where
-  at : (answer : Result ℕ BookFault) → leaf_of me.book (text_of claim) ≡ answer → signed after claim ≡ Ok (bytes, after)
+  at : (answer : Result ℕ BookFault) → leaf_of me.book (text_of claim) ≡ answer → signed_by_owner after claim ≡ Ok (bytes, after)
   at (Err fault) is =
       let no : signed_at me (text_of claim) (Err fault) ≡ Ok (bytes, later) = sym (ap (signed_at me (text_of claim)) is) ∙ e in
       cc

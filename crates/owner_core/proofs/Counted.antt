@@ -18,28 +18,28 @@ use Rattle.owner_core.specs.declared.refusal.OwnerRefusal.{OwnerRefusal}
 use Rattle.owner_core.specs.declared.refusal.OwnerRefusal.TheVariants.{Form, NotForOwner}
 use Rattle.owner_core.specs.Drafts.{changed_draft, endorsed, place_of_draft}
 use Rattle.owner_core.specs.Objecting.{objection}
-use Rattle.owner_core.specs.Rows.{Row, begin_row, endorsed_row, is_own, letter, message_row, object_row, roll_refusal, roll_row, sent, step_row, submission, submit_row, verified_as}
-use Rattle.owner_core.specs.Signing.{signed}
+use Rattle.owner_core.specs.Rows.{OwnerAnswer, begin_row, endorsed_row, is_own, letter, message_row, object_row, roll_refusal, roll_row, sent, step_row, submission, submit_row, verified_as}
+use Rattle.owner_core.specs.Signing.{signed_by_owner}
 use Rattle.owner_core.specs.State.{Owner}
 use Rattle.owner_core.proofs.Spots.{found}
 
 -- where a row answers, it sends so many messages
-abbrev Sends : ℕ → Row Sent → Type 0
+abbrev Sends : ℕ → OwnerAnswer Sent → Type 0
 Sends n row = (reply : Sent) (later : Owner) → row ≡ Ok (reply, later) → length reply.messages ≡ n
 
-abbrev reply-in : Row Sent → Sent → Sent
+abbrev reply-in : OwnerAnswer Sent → Sent → Sent
 reply-in (Ok p) other = p.0
 reply-in (Err refusal) other = other
 
 -- what is sent is the answer's
 answered : (given : Sent) (me : Owner) → Sends (length given.messages) (Ok (given, me))
-answered given me reply later is = ap (λ (r : Row Sent). length (reply-in r given).messages) (sym is)
+answered given me reply later is = ap (λ (r : OwnerAnswer Sent). length (reply-in r given).messages) (sym is)
 
 refused : (n : ℕ) (refusal : OwnerRefusal) → Sends n (Err refusal)
 refused n refusal reply later is = absurd cc
 
 -- behind a step that gives something, or refuses
-behind : {A : Type 0} (n : ℕ) (first : Result A OwnerRefusal) (next : A → Row Sent) → ((a : A) → Sends n (next a)) → Sends n (first >>= next)
+behind : {A : Type 0} (n : ℕ) (first : Result A OwnerRefusal) (next : A → OwnerAnswer Sent) → ((a : A) → Sends n (next a)) → Sends n (first >>= next)
 behind n (Ok a) next each = each a
 behind n (Err refusal) next each = refused n refusal
 
@@ -71,7 +71,7 @@ stepped me bytes = behind 0 (with_error Form (message_in bytes)) (message_row me
 
 pub objected : (me : Owner) (cert : Certificate) → Sends 1 (object_row me cert)
 objected me cert =
-    behind 1 (signed me (object (digest_of cert))) _ (λ signature. answered (submission (objection cert signature.0)) signature.1)
+    behind 1 (signed_by_owner me (object (digest_of cert))) _ (λ signature. answered (submission (objection cert signature.0)) signature.1)
 
 -- the draft is the one change that is sent
 pub submitted : (me : Owner) (digest : List ℕ) (reply : Sent) → submit_row me digest ≡ Ok reply → length reply.messages ≡ 1

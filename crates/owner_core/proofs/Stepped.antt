@@ -28,9 +28,9 @@ use Rattle.owner_core.specs.declared.refusal.OwnerRefusal.{OwnerRefusal}
 use Rattle.owner_core.specs.declared.refusal.OwnerRefusal.TheVariants.{Form, NotForOwner}
 use Rattle.owner_core.specs.State.{Owner}
 use Rattle.owner_core.specs.Drafts.{begun_draft, changed_draft, endorsed, handed_over, place_of_draft}
-use Rattle.owner_core.specs.Rows.{Row, attach_row, begin_row, endorsed_row, first_owner, message_row, object_row, roll_refusal, roll_row, sent, step_row, submission, submit_row, verified_as, with_drafts}
+use Rattle.owner_core.specs.Rows.{OwnerAnswer, attach_row, begin_row, endorsed_row, first_owner, message_row, object_row, roll_refusal, roll_row, sent, step_row, submission, submit_row, verified_as, with_drafts}
 use Rattle.owner_core.specs.Objecting.{objection}
-use Rattle.owner_core.specs.Signing.{after_signing, signed, signed_at}
+use Rattle.owner_core.specs.Signing.{after_signing, signed_by_owner, signed_at}
 use Rattle.owner_core.specs.Vouching.{AreEndorsed, Endorses, IsEndorsed}
 use Rattle.owner_core.proofs.Vouched.{begun-keeps, changed-keeps, endorsed-keeps, good-at, handed-keeps, of-digest}
 use Rattle.owner_core.proofs.Spots.{found}
@@ -41,10 +41,10 @@ Lasts = (keys : Directory) (announced : List Announced) (party : Party) (text si
     → verified keys party text signature ≡ Ok tt → verified (after_all keys announced) party text signature ≡ Ok tt
 
 -- what a row gives, where it gives
-abbrev okay : {V : Type 0} → V × Owner → Row V
+abbrev okay : {V : Type 0} → V × Owner → OwnerAnswer V
 okay p = Ok p
 
-abbrev given_or : {V : Type 0} → V × Owner → Row V → V × Owner
+abbrev given_or : {V : Type 0} → V × Owner → OwnerAnswer V → V × Owner
 given_or other (Ok p) = p
 given_or other (Err refusal) = other
 
@@ -82,7 +82,7 @@ taken me later owner authority certificate signature reply good e = own (owner =
   own false e = cc
 
 -- what learning gives
-abbrev rolling : Owner → Announced → Learned → Row Sent
+abbrev rolling : Owner → Announced → Learned → OwnerAnswer Sent
 rolling me a new = Ok (sent [], record me { directory = after_learning me.directory a })
 
 -- a next key
@@ -115,7 +115,7 @@ begun me later cert asks reply good e =
     subst AreEndorsed same (begun-keeps me.directory me.drafts cert good)
 
 -- what attaching gives
-abbrev attaching : Owner → List Change → Row (Unit {0})
+abbrev attaching : Owner → List Change → OwnerAnswer (Unit {0})
 attaching me ds = Ok (tt, record me { drafts = ds })
 
 pub attached : (me later : Owner) (digest handover : List ℕ) → AreEndorsed me → attach_row me digest handover ≡ Ok (tt, later) → AreEndorsed later
@@ -131,7 +131,7 @@ pub first : (number : ℕ) (keys : Directory) (key : KeyParts) (leaves : ℕ) �
 first number keys key leaves = All-nil _
 
 -- signing changes the book alone
-pub signing : (me later : Owner) (claim : Claim) (bytes : List ℕ) → AreEndorsed me → signed me claim ≡ Ok (bytes, later) → AreEndorsed later
+pub signing : (me later : Owner) (claim : Claim) (bytes : List ℕ) → AreEndorsed me → signed_by_owner me claim ≡ Ok (bytes, later) → AreEndorsed later
 signing me later claim bytes good e = at (leaf_of me.book (text_of claim)) e where
   at : (answer : Result ℕ BookFault) → signed_at me (text_of claim) answer ≡ Ok (bytes, later) → AreEndorsed later
   at (Ok leaf) e =
@@ -140,12 +140,12 @@ signing me later claim bytes good e = at (leaf_of me.book (text_of claim)) e whe
   at (Err fault) e = cc
 
 -- what an objection gives
-abbrev objecting : Certificate → List ℕ × Owner → Row Sent
+abbrev objecting : Certificate → List ℕ × Owner → OwnerAnswer Sent
 objecting cert s = Ok (submission (objection cert s.0), s.1)
 
 pub objected : (me later : Owner) (cert : Certificate) (reply : Sent) → AreEndorsed me → object_row me cert ≡ Ok (reply, later) → AreEndorsed later
-objected me later cert reply good e = at (signed me (object (digest_of cert))) refl e where
-  at : (answer : Result (List ℕ × Owner) OwnerRefusal) → signed me (object (digest_of cert)) ≡ answer → (answer >>= objecting cert) ≡ Ok (reply, later) → AreEndorsed later
+objected me later cert reply good e = at (signed_by_owner me (object (digest_of cert))) refl e where
+  at : (answer : Result (List ℕ × Owner) OwnerRefusal) → signed_by_owner me (object (digest_of cert)) ≡ answer → (answer >>= objecting cert) ≡ Ok (reply, later) → AreEndorsed later
   at (Ok s) is e =
       let same : s.1 ≡ later = behind (submission (objection cert s.0), s.1) (reply, later) e in
       subst AreEndorsed same (signing me s.1 (object (digest_of cert)) s.0 good is)

@@ -26,17 +26,17 @@ use Rattle.party_keys.specs.declared.fault.VerifyFault.TheVariants as verify_fau
 use Rattle.owner_core.specs.State.{Owner}
 use Rattle.owner_core.specs.Drafts.{begun_draft, changed_draft, endorsed, handed_over, place_of_draft}
 use Rattle.owner_core.specs.Objecting.{objection}
-use Rattle.owner_core.specs.Signing.{signed}
+use Rattle.owner_core.specs.Signing.{signed_by_owner}
 use Rattle.owner_core.specs.declared.refusal.OwnerRefusal.{OwnerRefusal}
 use Rattle.owner_core.specs.declared.refusal.OwnerRefusal.TheVariants.{Form, NotForOwner, Unknown, BadSignature, NoDraft, OtherRoll, Memory}
 
 -- what a row gives: a reply and the owner behind it, or a refusal
-abbrev pub Row : Type 0 → Type 0
-Row Reply = Result (Reply × Owner) OwnerRefusal
+abbrev pub OwnerAnswer : Type 0 → Type 0
+OwnerAnswer Reply = Result (Reply × Owner) OwnerRefusal
 
 -- The call answered as its row says, and left the owner behind it. Or it answered the row's refusal, or want of
 -- memory, and left the owner as it was.
-abbrev pub Answers : {T V : Type 0} → (T → V) → Owner → Owner → Result T OwnerRefusal → Row V → Type 0
+abbrev pub Answers : {T V : Type 0} → (T → V) → Owner → Owner → Result T OwnerRefusal → OwnerAnswer V → Type 0
 Answers view old new result row = StepsUnless Memory (λ me value. (view value, me)) result old new row
 
 -- ---- what is sent
@@ -60,7 +60,7 @@ abbrev pub first_owner : ℕ → Directory → KeyParts → ℕ → Owner
 first_owner number directory key leaves = record { number = number; directory = directory; key = key; book = record { texts = []; leaves = leaves; room = 0 }; drafts = [] }
 
 -- the certificate is a draft, and each of these authorities is asked to endorse it
-abbrev pub begin_row : Owner → Certificate → List ℕ → Row Sent
+abbrev pub begin_row : Owner → Certificate → List ℕ → OwnerAnswer Sent
 begin_row me cert asks =
     Ok (sent (map (λ authority. letter (One (authority_party authority)) (EndorseAsk me.number cert)) asks), record me { drafts = begun_draft me.drafts cert })
 
@@ -73,7 +73,7 @@ verified_as signer (Err (verify_fault.Unknown party)) = Err (Unknown party)
 verified_as signer (Err (verify_fault.Bad k)) = Err (BadSignature signer k)
 
 -- these drafts take the place of the owner's, and nothing is sent
-abbrev pub with_drafts : Owner → List Change → Row Sent
+abbrev pub with_drafts : Owner → List Change → OwnerAnswer Sent
 with_drafts me drafts = Ok (sent [], record me { drafts = drafts })
 
 -- the message is for another owner
@@ -81,7 +81,7 @@ abbrev pub is_own : Owner → ℕ → Result (Unit {0}) OwnerRefusal
 is_own me owner = need (owner == me.number) NotForOwner
 
 -- An endorsement comes: it is for this owner, its authority signed it, and a draft with the digest takes it.
-abbrev pub endorsed_row : Owner → ℕ → ℕ → List ℕ → List ℕ → Row Sent
+abbrev pub endorsed_row : Owner → ℕ → ℕ → List ℕ → List ℕ → OwnerAnswer Sent
 endorsed_row me owner authority certificate signature = do
   own ← is_own me owner
   valid ← verified_as (authority_party authority) (verified me.directory (authority_party authority) (text_of (endorse authority certificate)) signature)
@@ -96,19 +96,19 @@ roll_refusal party generation learn_fault.Other = OtherRoll party generation
 roll_refusal party generation learn_fault.Memory = Memory
 
 -- the owner's directory learns the key, now or before
-abbrev pub roll_row : Owner → Announced → Row Sent
+abbrev pub roll_row : Owner → Announced → OwnerAnswer Sent
 roll_row me a = do
   new ← with_error (roll_refusal a.party a.generation) (learned me.directory a)
   Ok (sent [], record me { directory = after_learning me.directory a })
 
 -- what a message does, by its kind
-abbrev pub message_row : Owner → Message → Row Sent
+abbrev pub message_row : Owner → Message → OwnerAnswer Sent
 message_row me (Endorsed owner authority certificate signature) = endorsed_row me owner authority certificate signature
 message_row me (RollNote party generation key signature) = roll_row me (record { party = party; generation = generation; key = key; signature = signature })
 message_row me _ = Err NotForOwner
 
 -- what bytes that came do
-abbrev pub step_row : Owner → List ℕ → Row Sent
+abbrev pub step_row : Owner → List ℕ → OwnerAnswer Sent
 step_row me bytes = do
   message ← with_error Form (message_in bytes)
   message_row me message
@@ -116,11 +116,11 @@ step_row me bytes = do
 -- ---- handovers
 
 -- the owner agrees by its key to the certificate with this digest
-abbrev pub handover_row : Owner → List ℕ → Row (List ℕ)
-handover_row me digest = signed me (handover digest)
+abbrev pub handover_row : Owner → List ℕ → OwnerAnswer (List ℕ)
+handover_row me digest = signed_by_owner me (handover digest)
 
 -- a draft has this handover from now on
-abbrev pub attach_row : Owner → List ℕ → List ℕ → Row (Unit {0})
+abbrev pub attach_row : Owner → List ℕ → List ℕ → OwnerAnswer (Unit {0})
 attach_row me digest bytes = do
   drafts ← changed_draft me.drafts digest (handed_over bytes)
   Ok (tt, record me { drafts = drafts })
@@ -138,7 +138,7 @@ submit_row me digest = do
   Ok (submission draft)
 
 -- the owner objects by its key to a certificate, and tells all logs
-abbrev pub object_row : Owner → Certificate → Row Sent
+abbrev pub object_row : Owner → Certificate → OwnerAnswer Sent
 object_row me cert = do
-  signature ← signed me (object (digest_of cert))
+  signature ← signed_by_owner me (object (digest_of cert))
   Ok (submission (objection cert signature.0), signature.1)

@@ -18,5 +18,5 @@ signed_at me text (Ok leaf) = Ok (signature_of me.key leaf text, after_signing m
 signed_at me text (Err fault) = Err Spent
 
 -- The owner signs a statement: by the leaf that serves it, or by the next one where it has none yet.
-abbrev pub signed : Owner → Claim → Result (List ℕ × Owner) OwnerRefusal
-signed me claim = signed_at me (text_of claim) (leaf_of me.book (text_of claim))
+abbrev pub signed_by_owner : Owner → Claim → Result (List ℕ × Owner) OwnerRefusal
+signed_by_owner me claim = signed_at me (text_of claim) (leaf_of me.book (text_of claim))

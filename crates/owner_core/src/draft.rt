@@ -1,10 +1,8 @@
-ghost use Rattle.std.specs.Prelude.{◌≡◌, IfOk};
-
 use crate::endorsing::{has_endorsed, insert, place_of};
 use crate::refusal::OwnerRefusal;
 use ar_base::Items;
-use ar_cert::{Cert, Change, Endorsement, MOST_ENDORSEMENTS, copy_endorsements, copy_signature};
-use std::alloc::{AllocError, Global};
+use ar_cert::{Cert, ChangeParts, Endorsement, MOST_ENDORSEMENTS};
+use std::alloc::Global;
 use std::marker::Model;
 
 /// A certificate on its way to the logs, with what vouches for it so far.
@@ -36,7 +34,7 @@ impl Model for Draft {
 }
 
 impl Draft {
-    ghost use Rattle.std.specs.Prelude.{◌≡◌, ◌<◌, ◌^◌, IfOk, Ok, length};
+    ghost use Rattle.std.specs.Prelude.{◌≡◌, ◌<◌, ◌^◌, Ok, length};
     ghost use Rattle.ar_base.specs.Gives.{StepsUnless};
     ghost use Rattle.ar_cert.specs.Certificate.{digest_of};
     ghost use Rattle.owner_core.specs.Drafts.{endorsed, first_draft, handed_over};
@@ -84,18 +82,15 @@ impl Draft {
         self.handover = Some(Items::from_vec(handover));
     }
 
-    /// The change that the draft is now.
-    pub(crate) fn to_change(&self, alloc: Global) -> Result<Change, AllocError>
-        ensures { IfOk result (λ change. change ≡ self.now) }
+    /// The parts of the change that the draft is now.
+    pub(crate) fn parts(&self) -> ChangeParts<'_>
+        ensures { result ≡ self.now }
     {
-        let cert = self.cert.copy(alloc)?;
-        let endorsements = copy_endorsements(alloc, &self.endorsements)?;
-        let handover = copy_signature(alloc, &self.handover)?;
-        Ok(Change {
-            cert,
-            endorsements: Items::from_vec(endorsements),
-            handover,
+        ChangeParts {
+            cert: &self.cert,
+            endorsements: &self.endorsements,
+            handover: self.handover.as_ref(),
             objection: None,
-        })
+        }
     }
 }

@@ -9,7 +9,7 @@ ghost use Rattle.ar_message.specs.declared.message.Message.TheVariants.{Submit};
 ghost use Rattle.ar_message.specs.declared.sent.Sent.{Sent};
 ghost use Rattle.lms_tree.specs.KeyParts.{KeyParts};
 ghost use Rattle.party_keys.specs.Directory.{Directory};
-ghost use Rattle.sign_book.specs.Book.{IsSound};
+ghost use Rattle.sign_book.specs.Book.{IsSignBook};
 ghost use Rattle.owner_core.specs.Drafts.{endorsed, has_endorsed};
 ghost use Rattle.owner_core.specs.Rows.{attach_row, begin_row, first_owner, handover_row, letter, object_row, sent, step_row, submit_row, submission};
 ghost use Rattle.owner_core.specs.State.{Owner};
@@ -22,7 +22,7 @@ use sign_book::laws::a_statement_keeps_its_leaf;
 /// since, and the owner stays as it is.
 pub fn a_handover_is_signed_once()
     ensures { (me later after : Owner) (more : List (List ℕ)) (digest bytes : List ℕ)
-        → IsSound after.book → after.key ≡ me.key
+        → IsSignBook after.book → after.key ≡ me.key
         → handover_row me digest ≡ Ok (bytes, later) → after.book.texts ≡ later.book.texts ++ more
         → handover_row after digest ≡ Ok (bytes, after) }
 {

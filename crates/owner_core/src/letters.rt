@@ -1,23 +1,14 @@
 ghost use Rattle.std.specs.Prelude.{◌≡◌, ◌<◌, [], ◌∷◌, map, vec_len, vec_capacity, IfOk};
-ghost use Rattle.ar_message.specs.Messages.{message_text};
 ghost use Rattle.ar_message.specs.declared.address.Address.TheVariants.{Logs, One};
-ghost use Rattle.ar_message.specs.declared.message.Message.TheVariants.{EndorseAsk, Submit};
+ghost use Rattle.ar_message.specs.declared.message.Message.TheVariants.{EndorseAsk};
 ghost use Rattle.ar_statement.specs.Claims.{authority_party};
 ghost use Rattle.owner_core.specs.Rows.{letter, sent, submission};
 
 use ar_base::Items;
-use ar_cert::{Cert, Change};
-use ar_message::{Address, Message, Outgoing, Sent};
+use ar_cert::{Cert, ChangeParts};
+use ar_message::{Address, Outgoing, Sent, endorse_ask_text, submit_text};
 use ar_statement::Role;
 use std::alloc::{AllocError, Global};
-
-/// The text of an owner's request to endorse a certificate.
-fn ask_text(alloc: Global, owner: u16, cert: &Cert) -> Result<Vec<u8>, AllocError>
-    ensures { IfOk result (λ text. text.items ≡ message_text (EndorseAsk owner cert.now)) }
-{
-    let cert = cert.copy(alloc)?;
-    Message::EndorseAsk { owner, cert }.text(alloc)
-}
 
 /// A text to an authority.
 fn to_authority(alloc: Global, authority: u16, text: &[u8]) -> Result<Outgoing, AllocError>
@@ -55,7 +46,7 @@ pub(crate) fn asking(
         letter (One (authority_party authority))
         (EndorseAsk owner cert.now)) asks.now)) }
 {
-    let text = ask_text(alloc, owner, cert)?;
+    let text = endorse_ask_text(alloc, owner, cert)?;
     Ok(Sent {
         messages: Items::from_vec(to_each(alloc, asks, &text)?),
         ended: None,
@@ -69,13 +60,6 @@ pub(crate) fn room(alloc: Global) -> Result<Vec<Outgoing>, AllocError>
 {
     let list = Vec::with_capacity(alloc, 1)?;
     Ok(list)
-}
-
-/// The text of a change on its way to the logs.
-pub(crate) fn submit_text(alloc: Global, change: Change) -> Result<Vec<u8>, AllocError>
-    ensures { IfOk result (λ text. text.items ≡ message_text (Submit change)) }
-{
-    Message::Submit { change }.text(alloc)
 }
 
 /// A text to all logs, in the room for one message.
@@ -93,8 +77,8 @@ pub(crate) fn to_logs(room: Vec<Outgoing>, text: Vec<u8>) -> Sent
 }
 
 /// A change goes to all logs.
-pub(crate) fn submission(alloc: Global, change: Change) -> Result<Sent, AllocError>
-    ensures { IfOk result (λ s. s ≡ submission change) }
+pub(crate) fn submission(alloc: Global, change: &ChangeParts) -> Result<Sent, AllocError>
+    ensures { IfOk result (λ s. s ≡ submission change.now) }
 {
     let text = submit_text(alloc, change)?;
     let room = room(alloc)?;

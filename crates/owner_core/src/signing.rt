@@ -2,14 +2,15 @@ ghost use Rattle.std.specs.Prelude.{◌≡◌, ◌-◌, ◌≤◌, ◌^◌, ◌+
 ghost use Rattle.lms_tree.specs.Key.{signature_of};
 ghost use Rattle.lms_tree.specs.LmsKind.{leaves_of};
 ghost use Rattle.lms_tree.specs.Signature.{lms_signature_len_of};
-ghost use Rattle.owner_core.specs.Objecting.{AwaitsSignature};
+ghost use Rattle.ar_cert.specs.Changes.{IsSignature};
+ghost use Rattle.owner_core.specs.Objecting.{AwaitsSignature, objection};
 
-use crate::letters::{room, submit_text, to_logs};
+use crate::letters::{room, to_logs};
 use crate::owner::Owner;
 use crate::refusal::OwnerRefusal;
 use ar_base::Items;
-use ar_cert::{Cert, Change};
-use ar_message::Sent;
+use ar_cert::{Cert, ChangeParts};
+use ar_message::{Sent, submit_text};
 use ar_statement::Statement;
 use lms_tree::LmsKey;
 use sign_book::{Due, sign};
@@ -38,6 +39,20 @@ fn sign_tail(key: &LmsKey, due: Due, text: &mut [u8])
     sign(key, due, &mut text[at..]);
 }
 
+/// The parts of an objection to a certificate, with this signature.
+fn objection_to<'a>(cert: &'a Cert, signature: &'a Items<u8>) -> ChangeParts<'a>
+    requires { IsSignature signature.now }
+    ensures { result ≡ objection cert.now signature.now }
+{
+    let objection = Some(signature);
+    ChangeParts {
+        cert,
+        endorsements: &[],
+        handover: None,
+        objection,
+    }
+}
+
 /// The text of an objection to a certificate on its way to the logs, with zero bytes in place of
 /// the key's signature.
 #[tactic(auto, using(crate::proofs::Texts::unsigned))]
@@ -45,14 +60,8 @@ fn unsigned_objection(alloc: Global, key: &LmsKey, cert: &Cert) -> Result<Vec<u8
     ensures { IfOk result (λ text.
         AwaitsSignature (lms_signature_len_of key.now.lms key.now.ots) cert.now text.items) }
 {
-    let zeros = blank(alloc, key)?;
-    let change = Change {
-        cert: cert.copy(alloc)?,
-        endorsements: Items::new(alloc),
-        handover: None,
-        objection: Some(Items::from_vec(zeros)),
-    };
-    submit_text(alloc, change)
+    let zeros = Items::from_vec(blank(alloc, key)?);
+    submit_text(alloc, &objection_to(cert, &zeros))
 }
 
 impl Owner {
@@ -62,7 +71,7 @@ impl Owner {
     ghost use Rattle.lms_tree.specs.Key.{signature_of};
     ghost use Rattle.lms_tree.specs.LmsKind.{leaves_of};
     ghost use Rattle.owner_core.specs.Rows.{Answers, handover_row, object_row};
-    ghost use Rattle.owner_core.specs.Signing.{signed};
+    ghost use Rattle.owner_core.specs.Signing.{signed_by_owner};
     ghost use Rattle.owner_core.specs.declared.refusal.OwnerRefusal.TheVariants.{Memory};
 
     /// Gives a statement its leaf. What is due then must be signed.
@@ -71,7 +80,7 @@ impl Owner {
         ensures key { self.new.key ≡ self.old.key }
         ensures step { StepsUnless Memory (λ me due.
             (signature_of self.old.key due.leaf due.text, me)) result
-            self.old self.new (signed self.old (claim_of statement.now)) }
+            self.old self.new (signed_by_owner self.old (claim_of statement.now)) }
     {
         let due = self.book.enter(alloc, statement)?;
         Ok(due)

@@ -56,7 +56,6 @@ impl Owner {
         let Some(place) = place_of(&self.drafts, digest) else {
             return Err(OwnerRefusal::NoDraft);
         };
-        let change = self.drafts[place].to_change(alloc)?;
-        Ok(submission(alloc, change)?)
+        Ok(submission(alloc, &self.drafts[place].parts())?)
     }
 }

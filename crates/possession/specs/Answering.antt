@@ -1,12 +1,12 @@
 -- A server that answers challenges, as contracts see it, and what it signs.
 use Rattle.std.specs.Prelude.{ℕ, List}
 use Rattle.ar_statement.specs.Claims.{answer, handover, text_of}
-use Rattle.leaf_book.specs.Book.{Book}
+use Rattle.leaf_book.specs.Book.{LeafBookParts}
 use Rattle.lms_tree.specs.KeyParts.{KeyParts}
 
 -- the book of the key's leaves, the key, the name that is served, and the digest of its certificate
 pub record Server : Type 0 where
-  pub book : Book
+  pub book : LeafBookParts
   pub key : KeyParts
   pub name : List ℕ
   pub certificate : List ℕ

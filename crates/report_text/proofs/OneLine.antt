@@ -16,7 +16,7 @@ use Rattle.ar_statement.specs.Claims.{authority_party, log_party}
 use Rattle.ar_statement.specs.declared.party.Party.{Party}
 use Rattle.ar_statement.specs.declared.party.Role.{Role}
 use Rattle.ar_statement.specs.declared.party.Role.TheVariants.{LogServer, Authority, Owner, Client}
-use Rattle.report_text.specs.Held.{AreValues, IsCode, IsHappening, IsNumber, IsParty, IsSaid, IsShown, IsTarget, IsUnlearnt, IsWhat}
+use Rattle.report_text.specs.Held.{AreValues, IsCode, IsHappening, IsNumber, IsParty, IsSaid, IsCodeValue, IsTarget, IsUnlearnt, IsWhat}
 use Rattle.report_text.specs.Lines.{kind_text, line_of, outcome_text, rule_letter, sender_text, taken_text, target_text, value_text, values_text, what_text}
 use Rattle.report_text.proofs.Told.{happening_is_told, learning_words, outcome_words, said_words, told, value_word, values_words, what_then, words_of_happening}
 use Rattle.report_text.specs.declared.happening.Code.{Code}
@@ -125,7 +125,7 @@ word_of_party p h = by p.role
 digest_word : (d : List ℕ) → IsDigest d → is_word (encode_lower d) ≡ true
 digest_word d h = hex_is_word d h.bytes
 
-value_right : (v : CodeValue) → IsShown v → is_word (value_word v) ≡ true
+value_right : (v : CodeValue) → IsCodeValue v → is_word (value_word v) ≡ true
 value_right (shown.Number n) h = decimal_is_word n h
 value_right (shown.Party p) h = word_of_party p h
 value_right (shown.Digest d) h = digest_word d h

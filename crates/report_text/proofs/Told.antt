@@ -19,7 +19,7 @@ use Rattle.ar_statement.specs.Claims.{authority_party, log_party, party}
 use Rattle.ar_statement.specs.declared.party.Party.{Party}
 use Rattle.ar_statement.specs.declared.party.Role.{Role}
 use Rattle.ar_statement.specs.declared.party.Role.TheVariants.{LogServer, Authority, Owner, Client}
-use Rattle.report_text.specs.Held.{AreValues, IsCode, IsHappening, IsNumber, IsParty, IsSaid, IsShown, IsTarget, IsUnlearnt, IsWhat}
+use Rattle.report_text.specs.Held.{AreValues, IsCode, IsHappening, IsNumber, IsParty, IsSaid, IsCodeValue, IsTarget, IsUnlearnt, IsWhat}
 use Rattle.report_text.specs.Lines.{kind_text, rule_letter, sender_text, target_text}
 use Rattle.report_text.specs.declared.happening.Code.{Code}
 use Rattle.report_text.specs.declared.happening.Happening.{Happening}
@@ -146,7 +146,7 @@ value_word (shown.Digest digest) = encode_lower digest
 value_word shown.Full = codes "full"
 value_word shown.NoRoot = codes "none"
 
-value_is_told : (value : CodeValue) → IsShown value → value_told (value_word value) ≡ Some value
+value_is_told : (value : CodeValue) → IsCodeValue value → value_told (value_word value) ≡ Some value
 unfolding value_told
 value_is_told (shown.Number n) h = rw (number_is_told n h) refl
 value_is_told (shown.Party p) h = rw (no_number_with p.role p.number, no_hex_with p.role p.number, party_is_told p h) refl

@@ -27,17 +27,17 @@ IsNumber n = n < 2 ^ 64
 abbrev pub IsParty : Party → Type 0
 IsParty party = IsNumber party.number
 
-abbrev pub IsShown : CodeValue → Type 0
-IsShown (shown.Number number) = IsNumber number
-IsShown (shown.Party party) = IsParty party
-IsShown (shown.Digest digest) = IsDigest digest
-IsShown shown.Full = Unit {0}
-IsShown shown.NoRoot = Unit {0}
+abbrev pub IsCodeValue : CodeValue → Type 0
+IsCodeValue (shown.Number number) = IsNumber number
+IsCodeValue (shown.Party party) = IsParty party
+IsCodeValue (shown.Digest digest) = IsDigest digest
+IsCodeValue shown.Full = Unit {0}
+IsCodeValue shown.NoRoot = Unit {0}
 
 abbrev pub AreValues : Values → Type 0
 AreValues values.Nothing = Unit {0}
-AreValues (values.One value) = IsShown value
-AreValues (values.Two first second) = IsShown first × IsShown second
+AreValues (values.One value) = IsCodeValue value
+AreValues (values.Two first second) = IsCodeValue first × IsCodeValue second
 
 abbrev pub IsCode : Code → Type 0
 IsCode code = IsNumber code.number × AreValues code.values

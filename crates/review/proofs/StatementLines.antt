@@ -12,13 +12,13 @@ use Rattle.ar_lines.specs.Forms.{bytes_of_hex}
 use Rattle.ar_lines.specs.Lines.{is_text, words_of}
 use Rattle.ar_lines.specs.Readings.{LineCursor, LineReading, WordAt, line_at, next_of, spelled}
 use Rattle.ar_lines.specs.Refusals.{refused}
-use Rattle.ar_lines.specs.Rows.{Row, both_of, row_at, row_of, two_fields_at}
+use Rattle.ar_lines.specs.Rows.{NamedLine, both_of, row_at, row_of, two_fields_at}
 use Rattle.ar_lines.specs.declared.refusal.LineFault.{LineFault}
 use Rattle.ar_lines.specs.declared.refusal.Reason.TheVariants.{Limit, Text, Word}
 use Rattle.ar_lines.specs.declared.refusal.Refusal.{Refusal}
 use Rattle.ar_lines.proofs.Faults.{GivesUp, gives_up-chained}
 use Rattle.monitor.specs.declared.item.Item.{Item}
-use Rattle.monitor.specs.Items.{Ascend}
+use Rattle.monitor.specs.Items.{AscendByLine}
 use Rattle.review.specs.Audits.{is_over, line_in, no_more_at, statement_at, statements_at}
 
 -- ---- how many
@@ -70,12 +70,12 @@ line-is next (line ∷ ahead) x e =
     let same = ok_is {A = WordAt × LineCursor} {E = Refusal} (record { line = next; number = 0; text = line }, record { next = next + 1; ahead = ahead }) x e in
     (ap (λ (y : WordAt × LineCursor). y.0.line) (sym same), ap (λ (y : WordAt × LineCursor). y.1.next) (sym same))
 
-row-of-is : (name : List ℕ) (line : ℕ) (words : List (List ℕ)) (row : Row) → row_of name line words ≡ Ok row → row.line ≡ line
+row-of-is : (name : List ℕ) (line : ℕ) (words : List (List ℕ)) (row : NamedLine) → row_of name line words ≡ Ok row → row.line ≡ line
 row-of-is name line [] row e = absurd cc
 row-of-is name line (word ∷ fields) row e = by (bytes_eq word name) e
   where
     by : (b : Bool) → (if b then Ok (record { line = line; fields = fields }) else refused line Word) ≡ Ok row → row.line ≡ line
-    by true is = ap (λ (r : Row). r.line) (sym (ok_is {A = Row} {E = Refusal} (record { line = line; fields = fields }) row is))
+    by true is = ap (λ (r : NamedLine). r.line) (sym (ok_is {A = NamedLine} {E = Refusal} (record { line = line; fields = fields }) row is))
     by false is = absurd cc
 
 both-is : (line : ℕ) (fields : List (List ℕ)) (x : WordAt × WordAt) → both_of line fields ≡ Ok x → x.0.line ≡ line
@@ -86,17 +86,17 @@ both-is line (first ∷ second ∷ []) x e =
     (sym (ok_is {A = WordAt × WordAt} {E = Refusal} (record { line = line; number = 1; text = first }, record { line = line; number = 2; text = second }) x e))
 both-is line (first ∷ second ∷ next ∷ more) x e = absurd cc
 
-row-is : (name : List ℕ) (at : LineCursor) (x : Row × LineCursor) → row_at name at ≡ Ok x → (x.0.line ≡ at.next) × (x.1.next ≡ at.next + 1)
+row-is : (name : List ℕ) (at : LineCursor) (x : NamedLine × LineCursor) → row_at name at ≡ Ok x → (x.0.line ≡ at.next) × (x.1.next ≡ at.next + 1)
 unfolding row_at line_at
 row-is name at x e =
     let first = bind_ok (next_of at.next at.ahead) _ x e in
     let line = line-is at.next at.ahead first.0 first.1 in
     let second = bind_ok (if is_text first.0.0.text then row_of name first.0.0.line (words_of first.0.0.text) else refused first.0.0.line Text) _ x first.2 in
     let row : second.0.line ≡ first.0.0.line = by (is_text first.0.0.text) first.0.0.line (words_of first.0.0.text) second.0 second.1 in
-    let same = ok_is {A = Row × LineCursor} {E = Refusal} (second.0, first.0.1) x second.2 in
-    (ap (λ (y : Row × LineCursor). y.0.line) (sym same) ∙ row ∙ line.0, ap (λ (y : Row × LineCursor). y.1.next) (sym same) ∙ line.1)
+    let same = ok_is {A = NamedLine × LineCursor} {E = Refusal} (second.0, first.0.1) x second.2 in
+    (ap (λ (y : NamedLine × LineCursor). y.0.line) (sym same) ∙ row ∙ line.0, ap (λ (y : NamedLine × LineCursor). y.1.next) (sym same) ∙ line.1)
   where
-    by : (b : Bool) (n : ℕ) (words : List (List ℕ)) (row : Row) → (if b then row_of name n words else refused n Text) ≡ Ok row → row.line ≡ n
+    by : (b : Bool) (n : ℕ) (words : List (List ℕ)) (row : NamedLine) → (if b then row_of name n words else refused n Text) ≡ Ok row → row.line ≡ n
     by true n words row is = row-of-is name n words row is
     by false n words row is = absurd cc
 
@@ -138,7 +138,7 @@ statement-is at x e =
 
 -- the lines of items ascend, and are those in front of the reader
 pub record Before (items : List Item) (next : ℕ) : Type 0 where
-  pub ascend : Ascend items
+  pub ascend : AscendByLine items
   pub below : All (λ i. i.line < next) items
 
 pub none-before : (next : ℕ) → Before [] next

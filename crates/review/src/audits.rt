@@ -1,11 +1,11 @@
 ghost use Rattle.std.specs.Prelude.{◌≡◌, [], ◌+◌, ◌≤◌, IfOk, OnOk};
 ghost use Rattle.ar_lines.specs.Readings.{FollowsUnless, ReadsUnless, start_of_lines};
 ghost use Rattle.arpki_ask.specs.Answers.{unless_refused};
-ghost use Rattle.monitor.specs.Items.{Ascend};
+ghost use Rattle.monitor.specs.Items.{AscendByLine};
 ghost use Rattle.review.specs.Answers.{audited};
 ghost use Rattle.review.specs.Audits.{audit_at, line_in, most_statements, no_more_at, statement_at, statements_at};
 
-use crate::telling::tell;
+use crate::telling::tell_report;
 use ar_base::Items;
 use ar_lines::{LineFault, Lines, Reason, Refusal};
 use ar_run::Answer;
@@ -28,14 +28,14 @@ struct Audit {
 
 // Clauses see the keys and the items, whose lines ascend.
 impl Model for Audit {
-    ghost use Rattle.monitor.specs.Items.{Ascend};
+    ghost use Rattle.monitor.specs.Items.{AscendByLine};
     ghost use Rattle.review.specs.Audits.{Audit as Spec};
 
     ghost Value = { Spec };
 
     ghost view = { λ a. record { keys = a.directory; items = a.items.items } };
 
-    ghost invariant = { λ a. Ascend a.items.items };
+    ghost invariant = { λ a. AscendByLine a.items.items };
 }
 
 /// The number of an item's line. An input that is not too long has no other lines than those with such numbers.
@@ -85,7 +85,7 @@ fn no_more(alloc: Global, lines: &mut Lines) -> Result<(), LineFault>
 fn statements(alloc: Global, lines: &mut Lines) -> Result<Vec<Item>, LineFault>
     ensures reads { FollowsUnless (λ items.
         items.items) result lines.new (statements_at most_statements [] lines.old) }
-    ensures ascend { IfOk result (λ items. Ascend items.items) }
+    ensures ascend { IfOk result (λ items. AscendByLine items.items) }
 {
     let mut items = Vec::new(alloc);
     for _ in 0..MOST_STATEMENTS {
@@ -115,7 +115,7 @@ fn audited(alloc: Global, asked: &Audit) -> Result<Answer, AllocError>
     ensures { IfOk result (λ answer. answer ≡ audited asked.now) }
 {
     let report = audit(alloc, &asked.directory, &asked.items)?;
-    tell(alloc, asked.items.len(), &report)
+    tell_report(alloc, asked.items.len(), &report)
 }
 
 /// The answer to an input that is not too long.

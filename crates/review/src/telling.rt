@@ -149,7 +149,7 @@ fn tell_conflicts(
 }
 
 /// The answer that tells the report on so many items. The only error is want of memory.
-pub fn tell(alloc: Global, items: usize, report: &Report) -> Result<Answer, AllocError>
+pub fn tell_report(alloc: Global, items: usize, report: &Report) -> Result<Answer, AllocError>
     ensures { IfOk result (λ answer. answer ≡ told_of items report.now) }
 {
     let mut lines = Vec::new(alloc);

@@ -1,13 +1,13 @@
 -- What is written of a run: the first keys of its parties, its messages by number, and which line was refused, if one was; each
 -- line with its newline.
-use Rattle.std.specs.Prelude.{◌≡◌, ◌⊎◌, ℕ, ◌+◌, nat_le, if◌then◌else◌, List, [], ◌∷◌, ◌++◌, codes, length, slice_get, Option, Some, None}
+use Rattle.std.specs.Prelude.{◌≡◌, ◌⊎◌, ℕ, ◌+◌, if◌then◌else◌, List, [], ◌∷◌, ◌++◌, codes, length, slice_get, Option, Some, None}
 use Rattle.std.specs.Fmt.{decimal}
 use Rattle.hex.specs.Hex.{encode_lower}
 use Rattle.lms_tree.specs.PublicKey.{key_text}
 use Rattle.lms_tree.specs.declared.public_key.LmsPublic.{LmsPublic}
 use Rattle.ar_nodes.specs.Pool.{Pooled}
 use Rattle.ar_run.specs.Answers.{Answer}
-use Rattle.ar_world.specs.Founding.{place_of}
+use Rattle.ar_world.specs.Founding.{is_peopled}
 use Rattle.ar_world.specs.Run.{refused_lines}
 use Rattle.ar_world.specs.State.{World}
 use Rattle.party_keys.specs.Directory.{Directory}
@@ -45,7 +45,7 @@ directory_lines keys =
 
 -- the directory that clients know, from the line `authorities` on
 abbrev pub known_lines : World → List (List ℕ)
-known_lines w = if nat_le 4 (place_of w.phase) then directory_lines w.clients else []
+known_lines w = if is_peopled w.phase then directory_lines w.clients else []
 
 -- ---- messages
 

@@ -108,6 +108,5 @@ pub(crate) fn put_known<C: OwnerCheck>(
     if !world.has_parties() {
         return Ok(());
     }
-    let records = world.records(alloc)?;
-    put_directory(alloc, records.directory, lines)
+    put_directory(alloc, world.clients(), lines)
 }

@@ -11,7 +11,7 @@ use crate::lines::{message_line, put_line};
 use ar_run::Answer;
 use ar_world::{Cause, World};
 use owner_check::OwnerCheck;
-use script_play::{Played, refused_line};
+use script_play::{Played, refusal_line};
 use std::alloc::{AllocError, Global};
 
 /// Puts the line of the message with this number behind the others, where there is one. The only error is want of memory.
@@ -56,7 +56,7 @@ fn put_refusal(
         ++ refused_lines refused) }
 {
     match refused {
-        Some((number, cause)) => put_line(lines, refused_line(alloc, number, cause)?),
+        Some((number, cause)) => put_line(lines, refusal_line(alloc, number, cause)?),
         None => Ok(()),
     }
 }

@@ -10,8 +10,8 @@ use Rattle.ar_bytes.specs.Reading.{whole}
 use Rattle.ar_message.specs.Confirmation.{Confirmation, confirmation_at}
 use Rattle.ar_council.specs.Council.{council_of}
 use Rattle.ar_safety.specs.Hashed.{hashed, judged_strings, listed_tables, log_tables, tables_below}
-use Rattle.ar_safety.specs.Held.{Held, Taken, asked_by, honest_below, judged_in, records_of}
-use Rattle.ar_safety.specs.Records.{Judged, Records}
+use Rattle.ar_safety.specs.Held.{Held, AcceptedBytes, asked_by, honest_below, judged_in, records_of}
+use Rattle.ar_safety.specs.Records.{AcceptedConfirmation, Records}
 use Rattle.ar_statement.specs.Claims.{has_party, log_party}
 use Rattle.domain_table.specs.Tree.{table_strings}
 use Rattle.epoch_log.specs.Calls.{fresh}
@@ -58,32 +58,32 @@ missing-tables h number place honest same there =
 -- ---- clients
 
 -- the strings of one confirmation more, in front of those behind it
-pub judged-before : (noted : Noted) (judged : List Taken) (i : ℕ) (t : Taken) (bytes : List ℕ) (others : List (List ℕ)) → 0 < i → i ≤ length judged → get_or judged (i - 1) t ≡ t → bytes ≡ t.bytes
-    → AreNoted noted (strings_in bytes ++ (flat_map (λ (t : Taken). strings_in t.bytes) (drop i judged) ++ others))
-    → AreNoted noted (flat_map (λ (t : Taken). strings_in t.bytes) (drop (i - 1) judged) ++ others)
+pub judged-before : (noted : Noted) (judged : List AcceptedBytes) (i : ℕ) (t : AcceptedBytes) (bytes : List ℕ) (others : List (List ℕ)) → 0 < i → i ≤ length judged → get_or judged (i - 1) t ≡ t → bytes ≡ t.bytes
+    → AreNoted noted (strings_in bytes ++ (flat_map (λ (t : AcceptedBytes). strings_in t.bytes) (drop i judged) ++ others))
+    → AreNoted noted (flat_map (λ (t : AcceptedBytes). strings_in t.bytes) (drop (i - 1) judged) ++ others)
 judged-before noted judged i t bytes others some within is same index =
-    let behind : List (List ℕ) = flat_map (λ (t : Taken). strings_in t.bytes) (drop i judged) in
+    let behind : List (List ℕ) = flat_map (λ (t : AcceptedBytes). strings_in t.bytes) (drop i judged) in
     let back : (i - 1) + 1 ≡ i = omega (arith, some) in
-    let longer : drop (i - 1) judged ≡ t ∷ drop i judged = drop_more judged (i - 1) t (omega (arith, some, within)) ∙ ap (λ (y : Taken). y ∷ drop ((i - 1) + 1) judged) is ∙ ap (λ k. t ∷ drop k judged) back in
+    let longer : drop (i - 1) judged ≡ t ∷ drop i judged = drop_more judged (i - 1) t (omega (arith, some, within)) ∙ ap (λ (y : AcceptedBytes). y ∷ drop ((i - 1) + 1) judged) is ∙ ap (λ k. t ∷ drop k judged) back in
     subst (AreNoted noted)
-    (ap (λ b. strings_in b ++ (behind ++ others)) same ∙ sym (append_assoc (strings_in t.bytes) behind others) ∙ ap (λ ts. flat_map (λ (t : Taken). strings_in t.bytes) ts ++ others) (sym longer)) index
+    (ap (λ b. strings_in b ++ (behind ++ others)) same ∙ sym (append_assoc (strings_in t.bytes) behind others) ∙ ap (λ ts. flat_map (λ (t : AcceptedBytes). strings_in t.bytes) ts ++ others) (sym longer)) index
 
 -- what a client hashes for a confirmation
-told-judged : (directory : Directory) (t : Taken) (o : Option Confirmation) (rest : List Judged)
+told-judged : (directory : Directory) (t : AcceptedBytes) (o : Option Confirmation) (rest : List AcceptedConfirmation)
     → flat_map judged_strings (cons_option (option_map (λ (c : Confirmation). record { asked = asked_by directory t; bytes = t.bytes; confirmation = c }) o) rest)
     ≡ strings_read o ++ flat_map judged_strings rest
 told-judged directory t None rest = refl
 told-judged directory t (Some c) rest = refl
 
-pub all-judged : (directory : Directory) (taken : List Taken) → flat_map judged_strings (filter_map (judged_in directory) taken) ≡ flat_map (λ (t : Taken). strings_in t.bytes) taken
+pub all-judged : (directory : Directory) (taken : List AcceptedBytes) → flat_map judged_strings (filter_map (judged_in directory) taken) ≡ flat_map (λ (t : AcceptedBytes). strings_in t.bytes) taken
 all-judged directory [] = refl
 all-judged directory (t ∷ taken) =
     told-judged directory t (result_ok (whole confirmation_at t.bytes)) (filter_map (judged_in directory) taken)
     ∙ ap (λ strings. strings_in t.bytes ++ strings) (all-judged directory taken)
 
 -- all that is hashed in a run
-pub all-hashed : (h : Held) (judged : List Taken) → judged ≡ h.judged
-    → flat_map table_strings (listed_tables (records_of h)) ++ (flat_map (λ (t : Taken). strings_in t.bytes) judged ++ []) ≡ hashed (records_of h)
+pub all-hashed : (h : Held) (judged : List AcceptedBytes) → judged ≡ h.judged
+    → flat_map table_strings (listed_tables (records_of h)) ++ (flat_map (λ (t : AcceptedBytes). strings_in t.bytes) judged ++ []) ≡ hashed (records_of h)
 all-hashed h judged same =
     ap (λ strings. flat_map table_strings (listed_tables (records_of h)) ++ strings)
-    (append-nil (flat_map (λ (t : Taken). strings_in t.bytes) judged) ∙ ap (λ ts. flat_map (λ (t : Taken). strings_in t.bytes) ts) same ∙ sym (all-judged h.directory h.judged))
+    (append-nil (flat_map (λ (t : AcceptedBytes). strings_in t.bytes) judged) ∙ ap (λ ts. flat_map (λ (t : AcceptedBytes). strings_in t.bytes) ts) same ∙ sym (all-judged h.directory h.judged))

@@ -1,7 +1,7 @@
 -- What it means that claims are fair.
-use Rattle.std.proofs.Common.{◌≡◌, ℕ, ◌<◌, Bool, true, false, not, ◌||◌, List, [], ◌∷◌, length, map, refl, sym, ap, ◌∙◌, subst, arith, Result, Ok, Err}
+use Rattle.std.proofs.Common.{◌≡◌, ℕ, ◌<◌, Bool, true, false, not, ◌||◌, List, [], ◌∷◌, map, refl, sym, ap, ◌∙◌, subst, arith, Result, Ok, Err}
 use Rattle.std.specs.Prelude.{is_ok}
-use Rattle.std.specs.Prelude.{Contains, IsTrue, slice_index_or}
+use Rattle.std.specs.Prelude.{Contains}
 use Rattle.std.specs.List.{list_all, list_any}
 use Rattle.std.specs.Str.{bytes_eq}
 use Rattle.std.specs.Cmp.{IsEquivalence}
@@ -10,12 +10,11 @@ use Rattle.std.proofs.lemmas.Map.Views.{Contains-from_any, list_any-from_Contain
 use Rattle.std.proofs.lemmas.Slice.Eq.{bytes_eq-Decides}
 use Rattle.ar_claims.specs.Claimed.{claimed_in_bytes}
 use Rattle.ar_safety.specs.Held.{Held, records_of}
-use Rattle.ar_safety.specs.Records.{IsHonest, Records, signed_by, signed_in}
+use Rattle.ar_safety.specs.Records.{Records, signed_by, signed_in}
 use Rattle.ar_statement.specs.Claims.{has_party}
 use Rattle.ar_statement.specs.declared.party.Role.{Role}
 use Rattle.ar_statement.specs.declared.party.Role.TheVariants.{LogServer, Authority, Owner, Client}
 use Rattle.key_roll.specs.Book.{RollBook, texts_of}
-use Rattle.key_roll.specs.declared.signed.SignedText.{SignedText}
 use Rattle.party_keys.specs.Signatures.{IsVerified, verified}
 use Rattle.party_keys.specs.Signers.{Claimed}
 use Rattle.party_keys.specs.declared.fault.VerifyFault.{VerifyFault}

@@ -1,5 +1,5 @@
 -- The premise on forgery of a run, which speaks of honest parties' own keys, and what is told of the keys that clients know.
-use Rattle.std.proofs.Common.{◌≡◌, ◌∙◌, inl, inr, ℕ, zero, suc, ◌+◌, ◌<◌, ◌≤◌, List, [], ◌∷◌, ◌++◌, append-nil, length, length-append, refl, sym, ap, subst, arith, Bool, true, false, Option, Some, None, Ok}
+use Rattle.std.proofs.Common.{◌≡◌, ◌∙◌, inl, inr, ℕ, zero, suc, ◌+◌, ◌<◌, ◌≤◌, List, [], ◌∷◌, ◌++◌, append-nil, length, length-append, refl, sym, ap, subst, arith, Option, Some, None}
 use Rattle.std.specs.Prelude.{Contains, flat_map, is_none}
 use Rattle.std.specs.Option.{option_map}
 use Rattle.std.proofs.lemmas.List.Elements.{Contains-append_cases}
@@ -29,7 +29,7 @@ use Rattle.run_premises.specs.Books.{NoneForgedIn}
 use Rattle.run_premises.specs.Known.{KnowAsMany, NoneRolled}
 use Rattle.run_safety.specs.Own.{PartyParts, real_keys}
 use Rattle.run_safety.specs.Seats.{IsSeated}
-use Rattle.run_safety.specs.Unforged.{Unforged, authority_parts, log_parts, messages_of, parts_in, parts_of, shown}
+use Rattle.run_safety.specs.Unforged.{Unforged, authority_parts, log_parts, messages_of, parts_in, parts_of}
 use Rattle.run_safety.proofs.Forged.{all-real, owned-in, signer-in}
 use Rattle.run_safety.proofs.Held.{authorities-known, logs-known}
 use Rattle.run_safety.proofs.KeptLines.{run-kept}

@@ -1,7 +1,7 @@
 //! What logs and authorities are said to have signed in a message.
 
 ghost use Rattle.std.specs.Prelude.{◌≡◌, ◌++◌, ◌∷◌, [], flat_map, map, IfOk, OnOk};
-ghost use Rattle.ar_claims.specs.Claimed.{claimed_in, confirmed_by, confirmed_in, votes_behind};
+ghost use Rattle.ar_claims.specs.Claimed.{claimed_in, confirmed_claim, confirmed_in, votes_behind};
 ghost use Rattle.ar_claims.specs.Lists.{endorsements_in, claimed_statuses, claimed_votes};
 ghost use Rattle.ar_council.specs.Values.{status_claim};
 ghost use Rattle.ar_message.specs.Confirmation.{digest_in};
@@ -186,7 +186,7 @@ fn put_part<'a>(
     claims: &mut Vec<Claimed<'a>>,
 ) -> Result<(), AllocError>
     ensures { OnOk result
-        (claims.new.items ≡ claims.old.items ++ confirmed_by part.now party signature.now ∷ []) }
+        (claims.new.items ≡ claims.old.items ++ confirmed_claim part.now party signature.now ∷ []) }
 {
     let about = About {
         epoch: part.epoch,

@@ -3,8 +3,7 @@
 ghost use Rattle.std.specs.Prelude.{◌≡◌, ◌↔◌, IsTrue, IfOk, is_ok, slice_get};
 ghost use Rattle.std.specs.Option.{option_map};
 ghost use Rattle.epoch_log.specs.Log.{record_of};
-ghost use Rattle.std.specs.List.{list_all, list_any};
-ghost use Rattle.std.specs.Str.{bytes_eq};
+ghost use Rattle.std.specs.List.{list_all};
 ghost use Rattle.ar_claims.specs.Claimed.{claimed_in};
 ghost use Rattle.ar_safety.specs.Held.{honest_below, records_of};
 ghost use Rattle.ar_safety.specs.Theorem.{Few};

@@ -5,7 +5,8 @@
 //! of the strings have one digest that are hashed for the tables of honest logs, and by clients for what they accepted.
 //! `claims_in` has what logs and authorities are said to have signed in a message.
 //!
-//! `specs/Books.antt` says whose book has which text, and when a claim is fair; `laws` say what the answers mean.
+//! `specs/Books.antt` says whose book has which text, and when a claim is fair; `Hashing` which tables a log of a run has,
+//! and `Known` how many keys of honest parties clients know; `laws` say what the answers mean.
 //!
 //! Its tests: `examples/premises.txt`, by the program `arpki_premises`.
 #![tactic(auto)]

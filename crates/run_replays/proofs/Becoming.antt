@@ -5,23 +5,22 @@ use Rattle.std.proofs.lemmas.Option.{same_Some}
 use Rattle.ar_nodes.specs.Pool.{Pooled}
 use Rattle.ar_nodes.specs.declared.event.LogEvent.{LogEvent}
 use Rattle.ar_nodes.specs.declared.event.LogEvent.TheVariants as events
-use Rattle.key_roll.specs.Ring.{next_key}
+use Rattle.key_roll.specs.Ring.{IsOfNext, next_key}
 use Rattle.lms_tree.specs.Key.{public_of}
 use Rattle.lms_tree.specs.KeyParts.{KeyParts}
 use Rattle.lms_tree.specs.declared.public_key.LmsPublic.{LmsPublic}
-use Rattle.log_core.specs.Keyed.{IsOfNext}
 use Rattle.log_core.specs.State.{Input, passes, proposes, rolls, takes}
 use Rattle.log_journal.specs.Determined.{one_step}
-use Rattle.log_journal.specs.Steps.{LogStanding, Steps}
+use Rattle.log_journal.specs.Steps.{LogStanding, TakesInput}
 use Rattle.run_replays.specs.Inputs.{input_of_event, inputs_from, newest_after, newest_behind}
 use Rattle.run_replays.specs.Replayed.{Becomes, IsNewestKey, TakesNext}
 use Rattle.run_safety.proofs.PartySteps.{get-last}
 
 -- ---- parts
 
-pub becomes-more : (first here later : LogStanding) (inputs : List Input) (input : Input) → Becomes first inputs here → Steps here input later
+pub becomes-more : (first here later : LogStanding) (inputs : List Input) (input : Input) → Becomes first inputs here → TakesInput here input later
     → Becomes first (inputs ++ input ∷ []) later
-becomes-more first here later [] input is step = (later, subst (λ (p : LogStanding). Steps p input later) is step, refl)
+becomes-more first here later [] input is step = (later, subst (λ (p : LogStanding). TakesInput p input later) is step, refl)
 becomes-more first here later (i ∷ inputs) input becomes step = (becomes.0, becomes.1, becomes-more becomes.0 here later inputs input becomes.2 step)
 
 becomes-split : (xs ys : List Input) (first last : LogStanding) → Becomes first (xs ++ ys) last → (mid : LogStanding) × Becomes first xs mid × Becomes mid ys last
@@ -51,7 +50,7 @@ newest-more keys next =
     ap (slice_get (keys ++ next ∷ [])) place ∙ get-last keys next
 
 newest-step : (pool : List Pooled) (here next : LogStanding) (newest : KeyParts) (event : LogEvent) → IsNewestKey here.keys newest
-    → Steps here (input_of_event pool newest event) next → IsNewestKey next.keys (newest_behind newest event)
+    → TakesInput here (input_of_event pool newest event) next → IsNewestKey next.keys (newest_behind newest event)
 newest-step pool here next newest (events.Take message) last step = subst (λ (ks : List KeyParts). IsNewestKey ks newest) (sym step.keys_are) last
 newest-step pool here next newest events.Propose last step = subst (λ (ks : List KeyParts). IsNewestKey ks newest) (sym step.keys_are) last
 newest-step pool here next newest events.Pass last step = subst (λ (ks : List KeyParts). IsNewestKey ks newest) (sym step.keys_are) last
@@ -69,7 +68,7 @@ first-more : (keys : List KeyParts) (next key : KeyParts) → slice_get keys 0 �
 first-more [] next key is = absurd cc
 first-more (k ∷ keys) next key is = is
 
-first-step : (here next : LogStanding) (input : Input) (key : KeyParts) → Steps here input next → slice_get here.keys 0 ≡ Some key → slice_get next.keys 0 ≡ Some key
+first-step : (here next : LogStanding) (input : Input) (key : KeyParts) → TakesInput here input next → slice_get here.keys 0 ≡ Some key → slice_get next.keys 0 ≡ Some key
 first-step here next (takes bytes) key step is = ap (λ (ks : List KeyParts). slice_get ks 0) step.keys_are ∙ is
 first-step here next proposes key step is = ap (λ (ks : List KeyParts). slice_get ks 0) step.keys_are ∙ is
 first-step here next passes key step is = ap (λ (ks : List KeyParts). slice_get ks 0) step.keys_are ∙ is

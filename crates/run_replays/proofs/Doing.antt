@@ -15,7 +15,7 @@ use Rattle.log_core.specs.Keyed.{AreBehind, IsPlain}
 use Rattle.log_core.specs.Row.{row}
 use Rattle.log_core.specs.State.{LogAnswer, Input, passes, proposes, rolls, takes}
 use Rattle.log_journal.proofs.Replayed.{plain_own}
-use Rattle.log_journal.specs.Steps.{Steps}
+use Rattle.log_journal.specs.Steps.{TakesInput}
 use Rattle.run_replays.specs.Inputs.{input_of_event}
 use Rattle.run_replays.specs.Replayed.{IsNewestKey, standing_in}
 
@@ -31,7 +31,7 @@ pub record Does (pool : List Pooled) (old new : LogNode) : Type 0 where
   pub event : LogEvent
   pub there : IsThere pool event
   pub taken : new.taken ≡ old.taken ++ event ∷ []
-  pub steps : (newest : KeyParts) → IsNewestKey old.keys newest → Steps (standing_in old) (input_of_event pool newest event) (standing_in new)
+  pub steps : (newest : KeyParts) → IsNewestKey old.keys newest → TakesInput (standing_in old) (input_of_event pool newest event) (standing_in new)
 
 -- it did nothing, or that
 abbrev pub DoesOrNot : List Pooled → LogNode → LogNode → Type 0
@@ -53,7 +53,7 @@ answered-does pool node event input plain there same = by (row node.core input) 
       there = there;
       taken = refl;
       steps = λ newest last.
-          subst (λ (i : Input). Steps (standing_in node) i (record { core = reply.after; keys = node.keys })) (sym (same newest))
+          subst (λ (i : Input). TakesInput (standing_in node) i (record { core = reply.after; keys = node.keys })) (sym (same newest))
           (record { own = plain_own node.keys input plain; reply = reply; row_is = at; core_is = refl; keys_are = plain-behind input node.keys plain });
     })
     by (Err refusal) at = inl refl
@@ -75,7 +75,7 @@ rolled-does pool node next is = by (row node.core (rolls (public_of next))) refl
       there = tt;
       taken = refl;
       steps = λ newest last.
-          subst (λ (k : KeyParts). Steps (standing_in node) (rolls (public_of k)) (record { core = reply.after; keys = node.keys ++ next ∷ [] })) (next-newest node.keys newest next last is)
+          subst (λ (k : KeyParts). TakesInput (standing_in node) (rolls (public_of k)) (record { core = reply.after; keys = node.keys ++ next ∷ [] })) (next-newest node.keys newest next last is)
           (record {
             own = record { next = next; is_next = next_is node.keys next is; is = refl };
             reply = reply;

@@ -21,7 +21,9 @@ use Rattle.ar_world.proofs.Deliveries.{can-take}
 use Rattle.ar_world.proofs.OwnerReplies.{attached-by-alone}
 use Rattle.ar_world.specs.Asking.{ask_line}
 use Rattle.ar_world.specs.Delivering.{Taker, a_log, an_authority, an_owner, can_deliver, deliver_line, delivery, taker_at, taker_in}
-use Rattle.ar_world.specs.Drafting.{begun, draft_if, draft_room, first_certificate, next_certificate, policy_of, register_line, revoke_line, update_line}
+use Rattle.cert_drafts.specs.Certificates.{first_certificate, next_certificate}
+use Rattle.cert_drafts.specs.Policies.{policy_of}
+use Rattle.ar_world.specs.Drafting.{draft_begun, draft_if, draft_room, register_line, revoke_line, update_line}
 use Rattle.ar_world.specs.Finding.{Effect, authority_at, checking_at, draft_at, existing, forger_at, known_asks, log_at, message_at, owner_at, room, with_owner}
 use Rattle.ar_world.specs.Forging.{composed_in, inject_line, receiver_in, sign_line, signing_if}
 use Rattle.ar_world.specs.Founding.{authorities_line, dishonest_line, honest_key, keys_line, logs_line, place_of, turned}
@@ -35,14 +37,14 @@ use Rattle.ar_world.specs.Submitting.{handed, handover_line, object_line, submit
 use Rattle.ar_world.specs.declared.phase.Phase.{Phase}
 use Rattle.ar_world.specs.declared.phase.Phase.TheVariants as phase
 use Rattle.lm_ots.specs.OtsKind.{type_of_number}
-use Rattle.lms_tree.specs.Key.{type_to_make}
+use Rattle.lms_tree.specs.Key.{public_of, type_to_make}
 use Rattle.lms_tree.specs.KeyParts.{KeyParts}
 use Rattle.lms_tree.specs.LmsKind.{leaves_of}
 use Rattle.log_core.specs.Keyed.{IsPlain}
 use Rattle.log_core.specs.State as log_state
 use Rattle.owner_check.specs.Answers.{Told, forgotten, learnt}
 use Rattle.owner_check.specs.declared.answer.Outcome.{Outcome}
-use Rattle.owner_core.specs.Rows.{Row, begin_row, handover_row}
+use Rattle.owner_core.specs.Rows.{OwnerAnswer, begin_row, handover_row}
 use Rattle.owner_core.specs.State.{Owner}
 use Rattle.party_keys.specs.Directory.{is_party_count, is_quorum}
 use Rattle.report_text.specs.declared.happening.Happening.{Happening}
@@ -58,17 +60,17 @@ use Rattle.run_replays.proofs.Doing.{IsThere, answered-does, rolled-does}
 use Rattle.run_replays.proofs.Notes.{Notes, put-notes, quiet-notes, without-notes}
 use Rattle.run_replays.specs.Inputs.{input_of_event}
 use Rattle.run_safety.proofs.Founded.{made-there}
-use Rattle.run_safety.proofs.Lines.{log-takes}
+use Rattle.ar_world.proofs.Sends.{log-takes}
 
 -- ---- owners and drafts
 
-handed-notes : (w : World) (number draft : ℕ) (found : Drafted) (r : Row (List ℕ)) → Notes w (handed w number draft found r).0
+handed-notes : (w : World) (number draft : ℕ) (found : Drafted) (r : OwnerAnswer (List ℕ)) → Notes w (handed w number draft found r).0
 handed-notes w number draft found (Ok made) =
     let signed = with_owner w made.1
     in subst (Notes w) (sym (attached-by-alone signed (owner_at signed found.owner) (digest_of found.cert) made.0)) (quiet-notes w _ refl refl refl)
 handed-notes w number draft found (Err refusal) = quiet-notes w w refl refl refl
 
-begun-notes : (w v : World) (number : ℕ) (r : Row Sent) → v.setup ≡ w.setup → v.genesis ≡ w.genesis → v.logs ≡ w.logs → Notes w (begun v number r).0
+begun-notes : (w v : World) (number : ℕ) (r : OwnerAnswer Sent) → v.setup ≡ w.setup → v.genesis ≡ w.genesis → v.logs ≡ w.logs → Notes w (draft_begun v number r).0
 begun-notes w v number (Ok made) setup genesis logs = quiet-notes w _ setup genesis logs
 begun-notes w v number (Err refusal) setup genesis logs = quiet-notes w v setup genesis logs
 
@@ -85,7 +87,7 @@ register-notes w number name policy asks =
     if-chained (named 1 (owner_at w number)) _ (λ made. Notes w made.0) (λ owner same.
     if-chained (named 3 (policy_of policy)) _ (λ made. Notes w made.0) (λ terms said.
     if-chained (known_asks w 8 asks) _ (λ made. Notes w made.0) (λ known there.
-    draft-if-notes w owner (first_certificate owner name terms) asks)))
+    draft-if-notes w owner (first_certificate (public_of owner.key) name terms) asks)))
 
 update-notes : (w : World) (number draft : ℕ) (policy : PolicyWords) (asks : List ℕ) → IfOk (update_line w number draft policy asks) (λ made. Notes w made.0)
 update-notes w number draft policy asks =
@@ -93,14 +95,14 @@ update-notes w number draft policy asks =
     if-chained (named 2 (draft_at w draft)) _ (λ made. Notes w made.0) (λ old there.
     if-chained (named 3 (policy_of policy)) _ (λ made. Notes w made.0) (λ terms said.
     if-chained (known_asks w 8 asks) _ (λ made. Notes w made.0) (λ known all.
-    draft-if-notes w owner (next_certificate owner old.cert terms false) asks))))
+    draft-if-notes w owner (next_certificate (public_of owner.key) old.cert terms false) asks))))
 
 revoke-notes : (w : World) (number draft : ℕ) (asks : List ℕ) → IfOk (revoke_line w number draft asks) (λ made. Notes w made.0)
 revoke-notes w number draft asks =
     if-chained (named 1 (owner_at w number)) _ (λ made. Notes w made.0) (λ owner same.
     if-chained (named 2 (draft_at w draft)) _ (λ made. Notes w made.0) (λ old there.
     if-chained (known_asks w 3 asks) _ (λ made. Notes w made.0) (λ known all.
-    draft-if-notes w owner (next_certificate owner old.cert old.cert.policy true) asks)))
+    draft-if-notes w owner (next_certificate (public_of owner.key) old.cert old.cert.policy true) asks)))
 
 handover-notes : (w : World) (number draft : ℕ) → IfOk (handover_line w number draft) (λ made. Notes w made.0)
 handover-notes w number draft =

@@ -13,7 +13,7 @@ use Rattle.ar_statement.specs.declared.party.Role.TheVariants.{LogServer}
 use Rattle.ar_world.specs.Printed.{as_it_came}
 use Rattle.lms_tree.specs.KeyParts.{KeyParts}
 use Rattle.log_core.specs.State.{Input, takes}
-use Rattle.log_journal.specs.Steps.{LogStanding, new_log}
+use Rattle.log_journal.specs.Steps.{LogStanding, new_standing}
 use Rattle.party_keys.specs.Directory.{Directory}
 use Rattle.run_replays.specs.Inputs.{input_of_event, inputs_from, newest_after, newest_behind}
 use Rattle.run_replays.specs.Replayed.{Becomes, IsNewestKey, standing_in}
@@ -27,7 +27,7 @@ AllThere pool (event ∷ did) = IsThere pool event × AllThere pool did
 
 -- the log with this number is what its inputs make of the one with the first key of this setup and this directory
 pub record IsMade (setup : Setup) (genesis : Directory) (pool : List Pooled) (number : ℕ) (node : LogNode) : Type 0 where
-  pub becomes : Becomes (new_log number genesis (key_for setup LogServer number)) (inputs_from pool (key_for setup LogServer number) node.taken) (standing_in node)
+  pub becomes : Becomes (new_standing number genesis (key_for setup LogServer number)) (inputs_from pool (key_for setup LogServer number) node.taken) (standing_in node)
   pub there : AllThere pool node.taken
 
 -- one that has done nothing
@@ -86,7 +86,7 @@ pub later-made : (setup : Setup) (genesis : Directory) (pool later : List Pooled
 later-made setup genesis pool later number node keeps made =
     let key = key_for setup LogServer number in
     record {
-      becomes = subst (λ (is : List Input). Becomes (new_log number genesis key) is (standing_in node)) (sym (same-inputs pool later key node.taken keeps made.there)) made.becomes;
+      becomes = subst (λ (is : List Input). Becomes (new_standing number genesis key) is (standing_in node)) (sym (same-inputs pool later key node.taken keeps made.there)) made.becomes;
       there = all-still-there pool later node.taken keeps made.there;
     }
 
@@ -97,17 +97,17 @@ there-more pool [] event all there = (there, tt)
 there-more pool (e ∷ did) event all there = (all.0, there-more pool did event all.1 there)
 
 pub made-newest : (setup : Setup) (genesis : Directory) (pool : List Pooled) (number : ℕ) (did : List LogEvent) (here : LogStanding)
-    → Becomes (new_log number genesis (key_for setup LogServer number)) (inputs_from pool (key_for setup LogServer number) did) here
+    → Becomes (new_standing number genesis (key_for setup LogServer number)) (inputs_from pool (key_for setup LogServer number) did) here
     → IsNewestKey here.keys (newest_after (key_for setup LogServer number) did)
 made-newest setup genesis pool number did here becomes =
-    newest-becomes pool (new_log number genesis (key_for setup LogServer number)) here (key_for setup LogServer number) did refl becomes
+    newest-becomes pool (new_standing number genesis (key_for setup LogServer number)) here (key_for setup LogServer number) did refl becomes
 
 does-made : (setup : Setup) (genesis : Directory) (pool : List Pooled) (number : ℕ) (old new : LogNode) → IsMade setup genesis pool number old → Does pool old new
     → IsMade setup genesis pool number new
 does-made setup genesis pool number old new made d =
     let key = key_for setup LogServer number in
     let newest = newest_after key old.taken in
-    let first = new_log number genesis key in
+    let first = new_standing number genesis key in
     let step = d.steps newest (made-newest setup genesis pool number old.taken (standing_in old) made.becomes) in
     let more : Becomes first (inputs_from pool key (old.taken ++ d.event ∷ [])) (standing_in new) =
     subst (λ (is : List Input). Becomes first is (standing_in new)) (sym (inputs-append pool key old.taken (d.event ∷ [])))

@@ -12,7 +12,7 @@ use Rattle.ar_world.proofs.Runs.{HoldsOfSteps, deliver-goes, line-goes, step-hol
 use Rattle.ar_world.specs.Delivering.{Taker, deliver_line, delivery, next_due, taker_at}
 use Rattle.ar_world.specs.Finding.{Effect, log_at, message_at}
 use Rattle.ar_world.specs.Founding.{may_come, place_of}
-use Rattle.ar_world.specs.Printed.{Tells}
+use Rattle.ar_world.specs.Printed.{TellsMoved}
 use Rattle.ar_world.specs.Records.{HasParties}
 use Rattle.ar_world.specs.Run.{Course, Progress, Saying, at_line, delivering, flushed, line_taken, progress_of, run, run_from, then_if}
 use Rattle.ar_world.specs.State.{Moved, World, first_world}
@@ -90,12 +90,12 @@ led-made w m next comes keeps (by_founding is f) made =
 led-made w m next comes keeps (by_preparing early same) made = before-made w (record m { phase = next }) (stays-early w.phase next comes early) same made
 
 -- what a line makes keeps the pool's bytes
-tells-keeps : (pool : List Pooled) (made : Moved) → Tells pool made → KeepsBytes pool made.0.pool
+tells-keeps : (pool : List Pooled) (made : Moved) → TellsMoved pool made → KeepsBytes pool made.0.pool
 tells-keeps pool made tells = grown-keeps pool made.0.pool tells.more tells.grown
 
 -- a line that tells what the pool has more
 abbrev Steps : World → Moved → Type 0
-Steps w made = Tells w.pool made → Made w → Made made.0
+Steps w made = TellsMoved w.pool made → Made w → Made made.0
 
 step-leads : (says : Outcome) (w : World) (l : Line) → IfOk (step says w l) (Steps w)
 step-leads says w =
@@ -105,7 +105,7 @@ step-leads says w =
     (λ l comes. IfOk-weaker (event_effect says w l) (λ m. Notes w m.0) _
     (λ m notes tells. led-made w m.0 phase.Running comes (tells-keeps w.pool (record m.0 { phase = phase.Running }, m.1) tells) (by_notes notes)) (event-notes says w l))
 
-told : (w : World) (made : Effect) → IfOk made (Tells w.pool) → IfOk made (Steps w) → IfOk made (λ m. Made w → Made m.0)
+told : (w : World) (made : Effect) → IfOk made (TellsMoved w.pool) → IfOk made (Steps w) → IfOk made (λ m. Made w → Made m.0)
 told w (Ok m) tells steps = steps tells
 told w (Err why) tells steps = tt
 

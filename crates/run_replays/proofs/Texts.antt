@@ -7,24 +7,24 @@ use Rattle.std.proofs.lemmas.Option.{same_Some}
 use Rattle.ar_nodes.specs.Pool.{Pooled}
 use Rattle.ar_nodes.specs.declared.event.LogEvent.{LogEvent}
 use Rattle.ar_nodes.specs.declared.event.LogEvent.TheVariants as events
-use Rattle.kept_journal.specs.Replays.{Replays}
+use Rattle.kept_journal.specs.Replays.{ReachesBy}
 use Rattle.key_roll.specs.Ring.{next_key}
 use Rattle.lms_tree.specs.KeyParts.{KeyParts}
 use Rattle.log_core.specs.State.{Input}
 use Rattle.log_journal.proofs.Spelled.{says_it}
 use Rattle.log_journal.specs.Inputs.{IsWhole, input_text}
-use Rattle.log_journal.specs.Steps.{LogStanding, Steps, takes}
+use Rattle.log_journal.specs.Steps.{LogStanding, TakesInput, takes}
 use Rattle.run_replays.specs.Inputs.{input_of_event, inputs_from, newest_behind}
 use Rattle.run_replays.specs.Replayed.{Becomes}
 use Rattle.run_safety.proofs.Rings.{public-widths}
 
 -- what the text of an input makes the input makes
-pub step-of-text : (old new : LogStanding) (input : Input) → IsWhole input → takes old (input_text input) new → Steps old input new
+pub step-of-text : (old new : LogStanding) (input : Input) → IsWhole input → takes old (input_text input) new → TakesInput old input new
 step-of-text old new input whole t =
     let same : t.input ≡ input = same_Some t.input input (sym t.says ∙ says_it input whole) in
-    subst (λ (i : Input). Steps old i new) same t.steps
+    subst (λ (i : Input). TakesInput old i new) same t.steps
 
-texts-by : (first last : LogStanding) (inputs : List Input) → AllByRecursion IsWhole inputs → Becomes first inputs last → Replays takes first (map input_text inputs) last
+texts-by : (first last : LogStanding) (inputs : List Input) → AllByRecursion IsWhole inputs → Becomes first inputs last → ReachesBy takes first (map input_text inputs) last
 texts-by first last [] whole becomes = becomes
 texts-by first last (input ∷ inputs) whole becomes = (
   becomes.0,
@@ -32,7 +32,7 @@ texts-by first last (input ∷ inputs) whole becomes = (
   texts-by becomes.0 last inputs whole.1 becomes.2,
 )
 
-inputs-by : (first last : LogStanding) (inputs : List Input) → AllByRecursion IsWhole inputs → Replays takes first (map input_text inputs) last → Becomes first inputs last
+inputs-by : (first last : LogStanding) (inputs : List Input) → AllByRecursion IsWhole inputs → ReachesBy takes first (map input_text inputs) last → Becomes first inputs last
 inputs-by first last [] whole replays = replays
 inputs-by first last (input ∷ inputs) whole replays = (
   replays.0,
@@ -40,10 +40,10 @@ inputs-by first last (input ∷ inputs) whole replays = (
   inputs-by replays.0 last inputs whole.1 replays.2,
 )
 
-pub as-texts : (first last : LogStanding) (inputs : List Input) → All IsWhole inputs → Becomes first inputs last → Replays takes first (map input_text inputs) last
+pub as-texts : (first last : LogStanding) (inputs : List Input) → All IsWhole inputs → Becomes first inputs last → ReachesBy takes first (map input_text inputs) last
 as-texts first last inputs whole becomes = texts-by first last inputs (recursion_from_All IsWhole inputs whole) becomes
 
-pub as-inputs : (first last : LogStanding) (inputs : List Input) → All IsWhole inputs → Replays takes first (map input_text inputs) last → Becomes first inputs last
+pub as-inputs : (first last : LogStanding) (inputs : List Input) → All IsWhole inputs → ReachesBy takes first (map input_text inputs) last → Becomes first inputs last
 as-inputs first last inputs whole replays = inputs-by first last inputs (recursion_from_All IsWhole inputs whole) replays
 
 pub whole-input : (pool : List Pooled) (newest : KeyParts) (event : LogEvent) → IsWhole (input_of_event pool newest event)

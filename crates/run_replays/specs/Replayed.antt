@@ -5,17 +5,17 @@ use Rattle.ar_nodes.specs.Pool.{Pooled}
 use Rattle.ar_nodes.specs.declared.event.LogEvent.{LogEvent}
 use Rattle.ar_world.specs.Records.{HasParties}
 use Rattle.ar_world.specs.State.{World}
-use Rattle.kept_journal.specs.Replays.{Replays}
+use Rattle.kept_journal.specs.Replays.{ReachesBy}
 use Rattle.lms_tree.specs.KeyParts.{KeyParts}
 use Rattle.log_core.specs.State.{Input}
 use Rattle.log_journal.specs.Inputs.{input_text}
-use Rattle.log_journal.specs.Steps.{LogStanding, Steps, new_log, takes}
+use Rattle.log_journal.specs.Steps.{LogStanding, TakesInput, new_standing, takes}
 use Rattle.run_replays.specs.Inputs.{first_key_of, input_of_event, inputs_from, inputs_of, newest_after, newest_behind}
 
 -- a log becomes this by these inputs, one behind the other, none of which it refuses
 abbrev pub Becomes : LogStanding → List Input → LogStanding → Type 0
 Becomes first [] last = last ≡ first
-Becomes first (input ∷ inputs) last = (mid : LogStanding) × Steps first input mid × Becomes mid inputs last
+Becomes first (input ∷ inputs) last = (mid : LogStanding) × TakesInput first input mid × Becomes mid inputs last
 
 -- where a log of a world stands, and its keys
 abbrev pub standing_in : LogNode → LogStanding
@@ -23,7 +23,7 @@ standing_in node = record { core = node.core; keys = node.keys }
 
 -- the log with this number where the run began: it has done nothing, and knows the first keys
 abbrev pub first_standing : World → ℕ → LogStanding
-first_standing w number = new_log number w.genesis (first_key_of w number)
+first_standing w number = new_standing number w.genesis (first_key_of w number)
 
 -- a key is the newest of these
 abbrev pub IsNewestKey : List KeyParts → KeyParts → Type 0
@@ -33,7 +33,7 @@ IsNewestKey keys key = slice_get keys (length keys - 1) ≡ Some key
 -- journal has it. Its first key is the one of the founding, its newest the one behind what it did; and the parties are there.
 pub record IsReplayed (w : World) (number : ℕ) (node : LogNode) : Type 0 where
   pub becomes : Becomes (first_standing w number) (inputs_of w number node) (standing_in node)
-  pub replays : Replays takes (first_standing w number) (map input_text (inputs_of w number node)) (standing_in node)
+  pub replays : ReachesBy takes (first_standing w number) (map input_text (inputs_of w number node)) (standing_in node)
   pub first : slice_get node.keys 0 ≡ Some (first_key_of w number)
   pub newest : IsNewestKey node.keys (newest_after (first_key_of w number) node.taken)
   pub late : HasParties w
@@ -44,5 +44,5 @@ pub record TakesNext (pool : List Pooled) (here : LogStanding) (event : LogEvent
   pub newest : KeyParts
   pub is_newest : IsNewestKey here.keys newest
   pub next : LogStanding
-  pub steps : Steps here (input_of_event pool newest event) next
+  pub steps : TakesInput here (input_of_event pool newest event) next
   pub rest : Becomes next (inputs_from pool (newest_behind newest event) events) last

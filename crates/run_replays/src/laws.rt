@@ -7,15 +7,14 @@ ghost use Rattle.ar_nodes.specs.declared.event.LogEvent.{LogEvent};
 ghost use Rattle.ar_world.specs.Finding.{log_at};
 ghost use Rattle.ar_world.specs.Run.{Saying, run};
 ghost use Rattle.ar_world.specs.State.{World};
-ghost use Rattle.kept_journal.specs.Replays.{Replays};
+ghost use Rattle.kept_journal.specs.Replays.{ReachesBy};
 ghost use Rattle.lms_tree.specs.KeyParts.{KeyParts};
-ghost use Rattle.log_core.specs.Keyed.{IsOfNext};
 ghost use Rattle.log_core.specs.State.{Input};
 ghost use Rattle.log_journal.specs.Inputs.{IsWhole, input_text};
-ghost use Rattle.log_journal.specs.Steps.{LogStanding, Steps, takes};
+ghost use Rattle.log_journal.specs.Steps.{LogStanding, TakesInput, takes};
 ghost use Rattle.lms_tree.specs.Key.{public_of};
 ghost use Rattle.lms_tree.specs.declared.public_key.LmsPublic.{LmsPublic};
-ghost use Rattle.key_roll.specs.Ring.{next_key};
+ghost use Rattle.key_roll.specs.Ring.{IsOfNext, next_key};
 ghost use Rattle.run_replays.specs.Inputs.{inputs_from, newest_after};
 ghost use Rattle.run_replays.specs.Replayed.{Becomes, IsNewestKey, IsReplayed, TakesNext};
 ghost use Rattle.run_safety.specs.Passing.{GoesThrough};
@@ -45,7 +44,7 @@ pub fn a_log_takes_its_inputs_again()
     ensures all { (first here last : LogStanding) (inputs : List Input) → Becomes first inputs last
         → Becomes first inputs here → here ≡ last }
     ensures more { (first here later : LogStanding) (inputs : List Input) (input : Input)
-        → Becomes first inputs here → Steps here input later
+        → Becomes first inputs here → TakesInput here input later
         → Becomes first (inputs ++ input ∷ []) later }
     ensures own { (keys : List KeyParts) (newest : KeyParts) (key : LmsPublic)
         → IsNewestKey keys newest → IsOfNext keys key → key ≡ public_of (next_key newest) }
@@ -57,9 +56,9 @@ pub fn a_log_takes_its_inputs_again()
 /// What the inputs of a log make of another is what their texts make of it, as a journal has them, and the other way round.
 pub fn inputs_are_replayed_as_their_texts()
     ensures texts { (first last : LogStanding) (inputs : List Input) → All IsWhole inputs
-        → Becomes first inputs last → Replays takes first (map input_text inputs) last }
+        → Becomes first inputs last → ReachesBy takes first (map input_text inputs) last }
     ensures inputs { (first last : LogStanding) (inputs : List Input) → All IsWhole inputs
-        → Replays takes first (map input_text inputs) last → Becomes first inputs last }
+        → ReachesBy takes first (map input_text inputs) last → Becomes first inputs last }
     ensures whole { (pool : List Pooled) (newest : KeyParts) (events : List LogEvent)
         → All IsWhole (inputs_from pool newest events) }
 {}

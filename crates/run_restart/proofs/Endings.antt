@@ -14,7 +14,7 @@ use Rattle.ar_world.specs.Records.{HasParties, taken_at}
 use Rattle.ar_world.specs.State.{World}
 use Rattle.ar_world.specs.declared.cause.Cause.{Cause}
 use Rattle.ar_world.specs.declared.cause.Cause.TheVariants.{Untaken}
-use Rattle.kept_journal.specs.Replays.{Replays}
+use Rattle.kept_journal.specs.Replays.{ReachesBy}
 use Rattle.key_roll.specs.Book.{RollBook}
 use Rattle.lms_tree.specs.KeyParts.{KeyParts}
 use Rattle.log_core.specs.Inputs.{input_of}
@@ -23,7 +23,7 @@ use Rattle.log_journal.specs.Steps.{LogStanding, takes}
 use Rattle.log_restart.specs.Inputs.{most_input_bytes, text_of, texts_of, total_len}
 use Rattle.log_restart.specs.Restarted.{AreRestarted, recovered_of, told_of}
 use Rattle.log_restart.specs.declared.disks.Disks.{Disks}
-use Rattle.log_restart.specs.declared.told.Told.{Told}
+use Rattle.log_restart.specs.declared.told.RestartReport.{RestartReport}
 use Rattle.run_replays.specs.Inputs.{first_key_of}
 use Rattle.run_replays.specs.Replayed.{IsNewestKey, first_standing, standing_in}
 use Rattle.run_restart.specs.Answers.{refusing, restart_line, telling, telling_few, telling_log}
@@ -56,10 +56,10 @@ pub ruleset refused_laws = (refused-ended)
 
 -- ---- two runs
 
-abbrev line_of : Restart → Told → Answer
+abbrev line_of : Restart → RestartReport → Answer
 line_of asked told = record { lines = restart_line asked told ∷ []; status = 0 }
 
-told-is : (asked : Restart) (inputs : List LogInput) (book : RollBook) (told : Told) (disks : Disks) (ended : Ended)
+told-is : (asked : Restart) (inputs : List LogInput) (book : RollBook) (told : RestartReport) (disks : Disks) (ended : Ended)
     → told ≡ told_of (recovered_of (length inputs) asked.calls) (length inputs) book → AreRestarted (texts_of inputs) asked.calls disks.before disks.after
     → ended.answer ≡ record { lines = restart_line asked told ∷ []; status = 0 } → ended.disks ≡ Some disks
     → IsEnded (telling asked (texts_of inputs) book) (texts_of inputs) asked.calls ended
@@ -70,7 +70,7 @@ told-is asked inputs book told disks ended told_is are answer made =
       made = subst (AreMade 0 (texts_of inputs) asked.calls) (sym made) (refl, are);
     }
 
-pub told-ended : (asked : Restart) (inputs : List LogInput) (book : RollBook) (told : Told) (disks : Disks) (result : Result Ended AllocError)
+pub told-ended : (asked : Restart) (inputs : List LogInput) (book : RollBook) (told : RestartReport) (disks : Disks) (result : Result Ended AllocError)
     → told ≡ told_of (recovered_of (length inputs) asked.calls) (length inputs) book → AreRestarted (texts_of inputs) asked.calls disks.before disks.after
     → IfOk result (λ ended. ended.answer ≡ record { lines = restart_line asked told ∷ []; status = 0 }) → IfOk result (λ ended. ended.disks ≡ Some disks)
     → IfOk result (IsEnded (telling asked (texts_of inputs) book) (texts_of inputs) asked.calls)
@@ -113,21 +113,21 @@ module _ (asked : Restart) (w : World) (taken : List LogEvent) (ring : List KeyP
       inputs-texts w asked.log did.node all inputs (were first newest ∙ ap (asked_from first) did.did) same
 
   -- it takes them again
-  log-replays : Replays takes (first_standing w asked.log) (texts_of inputs) (standing_in did.node)
-  log-replays = subst (λ (ts : List (List ℕ)). Replays takes (first_standing w asked.log) ts (standing_in did.node)) (sym log-texts) did.replayed.replays
+  log-replays : ReachesBy takes (first_standing w asked.log) (texts_of inputs) (standing_in did.node)
+  log-replays = subst (λ (ts : List (List ℕ)). ReachesBy takes (first_standing w asked.log) ts (standing_in did.node)) (sym log-texts) did.replayed.replays
 
-  pub log-takes : (last : LogStanding) × Replays takes (first_standing w asked.log) (texts_of inputs) last
+  pub log-takes : (last : LogStanding) × ReachesBy takes (first_standing w asked.log) (texts_of inputs) last
   log-takes = (standing_in did.node, log-replays)
 
   -- what comes of it
   pub log-told : (behind : ℕ) (result : Result Ended AllocError)
-      → ((last : LogStanding) → Replays takes (first_standing w asked.log) (texts_of inputs) last
+      → ((last : LogStanding) → ReachesBy takes (first_standing w asked.log) (texts_of inputs) last
       → IfOk result (IsEnded (telling_few asked behind (texts_of inputs) last.core.log.past.signed) (texts_of inputs) asked.calls))
       → IfOk result (IsEnded (telling_log asked behind w (log_at w asked.log)) (texts_in w asked.log) asked.calls)
   log-told behind result ended =
-      let Told = λ (ts : List (List ℕ)). IfOk result (IsEnded (telling_few asked behind ts did.node.core.log.past.signed) ts asked.calls) in
+      let RestartReport = λ (ts : List (List ℕ)). IfOk result (IsEnded (telling_few asked behind ts did.node.core.log.past.signed) ts asked.calls) in
       let There = λ (n : Option LogNode). IfOk result (IsEnded (telling_log asked behind w n) (texts_of_log w asked.log n) asked.calls) in
-      subst There (sym did.there) (subst Told log-texts (ended (standing_in did.node) log-replays))
+      subst There (sym did.there) (subst RestartReport log-texts (ended (standing_in did.node) log-replays))
 
 pub log-late : (w : World) (number : ℕ) (taken : List LogEvent) → DidSo w number taken → HasParties w
 log-late w number taken did = did.replayed.late

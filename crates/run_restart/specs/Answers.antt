@@ -18,7 +18,7 @@ use Rattle.key_roll.specs.Book.{RollBook}
 use Rattle.log_restart.specs.Inputs.{most_input_bytes, total_len}
 use Rattle.log_restart.specs.Restarted.{AreRestarted, recovered_of, told_of}
 use Rattle.log_restart.specs.declared.disks.Disks.{Disks}
-use Rattle.log_restart.specs.declared.told.Told.{Told}
+use Rattle.log_restart.specs.declared.told.RestartReport.{RestartReport}
 use Rattle.run_safety.specs.Headline.{IsSafeRun}
 use Rattle.run_restart.specs.Asking.{texts_in, texts_of_log}
 use Rattle.run_restart.specs.declared.command.Restart.{Restart}
@@ -27,7 +27,7 @@ use Rattle.run_restart.specs.declared.command.Restart.{Restart}
 
 -- which log restarted, how many calls of its first disk passed, how many of how many inputs were recovered, how many statements it
 -- has signed in the end, and their digest; a line with its newline
-abbrev pub restart_line : Restart → Told → List ℕ
+abbrev pub restart_line : Restart → RestartReport → List ℕ
 restart_line asked told =
     codes "restart L" ++ (decimal asked.log ++ (codes " after " ++ (decimal asked.calls ++ (codes " recovered " ++ (decimal told.recovered
     ++ (codes " of " ++ (decimal told.inputs ++ (codes " signed " ++ (decimal told.signed ++ (codes " " ++ (encode_lower told.digest ++ codes "\n")))))))))))

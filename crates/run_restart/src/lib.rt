@@ -6,7 +6,7 @@
 //! which statements the log has signed in the end; the disks of the two runs are handed out.
 //!
 //! In `specs/`, `Asking` says what is asked of the program, and of the log, and `Answers` what is answered, and what a run of the
-//! command takes of its source, writes to its sink and leaves on the two disks.
+//! command takes of its source, writes to its sink and leaves on the two disks. `Ending` has the answer with the disks.
 //!
 //! Its tests: `examples/restart`, and `play_tests`.
 #![tactic(auto)]

@@ -3,7 +3,7 @@
 ghost use Rattle.std.specs.Prelude.{◌≡◌, ◌≤◌, ◌∷◌, [], length, IfOk};
 ghost use Rattle.ar_world.specs.Finding.{log_at};
 ghost use Rattle.ar_world.specs.Records.{HasParties};
-ghost use Rattle.kept_journal.specs.Replays.{Replays};
+ghost use Rattle.kept_journal.specs.Replays.{ReachesBy};
 ghost use Rattle.log_journal.specs.Steps.{LogStanding, takes};
 ghost use Rattle.log_restart.specs.Inputs.{most_input_bytes, texts_of, total_len};
 ghost use Rattle.log_restart.specs.Restarted.{AreRestarted, recovered_of, told_of};
@@ -23,7 +23,7 @@ use ar_statement::Role;
 use ar_world::World;
 use key_roll::KeyRing;
 use log_core::LogInput;
-use log_restart::{Beginning, Disks, Told, restart, total_len};
+use log_restart::{Beginning, Disks, RestartReport, restart, total_len};
 use owner_check::OwnerCheck;
 use std::alloc::{AllocError, Global};
 
@@ -64,13 +64,13 @@ fn run_twice<C: OwnerCheck>(
     world: &World<C>,
     asked: Restart,
     inputs: &[LogInput],
-) -> Result<(Told, Disks), AllocError>
+) -> Result<(RestartReport, Disks), AllocError>
     requires late { HasParties world.now }
     requires small { total_len (texts_of inputs.now) ≤ most_input_bytes }
     requires replays { (last : LogStanding)
-        × Replays takes (first_standing world.now asked.log) (texts_of inputs.now) last }
+        × ReachesBy takes (first_standing world.now asked.log) (texts_of inputs.now) last }
     ensures told { (last : LogStanding)
-        → Replays takes (first_standing world.now asked.log) (texts_of inputs.now) last
+        → ReachesBy takes (first_standing world.now asked.log) (texts_of inputs.now) last
         → IfOk result (λ ended. ended.0
         ≡ told_of (recovered_of (length inputs.now) asked.calls)
         (length inputs.now) last.core.log.past.signed) }
@@ -102,9 +102,9 @@ fn restart_few<C: OwnerCheck>(
     requires late { HasParties world.now }
     requires small { total_len (texts_of inputs.now) ≤ most_input_bytes }
     requires replays { (last : LogStanding)
-        × Replays takes (first_standing world.now asked.log) (texts_of inputs.now) last }
+        × ReachesBy takes (first_standing world.now asked.log) (texts_of inputs.now) last }
     ensures { (last : LogStanding)
-        → Replays takes (first_standing world.now asked.log) (texts_of inputs.now) last
+        → ReachesBy takes (first_standing world.now asked.log) (texts_of inputs.now) last
         → IfOk result (IsEnded (telling asked (texts_of inputs.now) last.core.log.past.signed)
         (texts_of inputs.now) asked.calls) }
 {
@@ -123,9 +123,9 @@ fn restart_by<C: OwnerCheck>(
 ) -> Result<Ended, AllocError>
     requires late { HasParties world.now }
     requires replays { (last : LogStanding)
-        × Replays takes (first_standing world.now asked.log) (texts_of inputs.now) last }
+        × ReachesBy takes (first_standing world.now asked.log) (texts_of inputs.now) last }
     ensures { (last : LogStanding)
-        → Replays takes (first_standing world.now asked.log) (texts_of inputs.now) last
+        → ReachesBy takes (first_standing world.now asked.log) (texts_of inputs.now) last
         → IfOk result (IsEnded
         (telling_few asked behind (texts_of inputs.now) last.core.log.past.signed)
         (texts_of inputs.now) asked.calls) }

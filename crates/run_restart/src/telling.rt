@@ -10,12 +10,16 @@ use ar_nodes::WorldFault;
 use ar_run::Answer;
 use ar_text::{Part, append};
 use ar_world::Cause;
-use log_restart::{Disks, Told};
-use script_play::refused_line;
+use log_restart::{Disks, RestartReport};
+use script_play::refusal_line;
 use std::alloc::{AllocError, Global};
 
 /// `restart L<log> after <calls> recovered <many> of <inputs> signed <statements> <digest>`. The only error is want of memory.
-fn restart_line(alloc: Global, restart: Restart, told: &Told) -> Result<Vec<u8>, AllocError>
+fn restart_line(
+    alloc: Global,
+    restart: Restart,
+    told: &RestartReport,
+) -> Result<Vec<u8>, AllocError>
     ensures { IfOk result (λ line. line.items ≡ restart_line restart told.now) }
 {
     let parts = [
@@ -52,7 +56,7 @@ fn one_line(alloc: Global, line: Vec<u8>, status: u8) -> Result<Answer, AllocErr
 pub(crate) fn tell(
     alloc: Global,
     restart: Restart,
-    told: &Told,
+    told: &RestartReport,
     disks: Disks,
 ) -> Result<Ended, AllocError>
     ensures answer { IfOk result (λ ended.
@@ -71,7 +75,7 @@ pub(crate) fn refuse(alloc: Global, number: u64, cause: Cause) -> Result<Ended, 
     ensures answer { IfOk result (λ ended. ended.answer ≡ refusing (number, cause)) }
     ensures disks { IfOk result (λ ended. ended.disks ≡ None) }
 {
-    let line = refused_line(alloc, number, cause)?;
+    let line = refusal_line(alloc, number, cause)?;
     Ok(Ended {
         answer: one_line(alloc, line, 3)?,
         disks: None,

@@ -6,7 +6,7 @@ use Rattle.std.proofs.lemmas.List.{map-append}
 use Rattle.std.proofs.lemmas.List.Elements.{All-cons, All-head, All-nil, All-push, All-tail}
 use Rattle.ar_council.proofs.Members.{council-learning}
 use Rattle.ar_council.specs.Council.{council_of}
-use Rattle.ar_safety.specs.Held.{IsAccepting, Taken, asked_by, verdict_on}
+use Rattle.ar_safety.specs.Held.{IsAccepting, AcceptedBytes, asked_by, verdict_on}
 use Rattle.ar_world.specs.Records.{HasParties}
 use Rattle.ar_world.specs.Judging.{accepted_with, judged_by_rule}
 use Rattle.report_text.specs.Verdicts.{said_of}
@@ -28,7 +28,7 @@ use Rattle.run_safety.proofs.Parts.{Makes, part_of, told_by, told_in}
 -- ---- `learn`
 
 -- what was accepted is accepted by a directory that learnt
-same-verdict : (keys : Directory) (note : Option Announced) (t : Taken) (v : Judgement) → verdict_on keys t ≡ v → IsAccepting v → verdict_on (knows_by keys note) t ≡ v
+same-verdict : (keys : Directory) (note : Option Announced) (t : AcceptedBytes) (v : Judgement) → verdict_on keys t ≡ v → IsAccepting v → verdict_on (knows_by keys note) t ≡ v
 same-verdict keys None t v is taken = is
 same-verdict keys (Some a) t (Accepted certificate digest epoch root) is taken =
     still_accepted (asked_by keys t) (a ∷ []) t.bytes certificate digest epoch root is
@@ -37,14 +37,14 @@ same-verdict keys (Some a) t (Absent epoch root) is taken =
 same-verdict keys (Some a) t (Refused number) is taken = absurd taken
 
 -- all of it
-record AreSame (keys later : Directory) (judged : List Taken) : Type 0 where
+record AreSame (keys later : Directory) (judged : List AcceptedBytes) : Type 0 where
   taken : All (λ t. IsAccepting (verdict_on later t)) judged
   told : map (told_by keys) judged ≡ map (told_by later) judged
 
-all-same : (keys : Directory) (note : Option Announced) (judged : List Taken) → All (λ t. IsAccepting (verdict_on keys t)) judged → AreSame keys (knows_by keys note) judged
+all-same : (keys : Directory) (note : Option Announced) (judged : List AcceptedBytes) → All (λ t. IsAccepting (verdict_on keys t)) judged → AreSame keys (knows_by keys note) judged
 all-same keys note [] taken = record { taken = All-nil (λ t. IsAccepting (verdict_on (knows_by keys note) t)); told = refl }
 all-same keys note (t ∷ more) taken =
-    let holds : Taken → Type 0 = λ t. IsAccepting (verdict_on keys t) in
+    let holds : AcceptedBytes → Type 0 = λ t. IsAccepting (verdict_on keys t) in
     let head = All-head holds t more taken in
     let rest = all-same keys note more (All-tail holds t more taken) in
     let same : verdict_on (knows_by keys note) t ≡ verdict_on keys t = same-verdict keys note t (verdict_on keys t) refl head in
@@ -90,20 +90,20 @@ learning-makes w message note = record {
 -- ---- `judge`
 
 -- what is held and what is written behind a judgement
-record IsHeld (keys : Directory) (judged : List Taken) (t : Taken) (v : Judgement) : Type 0 where
+record IsHeld (keys : Directory) (judged : List AcceptedBytes) (t : AcceptedBytes) (v : Judgement) : Type 0 where
   taken : All (λ t. IsAccepting (verdict_on keys t)) judged → All (λ t. IsAccepting (verdict_on keys t)) (accepted_with judged t v)
   told : (message : ℕ) → map (told_by keys) judged ++ filter_map accepted_in (Judged message (said_of t.name v) ∷ []) ≡ map (told_by keys) (accepted_with judged t v)
 
 -- one more
-one-held : (keys : Directory) (judged : List Taken) (t : Taken) (v : Judgement) → verdict_on keys t ≡ v → IsAccepting v
+one-held : (keys : Directory) (judged : List AcceptedBytes) (t : AcceptedBytes) (v : Judgement) → verdict_on keys t ≡ v → IsAccepting v
     → All (λ t. IsAccepting (verdict_on keys t)) judged → All (λ t. IsAccepting (verdict_on keys t)) (judged ++ t ∷ [])
 one-held keys judged t v is taken all = All-push (λ t. IsAccepting (verdict_on keys t)) judged t all (subst IsAccepting (sym is) taken)
 
-one-told : (keys : Directory) (judged : List Taken) (t : Taken) (v : Judgement) → verdict_on keys t ≡ v
+one-told : (keys : Directory) (judged : List AcceptedBytes) (t : AcceptedBytes) (v : Judgement) → verdict_on keys t ≡ v
     → map (told_by keys) judged ++ said_of t.name v ∷ [] ≡ map (told_by keys) (judged ++ t ∷ [])
 one-told keys judged t v is = ap (λ x. map (told_by keys) judged ++ said_of t.name x ∷ []) (sym is) ∙ sym (map-append (told_by keys) judged (t ∷ []))
 
-held-by : (keys : Directory) (judged : List Taken) (t : Taken) (v : Judgement) → verdict_on keys t ≡ v → IsHeld keys judged t v
+held-by : (keys : Directory) (judged : List AcceptedBytes) (t : AcceptedBytes) (v : Judgement) → verdict_on keys t ≡ v → IsHeld keys judged t v
 held-by keys judged t (Accepted certificate digest epoch root) is = record {
   taken = one-held keys judged t (Accepted certificate digest epoch root) is tt;
   told = λ message. one-told keys judged t (Accepted certificate digest epoch root) is;
@@ -114,7 +114,7 @@ held-by keys judged t (Absent epoch root) is = record {
 }
 held-by keys judged t (Refused number) is = record { taken = λ all. all; told = λ message. append-nil (map (told_by keys) judged) }
 
-pub judging-makes : (w : World) (message : ℕ) (t : Taken) → HasParties w → Makes w (judged_by_rule w message t)
+pub judging-makes : (w : World) (message : ℕ) (t : AcceptedBytes) → HasParties w → Makes w (judged_by_rule w message t)
 judging-makes w message t late = record {
   phase = refl;
   keeps = record {

@@ -11,7 +11,7 @@ use Rattle.ar_base.specs.Chaining.{need}
 use Rattle.ar_cert.specs.Certificate.{Certificate, digest_of}
 use Rattle.ar_message.proofs.MessageLaws.{only_messages}
 use Rattle.ar_message.specs.Confirmation.{absent, present}
-use Rattle.ar_message.specs.Filling.{bytes_at, filled}
+use Rattle.ar_message.specs.Filling.{letter_bytes, filled}
 use Rattle.ar_message.specs.Messages.{IsMessage, message_in, shown_in}
 use Rattle.ar_message.specs.Sending.{Letter}
 use Rattle.ar_message.specs.declared.message.Confirming.{Confirming}
@@ -84,7 +84,7 @@ is-message w message number node part first_signature sent kept c =
 
 pub passing-accepted : (saying : Saying) (checks : List CheckParts) (input : List ℕ) (w : World) (message number : ℕ) (node : AuthorityNode) (part : Confirming) (first_signature : List ℕ) (sent : Unsigned)
     (asked : Asked) (certificate : Certificate) → GoesThrough saying checks input w → ConfirmsToo w message number node part first_signature sent → AsksForIt node part first_signature asked
-    → shown_in part.body ≡ present certificate → judgement asked (bytes_at (filled node.keys sent).messages 0) ≡ Accepted certificate (digest_of certificate) part.epoch part.root
+    → shown_in part.body ≡ present certificate → judgement asked (letter_bytes (filled node.keys sent).messages 0) ≡ Accepted certificate (digest_of certificate) part.epoch part.root
 passing-accepted saying checks input w message number node part first_signature sent asked certificate through c asks shown =
     let kept = passing-kept saying checks input w through in
     row-accepted node.state node.keys part first_signature c.later sent asked certificate (world-ring w number node kept c.there)
@@ -92,7 +92,7 @@ passing-accepted saying checks input w message number node part first_signature 
 
 pub passing-absent : (saying : Saying) (checks : List CheckParts) (input : List ℕ) (w : World) (message number : ℕ) (node : AuthorityNode) (part : Confirming) (first_signature : List ℕ) (sent : Unsigned)
     (asked : Asked) (bottom : Bottom) → GoesThrough saying checks input w → ConfirmsToo w message number node part first_signature sent → AsksForIt node part first_signature asked
-    → shown_in part.body ≡ absent bottom → judgement asked (bytes_at (filled node.keys sent).messages 0) ≡ Absent part.epoch part.root
+    → shown_in part.body ≡ absent bottom → judgement asked (letter_bytes (filled node.keys sent).messages 0) ≡ Absent part.epoch part.root
 passing-absent saying checks input w message number node part first_signature sent asked bottom through c asks shown =
     let kept = passing-kept saying checks input w through in
     row-absent node.state node.keys part first_signature c.later sent asked bottom (world-ring w number node kept c.there)
@@ -100,25 +100,25 @@ passing-absent saying checks input w message number node part first_signature se
 
 -- what it sends is bytes
 sent-are-bytes : (w : World) (message number : ℕ) (node : AuthorityNode) (part : Confirming) (first_signature : List ℕ) (sent : Unsigned) → KeepsWorld w
-    → ConfirmsToo w message number node part first_signature sent → AreBytes (bytes_at (filled node.keys sent).messages 0)
+    → ConfirmsToo w message number node part first_signature sent → AreBytes (letter_bytes (filled node.keys sent).messages 0)
 sent-are-bytes w message number node part first_signature sent kept c =
     let bytes = message-bytes w.pool message c.pooled kept.each_message c.has in
     let reads = (only_messages c.pooled.bytes (HalfConfirmed part first_signature) bytes).0 c.reads in
     let letter = row-letter node.state node.keys part first_signature c.later sent (world-ring w number node kept c.there) reads.0 c.answers in
-    subst AreBytes (sym (ap (λ (ls : List Letter). bytes_at ls 0) letter))
+    subst AreBytes (sym (ap (λ (ls : List Letter). letter_bytes ls 0) letter))
     (sent-bytes (confirmer_of node.state node.keys) part first_signature (subst AreBytes (sym reads.1.0) bytes))
 
 -- ---- what a delivery of it sends
 
 -- in a world the bytes are those of a message, as the pool has it
 abbrev IsSent : World → AuthorityNode → Unsigned → Type 0
-IsSent v node sent = Contains (messages_of v.pool) (in_bytes (bytes_at (filled node.keys sent).messages 0))
+IsSent v node sent = Contains (messages_of v.pool) (in_bytes (letter_bytes (filled node.keys sent).messages 0))
 
 -- a single letter enters the pool
 sent-in : (pool : List Pooled) (who : Party) (letters : List Letter) (letter : Letter) → letters ≡ letter ∷ []
-    → Contains (messages_of (pool ++ map (pooled_from who) letters)) (in_bytes (bytes_at letters 0))
+    → Contains (messages_of (pool ++ map (pooled_from who) letters)) (in_bytes (letter_bytes letters 0))
 sent-in pool who letters letter is =
-    subst (λ (ls : List Letter). Contains (messages_of (pool ++ map (pooled_from who) ls)) (in_bytes (bytes_at ls 0))) (sym is)
+    subst (λ (ls : List Letter). Contains (messages_of (pool ++ map (pooled_from who) ls)) (in_bytes (letter_bytes ls 0))) (sym is)
     (subst (λ (all : List (List ℕ)). Contains all (in_bytes letter.bytes)) (sym (map-append (λ (p : Pooled). p.bytes) pool (pooled_from who letter ∷ [])))
     (Contains-append_right (messages_of pool) (in_bytes letter.bytes ∷ []) (in_bytes letter.bytes) (0, omega arith, refl)))
 
@@ -134,7 +134,7 @@ delivery-sends : (says : Outcome) (w : World) (message number : ℕ) (node : Aut
     → ConfirmsToo w message number node part first_signature sent → IsSent (delivery says w message number (an_authority node)).0 node sent
 unfolding authority_delivered
 delivery-sends says w message number node part first_signature sent kept c =
-    subst (λ (a : AuthorityAnswer). Contains (messages_of (pool_behind noted who (authority_does (node_behind node (message_in bytes) reply) a).1)) (in_bytes (bytes_at (filled node.keys sent).messages 0)))
+    subst (λ (a : AuthorityAnswer). Contains (messages_of (pool_behind noted who (authority_does (node_behind node (message_in bytes) reply) a).1)) (in_bytes (letter_bytes (filled node.keys sent).messages 0)))
     (sym is) (sent-in noted who (filled node.keys sent).messages _ (row-letter node.state node.keys part first_signature c.later sent (world-ring w number node kept c.there)
     (is-message w message number node part first_signature sent kept c) c.answers))
   where
@@ -184,10 +184,10 @@ made-sends saying checks input w message number node part first_signature sent m
 -- what is sent so stands among the messages at the end
 pub confirmed-stays : (saying : Saying) (checks : List CheckParts) (input : List ℕ) (w : World) (message number : ℕ) (node : AuthorityNode) (part : Confirming) (first_signature : List ℕ) (sent : Unsigned) (made : Moved)
     → Delivers saying checks input w message (authority_party number) made → ConfirmsToo w message number node part first_signature sent
-    → Contains (messages_of (run saying checks input).world.pool) (bytes_at (filled node.keys sent).messages 0)
+    → Contains (messages_of (run saying checks input).world.pool) (letter_bytes (filled node.keys sent).messages 0)
 confirmed-stays saying checks input w message number node part first_signature sent made d c =
     let kept = passing-kept saying checks input w (delivers-passing saying checks input w message (authority_party number) made d) in
     let goes : Goes made.0 (run saying checks input).world = delivered-goes-on saying checks input w message (authority_party number) made d in
-    subst (Contains (messages_of (run saying checks input).world.pool)) (bytes_stay (bytes_at (filled node.keys sent).messages 0) (sent-are-bytes w message number node part first_signature sent kept c))
-    (bytes-later made.0 (run saying checks input).world (in_bytes (bytes_at (filled node.keys sent).messages 0)) goes.later.messages
+    subst (Contains (messages_of (run saying checks input).world.pool)) (bytes_stay (letter_bytes (filled node.keys sent).messages 0) (sent-are-bytes w message number node part first_signature sent kept c))
+    (bytes-later made.0 (run saying checks input).world (in_bytes (letter_bytes (filled node.keys sent).messages 0)) goes.later.messages
     (made-sends saying checks input w message number node part first_signature sent made kept c d))

@@ -24,7 +24,7 @@ use Rattle.script_text.specs.declared.line.Line.TheVariants as line
 use Rattle.run_safety.specs.Flushes.{LeavesNothingDue}
 use Rattle.run_safety.proofs.Chains.{need-holds}
 use Rattle.ar_nodes.proofs.Noted.{noted-is}
-use Rattle.run_safety.proofs.Deliveries.{Sends, delivery-sends, noted, noted-takers}
+use Rattle.ar_world.proofs.Sends.{Sends, delivery-sends, noted, noted-takers}
 use Rattle.ar_world.proofs.Deliveries.{can-take}
 use Rattle.run_safety.proofs.Waiting.{pool-falls, pool-few, waiting-in}
 

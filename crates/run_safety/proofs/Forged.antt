@@ -14,8 +14,8 @@ use Rattle.ar_council.specs.Council.{council_of}
 use Rattle.ar_message.specs.Confirmation.{Confirmation, confirmation_at}
 use Rattle.ar_nodes.specs.Parties.{AuthorityNode, CheckParts, LogNode}
 use Rattle.ar_safety.proofs.Held.{own-record}
-use Rattle.ar_safety.specs.Held.{IsAccepting, Taken, asked_by, judged_in, record_at, records_of, verdict_on}
-use Rattle.ar_safety.specs.Records.{AreSigned, IsHonest, Judged, carried, seen_by, signed_by}
+use Rattle.ar_safety.specs.Held.{IsAccepting, AcceptedBytes, asked_by, judged_in, record_at, records_of, verdict_on}
+use Rattle.ar_safety.specs.Records.{AreSigned, IsHonest, AcceptedConfirmation, carried, seen_by, signed_by}
 use Rattle.ar_safety.specs.Theorem.{NoForgery}
 use Rattle.ar_statement.specs.Claims.{authority_party, log_party, party}
 use Rattle.ar_statement.specs.declared.party.Party.{Party}
@@ -30,7 +30,7 @@ use Rattle.authority_core.specs.Calls.{fresh_authority}
 use Rattle.authority_core.specs.Record.{AuthorityRecord}
 use Rattle.client_rule.proofs.Claiming.{first-claims, log-claims, second-claims}
 use Rattle.client_rule.proofs.Meanings.{absence, accepted}
-use Rattle.client_rule.specs.Meaning.{Passes}
+use Rattle.client_rule.specs.Meaning.{PassesChecks}
 use Rattle.client_rule.specs.Rule.{claim_on}
 use Rattle.client_rule.specs.declared.judgement.Judgement.{Judgement}
 use Rattle.client_rule.specs.declared.judgement.Judgement.TheVariants.{Absent, Accepted, Refused}
@@ -190,21 +190,21 @@ all-taken {X} {Y} f P (x ∷ xs) each = by (f x) refl (all-taken f P xs (λ z th
     by (Some y) is rest = subst (λ o. All P (cons_option o (filter_map f xs))) (sym is) (All-cons P y (filter_map f xs) (each x (0, omega arith, refl) y is) rest)
 
 -- an accepted judgement was read, and passes
-record WasRead (directory : Directory) (t : Taken) : Type 0 where
+record WasRead (directory : Directory) (t : AcceptedBytes) : Type 0 where
   confirmation : Confirmation
-  passes : Passes (asked_by directory t) t.bytes confirmation
+  passes : PassesChecks (asked_by directory t) t.bytes confirmation
 
-read-of : (directory : Directory) (t : Taken) (v : Judgement) → verdict_on directory t ≡ v → IsAccepting v → WasRead directory t
+read-of : (directory : Directory) (t : AcceptedBytes) (v : Judgement) → verdict_on directory t ≡ v → IsAccepting v → WasRead directory t
 read-of directory t (Accepted certificate digest epoch root) is taken =
     let a = (accepted (asked_by directory t) t.bytes certificate digest epoch root).0 is in record { confirmation = a.confirmation; passes = a.passes }
 read-of directory t (Absent epoch root) is taken =
     let a = (absence (asked_by directory t) t.bytes epoch root).0 is in record { confirmation = a.confirmation; passes = a.passes }
 read-of directory t (Refused number) is taken = absurd taken
 
-abbrev as_judged : Directory → Taken → Confirmation → Judged
+abbrev as_judged : Directory → AcceptedBytes → Confirmation → AcceptedConfirmation
 as_judged directory t c = record { asked = asked_by directory t; bytes = t.bytes; confirmation = c }
 
-judged-is : (directory : Directory) (t : Taken) (c : Confirmation) → whole confirmation_at t.bytes ≡ Ok c → judged_in directory t ≡ Some (as_judged directory t c)
+judged-is : (directory : Directory) (t : AcceptedBytes) (c : Confirmation) → whole confirmation_at t.bytes ≡ Ok c → judged_in directory t ≡ Some (as_judged directory t c)
 judged-is directory t c is = ap (λ (r : Result Confirmation ℕ). option_map (as_judged directory t) (result_ok r)) is
 
 -- a text of an honest party stands in its book
@@ -212,7 +212,7 @@ abbrev StandsInBook : World → SeenText → Type 0
 StandsInBook f t = (p : PartyParts) → parts_of f t.party ≡ Some p → Contains (texts_of p.book) t.text
 
 -- each of the three statements of a confirmation that was accepted
-carried-signed : (f : World) (t : Taken) (c : Confirmation) → IsFinal f → Real f f → AreBytes t.bytes → Contains f.judged t → Passes (asked_by f.clients t) t.bytes c → SawSigned (parts_of f) (carried c)
+carried-signed : (f : World) (t : AcceptedBytes) (c : Confirmation) → IsFinal f → Real f f → AreBytes t.bytes → Contains f.judged t → PassesChecks (asked_by f.clients t) t.bytes c → SawSigned (parts_of f) (carried c)
 carried-signed f t c final real are there passes x p is has = All-contains (StandsInBook f) (carried c) x all has p is
   where
     one : (who : Party) → IsVerifiedIn f.clients (claimed_in_bytes t.bytes) (seen_of who (claim_on c.about c.body who)) → StandsInBook f (seen_of who (claim_on c.about c.body who))
@@ -234,14 +234,14 @@ carried-signed f t c final real are there passes x p is has = All-contains (Stan
         (All-cons (StandsInBook f) (text first) (text second ∷ []) (one first (first-claims (asked_by f.clients t) t.bytes c are passes))
         (All-cons (StandsInBook f) (text second) [] (one second (second-claims (asked_by f.clients t) t.bytes c are passes)) (All-nil (StandsInBook f))))
 
-judged-signed : (f : World) → KeepsWorld f → IsFinal f → Real f f → All (λ (j : Judged). AreSigned (records_of (held_of f)) (carried j.confirmation)) (records_of (held_of f)).judged
+judged-signed : (f : World) → KeepsWorld f → IsFinal f → Real f f → All (λ (j : AcceptedConfirmation). AreSigned (records_of (held_of f)) (carried j.confirmation)) (records_of (held_of f)).judged
 judged-signed f kept final real =
-    all-taken (judged_in f.clients) (λ (j : Judged). AreSigned (records_of (held_of f)) (carried j.confirmation)) f.judged (λ t there j gives.
-    let are : AreBytes t.bytes = All-contains (λ (x : Taken). AreBytes x.bytes) f.judged t kept.each_judged there in
-    let taken : IsAccepting (verdict_on f.clients t) = All-contains (λ (x : Taken). IsAccepting (verdict_on f.clients x)) f.judged t final.seated.taken there in
+    all-taken (judged_in f.clients) (λ (j : AcceptedConfirmation). AreSigned (records_of (held_of f)) (carried j.confirmation)) f.judged (λ t there j gives.
+    let are : AreBytes t.bytes = All-contains (λ (x : AcceptedBytes). AreBytes x.bytes) f.judged t kept.each_judged there in
+    let taken : IsAccepting (verdict_on f.clients t) = All-contains (λ (x : AcceptedBytes). IsAccepting (verdict_on f.clients x)) f.judged t final.seated.taken there in
     let was : WasRead f.clients t = read-of f.clients t (verdict_on f.clients t) refl taken in
     let same : as_judged f.clients t was.confirmation ≡ j = same_Some _ _ (sym (judged-is f.clients t was.confirmation was.passes.is_read) ∙ gives) in
-    subst (λ (x : Judged). AreSigned (records_of (held_of f)) (carried x.confirmation)) same
+    subst (λ (x : AcceptedConfirmation). AreSigned (records_of (held_of f)) (carried x.confirmation)) same
     (saw-signed f (carried was.confirmation) final.seated (carried-signed f t was.confirmation final real are there was.passes)))
 
 -- ---- the theorem's premise
@@ -268,7 +268,7 @@ run-unforged saying checks input = goes-unforged checks (run saying checks input
 -- ---- what was taken of others
 
 -- each of the three statements of a confirmation that was accepted is one of the claims of the messages
-carried-shown : (f : World) (t : Taken) (c : Confirmation) → Contains (messages_of f.pool) t.bytes → AreBytes t.bytes → Passes (asked_by f.clients t) t.bytes c
+carried-shown : (f : World) (t : AcceptedBytes) (c : Confirmation) → Contains (messages_of f.pool) t.bytes → AreBytes t.bytes → PassesChecks (asked_by f.clients t) t.bytes c
     → All (IsVerifiedIn f.clients (shown f)) (carried c)
 carried-shown f t c there are passes =
     All-cons (IsVerifiedIn f.clients (shown f)) (text log) (text first ∷ text second ∷ []) (one log (log-claims (asked_by f.clients t) t.bytes c are passes))
@@ -291,15 +291,15 @@ carried-shown f t c there are passes =
     one who verified =
         still-verified f.clients f.clients (claimed_in_bytes t.bytes) (shown f) (text who) (claims-within (messages_of f.pool) t.bytes there) (λ signature is. is) verified
 
-judged-shown : (f : World) → KeepsWorld f → IsSeated f → Seen f → (t : Taken) (c : Confirmation) → Contains f.judged t → whole confirmation_at t.bytes ≡ Ok c
+judged-shown : (f : World) → KeepsWorld f → IsSeated f → Seen f → (t : AcceptedBytes) (c : Confirmation) → Contains f.judged t → whole confirmation_at t.bytes ≡ Ok c
     → (s : SeenText) → Contains (carried c) s → IsVerifiedIn f.clients (shown f) s
 judged-shown f kept seated seen t c there is s has =
-    let are : AreBytes t.bytes = All-contains (λ (x : Taken). AreBytes x.bytes) f.judged t kept.each_judged there in
-    let taken : IsAccepting (verdict_on f.clients t) = All-contains (λ (x : Taken). IsAccepting (verdict_on f.clients x)) f.judged t seated.taken there in
+    let are : AreBytes t.bytes = All-contains (λ (x : AcceptedBytes). AreBytes x.bytes) f.judged t kept.each_judged there in
+    let taken : IsAccepting (verdict_on f.clients t) = All-contains (λ (x : AcceptedBytes). IsAccepting (verdict_on f.clients x)) f.judged t seated.taken there in
     let was : WasRead f.clients t = read-of f.clients t (verdict_on f.clients t) refl taken in
     let same : was.confirmation ≡ c = same_Some was.confirmation c (ap result_ok (sym was.passes.is_read ∙ is)) in
     All-contains (IsVerifiedIn f.clients (shown f)) (carried c) s
-    (carried-shown f t c (seen.judged t there) are (subst (Passes (asked_by f.clients t) t.bytes) same was.passes)) has
+    (carried-shown f t c (seen.judged t there) are (subst (PassesChecks (asked_by f.clients t) t.bytes) same was.passes)) has
 
 pub goes-shown : (checks : List CheckParts) (f : World) → Goes (first_world checks) f → AllShown f
 goes-shown checks f goes =

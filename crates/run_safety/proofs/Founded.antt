@@ -6,7 +6,7 @@ use Rattle.std.specs.Result.{result_ok}
 use Rattle.std.proofs.lemmas.List.{length-map}
 use Rattle.std.proofs.lemmas.List.Elements.{All-nil}
 use Rattle.std.proofs.lemmas.List.FromFn.{length-map-range_with_len}
-use Rattle.ar_safety.specs.Held.{IsAccepting, Taken, verdict_on}
+use Rattle.ar_safety.specs.Held.{IsAccepting, AcceptedBytes, verdict_on}
 use Rattle.ar_statement.specs.Claims.{authority_party, is_party, log_party}
 use Rattle.ar_statement.specs.declared.party.Party.{Party}
 use Rattle.ar_statement.specs.declared.party.Role.{Role}
@@ -14,7 +14,7 @@ use Rattle.ar_statement.specs.declared.party.Role.TheVariants as role
 use Rattle.ar_nodes.specs.Finding.{honest_in}
 use Rattle.ar_nodes.specs.Finding.{named}
 use Rattle.ar_world.specs.Founding.{authorities_line, peopled}
-use Rattle.ar_founding.specs.Founding.{fresh_log, fresh_logs, genesis_of, new_authorities, new_authority}
+use Rattle.ar_founding.specs.Founding.{fresh_log, fresh_logs, genesis_of, new_authorities, founded_authority}
 use Rattle.ar_founding.specs.FirstKeys.{key_made, keys_made}
 use Rattle.ar_founding.specs.FirstKeys.{Setup, key_for, keys_for}
 use Rattle.ar_world.specs.State.{World}
@@ -113,7 +113,7 @@ pub keys-quiet : (setup : Setup) (r : Role) (count : ℕ) → filter_map marked_
 keys-quiet setup r count = made-quiet setup r (range_with_len 0 count)
 
 -- nothing is held
-none-taken : (clients : Directory) (judged : List Taken) → judged ≡ [] → All (λ t. IsAccepting (verdict_on clients t)) judged
+none-taken : (clients : Directory) (judged : List AcceptedBytes) → judged ≡ [] → All (λ t. IsAccepting (verdict_on clients t)) judged
 none-taken clients judged none = subst (All (λ t. IsAccepting (verdict_on clients t))) (sym none) (All-nil (λ t. IsAccepting (verdict_on clients t)))
 
 peopled-seated : (w : World) (count : ℕ) (genesis : Directory) → genesis_of w.setup count ≡ Some genesis → Bare (part_of w)
@@ -139,7 +139,7 @@ peopled-seated w count genesis made bare =
           }));
       authorities = subst (λ n. AreSeated authority_party (part_of w).dishonest n (IsAuthorityOf genesis) (new_authorities w.setup genesis w.checks count)) (sym long.1)
           (made-seated authority_party (part_of w).dishonest count (IsAuthorityOf genesis)
-          (λ number. new_authority genesis number (key_for w.setup role.Authority number) (slice_get w.checks number)) bare.dishonest
+          (λ number. founded_authority genesis number (key_for w.setup role.Authority number) (slice_get w.checks number)) bare.dishonest
           (λ n less. record {
             number = refl;
             council = refl;
@@ -154,13 +154,13 @@ peopled-seated w count genesis made bare =
           let none : length (part_of w).dishonest ≡ 0 = ap length bare.dishonest in
           let logs : honest_count (fresh_logs w.setup genesis) ≡ length (fresh_logs w.setup genesis) = count-made (λ number. fresh_log genesis number (key_for w.setup role.LogServer number)) 0 w.setup.logs in
           let authorities : honest_count (new_authorities w.setup genesis w.checks count) ≡ length (new_authorities w.setup genesis w.checks count) =
-          count-made (λ number. new_authority genesis number (key_for w.setup role.Authority number) (slice_get w.checks number)) 0 count in
+          count-made (λ number. founded_authority genesis number (key_for w.setup role.Authority number) (slice_get w.checks number)) 0 count in
           omega (arith, none, logs, authorities);
       taken = none-taken genesis w.judged bare.judged;
     }
 
 -- nothing is told where nothing is held
-none-told : (clients : Directory) (judged : List Taken) → judged ≡ [] → map (told_by clients) judged ≡ []
+none-told : (clients : Directory) (judged : List AcceptedBytes) → judged ≡ [] → map (told_by clients) judged ≡ []
 none-told clients judged none = ap (map (told_by clients)) none
 
 -- before the line nobody is dishonest, and nothing was accepted

@@ -7,7 +7,7 @@ use Rattle.ar_base.proofs.Prefixes.{begins_itself}
 use Rattle.ar_base.proofs.Shown.{if-chained, needed}
 use Rattle.ar_base.specs.Prefixes.{BeginsWith}
 use Rattle.ar_founding.specs.FirstKeys.{key_for, keys_for}
-use Rattle.ar_founding.specs.Founding.{fresh_log, genesis_of, new_authority}
+use Rattle.ar_founding.specs.Founding.{fresh_log, genesis_of, founded_authority}
 use Rattle.ar_nodes.specs.Finding.{honest_in, named}
 use Rattle.ar_nodes.specs.Parties.{AuthorityNode, LogNode}
 use Rattle.ar_statement.specs.declared.party.Party.{Party}
@@ -73,7 +73,7 @@ authorities-founds w count =
     log genesis number = fresh_log genesis number (key_for w.setup role.LogServer number)
 
     authority : Directory → ℕ → AuthorityNode
-    authority genesis number = new_authority genesis number (key_for w.setup role.Authority number) (slice_get w.checks number)
+    authority genesis number = founded_authority genesis number (key_for w.setup role.Authority number) (slice_get w.checks number)
 
     its : (genesis : Directory) (r : Role) (number : ℕ) (p : PartyParts) → parts_in (peopled w count genesis).0 r number ≡ Some p
         → (x : PartyParts) × (x ≡ p) × (x.knows ≡ genesis) × (x.saw ≡ [])

@@ -8,7 +8,7 @@ use Rattle.ar_nodes.specs.Parties.{CheckParts}
 use Rattle.ar_statement.specs.declared.party.Party.{Party}
 use Rattle.ar_world.specs.Delivering.{deliver_line, next_due}
 use Rattle.ar_world.specs.Finding.{Effect}
-use Rattle.ar_world.specs.Run.{Course, Progress, Saying, at_line, delivering, flushed, follows, line_taken, most_deliveries, most_lines, progress_of, refusing, run, run_from, taken_as, then_if}
+use Rattle.ar_world.specs.Run.{Course, Progress, Saying, at_line, delivering, flushed, deliveries_behind, line_taken, most_deliveries, most_lines, progress_of, refusing, run, run_from, taken_as, then_if}
 use Rattle.ar_world.specs.State.{World, first_world}
 use Rattle.ar_world.specs.Step.{step}
 use Rattle.ar_world.specs.declared.cause.Cause.{Cause}
@@ -54,14 +54,14 @@ flushed-leads zero says number w = still w
 flushed-leads (suc more) says number w =
     delivering-leads (says number) w (next_due w) (flushed more says (number + 1)) (flushed-leads more says (number + 1))
 
-follows-leads : (says : ℕ → Outcome) (l : Line) (w : World) → Leads w (follows says l w)
+follows-leads : (says : ℕ → Outcome) (l : Line) (w : World) → Leads w (deliveries_behind says l w)
 follows-leads says (line.Event event.Flush) w = flushed-leads most_deliveries says 0 w
 follows-leads says _ w = still w
 
 taken-leads : (says : ℕ → Outcome) (w : World) (read : Result (Option Line) Reason) → Leads w (taken_as says w read)
 taken-leads says w (Ok (Some l)) =
     let p = progress_of w (step (says 0) w l)
-    in if-leads w p.refused p (follows says l) (effect-leads w (step (says 0) w l) (goes-of-steps.steps (says 0) w l)) (follows-leads says l)
+    in if-leads w p.refused p (deliveries_behind says l) (effect-leads w (step (says 0) w l) (goes-of-steps.steps (says 0) w l)) (follows-leads says l)
 taken-leads says w (Ok None) = still w
 taken-leads says w (Err why) = still w
 

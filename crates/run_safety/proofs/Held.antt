@@ -16,10 +16,10 @@ use Rattle.ar_nodes.specs.Parties.{AuthorityNode, LogNode}
 use Rattle.ar_world.specs.Records.{KeepsRecords, held_of}
 use Rattle.ar_world.specs.State.{World}
 use Rattle.authority_core.specs.Calls.{fresh_authority}
-use Rattle.authority_core.specs.Honest.{HonestAuthority}
+use Rattle.authority_core.specs.Honest.{IsOfHonestAuthority}
 use Rattle.authority_core.specs.Record.{AuthorityRecord}
 use Rattle.epoch_log.specs.Calls.{fresh}
-use Rattle.epoch_log.specs.Honest.{HonestLog}
+use Rattle.epoch_log.specs.Honest.{IsOfHonestLog}
 use Rattle.epoch_log.specs.Record.{LogRecord}
 use Rattle.run_safety.specs.Seats.{AreSeated, IsAuthorityOf, IsLogOf, IsSeated}
 
@@ -91,7 +91,7 @@ log-records w seated =
 
 -- the theorem's record of an honest log is its own
 honest-log : (w : World) → IsSeated w → KeepsRecords w → (n : ℕ) → IsHonestLog (records_of (held_of w)) n
-    → HonestLog (council_of w.clients) n ((records_of (held_of w)).logs n)
+    → IsOfHonestLog (council_of w.clients) n ((records_of (held_of w)).logs n)
 honest-log w seated keeps n is =
     let dishonest : List Party = (held_of w).dishonest in
     let none : LogRecord = (fresh 0 (council_of w.clients) 1).past in
@@ -103,9 +103,9 @@ honest-log w seated keeps n is =
     ap (λ (xs : List LogRecord). record_at log_party dishonest xs none n) (log-records w seated)
     ∙ own-record log_party dishonest (log_past w) none (length w.clients.logs) n is.known is.honest
     ∙ ap (record_or (λ (node : LogNode). node.core.log.past) none) there.1 in
-    subst (HonestLog (council_of w.clients) n) (sym its)
-    (subst (λ (m : ℕ). HonestLog (council_of w.clients) m node.core.log.past) own.number
-    (subst (λ (c : Council). HonestLog c node.core.log.me node.core.log.past) (own.council ∙ sym seated.council) (keeps.logs n node there.1)))
+    subst (IsOfHonestLog (council_of w.clients) n) (sym its)
+    (subst (λ (m : ℕ). IsOfHonestLog (council_of w.clients) m node.core.log.past) own.number
+    (subst (λ (c : Council). IsOfHonestLog c node.core.log.me node.core.log.past) (own.council ∙ sym seated.council) (keeps.logs n node there.1)))
 
 -- ---- authorities
 
@@ -123,7 +123,7 @@ authority-records w seated =
     ∙ ap (honest_records authority_party (held_of w).dishonest (authority_past w)) (authorities-known w seated)
 
 honest-authority : (w : World) → IsSeated w → KeepsRecords w → (n : ℕ) → IsHonest (records_of (held_of w)) (authority_party n)
-    → HonestAuthority (council_of w.clients) n ((records_of (held_of w)).authorities n)
+    → IsOfHonestAuthority (council_of w.clients) n ((records_of (held_of w)).authorities n)
 honest-authority w seated keeps n is =
     let dishonest : List Party = (held_of w).dishonest in
     let none : AuthorityRecord = fresh_authority 1 in
@@ -135,9 +135,9 @@ honest-authority w seated keeps n is =
     ap (λ (xs : List AuthorityRecord). record_at authority_party dishonest xs none n) (authority-records w seated)
     ∙ own-record authority_party dishonest (authority_past w) none (length w.clients.authorities) n is.known is.honest
     ∙ ap (record_or (λ (node : AuthorityNode). node.state.past) none) there.1 in
-    subst (HonestAuthority (council_of w.clients) n) (sym its)
-    (subst (λ (m : ℕ). HonestAuthority (council_of w.clients) m node.state.past) own.number
-    (subst (λ (c : Council). HonestAuthority c node.state.me node.state.past) (own.council ∙ sym seated.council) (keeps.authorities n node there.1)))
+    subst (IsOfHonestAuthority (council_of w.clients) n) (sym its)
+    (subst (λ (m : ℕ). IsOfHonestAuthority (council_of w.clients) m node.state.past) own.number
+    (subst (λ (c : Council). IsOfHonestAuthority c node.state.me node.state.past) (own.council ∙ sym seated.council) (keeps.authorities n node there.1)))
 
 -- ---- all that is kept
 

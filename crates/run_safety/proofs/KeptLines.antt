@@ -9,7 +9,7 @@ use Rattle.ar_base.specs.Chaining.{need}
 use Rattle.ar_base.specs.Gives.{with_error}
 use Rattle.ar_cert.specs.Certificate.{Certificate, digest_of}
 use Rattle.ar_founding.specs.FirstKeys.{Setup, key_for, keys_for}
-use Rattle.ar_founding.specs.Founding.{fresh_log, genesis_of, new_authority}
+use Rattle.ar_founding.specs.Founding.{fresh_log, genesis_of, founded_authority}
 use Rattle.ar_message.specs.Messages.{message_in}
 use Rattle.ar_message.specs.declared.sent.Sent.{Sent}
 use Rattle.ar_nodes.specs.Acting.{Reply, acted, authority_delivered, authority_rolled, authority_took, authority_turned, bytes_of, log_delivered, log_does, log_obeyed, log_rolled, noted_in, owner_delivered, owner_does, pool_behind}
@@ -23,7 +23,7 @@ use Rattle.ar_nodes.specs.Teaching.{retold}
 use Rattle.ar_nodes.specs.declared.event.LogEvent.{LogEvent}
 use Rattle.ar_nodes.specs.declared.event.LogEvent.TheVariants as events
 use Rattle.ar_nodes.specs.declared.fault.WorldFault.TheVariants.{Absent}
-use Rattle.ar_safety.specs.Held.{Taken, verdict_on}
+use Rattle.ar_safety.specs.Held.{AcceptedBytes, verdict_on}
 use Rattle.ar_statement.specs.Claims.{authority_party, client_party, log_party, owner_party}
 use Rattle.ar_statement.specs.declared.party.Party.{Party}
 use Rattle.ar_statement.specs.declared.party.Role.{Role}
@@ -34,7 +34,9 @@ use Rattle.ar_world.proofs.Remembered.{kept-at}
 use Rattle.ar_world.proofs.Runs.{step-holds, HoldsOfSteps, run-holds}
 use Rattle.ar_world.specs.Asking.{ask_line, question}
 use Rattle.ar_world.specs.Delivering.{Taker, a_log, an_authority, an_owner, can_deliver, deliver_line, delivery, taker_at, taker_in}
-use Rattle.ar_world.specs.Drafting.{begun, draft_if, draft_room, first_certificate, next_certificate, policy_of, register_line, revoke_line, update_line}
+use Rattle.cert_drafts.specs.Certificates.{first_certificate, next_certificate}
+use Rattle.cert_drafts.specs.Policies.{policy_of}
+use Rattle.ar_world.specs.Drafting.{draft_begun, draft_if, draft_room, register_line, revoke_line, update_line}
 use Rattle.ar_world.specs.Finding.{authority_at, checking_at, draft_at, existing, forger_at, known_asks, log_at, message_at, owner_at, room, with_owner}
 use Rattle.ar_world.specs.Forging.{composed_in, inject_line, receiver_in, sign_line, signing_if}
 use Rattle.ar_world.specs.Founding.{authorities_line, dishonest_line, honest_key, keys_line, logs_line, may_come, peopled, place_of, without}
@@ -57,11 +59,11 @@ use Rattle.lms_tree.specs.Key.{public_of, type_to_make}
 use Rattle.lms_tree.specs.KeyParts.{KeyParts}
 use Rattle.lms_tree.specs.LmsKind.{leaves_of}
 use Rattle.log_core.specs.Keyed.{IsPlain}
-use Rattle.log_core.specs.Row.{IsInput, row}
+use Rattle.log_core.specs.Row.{IsLogInput, row}
 use Rattle.log_core.specs.State as log_state
 use Rattle.owner_check.specs.Answers.{Told, forgotten, learnt}
 use Rattle.owner_check.specs.declared.answer.Outcome.{Outcome}
-use Rattle.owner_core.specs.Rows.{Row, begin_row, handover_row, object_row, step_row, submit_row}
+use Rattle.owner_core.specs.Rows.{OwnerAnswer, begin_row, handover_row, object_row, step_row, submit_row}
 use Rattle.owner_core.specs.State.{Owner}
 use Rattle.party_keys.proofs.Bounds.{made_keeps}
 use Rattle.party_keys.specs.Directory.{Directory, IsDirectory, directory_of, is_party_count, is_quorum, keys_of}
@@ -82,7 +84,8 @@ use Rattle.run_safety.proofs.KeptNodes.{authority-rolls-kept, authority-took-kep
 use Rattle.run_safety.proofs.KeptPool.{IsBytes, behind-bytes, delivered-bytes, message-bytes, noted-bytes, raw-bytes, reply-bytes}
 use Rattle.run_safety.proofs.Learns.{knows-directory}
 use Rattle.ar_world.proofs.Deliveries.{can-take}
-use Rattle.run_safety.proofs.Lines.{authority-takes, checking-there, delivery-makes, log-takes}
+use Rattle.ar_world.proofs.Sends.{authority-takes, log-takes}
+use Rattle.run_safety.proofs.Lines.{checking-there, delivery-makes}
 
 -- what is kept of a world, from the line `authorities` on or before it
 abbrev pub Keeps : Bool → World → Type 0
@@ -134,7 +137,7 @@ log-made-kept w number pool what made kept all is =
     log-put-kept w number made.0 (pool_behind pool (log_party number) made.1) kept is (reply-bytes pool (log_party number) made.1 all)
 
 obeyed-kept : {late : Bool} (w : World) (number : ℕ) (pool : List Pooled) (what : What) (event : LogEvent) (input : log_state.Input) (node : LogNode) → Keeps late w → All IsBytes pool
-    → log_at w number ≡ Some node → IsInput input → IsPlain input → Keeps late (log_made w number (log_obeyed pool number what event input node)).0
+    → log_at w number ≡ Some node → IsLogInput input → IsPlain input → Keeps late (log_made w number (log_obeyed pool number what event input node)).0
 unfolding log_obeyed
 obeyed-kept w number pool what event input node kept all there is plain =
     log-made-kept w number pool what (log_does node node.keys event (row node.core input)) kept all (log-does-kept node event input (log-at-kept w number node kept there) is plain)
@@ -191,13 +194,13 @@ posted-kept w who sent kept = pool-kept w _ kept (behind-bytes w.pool who sent.m
 
 -- ---- owners and drafts
 
-handed-kept : {late : Bool} (w : World) (number draft : ℕ) (found : Drafted) (r : Row (List ℕ)) → Keeps late w → Keeps late (handed w number draft found r).0
+handed-kept : {late : Bool} (w : World) (number draft : ℕ) (found : Drafted) (r : OwnerAnswer (List ℕ)) → Keeps late w → Keeps late (handed w number draft found r).0
 handed-kept {late} w number draft found (Ok made) kept =
     let signed = with_owner w made.1
     in subst (Keeps late) (sym (attached-by-alone signed (owner_at signed found.owner) (digest_of found.cert) made.0)) (pool-kept w w.pool kept kept.each_message)
 handed-kept w number draft found (Err refusal) kept = kept
 
-begun-kept : {late : Bool} (w : World) (number : ℕ) (r : Row Sent) → Keeps late w → Keeps late (begun w number r).0
+begun-kept : {late : Bool} (w : World) (number : ℕ) (r : OwnerAnswer Sent) → Keeps late w → Keeps late (draft_begun w number r).0
 begun-kept w number (Ok made) kept = posted-kept (with_owner w made.1) (owner_party number) made.0 kept
 begun-kept w number (Err refusal) kept = kept
 
@@ -214,7 +217,7 @@ register-kept {late} w number name policy asks kept =
     if-chained (named 1 (owner_at w number)) _ (λ made. Keeps late made.0) (λ owner same.
     if-chained (named 3 (policy_of policy)) _ (λ made. Keeps late made.0) (λ terms said.
     if-chained (known_asks w 8 asks) _ (λ made. Keeps late made.0) (λ known there.
-    draft-if-kept w owner (first_certificate owner name terms) asks kept)))
+    draft-if-kept w owner (first_certificate (public_of owner.key) name terms) asks kept)))
 
 update-kept : {late : Bool} (w : World) (number draft : ℕ) (policy : PolicyWords) (asks : List ℕ) → Keeps late w → IfOk (update_line w number draft policy asks) (λ made. Keeps late made.0)
 update-kept {late} w number draft policy asks kept =
@@ -222,14 +225,14 @@ update-kept {late} w number draft policy asks kept =
     if-chained (named 2 (draft_at w draft)) _ (λ made. Keeps late made.0) (λ old there.
     if-chained (named 3 (policy_of policy)) _ (λ made. Keeps late made.0) (λ terms said.
     if-chained (known_asks w 8 asks) _ (λ made. Keeps late made.0) (λ known all.
-    draft-if-kept w owner (next_certificate owner old.cert terms false) asks kept))))
+    draft-if-kept w owner (next_certificate (public_of owner.key) old.cert terms false) asks kept))))
 
 revoke-kept : {late : Bool} (w : World) (number draft : ℕ) (asks : List ℕ) → Keeps late w → IfOk (revoke_line w number draft asks) (λ made. Keeps late made.0)
 revoke-kept {late} w number draft asks kept =
     if-chained (named 1 (owner_at w number)) _ (λ made. Keeps late made.0) (λ owner same.
     if-chained (named 2 (draft_at w draft)) _ (λ made. Keeps late made.0) (λ old there.
     if-chained (known_asks w 3 asks) _ (λ made. Keeps late made.0) (λ known all.
-    draft-if-kept w owner (next_certificate owner old.cert old.cert.policy true) asks kept)))
+    draft-if-kept w owner (next_certificate (public_of owner.key) old.cert old.cert.policy true) asks kept)))
 
 handover-kept : {late : Bool} (w : World) (number draft : ℕ) → Keeps late w → IfOk (handover_line w number draft) (λ made. Keeps late made.0)
 handover-kept {late} w number draft kept =
@@ -285,7 +288,7 @@ peopled-kept w count genesis made kept =
       directory = λ late. d;
       each_log = all-made (λ slot. IfSome slot KeepsLog) (λ number. Some (fresh_log genesis number (key_for w.setup role.LogServer number))) 0 w.setup.logs
           (λ n less. fresh-log-kept genesis n (key_for w.setup role.LogServer n) d (omega (arith, less, few)));
-      each_authority = all-made (λ slot. IfSome slot KeepsAuthority) (λ number. Some (new_authority genesis number (key_for w.setup role.Authority number) (slice_get w.checks number))) 0 count
+      each_authority = all-made (λ slot. IfSome slot KeepsAuthority) (λ number. Some (founded_authority genesis number (key_for w.setup role.Authority number) (slice_get w.checks number))) 0 count
           (λ n less. new-authority-kept genesis n (key_for w.setup role.Authority n) (slice_get w.checks n) (omega (arith, less, fewer))
           (ap (λ (k : Directory). slice_get (keys_of k (authority_party n)) 0) (sym is)
           ∙ ap (λ keys. slice_get keys 0) (known-there w.setup role.Authority count n (omega (arith, less)))));
@@ -338,7 +341,7 @@ retire-kept {late} w number kept =
 
 -- ---- orders
 
-log-order-kept : {late : Bool} (w : World) (number : ℕ) (what : What) (event : LogEvent) (input : log_state.Input) → IsInput input → IsPlain input → Keeps late w
+log-order-kept : {late : Bool} (w : World) (number : ℕ) (what : What) (event : LogEvent) (input : log_state.Input) → IsLogInput input → IsPlain input → Keeps late w
     → IfOk (log_order w number what event input) (λ made. Keeps late made.0)
 log-order-kept {late} w number what event input is plain kept =
     if-chained (named 1 (log_at w number)) _ (λ made. Keeps late made.0) (λ node same.
@@ -392,18 +395,18 @@ ask-kept {late} w asked name first second client kept =
     if-chained (room w) _ (λ made. Keeps late made.0) (λ free all.
     posted-kept w (client_party client) (question asked name first second client) kept))))
 
-accepted-bytes : (judged : List Taken) (t : Taken) (v : Judgement) → All (λ (x : Taken). AreBytes x.bytes) judged → AreBytes t.bytes → All (λ (x : Taken). AreBytes x.bytes) (accepted_with judged t v)
+accepted-bytes : (judged : List AcceptedBytes) (t : AcceptedBytes) (v : Judgement) → All (λ (x : AcceptedBytes). AreBytes x.bytes) judged → AreBytes t.bytes → All (λ (x : AcceptedBytes). AreBytes x.bytes) (accepted_with judged t v)
 accepted-bytes judged t v all are = by (is_accepted v)
   where
-    by : (b : Bool) → All (λ (x : Taken). AreBytes x.bytes) (if b then judged ++ t ∷ [] else judged)
-    by true = All-push (λ (x : Taken). AreBytes x.bytes) judged t all are
+    by : (b : Bool) → All (λ (x : AcceptedBytes). AreBytes x.bytes) (if b then judged ++ t ∷ [] else judged)
+    by true = All-push (λ (x : AcceptedBytes). AreBytes x.bytes) judged t all are
     by false = all
 
 judge-kept : {late : Bool} (w : World) (which : Option ℕ) (name : List ℕ) (now age : ℕ) → Keeps late w → IfOk (judge_line w which name now age) (λ made. Keeps late made.0)
 judge-kept {late} w which name now age kept =
     if-chained (named 1 (judged_number w which)) _ (λ made. Keeps late made.0) (λ message same.
     if-chained (named 1 (message_at w message)) _ (λ made. Keeps late made.0) (λ p there.
-    let t : Taken = record { name = name; now = now; age = age; bytes = p.bytes } in
+    let t : AcceptedBytes = record { name = name; now = now; age = age; bytes = p.bytes } in
     record {
       directory = kept.directory;
       each_log = kept.each_log;

@@ -5,7 +5,7 @@ use Rattle.std.proofs.lemmas.List.Elements.{All-cons, All-nil}
 use Rattle.std.proofs.lemmas.Nat.{pow_pos}
 use Rattle.ar_base.specs.Bytes.{AreBytes}
 use Rattle.ar_council.specs.Council.{council_of}
-use Rattle.ar_founding.specs.Founding.{fresh_log, new_authority}
+use Rattle.ar_founding.specs.Founding.{fresh_log, founded_authority}
 use Rattle.ar_message.specs.Messages.{message_in}
 use Rattle.ar_message.specs.declared.message.Message.{Message}
 use Rattle.ar_message.specs.declared.unsigned.Unsigned.{Unsigned}
@@ -39,7 +39,7 @@ use Rattle.log_core.proofs.Later.{row-adds}
 use Rattle.log_core.proofs.Standing as log_standing
 use Rattle.log_core.specs.Keyed.{IsPlain}
 use Rattle.log_core.specs.Rolling.{rolling_row}
-use Rattle.log_core.specs.Row.{IsInput, row}
+use Rattle.log_core.specs.Row.{IsLogInput, row}
 use Rattle.log_core.specs.State as log_state
 use Rattle.owner_check.specs.declared.answer.Outcome.{Outcome}
 use Rattle.owner_core.proofs.Texts.{signature_fits}
@@ -80,7 +80,7 @@ fresh-log-kept genesis number key d small = record {
 }
 
 pub new-authority-kept : (genesis : Directory) (number : ℕ) (key : KeyParts) (check : Option CheckParts) → number < 2 ^ 16
-    → slice_get (keys_of genesis (authority_party number)) 0 ≡ Some (public_of key) → KeepsAuthority (new_authority genesis number key check)
+    → slice_get (keys_of genesis (authority_party number)) 0 ≡ Some (public_of key) → KeepsAuthority (founded_authority genesis number key check)
 new-authority-kept genesis number key check small known = record {
   state = record {
     number = small;
@@ -95,7 +95,7 @@ new-authority-kept genesis number key check small known = record {
 
 -- ---- logs
 
-pub log-does-kept : (node : LogNode) (event : LogEvent) (input : log_state.Input) → KeepsLog node → IsInput input → IsPlain input
+pub log-does-kept : (node : LogNode) (event : LogEvent) (input : log_state.Input) → KeepsLog node → IsLogInput input → IsPlain input
     → KeepsLog (log_does node node.keys event (row node.core input)).0
 log-does-kept node event input kept is plain = by (row node.core input) refl
   where
@@ -121,7 +121,7 @@ log-rolls-kept node next kept there = by (row node.core (log_state.rolls (public
     behind : IsNext node.keys next
     behind = next_is node.keys next there
 
-    is : IsInput (log_state.rolls (public_of next))
+    is : IsLogInput (log_state.rolls (public_of next))
     is = log.next_is_input (public_of next) (public-text next) (public-widths next)
 
     by : (a : log_state.LogAnswer) → row node.core (log_state.rolls (public_of next)) ≡ a → KeepsLog (log_does node (node.keys ++ next ∷ []) events.Roll a).0

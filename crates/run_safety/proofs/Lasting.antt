@@ -8,7 +8,7 @@ use Rattle.std.proofs.lemmas.Result.{IfOk-weaker}
 use Rattle.ar_base.proofs.Prefixes.{begins_itself, begins_on}
 use Rattle.ar_base.specs.Prefixes.{BeginsWith}
 use Rattle.ar_nodes.specs.Parties.{AuthorityNode, CheckParts, LogNode}
-use Rattle.ar_safety.specs.Held.{Taken}
+use Rattle.ar_safety.specs.Held.{AcceptedBytes}
 use Rattle.ar_statement.specs.Claims.{party}
 use Rattle.ar_statement.specs.declared.party.Role.{Role}
 use Rattle.ar_statement.specs.declared.party.Role.TheVariants as role
@@ -104,7 +104,7 @@ pub record IsFinal (f : World) : Type 0 where
 pub record Real (f w : World) : Type 0 where
   pub clients : KnowsReal (parts_of f) w.clients
   pub learned : SawSigned (parts_of f) w.learned
-  pub judged : (t : Taken) → Contains w.judged t → Contains (messages_of f.pool) t.bytes
+  pub judged : (t : AcceptedBytes) → Contains w.judged t → Contains (messages_of f.pool) t.bytes
   pub parties : (r : Role) (number : ℕ) (p : PartyParts) → parts_in w r number ≡ Some p → IsReal (parts_of f) p
 
 -- a party that is there grows until the end
@@ -162,7 +162,7 @@ founds-real : (f w v : World) → IsFinal f → f.genesis ≡ v.genesis → Begi
 founds-real f w v final same begins founds real = record {
   clients = subst (KnowsReal (parts_of f)) (sym founds.clients) genesis;
   learned = subst (SawSigned (parts_of f)) (sym founds.learned) real.learned;
-  judged = λ t there. real.judged t (subst (λ (taken : List Taken). Contains taken t) founds.judged there);
+  judged = λ t there. real.judged t (subst (λ (taken : List AcceptedBytes). Contains taken t) founds.judged there);
   parties = λ r number p is. record {
     knows = subst (KnowsReal (parts_of f)) (sym (founds.knows r number p is)) genesis;
     saw = subst (SawSigned (parts_of f)) (sym (founds.saw r number p is)) (λ t q its there. absurd (omega (arith, there.1)));

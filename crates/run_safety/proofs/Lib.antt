@@ -2,7 +2,6 @@ pub mod AuthoritySteps
 pub mod Chains
 pub mod Clients
 pub mod Confirmed
-pub mod Deliveries
 pub mod Flushes
 pub mod Forged
 pub mod Founded
@@ -33,6 +32,5 @@ pub mod Runs
 pub mod Safe
 pub mod SentBytes
 pub mod Shown
-pub mod SignatureBytes
 pub mod Waiting
 pub mod Written

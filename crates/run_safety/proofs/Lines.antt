@@ -22,7 +22,9 @@ use Rattle.ar_world.specs.Asking.{ask_line, question}
 use Rattle.ar_nodes.specs.Acting.{owner_does}
 use Rattle.ar_nodes.specs.Codes.{owner_code}
 use Rattle.ar_world.specs.Delivering.{Taker, a_log, an_authority, an_owner, can_deliver, deliver_line, delivery, taker_at, taker_in}
-use Rattle.ar_world.specs.Drafting.{begun, draft_if, draft_room, drafted, first_certificate, next_certificate, policy_of, register_line, revoke_line, update_line}
+use Rattle.cert_drafts.specs.Certificates.{first_certificate, next_certificate}
+use Rattle.cert_drafts.specs.Policies.{policy_of}
+use Rattle.ar_world.specs.Drafting.{draft_begun, draft_if, draft_room, drafted, register_line, revoke_line, update_line}
 use Rattle.ar_world.specs.Finding.{authority_at, checking_at, draft_at, existing, forger_at, known_asks, log_at, message_at, owner_at, room, with_owner}
 use Rattle.ar_nodes.specs.Finding.{is_forger, named, set_if, with_check}
 use Rattle.ar_world.specs.Forging.{composed_in, inject_line, receiver_in, sign_line, signing_if}
@@ -46,12 +48,12 @@ use Rattle.ar_world.specs.Submitting.{handed, handover_line, object_line, submit
 use Rattle.ar_nodes.specs.declared.event.LogEvent.{LogEvent}
 use Rattle.ar_nodes.specs.declared.fault.WorldFault.TheVariants.{Absent}
 use Rattle.lm_ots.specs.OtsKind.{type_of_number}
-use Rattle.lms_tree.specs.Key.{type_to_make}
+use Rattle.lms_tree.specs.Key.{public_of, type_to_make}
 use Rattle.lms_tree.specs.KeyParts.{KeyParts}
 use Rattle.log_core.specs.State as log_input
 use Rattle.owner_check.specs.Answers.{Told}
 use Rattle.owner_check.specs.declared.answer.Outcome.{Outcome}
-use Rattle.owner_core.specs.Rows.{Row, begin_row, handover_row, object_row, submit_row}
+use Rattle.owner_core.specs.Rows.{OwnerAnswer, begin_row, handover_row, object_row, submit_row}
 use Rattle.owner_core.specs.State.{Owner}
 use Rattle.party_keys.specs.Directory.{is_party_count, is_quorum}
 use Rattle.report_text.specs.declared.happening.Happening.{Happening}
@@ -64,6 +66,7 @@ use Rattle.run_safety.proofs.Quiet.{marked_in}
 use Rattle.run_safety.specs.Seats.{IsAuthorityOf, IsLogOf, honest_count}
 use Rattle.ar_world.proofs.Deliveries.{can-take}
 use Rattle.ar_world.proofs.OwnerReplies.{attached-by-alone}
+use Rattle.ar_world.proofs.Sends.{authority-takes, log-takes}
 use Rattle.run_safety.proofs.Chains.{need-holds}
 use Rattle.run_safety.proofs.Clients.{judging-makes, learning-makes}
 use Rattle.run_safety.proofs.Founded.{keys-quiet}
@@ -73,14 +76,14 @@ use Rattle.run_safety.proofs.Places.{seated-beside, seated-without, count-withou
 
 -- ---- owners and drafts
 
-handed-makes : (w : World) (number draft : ℕ) (found : Drafted) (r : Row (List ℕ)) → Makes w (handed w number draft found r)
+handed-makes : (w : World) (number draft : ℕ) (found : Drafted) (r : OwnerAnswer (List ℕ)) → Makes w (handed w number draft found r)
 handed-makes w number draft found (Ok made) =
     let signed = with_owner w made.1
     in still _ _ (Step (owner_party number) (Handover draft) None ∷ [])
     (ap part_of (attached-by-alone signed (owner_at signed found.owner) (digest_of found.cert) made.0)) refl
 handed-makes w number draft found (Err refusal) = still _ _ (Step (owner_party number) (Handover draft) (Some (owner_code refusal)) ∷ []) refl refl
 
-begun-makes : (w : World) (number : ℕ) (r : Row Sent) → Makes w (begun w number r)
+begun-makes : (w : World) (number : ℕ) (r : OwnerAnswer Sent) → Makes w (draft_begun w number r)
 begun-makes w number (Ok made) = posted-makes (with_owner w made.1) (owner_party number) made.0
 begun-makes w number (Err refusal) = still _ _ [] refl refl
 
@@ -102,7 +105,7 @@ register-makes w number name policy asks =
     if-chained (named 1 (owner_at w number)) _ (Makes w) (λ owner same.
     if-chained (named 3 (policy_of policy)) _ (Makes w) (λ terms said.
     if-chained (known_asks w 8 asks) _ (Makes w) (λ known there.
-    draft-if-makes w owner (first_certificate owner name terms) asks)))
+    draft-if-makes w owner (first_certificate (public_of owner.key) name terms) asks)))
 
 pub update-makes : (w : World) (number draft : ℕ) (policy : PolicyWords) (asks : List ℕ) → IfOk (update_line w number draft policy asks) (Makes w)
 update-makes w number draft policy asks =
@@ -110,14 +113,14 @@ update-makes w number draft policy asks =
     if-chained (named 2 (draft_at w draft)) _ (Makes w) (λ old there.
     if-chained (named 3 (policy_of policy)) _ (Makes w) (λ terms said.
     if-chained (known_asks w 8 asks) _ (Makes w) (λ known all.
-    draft-if-makes w owner (next_certificate owner old.cert terms false) asks))))
+    draft-if-makes w owner (next_certificate (public_of owner.key) old.cert terms false) asks))))
 
 pub revoke-makes : (w : World) (number draft : ℕ) (asks : List ℕ) → IfOk (revoke_line w number draft asks) (Makes w)
 revoke-makes w number draft asks =
     if-chained (named 1 (owner_at w number)) _ (Makes w) (λ owner same.
     if-chained (named 2 (draft_at w draft)) _ (Makes w) (λ old there.
     if-chained (known_asks w 3 asks) _ (Makes w) (λ known all.
-    draft-if-makes w owner (next_certificate owner old.cert old.cert.policy true) asks)))
+    draft-if-makes w owner (next_certificate (public_of owner.key) old.cert old.cert.policy true) asks)))
 
 pub handover-makes : (w : World) (number draft : ℕ) → IfOk (handover_line w number draft) (Makes w)
 handover-makes w number draft =
@@ -263,43 +266,6 @@ pub roll-makes : (w : World) (who : Party) → IfOk (roll_line w who) (Makes w)
 roll-makes w who = roll-of-makes w who.role who.number
 
 -- ---- deliveries
-
--- who takes deliveries is there
-pub log-takes : (w : World) (r : Role) (number : ℕ) (node : LogNode) → taker_in w r number ≡ Some (a_log node) → log_at w number ≡ Some node
-log-takes w role.LogServer number node h = by (log_at w number) h
-  where
-    by : (o : Option LogNode) → option_map a_log o ≡ Some (a_log node) → o ≡ Some node
-    by None e = absurd cc
-    by (Some x) e = cc
-log-takes w role.Authority number node h = by (authority_at w number) h
-  where
-    by : (o : Option AuthorityNode) → option_map an_authority o ≡ Some (a_log node) → log_at w number ≡ Some node
-    by None e = absurd cc
-    by (Some x) e = absurd cc
-log-takes w role.Owner number node h = by (owner_at w number) h
-  where
-    by : (o : Option Owner) → option_map an_owner o ≡ Some (a_log node) → log_at w number ≡ Some node
-    by None e = absurd cc
-    by (Some x) e = absurd cc
-log-takes w role.Client number node h = absurd cc
-
-pub authority-takes : (w : World) (r : Role) (number : ℕ) (node : AuthorityNode) → taker_in w r number ≡ Some (an_authority node) → authority_at w number ≡ Some node
-authority-takes w role.LogServer number node h = by (log_at w number) h
-  where
-    by : (o : Option LogNode) → option_map a_log o ≡ Some (an_authority node) → authority_at w number ≡ Some node
-    by None e = absurd cc
-    by (Some x) e = absurd cc
-authority-takes w role.Authority number node h = by (authority_at w number) h
-  where
-    by : (o : Option AuthorityNode) → option_map an_authority o ≡ Some (an_authority node) → o ≡ Some node
-    by None e = absurd cc
-    by (Some x) e = cc
-authority-takes w role.Owner number node h = by (owner_at w number) h
-  where
-    by : (o : Option Owner) → option_map an_owner o ≡ Some (an_authority node) → authority_at w number ≡ Some node
-    by None e = absurd cc
-    by (Some x) e = absurd cc
-authority-takes w role.Client number node h = absurd cc
 
 pub delivery-makes : (says : Outcome) (w : World) (message : ℕ) (r : Role) (number : ℕ) (taker : Taker) → taker_in w r number ≡ Some taker
     → Makes w (delivery says w message number taker)

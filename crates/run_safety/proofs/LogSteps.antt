@@ -34,9 +34,9 @@ use Rattle.log_core.specs.Passing.{passing_checks, passing_reply, passing_row}
 use Rattle.log_core.specs.Proposed.{Proposal, proposed_checks, proposed_reply, proposed_row}
 use Rattle.log_core.specs.Proposing.{proposing_checks, proposing_reply, proposing_row}
 use Rattle.log_core.specs.Rolling.{rolling_checks, rolling_reply, rolling_row}
-use Rattle.log_core.specs.Row.{IsInput, message_row, read_row, row}
+use Rattle.log_core.specs.Row.{IsLogInput, message_row, read_row, row}
 use Rattle.log_core.specs.Skipped.{skip_checks, skip_reply, skip_row}
-use Rattle.log_core.specs.State.{CoreState, Input, Reply, passes, proposes, rolls, takes}
+use Rattle.log_core.specs.State.{CoreState, Input, LogStep, passes, proposes, rolls, takes}
 use Rattle.log_core.specs.Stated.{status_checks, status_reply, status_row}
 use Rattle.log_core.specs.Submit.{queueing, submit_checks, submit_reply, submit_row}
 use Rattle.log_sending.specs.Queued.{is_queued}
@@ -51,10 +51,10 @@ use Rattle.run_safety.proofs.Notes.{note-noted}
 
 -- ---- rows that leave a log's directory
 
-abbrev SameKeys : CoreState → Reply → Type 0
+abbrev SameKeys : CoreState → LogStep → Type 0
 SameKeys s reply = reply.after.keys ≡ s.keys
 
-submit-same : (s : CoreState) (change : Change) (reply : Reply) → submit_row s change ≡ Ok reply → SameKeys s reply
+submit-same : (s : CoreState) (change : Change) (reply : LogStep) → submit_row s change ≡ Ok reply → SameKeys s reply
 unfolding submit_row
 submit-same s change reply answer = subst (SameKeys s) (passed (submit_checks s change) (submit_reply s change) reply answer).1 (by (is_queued s.queue change))
   where
@@ -62,29 +62,29 @@ submit-same s change reply answer = subst (SameKeys s) (passed (submit_checks s 
     by true = refl
     by false = refl
 
-proposed-same : (s : CoreState) (p : Proposal) (reply : Reply) → proposed_row s p ≡ Ok reply → SameKeys s reply
+proposed-same : (s : CoreState) (p : Proposal) (reply : LogStep) → proposed_row s p ≡ Ok reply → SameKeys s reply
 unfolding proposed_row
 proposed-same s p reply answer = subst (SameKeys s) (passed (proposed_checks s p) (proposed_reply s p) reply answer).1 refl
 
-ballot-same : (s : CoreState) (log epoch : ℕ) (value : Value) (signature : List ℕ) (reply : Reply) → ballot_row s log epoch value signature ≡ Ok reply → SameKeys s reply
+ballot-same : (s : CoreState) (log epoch : ℕ) (value : Value) (signature : List ℕ) (reply : LogStep) → ballot_row s log epoch value signature ≡ Ok reply → SameKeys s reply
 unfolding ballot_row
 ballot-same s log epoch value signature reply answer =
     subst (SameKeys s) (passed (ballot_checks s log epoch value signature) (ballot_reply s log value signature) reply answer).1 refl
 
-status-same : (s : CoreState) (log epoch : ℕ) (value : Option Value) (signature : List ℕ) (reply : Reply) → status_row s log epoch value signature ≡ Ok reply → SameKeys s reply
+status-same : (s : CoreState) (log epoch : ℕ) (value : Option Value) (signature : List ℕ) (reply : LogStep) → status_row s log epoch value signature ≡ Ok reply → SameKeys s reply
 unfolding status_row
 status-same s log epoch value signature reply answer =
     subst (SameKeys s) (passed (status_checks s log epoch value signature) (status_reply s log value signature) reply answer).1 refl
 
-decision-same : (s : CoreState) (d : Decision) (reply : Reply) → decision_row s d ≡ Ok reply → SameKeys s reply
+decision-same : (s : CoreState) (d : Decision) (reply : LogStep) → decision_row s d ≡ Ok reply → SameKeys s reply
 unfolding decision_row
 decision-same s d reply answer = subst (SameKeys s) (passed (decision_checks s d) (decision_reply s d) reply answer).1 refl
 
-skip-same : (s : CoreState) (epoch : ℕ) (statuses : List LogStatus) (reply : Reply) → skip_row s epoch statuses ≡ Ok reply → SameKeys s reply
+skip-same : (s : CoreState) (epoch : ℕ) (statuses : List LogStatus) (reply : LogStep) → skip_row s epoch statuses ≡ Ok reply → SameKeys s reply
 unfolding skip_row
 skip-same s epoch statuses reply answer = subst (SameKeys s) (passed (skip_checks s epoch statuses) (skip_reply s statuses) reply answer).1 refl
 
-confirm-same : (s : CoreState) (asked : ConfirmQuestion) (reply : Reply) → confirm_row s asked ≡ Ok reply → SameKeys s reply
+confirm-same : (s : CoreState) (asked : ConfirmQuestion) (reply : LogStep) → confirm_row s asked ≡ Ok reply → SameKeys s reply
 unfolding confirm_row
 confirm-same s asked reply answer = subst (SameKeys s) (passed (confirm_checks s asked) (confirm_reply s s.log.newest asked) reply answer).1 (by s.log.newest)
   where
@@ -92,11 +92,11 @@ confirm-same s asked reply answer = subst (SameKeys s) (passed (confirm_checks s
     by None = refl
     by (Some w) = refl
 
-pub proposing-same : (s : CoreState) (reply : Reply) → proposing_row s ≡ Ok reply → SameKeys s reply
+pub proposing-same : (s : CoreState) (reply : LogStep) → proposing_row s ≡ Ok reply → SameKeys s reply
 unfolding proposing_row
 proposing-same s reply answer = subst (SameKeys s) (passed (proposing_checks s) (proposing_reply s) reply answer).1 refl
 
-pub passing-same : (s : CoreState) (reply : Reply) → passing_row s ≡ Ok reply → SameKeys s reply
+pub passing-same : (s : CoreState) (reply : LogStep) → passing_row s ≡ Ok reply → SameKeys s reply
 unfolding passing_row
 passing-same s reply answer = subst (SameKeys s) (passed (passing_checks s) (passing_reply s) reply answer).1 refl
 
@@ -107,25 +107,25 @@ learnt (Ok how) party generation is = (how, refl)
 learnt (Err fault) party generation is = absurd cc
 
 -- what the directory is behind it, of a Roll that was learnt
-record LearnsNote (s : CoreState) (a : Announced) (reply : Reply) : Type 0 where
+record LearnsNote (s : CoreState) (a : Announced) (reply : LogStep) : Type 0 where
   how : Learned
   learns : learned s.keys a ≡ Ok how
   is : reply.after.keys ≡ after_learning s.keys a
 
-note-learns : (s : CoreState) (a : Announced) (reply : Reply) → roll_note_row s a ≡ Ok reply → LearnsNote s a reply
+note-learns : (s : CoreState) (a : Announced) (reply : LogStep) → roll_note_row s a ≡ Ok reply → LearnsNote s a reply
 unfolding roll_note_row
 note-learns s a reply answer =
     let h = passed (roll_note_checks s a) (roll_note_reply s a) reply answer in
     let how = learnt (learned s.keys a) a.party a.generation h.0.0 in
-    record { how = how.0; learns = how.1; is = subst (λ (r : Reply). r.after.keys ≡ after_learning s.keys a) h.1 refl }
+    record { how = how.0; learns = how.1; is = subst (λ (r : LogStep). r.after.keys ≡ after_learning s.keys a) h.1 refl }
 
 -- ---- the row of bytes
 
 -- the directory is as it was, or learnt
-abbrev pub IsTaught : List ℕ → CoreState → Reply → Type 0
+abbrev pub IsTaught : List ℕ → CoreState → LogStep → Type 0
 IsTaught bytes s reply = (reply.after.keys ≡ s.keys) ⊎ Learns (claimed_in_bytes bytes) s.keys reply.after.keys
 
-message-teaches : (s : CoreState) (bytes : List ℕ) (m : Message) (reply : Reply) → AreBytes bytes → message_in bytes ≡ Ok m → message_row s m ≡ Ok reply → IsTaught bytes s reply
+message-teaches : (s : CoreState) (bytes : List ℕ) (m : Message) (reply : LogStep) → AreBytes bytes → message_in bytes ≡ Ok m → message_row s m ≡ Ok reply → IsTaught bytes s reply
 message-teaches s bytes (messages.EndorseAsk owner cert) reply are read answer = absurd cc
 message-teaches s bytes (messages.Endorsed owner authority certificate signature) reply are read answer = absurd cc
 message-teaches s bytes (messages.Submit change) reply are read answer = inl (submit-same s change reply answer)
@@ -152,7 +152,7 @@ message-teaches s bytes (messages.RollNote party generation key signature) reply
       claimed = roll-claims s.keys bytes a l.how (ap note_of read) l.learns;
     })
 
-pub bytes-teach : (s : CoreState) (bytes : List ℕ) (reply : Reply) → AreBytes bytes → read_row s (message_in bytes) ≡ Ok reply → IsTaught bytes s reply
+pub bytes-teach : (s : CoreState) (bytes : List ℕ) (reply : LogStep) → AreBytes bytes → read_row s (message_in bytes) ≡ Ok reply → IsTaught bytes s reply
 bytes-teach s bytes reply are answer = by (message_in bytes) refl answer
   where
     by : (read : Result Message ℕ) → message_in bytes ≡ read → read_row s read ≡ Ok reply → IsTaught bytes s reply
@@ -162,7 +162,7 @@ bytes-teach s bytes reply are answer = by (message_in bytes) refl answer
 -- ---- the row of an input
 
 -- the directory behind each input but a Roll of the log's own
-pub input-teaches : (s : CoreState) (input : Input) (reply : Reply) → IsInput input → IsPlain input → row s input ≡ Ok reply
+pub input-teaches : (s : CoreState) (input : Input) (reply : LogStep) → IsLogInput input → IsPlain input → row s input ≡ Ok reply
     → (reply.after.keys ≡ s.keys) ⊎ Learns (claims_of input) s.keys reply.after.keys
 unfolding row
 input-teaches s (takes bytes) reply are plain answer = bytes-teach s bytes reply are answer
@@ -171,17 +171,17 @@ input-teaches s passes reply are plain answer = inl (passing-same s reply answer
 input-teaches s (rolls key) reply are plain answer = absurd plain
 
 -- behind that Roll it is the one with the log's next key
-pub rolling-adopts : (s : CoreState) (key : LmsPublic) (reply : Reply) → row s (rolls key) ≡ Ok reply → reply.after.keys ≡ after_adopting s.keys (log_party s.log.me) s.log.past.signed.newest key
+pub rolling-adopts : (s : CoreState) (key : LmsPublic) (reply : LogStep) → row s (rolls key) ≡ Ok reply → reply.after.keys ≡ after_adopting s.keys (log_party s.log.me) s.log.past.signed.newest key
 unfolding row rolling_row
 rolling-adopts s key reply answer =
-    subst (λ (r : Reply). r.after.keys ≡ after_adopting s.keys (log_party s.log.me) s.log.past.signed.newest key) (passed (rolling_checks s) (rolling_reply s key) reply answer).1 refl
+    subst (λ (r : LogStep). r.after.keys ≡ after_adopting s.keys (log_party s.log.me) s.log.past.signed.newest key) (passed (rolling_checks s) (rolling_reply s key) reply answer).1 refl
 
 -- and the book is the one with the Roll
-pub rolling-book : (s : CoreState) (key : LmsPublic) (reply : Reply) → row s (rolls key) ≡ Ok reply
+pub rolling-book : (s : CoreState) (key : LmsPublic) (reply : LogStep) → row s (rolls key) ≡ Ok reply
     → reply.after.log.past.signed ≡ with_roll s.log.past.signed (roll_text (log_party s.log.me) s.log.past.signed.newest key)
 unfolding row rolling_row
 rolling-book s key reply answer =
-    subst (λ (r : Reply). r.after.log.past.signed ≡ with_roll s.log.past.signed (roll_text (log_party s.log.me) s.log.past.signed.newest key))
+    subst (λ (r : LogStep). r.after.log.past.signed ≡ with_roll s.log.past.signed (roll_text (log_party s.log.me) s.log.past.signed.newest key))
     (passed (rolling_checks s) (rolling_reply s key) reply answer).1 refl
 
 -- ---- a step
@@ -190,7 +190,7 @@ rolling-book s key reply answer =
 abbrev pub core_parts : CoreState → List KeyParts → PartyParts
 core_parts s keys = record { knows = s.keys; saw = s.log.past.seen; ring = keys; book = s.log.past.signed }
 
-pub log-steps : (number : ℕ) (claims : List Claimed) (s : CoreState) (keys later : List KeyParts) (input : Input) (reply : Reply) → s.log.me ≡ number → row s input ≡ Ok reply → BeginsWith later keys
+pub log-steps : (number : ℕ) (claims : List Claimed) (s : CoreState) (keys later : List KeyParts) (input : Input) (reply : LogStep) → s.log.me ≡ number → row s input ≡ Ok reply → BeginsWith later keys
     → ((c : Claimed) → Contains (claims_of input) c → Contains claims c)
     → (reply.after.keys ≡ s.keys) ⊎ (Learns claims s.keys reply.after.keys ⊎ Adopts (log_party number) s.keys (core_parts reply.after later))
     → Steps (log_party number) claims (core_parts s keys) (core_parts reply.after later)

@@ -39,7 +39,7 @@ use Rattle.ar_nodes.specs.Parties.{AuthorityNode, Forger, LogNode, next_of}
 use Rattle.ar_nodes.specs.Pool.{Pooled}
 use Rattle.ar_nodes.specs.declared.event.LogEvent.{LogEvent}
 use Rattle.ar_nodes.specs.declared.fault.WorldFault.TheVariants.{Absent}
-use Rattle.ar_safety.specs.Held.{Taken, verdict_on}
+use Rattle.ar_safety.specs.Held.{AcceptedBytes, verdict_on}
 use Rattle.ar_statement.specs.Claims.{client_party, owner_party}
 use Rattle.ar_statement.specs.declared.party.Party.{Party}
 use Rattle.ar_statement.specs.declared.party.Role.{Role}
@@ -47,7 +47,9 @@ use Rattle.ar_statement.specs.declared.party.Role.TheVariants as role
 use Rattle.ar_world.proofs.OwnerReplies.{attached-by-alone}
 use Rattle.ar_world.specs.Asking.{ask_line, question}
 use Rattle.ar_world.specs.Delivering.{Taker, a_log, an_authority, an_owner, can_deliver, deliver_line, delivery, taker_at, taker_in}
-use Rattle.ar_world.specs.Drafting.{begun, draft_if, draft_room, first_certificate, next_certificate, policy_of, register_line, revoke_line, update_line}
+use Rattle.cert_drafts.specs.Certificates.{first_certificate, next_certificate}
+use Rattle.cert_drafts.specs.Policies.{policy_of}
+use Rattle.ar_world.specs.Drafting.{draft_begun, draft_if, draft_room, register_line, revoke_line, update_line}
 use Rattle.ar_world.specs.Finding.{authority_at, checking_at, draft_at, existing, forger_at, known_asks, log_at, message_at, owner_at, room, with_owner}
 use Rattle.ar_world.specs.Forging.{composed_in, inject_line, receiver_in, sign_line, signing_if}
 use Rattle.ar_world.specs.Founding.{dishonest_line, honest_key, keys_line, logs_line, turned, without}
@@ -60,14 +62,14 @@ use Rattle.ar_world.specs.Submitting.{handed, handover_line, object_line, submit
 use Rattle.client_rule.specs.Notes.{note_of}
 use Rattle.client_rule.specs.declared.judgement.Judgement.{Judgement}
 use Rattle.lm_ots.specs.OtsKind.{type_of_number}
-use Rattle.lms_tree.specs.Key.{type_to_make}
+use Rattle.lms_tree.specs.Key.{public_of, type_to_make}
 use Rattle.lms_tree.specs.LmsKind.{leaves_of}
 use Rattle.log_core.specs.Keyed.{IsPlain}
-use Rattle.log_core.specs.Row.{IsInput}
+use Rattle.log_core.specs.Row.{IsLogInput}
 use Rattle.log_core.specs.State as log_state
 use Rattle.owner_check.specs.Answers.{Told, learnt}
 use Rattle.owner_check.specs.declared.answer.Outcome.{Outcome}
-use Rattle.owner_core.specs.Rows.{Row, begin_row, handover_row, object_row, submit_row}
+use Rattle.owner_core.specs.Rows.{OwnerAnswer, begin_row, handover_row, object_row, submit_row}
 use Rattle.owner_core.specs.State.{Owner}
 use Rattle.party_keys.specs.Directory.{is_party_count, is_quorum}
 use Rattle.report_text.specs.declared.happening.Happening.{Happening}
@@ -78,7 +80,8 @@ use Rattle.script_text.specs.declared.line.PolicyWords.{PolicyWords}
 use Rattle.run_safety.specs.Kept.{KeepsAuthority, KeepsLog}
 use Rattle.run_safety.proofs.KeptPool.{IsBytes, message-bytes}
 use Rattle.ar_world.proofs.Deliveries.{can-take}
-use Rattle.run_safety.proofs.Lines.{authority-takes, checking-there, log-takes}
+use Rattle.ar_world.proofs.Sends.{authority-takes, log-takes}
+use Rattle.run_safety.proofs.Lines.{checking-there}
 use Rattle.std.proofs.Common.{arith}
 use Rattle.ar_nodes.specs.declared.event.LogEvent.TheVariants as events
 use Rattle.ar_world.specs.Finding.{Effect}
@@ -95,14 +98,14 @@ use Rattle.run_safety.proofs.Founds.{Founds, authorities-founds}
 
 -- ---- owners and drafts
 
-handed-moves : (w : World) (number draft : ℕ) (found : Drafted) (r : Row (List ℕ)) → Moves w (handed w number draft found r).0
+handed-moves : (w : World) (number draft : ℕ) (found : Drafted) (r : OwnerAnswer (List ℕ)) → Moves w (handed w number draft found r).0
 handed-moves w number draft found (Ok made) =
     let signed = with_owner w made.1
     in subst (Moves w) (sym (attached-by-alone signed (owner_at signed found.owner) (digest_of found.cert) made.0)) (quiet-moves w _ refl refl refl refl refl refl refl)
 handed-moves w number draft found (Err refusal) = quiet-moves w _ refl refl refl refl refl refl refl
 
-begun-moves : (w v : World) (number : ℕ) (r : Row Sent) → v.pool ≡ w.pool → v.genesis ≡ w.genesis → v.clients ≡ w.clients → v.learned ≡ w.learned → v.judged ≡ w.judged → v.logs ≡ w.logs
-    → v.authorities ≡ w.authorities → Moves w (begun v number r).0
+begun-moves : (w v : World) (number : ℕ) (r : OwnerAnswer Sent) → v.pool ≡ w.pool → v.genesis ≡ w.genesis → v.clients ≡ w.clients → v.learned ≡ w.learned → v.judged ≡ w.judged → v.logs ≡ w.logs
+    → v.authorities ≡ w.authorities → Moves w (draft_begun v number r).0
 begun-moves w v number (Ok made) pool genesis clients learned judged logs authorities =
     posted-moves w (with_owner v made.1) (owner_party number) made.0 pool genesis clients learned judged logs authorities
 begun-moves w v number (Err refusal) pool genesis clients learned judged logs authorities = quiet-moves w v pool genesis clients learned judged logs authorities
@@ -120,7 +123,7 @@ register-moves w number name policy asks =
     if-chained (named 1 (owner_at w number)) _ (λ made. Moves w made.0) (λ owner same.
     if-chained (named 3 (policy_of policy)) _ (λ made. Moves w made.0) (λ terms said.
     if-chained (known_asks w 8 asks) _ (λ made. Moves w made.0) (λ known there.
-    draft-if-moves w owner (first_certificate owner name terms) asks)))
+    draft-if-moves w owner (first_certificate (public_of owner.key) name terms) asks)))
 
 update-moves : (w : World) (number draft : ℕ) (policy : PolicyWords) (asks : List ℕ) → IfOk (update_line w number draft policy asks) (λ made. Moves w made.0)
 update-moves w number draft policy asks =
@@ -128,14 +131,14 @@ update-moves w number draft policy asks =
     if-chained (named 2 (draft_at w draft)) _ (λ made. Moves w made.0) (λ old there.
     if-chained (named 3 (policy_of policy)) _ (λ made. Moves w made.0) (λ terms said.
     if-chained (known_asks w 8 asks) _ (λ made. Moves w made.0) (λ known all.
-    draft-if-moves w owner (next_certificate owner old.cert terms false) asks))))
+    draft-if-moves w owner (next_certificate (public_of owner.key) old.cert terms false) asks))))
 
 revoke-moves : (w : World) (number draft : ℕ) (asks : List ℕ) → IfOk (revoke_line w number draft asks) (λ made. Moves w made.0)
 revoke-moves w number draft asks =
     if-chained (named 1 (owner_at w number)) _ (λ made. Moves w made.0) (λ owner same.
     if-chained (named 2 (draft_at w draft)) _ (λ made. Moves w made.0) (λ old there.
     if-chained (known_asks w 3 asks) _ (λ made. Moves w made.0) (λ known all.
-    draft-if-moves w owner (next_certificate owner old.cert old.cert.policy true) asks)))
+    draft-if-moves w owner (next_certificate (public_of owner.key) old.cert old.cert.policy true) asks)))
 
 handover-moves : (w : World) (number draft : ℕ) → IfOk (handover_line w number draft) (λ made. Moves w made.0)
 handover-moves w number draft =
@@ -231,7 +234,7 @@ pub record Stood (w : World) : Type 0 where
 
 -- ---- orders
 
-log-order-moves : (w : World) (number : ℕ) (what : What) (event : LogEvent) (input : log_state.Input) → Stood w → IsInput input → IsPlain input → LogTakes w input
+log-order-moves : (w : World) (number : ℕ) (what : What) (event : LogEvent) (input : log_state.Input) → Stood w → IsLogInput input → IsPlain input → LogTakes w input
     → IfOk (log_order w number what event input) (λ made. Moves w made.0)
 log-order-moves w number what event input stood is plain takes =
     if-chained (named 1 (log_at w number)) _ (λ made. Moves w made.0) (λ node same.
@@ -342,7 +345,7 @@ ask-moves w asked name first second client =
     if-chained (room w) _ (λ made. Moves w made.0) (λ free all.
     posted-moves w w (client_party client) (question asked name first second client) refl refl refl refl refl refl refl))))
 
-accepted-held : (w : World) (message : ℕ) (p : Pooled) (t : Taken) (v : Judgement) → message_at w message ≡ Some p → t.bytes ≡ p.bytes → (x : Taken) → Contains (accepted_with w.judged t v) x
+accepted-held : (w : World) (message : ℕ) (p : Pooled) (t : AcceptedBytes) (v : Judgement) → message_at w message ≡ Some p → t.bytes ≡ p.bytes → (x : AcceptedBytes) → Contains (accepted_with w.judged t v) x
     → Contains w.judged x ⊎ Contains (messages_of w.pool) x.bytes
 accepted-held w message p t v has bytes x there = by (is_accepted v) there
   where
@@ -350,14 +353,14 @@ accepted-held w message p t v has bytes x there = by (is_accepted v) there
     by false there = inl there
     by true there = elim (Contains-push_cases w.judged t x there) [
       | inl before ↦ inl before
-      | inr same ↦ inr (subst (Contains (messages_of w.pool)) (sym bytes ∙ ap (λ (y : Taken). y.bytes) same) (numbered-messages w.pool message p has))
+      | inr same ↦ inr (subst (Contains (messages_of w.pool)) (sym bytes ∙ ap (λ (y : AcceptedBytes). y.bytes) same) (numbered-messages w.pool message p has))
     ]
 
 judge-moves : (w : World) (which : Option ℕ) (name : List ℕ) (now age : ℕ) → IfOk (judge_line w which name now age) (λ made. Moves w made.0)
 judge-moves w which name now age =
     if-chained (named 1 (judged_number w which)) _ (λ made. Moves w made.0) (λ message same.
     if-chained (named 1 (message_at w message)) _ (λ made. Moves w made.0) (λ p there.
-    let t : Taken = record { name = name; now = now; age = age; bytes = p.bytes } in
+    let t : AcceptedBytes = record { name = name; now = now; age = age; bytes = p.bytes } in
     record {
       messages = begins_itself (messages_of w.pool);
       genesis = refl;

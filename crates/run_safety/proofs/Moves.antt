@@ -38,7 +38,7 @@ use Rattle.ar_nodes.specs.Parties.{AuthorityNode, CheckParts, LogNode}
 use Rattle.ar_nodes.specs.Pool.{Pooled, numbered}
 use Rattle.ar_nodes.specs.declared.event.LogEvent.{LogEvent}
 use Rattle.ar_nodes.specs.declared.event.LogEvent.TheVariants as events
-use Rattle.ar_safety.specs.Held.{Taken}
+use Rattle.ar_safety.specs.Held.{AcceptedBytes}
 use Rattle.ar_statement.specs.Claims.{authority_party, log_party, owner_party}
 use Rattle.ar_statement.specs.declared.party.Party.{Party}
 use Rattle.ar_statement.specs.declared.party.Role.{Role}
@@ -50,7 +50,7 @@ use Rattle.authority_core.specs.RollRows.{roll_row}
 use Rattle.lms_tree.specs.Key.{public_of}
 use Rattle.lms_tree.specs.KeyParts.{KeyParts}
 use Rattle.log_core.specs.Keyed.{IsPlain}
-use Rattle.log_core.specs.Row.{IsInput, row}
+use Rattle.log_core.specs.Row.{IsLogInput, row}
 use Rattle.log_core.specs.State as log_state
 use Rattle.owner_check.specs.declared.answer.Outcome.{Outcome}
 use Rattle.owner_core.specs.Rows.{step_row}
@@ -73,7 +73,7 @@ pub record Moves (w v : World) : Type 0 where
   pub genesis : v.genesis ≡ w.genesis
   pub clients : (v.clients ≡ w.clients) ⊎ Learns (shown w) w.clients v.clients
   pub learned : (t : SeenText) → Contains v.learned t → Contains w.learned t ⊎ IsVerifiedIn w.clients (shown w) t
-  pub judged : (t : Taken) → Contains v.judged t → Contains w.judged t ⊎ Contains (messages_of w.pool) t.bytes
+  pub judged : (t : AcceptedBytes) → Contains v.judged t → Contains w.judged t ⊎ Contains (messages_of w.pool) t.bytes
   pub parties : (r : Role) (number : ℕ) (new : PartyParts) → parts_in v r number ≡ Some new → CameFrom w r number new
 
 pub still-there : (w : World) (r : Role) (number : ℕ) (p : PartyParts) → parts_in w r number ≡ Some p → CameFrom w r number p
@@ -87,7 +87,7 @@ moves-with w v messages genesis clients learned judged parties = record {
   genesis = genesis;
   clients = inl clients;
   learned = λ t there. inl (subst (λ (seen : List SeenText). Contains seen t) learned there);
-  judged = λ t there. inl (subst (λ (taken : List Taken). Contains taken t) judged there);
+  judged = λ t there. inl (subst (λ (taken : List AcceptedBytes). Contains taken t) judged there);
   parties = parties;
 }
 
@@ -218,7 +218,7 @@ LogTakes w input = (c : Claimed) → Contains (claims_of input) c → Contains (
 
 log-answer-moves : (w : World) (number : ℕ) (pool : List Pooled) (what : What) (node : LogNode) (keys : List KeyParts) (event : LogEvent) (a : log_state.LogAnswer) → log_at w number ≡ Some node
     → messages_of pool ≡ messages_of w.pool
-    → ((reply : log_state.Reply) → a ≡ Ok reply → Steps (log_party number) (shown w) (core_parts node.core node.keys) (core_parts reply.after keys))
+    → ((reply : log_state.LogStep) → a ≡ Ok reply → Steps (log_party number) (shown w) (core_parts node.core node.keys) (core_parts reply.after keys))
     → Moves w (log_made w number (acted pool (log_party number) what (log_does node keys event a))).0
 log-answer-moves w number pool what node keys event (Ok reply) there same steps =
     log-put w number node (record { core = reply.after; keys = keys; taken = node.taken ++ event ∷ [] }) (pool_behind pool (log_party number) (Ok (filled keys reply.unsigned))) there
@@ -227,14 +227,14 @@ log-answer-moves w number pool what node keys event (Err refusal) there same ste
     log-put w number node node pool there (reply-messages w.pool pool (log_party number) (Err (log_code refusal)) same) (still-steps (log_party number) (shown w) (log_parts node))
 
 pub obeyed-moves : (w : World) (number : ℕ) (pool : List Pooled) (what : What) (event : LogEvent) (input : log_state.Input) (node : LogNode) → node.core.log.me ≡ number → log_at w number ≡ Some node
-    → messages_of pool ≡ messages_of w.pool → IsInput input → IsPlain input → LogTakes w input → Moves w (log_made w number (log_obeyed pool number what event input node)).0
+    → messages_of pool ≡ messages_of w.pool → IsLogInput input → IsPlain input → LogTakes w input → Moves w (log_made w number (log_obeyed pool number what event input node)).0
 unfolding log_obeyed
 obeyed-moves w number pool what event input node me there same is plain takes =
     log-answer-moves w number pool what node node.keys event (row node.core input) there same (λ reply at.
     log-steps number (shown w) node.core node.keys node.keys input reply me at (begins_itself node.keys) takes
     (knows reply (input-teaches node.core input reply is plain at)))
   where
-    knows : (reply : log_state.Reply) → (reply.after.keys ≡ node.core.keys) ⊎ Learns (claims_of input) node.core.keys reply.after.keys
+    knows : (reply : log_state.LogStep) → (reply.after.keys ≡ node.core.keys) ⊎ Learns (claims_of input) node.core.keys reply.after.keys
         → (reply.after.keys ≡ node.core.keys) ⊎ (Learns (shown w) node.core.keys reply.after.keys ⊎ Adopts (log_party number) node.core.keys (core_parts reply.after node.keys))
     knows reply (inl same) = inl same
     knows reply (inr l) = inr (inl (learns-more (claims_of input) (shown w) node.core.keys reply.after.keys takes l))

@@ -111,7 +111,7 @@ authority-put w number was is said there stays first none =
 
 -- a step stays with who a log is, where its answer does
 abbrev LogStays : LogNode → log_state.LogAnswer → Type 0
-LogStays node a = (reply : log_state.Reply) → a ≡ Ok reply → (reply.after.log.me ≡ node.core.log.me) × (reply.after.log.council ≡ node.core.log.council)
+LogStays node a = (reply : log_state.LogStep) → a ≡ Ok reply → (reply.after.log.me ≡ node.core.log.me) × (reply.after.log.council ≡ node.core.log.council)
 
 log-makes : (w : World) (number : ℕ) (pool : List Pooled) (node : LogNode) (keys : List KeyParts) (what : What) (event : LogEvent) (a : log_state.LogAnswer) → log_at w number ≡ Some node
     → StaysFirst node.keys keys → LogStays node a → Makes w (log_made w number (acted pool (log_party number) what (log_does node keys event a)))

@@ -4,7 +4,7 @@ use Rattle.std.specs.Prelude.{ℕ, length, map, nat_le, slice_get, Some}
 use Rattle.std.specs.List.{filter_map}
 use Rattle.std.proofs.lemmas.List.Elements.{filter_map-append}
 use Rattle.ar_council.specs.Council.{council_of}
-use Rattle.ar_safety.specs.Held.{IsAccepting, Taken, verdict_on}
+use Rattle.ar_safety.specs.Held.{IsAccepting, AcceptedBytes, verdict_on}
 use Rattle.ar_statement.specs.declared.party.Party.{Party}
 use Rattle.ar_world.specs.Founding.{place_of}
 use Rattle.report_text.specs.Verdicts.{said_of}
@@ -31,7 +31,7 @@ pub record Part : Type 0 where
   pub dishonest : List Party
   pub genesis : Directory
   pub clients : Directory
-  pub judged : List Taken
+  pub judged : List AcceptedBytes
 
 abbrev pub part_of : World → Part
 part_of w = record {
@@ -70,7 +70,7 @@ pub record Stands (p : Part) : Type 0 where
   pub founded : length p.genesis.logs ≤ 16
 
 -- what clients hold, as it is written
-abbrev pub told_by : Directory → Taken → Said
+abbrev pub told_by : Directory → AcceptedBytes → Said
 told_by clients t = said_of t.name (verdict_on clients t)
 
 abbrev pub told_in : Part → List Said

@@ -10,7 +10,7 @@ use Rattle.ar_statement.specs.declared.party.Party.{Party}
 use Rattle.ar_world.proofs.Runs.{deliver-goes}
 use Rattle.ar_world.specs.Delivering.{deliver_line, next_due}
 use Rattle.ar_world.specs.Finding.{Effect}
-use Rattle.ar_world.specs.Run.{Course, Progress, Saying, at_line, delivering, flushed, follows, line_taken, most_deliveries, most_lines, progress_of, refusing, run, run_from, taken, taken_as, then_if, then_on}
+use Rattle.ar_world.specs.Run.{Course, Progress, Saying, at_line, delivering, flushed, deliveries_behind, line_taken, most_deliveries, most_lines, progress_of, refusing, run, run_from, taken, taken_as, then_if, then_on}
 use Rattle.ar_world.specs.State.{Moved, World, first_world}
 use Rattle.ar_world.specs.Step.{step}
 use Rattle.ar_world.specs.declared.cause.Cause.{Cause}
@@ -181,7 +181,7 @@ by-line saying checks input w message who made d =
     let says = saying d.number in
     let l : Line = line.Event (event.Deliver message who) in
     line-ends saying checks input d.number l w made.0 d.line
-    (subst (λ (e : Effect). Leads made.0 (then_on (progress_of w e) (follows says l))) (sym d.makes) (still made.0))
+    (subst (λ (e : Effect). Leads made.0 (then_on (progress_of w e) (deliveries_behind says l))) (sym d.makes) (still made.0))
     (made-holds w (step (says 0) w l) made d.makes (goes-of-steps.steps (says 0) w l) (line-holds saying checks input d.number l w d.line))
 
 -- what the delivery that is due makes leads to the end of the deliveries

@@ -13,7 +13,7 @@ use Rattle.key_roll.proofs.Books.{counted-whole, is_roll-kind, leaf-roll, named-
 use Rattle.key_roll.proofs.Later.{roll_later}
 use Rattle.key_roll.proofs.Rings.{at-place}
 use Rattle.key_roll.specs.Book.{IsRollBook, RollBook, texts_of}
-use Rattle.key_roll.specs.Entry.{Serves, roll_text, with_roll}
+use Rattle.key_roll.specs.Entry.{LeafServes, roll_text, with_roll}
 use Rattle.key_roll.specs.Later.{IsLaterBook}
 use Rattle.key_roll.specs.Rolls.{is_roll, is_roll_of, named_generation}
 use Rattle.key_roll.specs.declared.signed.SignedText.{SignedText}
@@ -57,7 +57,7 @@ roll-entry book g text sound rolls names has =
     at-place (λ (s : SignedText). is_roll s.text ≡ true → named_generation s.text ≡ s.generation) book.list e.place e.entry sound.named e.there is in
     record { place = e.place; entry = e.entry; there = e.there; is = e.is; rolls = is; of = sym named ∙ ap named_generation e.is ∙ names }
 
-roll-serves : (book : RollBook) (g : ℕ) (text : List ℕ) → HasRoll book g text → Serves book g (book.leaves - 1) text
+roll-serves : (book : RollBook) (g : ℕ) (text : List ℕ) → HasRoll book g text → LeafServes book g (book.leaves - 1) text
 roll-serves book g text r = (r.place, r.entry, (r.there, r.of, r.is, leaf-roll book r.place r.entry r.rolls))
 
 is-of : (g : ℕ) (s : SignedText) → s.generation ≡ g → is_roll s.text ≡ true → is_roll_of g s ≡ true

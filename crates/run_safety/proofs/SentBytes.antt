@@ -17,12 +17,12 @@ use Rattle.ar_safety.specs.Accepting.{Confirmer, bytes_to_client, own_signature,
 use Rattle.key_roll.specs.Due.{DueParts}
 use Rattle.key_roll.specs.Entry.{after_entry, due_of}
 use Rattle.lms_tree.specs.KeyParts.{KeyParts}
-use Rattle.run_safety.proofs.SignatureBytes.{number-bytes, own-bytes}
+use Rattle.ar_safety.proofs.Spelled.{number-spelled, signature-spelled}
 
 -- the signature that is due
 under-bytes : (o : Option KeyParts) (due : DueParts) → AllBytes (signature_under o due)
 under-bytes None due = tt
-under-bytes (Some key) due = own-bytes key due
+under-bytes (Some key) due = signature-spelled key due
 
 due-bytes : (ring : List KeyParts) (o : Option DueParts) → AllBytes (signature_for ring o)
 due-bytes ring None = tt
@@ -36,13 +36,13 @@ parted xs ys all = of-both-lists (λ byte. byte < 256) xs ys all
 
 signed-bytes : (number : ℕ) (signature : List ℕ) → AllBytes signature → AllBytes (signed_text (signed_in number signature))
 signed-bytes number signature is =
-    joined (number_text w16 number) (counted_text signature) (number-bytes w16 number)
-    (joined (number_text w16 (length signature)) signature (number-bytes w16 (length signature)) is)
+    joined (number_text w16 number) (counted_text signature) (number-spelled w16 number)
+    (joined (number_text w16 (length signature)) signature (number-spelled w16 (length signature)) is)
 
 pub sent-bytes : (a : Confirmer) (part : Confirming) (first_signature : List ℕ) → AreBytes (message_text (HalfConfirmed part first_signature)) → AreBytes (bytes_to_client a part first_signature)
 unfolding message_text fields_text confirmation_fields_text confirming_text
 sent-bytes a part first_signature are =
-    at_each _ (joined (number_text w8 12) (form ++ (subject ++ (body ++ (path ++ (log ++ (first ++ second)))))) (number-bytes w8 12)
+    at_each _ (joined (number_text w8 12) (form ++ (subject ++ (body ++ (path ++ (log ++ (first ++ second)))))) (number-spelled w8 12)
     (joined form (subject ++ (body ++ (path ++ (log ++ (first ++ second))))) front.0
     (joined subject (body ++ (path ++ (log ++ (first ++ second)))) about.0
     (joined body (path ++ (log ++ (first ++ second))) shown.0

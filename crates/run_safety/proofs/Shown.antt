@@ -8,7 +8,7 @@ use Rattle.ar_claims.specs.Claimed.{claimed_in_bytes}
 use Rattle.ar_claims.specs.Verified.{IsVerifiedIn}
 use Rattle.ar_council.proofs.Seeing.{one_party}
 use Rattle.ar_nodes.specs.Parties.{CheckParts}
-use Rattle.ar_safety.specs.Held.{Taken}
+use Rattle.ar_safety.specs.Held.{AcceptedBytes}
 use Rattle.ar_statement.specs.Claims.{is_party, party}
 use Rattle.ar_statement.specs.declared.party.Party.{Party}
 use Rattle.ar_statement.specs.declared.party.Role.{Role}
@@ -118,7 +118,7 @@ steps-shown who claims more old new within step saw t there = by (is_party t.par
 pub record Seen (w : World) : Type 0 where
   pub bare : IsEarly w → w.clients ≡ no_directory
   pub learned : (t : SeenText) → Contains w.learned t → IsVerifiedIn w.clients (shown w) t
-  pub judged : (t : Taken) → Contains w.judged t → Contains (messages_of w.pool) t.bytes
+  pub judged : (t : AcceptedBytes) → Contains w.judged t → Contains (messages_of w.pool) t.bytes
   pub parties : (r : Role) (number : ℕ) (p : PartyParts) → parts_in w r number ≡ Some p → SawShown (party r number) (shown w) p
 
 pub moves-seen : (w v : World) → (IsEarly v → IsEarly w) → Moves w v → Seen w → Seen v
@@ -159,7 +159,7 @@ founds-seen w v before late founds s = record {
   learned = λ t there.
       absurd (nothing-verified (shown w) t (subst (λ (d : Directory). IsVerifiedIn d (shown w) t) (s.bare before)
       (s.learned t (subst (λ (seen : List SeenText). Contains seen t) founds.learned there))));
-  judged = λ t there. bytes-later w v t.bytes founds.messages (s.judged t (subst (λ (taken : List Taken). Contains taken t) founds.judged there));
+  judged = λ t there. bytes-later w v t.bytes founds.messages (s.judged t (subst (λ (taken : List AcceptedBytes). Contains taken t) founds.judged there));
   parties = λ r number p is t there.
       let none : Contains [] t = subst (λ (seen : List SeenText). Contains seen t) (founds.saw r number p is) there in
       absurd (omega (arith, none.1));

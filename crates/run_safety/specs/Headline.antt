@@ -8,7 +8,7 @@ use Rattle.report_text.specs.declared.happening.Said.{Said}
 use Rattle.report_text.specs.declared.happening.Said.TheVariants.{Absent, Accepted, Refused}
 use Rattle.ar_base.specs.Prefixes.{BeginsWith}
 use Rattle.ar_statement.specs.declared.party.Party.{Party}
-use Rattle.ar_safety.specs.Held.{AreKept, AreSafe, Held, Taken, records_of, verdict_on}
+use Rattle.ar_safety.specs.Held.{AreKept, AreSafe, Held, AcceptedBytes, records_of, verdict_on}
 use Rattle.ar_safety.specs.Theorem.{Few, NoCollision, NoForgery}
 use Rattle.report_text.specs.Lines.{line_of}
 use Rattle.report_text.specs.Verdicts.{said_of}
@@ -36,7 +36,7 @@ dishonest_in (Dishonest who) = Some who
 dishonest_in _ = None
 
 -- what is written of a judgement that is held
-abbrev pub said_by : Held → Taken → Said
+abbrev pub said_by : Held → AcceptedBytes → Said
 said_by h t = said_of t.name (verdict_on h.directory t)
 
 -- ---- what is written, byte by byte

@@ -1,12 +1,12 @@
 -- What a run keeps of its nodes, its messages and its clients' directory.
-use Rattle.std.specs.Prelude.{◌≡◌, Bool, true, List, All, nat_le, IfSome, Option}
+use Rattle.std.specs.Prelude.{◌≡◌, Bool, true, List, All, IfSome, Option}
 use Rattle.ar_base.specs.Bytes.{AreBytes}
 use Rattle.ar_nodes.specs.Parties.{AuthorityNode, LogNode}
 use Rattle.ar_nodes.specs.Pool.{Pooled}
 use Rattle.ar_safety.specs.Accepting.{KnowsRing}
-use Rattle.ar_safety.specs.Held.{Taken}
+use Rattle.ar_safety.specs.Held.{AcceptedBytes}
 use Rattle.ar_statement.specs.Claims.{authority_party, log_party}
-use Rattle.ar_world.specs.Founding.{place_of}
+use Rattle.ar_world.specs.Founding.{is_peopled}
 use Rattle.ar_world.specs.State.{World}
 use Rattle.authority_core.specs.State.{IsAuthority}
 use Rattle.key_roll.specs.Ring.{AreKeysOf, IsRing}
@@ -33,7 +33,7 @@ pub record KeepsAuthority (node : AuthorityNode) : Type 0 where
 
 -- From the line `authorities` on the clients' directory is one; each honest log and authority is kept; each message is bytes,
 -- and so is each that a client accepted.
-pub record KeepsAll (late : Bool) (clients : Directory) (logs : List (Option LogNode)) (authorities : List (Option AuthorityNode)) (pool : List Pooled) (judged : List Taken) : Type 0 where
+pub record KeepsAll (late : Bool) (clients : Directory) (logs : List (Option LogNode)) (authorities : List (Option AuthorityNode)) (pool : List Pooled) (judged : List AcceptedBytes) : Type 0 where
   pub directory : late ≡ true → IsDirectory clients
   pub each_log : All (λ slot. IfSome slot KeepsLog) logs
   pub each_authority : All (λ slot. IfSome slot KeepsAuthority) authorities
@@ -42,4 +42,4 @@ pub record KeepsAll (late : Bool) (clients : Directory) (logs : List (Option Log
 
 -- all of it in a world
 abbrev pub KeepsWorld : World → Type 0
-KeepsWorld w = KeepsAll (nat_le 4 (place_of w.phase)) w.clients w.logs w.authorities w.pool w.judged
+KeepsWorld w = KeepsAll (is_peopled w.phase) w.clients w.logs w.authorities w.pool w.judged

@@ -7,7 +7,7 @@ use Rattle.ar_claims.specs.Verified.{IsVerifiedIn}
 use Rattle.ar_message.specs.Confirmation.{Confirmation, confirmation_at}
 use Rattle.ar_nodes.specs.Parties.{AuthorityNode, LogNode}
 use Rattle.ar_nodes.specs.Pool.{Pooled}
-use Rattle.ar_safety.specs.Held.{Taken}
+use Rattle.ar_safety.specs.Held.{AcceptedBytes}
 use Rattle.ar_safety.specs.Records.{carried}
 use Rattle.ar_statement.specs.declared.party.Party.{Party}
 use Rattle.ar_statement.specs.declared.party.Role.{Role}
@@ -59,7 +59,7 @@ SawShown party claims p = (t : SeenText) → Contains p.saw t → (t.party ≡ p
 pub record AllShown (w : World) : Type 0 where
   pub saw : (party : Party) (p : PartyParts) → parts_of w party ≡ Some p → SawShown party (shown w) p
   pub learned : (t : SeenText) → Contains w.learned t → IsVerifiedIn w.clients (shown w) t
-  pub judged : (t : Taken) (c : Confirmation) → Contains w.judged t → whole confirmation_at t.bytes ≡ Ok c → (s : SeenText) → Contains (carried c) s → IsVerifiedIn w.clients (shown w) s
+  pub judged : (t : AcceptedBytes) (c : Confirmation) → Contains w.judged t → whole confirmation_at t.bytes ≡ Ok c → (s : SeenText) → Contains (carried c) s → IsVerifiedIn w.clients (shown w) s
 
 -- ---- the premise
 

@@ -5,7 +5,7 @@ ghost use Rattle.ar_cert.specs.Certificate.{Certificate, digest_of};
 ghost use Rattle.ar_claims.specs.Verified.{IsVerifiedIn};
 ghost use Rattle.ar_lines.specs.Lines.{lines_of};
 ghost use Rattle.ar_message.specs.Confirmation.{absent, present};
-ghost use Rattle.ar_message.specs.Filling.{bytes_at, filled};
+ghost use Rattle.ar_message.specs.Filling.{letter_bytes, filled};
 ghost use Rattle.ar_message.specs.Messages.{shown_in};
 ghost use Rattle.ar_message.specs.declared.message.Confirming.{Confirming};
 ghost use Rattle.ar_message.specs.declared.unsigned.Unsigned.{Unsigned};
@@ -154,7 +154,7 @@ pub fn what_a_run_confirms_is_accepted()
         → GoesThrough saying checks input w
         → ConfirmsToo w message number node part first_signature sent
         → AsksForIt node part first_signature asked → shown_in part.body ≡ present certificate
-        → judgement asked (bytes_at (filled node.keys sent).messages 0)
+        → judgement asked (letter_bytes (filled node.keys sent).messages 0)
         ≡ Accepted certificate (digest_of certificate) part.epoch part.root }
     ensures absent { (saying : Saying) (checks : List CheckParts) (input : List ℕ) (w : World)
         (message number : ℕ) (node : AuthorityNode)
@@ -163,7 +163,7 @@ pub fn what_a_run_confirms_is_accepted()
         → GoesThrough saying checks input w
         → ConfirmsToo w message number node part first_signature sent
         → AsksForIt node part first_signature asked → shown_in part.body ≡ absent bottom
-        → judgement asked (bytes_at (filled node.keys sent).messages 0)
+        → judgement asked (letter_bytes (filled node.keys sent).messages 0)
         ≡ Absent part.epoch part.root }
     ensures sent { (saying : Saying) (checks : List CheckParts) (input : List ℕ) (w : World)
         (message number : ℕ) (node : AuthorityNode)
@@ -171,7 +171,7 @@ pub fn what_a_run_confirms_is_accepted()
         → Delivers saying checks input w message (authority_party number) made
         → ConfirmsToo w message number node part first_signature sent
         → Contains (messages_of (run saying checks input).world.pool)
-        (bytes_at (filled node.keys sent).messages 0) }
+        (letter_bytes (filled node.keys sent).messages 0) }
     ensures delivered { (saying : Saying) (checks : List CheckParts) (input : List ℕ) (w : World)
         (message : ℕ) (who : Party) (made : Moved)
         → Delivers saying checks input w message who made → GoesThrough saying checks input w }

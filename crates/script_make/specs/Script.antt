@@ -11,8 +11,8 @@ abbrev pub updates_of : ℕ → ℕ
 updates_of domains = (domains + 3) / 4
 
 -- the last epoch: each batch ends one
-abbrev pub last_epoch : ℕ → ℕ
-last_epoch domains = batches_of domains + batches_of (updates_of domains)
+abbrev pub last_script_epoch : ℕ → ℕ
+last_script_epoch domains = batches_of domains + batches_of (updates_of domains)
 
 -- messages are delivered, a log proposes, and its messages are delivered: epoch e ends
 abbrev pub ending : ℕ → List ℕ
@@ -36,8 +36,8 @@ update domains k = flat_map (row_text Update) (batch (updates_of domains) k)
 
 -- a client asks for each domain, and for one name that is not there for each ten domains begun
 abbrev pub questions : ℕ → List ℕ
-questions domains = flat_map (row_text (Ask (last_epoch domains))) (range_with_len 0 domains)
-    ++ flat_map (row_text (AskAbsent (last_epoch domains))) (range_with_len 0 ((domains + 9) / 10))
+questions domains = flat_map (row_text (Ask (last_script_epoch domains))) (range_with_len 0 domains)
+    ++ flat_map (row_text (AskAbsent (last_script_epoch domains))) (range_with_len 0 ((domains + 9) / 10))
 
 -- the script
 abbrev pub script : ℕ → List ℕ

@@ -6,7 +6,7 @@
 //! Its tests: `base_tests`, module `script_make_tests`.
 #![tactic(auto)]
 
-pub use making::{last_epoch, make};
+pub use making::{last_script_epoch, make};
 
 mod making;
 mod rows;

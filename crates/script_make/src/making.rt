@@ -2,7 +2,7 @@ ghost use Rattle.std.specs.Prelude.{◌≡◌, ◌+◌, ◌≤◌, ◌<◌, ◌+
 ghost use Rattle.std.specs.List.{range_with_len};
 ghost use Rattle.ar_base.specs.Appending.{Appends};
 ghost use Rattle.script_make.specs.Numbers.{batches_of};
-ghost use Rattle.script_make.specs.Script.{ending, last_epoch, questions, registration, script, setup, update, updates_of};
+ghost use Rattle.script_make.specs.Script.{ending, last_script_epoch, questions, registration, script, setup, update, updates_of};
 
 use crate::rows::{Row, Span, batch_of, put_rows};
 use ar_text::{Part, append};
@@ -27,9 +27,9 @@ fn updates_of(domains: u32) -> u32
 
 /// The last epoch of the script for so many domains, at most 400: each batch of registrations ends one, and each batch of
 /// updates.
-pub fn last_epoch(domains: u32) -> u32
+pub fn last_script_epoch(domains: u32) -> u32
     requires { domains ≤ 400 }
-    ensures { result ≡ last_epoch domains }
+    ensures { result ≡ last_script_epoch domains }
 {
     batches_of(domains) + batches_of(updates_of(domains))
 }
@@ -123,7 +123,7 @@ fn put_questions(alloc: Global, out: &mut Vec<u8>, domains: u32) -> Result<(), A
     requires { domains ≤ 400 }
     ensures { Appends (questions domains) out.old out.new result }
 {
-    let last = last_epoch(domains);
+    let last = last_script_epoch(domains);
     let all = Span {
         first: 0,
         count: domains,

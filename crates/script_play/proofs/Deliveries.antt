@@ -1,15 +1,17 @@
 -- The deliveries of a flush, one after the other.
-use Rattle.std.proofs.Common.{◌≡◌, ℕ, zero, suc, ◌+◌, ◌-◌, ◌≤◌, ◌<◌, List, refl, sym, ap, ◌∙◌, subst, arith, Option, Some, None, Result, Ok, Err}
+use Rattle.std.proofs.Common.{◌≡◌, ℕ, zero, suc, ◌+◌, ◌-◌, ◌≤◌, ◌<◌, List, refl, sym, ap, ◌∙◌, subst, arith, Option, Some, None, Result, Ok, Err, IfOk}
 use Rattle.std.specs.Prelude.{◌==◌, if◌then◌else◌}
 use Rattle.std.proofs.lemmas.Bool.Decides.{nat_tests}
 use Rattle.ar_run.specs.declared.fault.Fault.{Fault}
 use Rattle.ar_statement.specs.declared.party.Party.{Party}
 use Rattle.owner_check.specs.declared.answer.Outcome.{Outcome}
 use Rattle.owner_check.specs.declared.answer.Outcome.TheVariants.{Failed}
-use Rattle.ar_world.specs.Delivering.{deliver_line, next_due}
-use Rattle.ar_world.specs.Run.{Course, Progress, behind, delivering, flushed, progress_of, then_if, then_on}
+use Rattle.ar_world.specs.Delivering.{NothingDue, deliver_line, next_due}
+use Rattle.ar_world.specs.Run.{Course, Progress, printed_before, delivering, flushed, progress_of, then_if, then_on}
 use Rattle.ar_world.specs.State.{World}
 use Rattle.ar_world.specs.declared.cause.Cause.{Cause}
+use Rattle.ar_world.specs.Finding.{Effect}
+use Rattle.ar_world.proofs.Searched.{delivered-leaves}
 use Rattle.script_play.specs.Playing.{PlaysPart, PlaysSome, Stand}
 use Rattle.script_play.proofs.Parts.{plays-nothing, then-broken, then-plays, then-refused}
 
@@ -28,7 +30,7 @@ said-later number it says j later = grind (arith, nat_tests)
 -- ---- what follows depends on what is said later alone
 
 if-same : {C : Type 0} (cause : Option C) (p : Course C) (next other : World → Course C) → ((v : World) → next v ≡ other v) → then_if cause p next ≡ then_if cause p other
-if-same None p next other same = ap (behind p.said) (same p.world)
+if-same None p next other same = ap (printed_before p.said) (same p.world)
 if-same (Some cause) p next other same = refl
 
 pub then-same : {C : Type 0} (p : Course C) (next other : World → Course C) → ((v : World) → next v ≡ other v) → then_on p next ≡ then_on p other
@@ -154,3 +156,18 @@ on-full faults wrote begun here s t most left number on is =
 
 pub left-more : (most number : ℕ) → number < most → most - number ≡ suc (most - (number + 1))
 left-more most number lt = omega arith
+
+-- ---- what a flush searches
+
+-- where a line was not refused, what was made of it stands
+not-refused : (w : World) (made : Effect) (P : World → Type 0) → None ≡ (progress_of w made).refused → IfOk made (λ m. P m.0) → P (progress_of w made).world
+not-refused w (Ok m) P none holds = holds
+not-refused w (Err why) P none holds = absurd cc
+
+-- behind a delivery that is due nothing is due before its message
+pub nothing-before : {K : Type 0} (faults : K → ℕ) (wrote : K → List ℕ → Type 0) (a b : K) (s t : Stand) (message : ℕ) (party : Party) → next_due s.world ≡ Some (message, party)
+    → Delivers faults wrote a b s t message party (Ok None) → NothingDue t.world (message - 1)
+nothing-before faults wrote a b s t message party due is =
+    let made : Effect = deliver_line is.says s.world message party in
+    subst (λ (u : Stand). NothingDue u.world (message - 1)) (sym is.plays.stands)
+    (not-refused s.world made (λ v. NothingDue v (message - 1)) is.plays.refused (delivered-leaves is.says s.world (message, party) due))

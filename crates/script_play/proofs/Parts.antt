@@ -4,7 +4,7 @@ use Rattle.ar_run.specs.declared.fault.Fault.{Fault}
 use Rattle.ar_run.specs.declared.fault.Fault.TheVariants as fault
 use Rattle.report_text.specs.declared.happening.Happening.{Happening}
 use Rattle.ar_world.specs.Finding.{Effect}
-use Rattle.ar_world.specs.Run.{Course, Progress, behind, progress_of, then_if, then_on, unmoved}
+use Rattle.ar_world.specs.Run.{Course, Progress, printed_before, progress_of, then_if, then_on, unmoved}
 use Rattle.ar_world.specs.State.{World}
 use Rattle.ar_world.specs.Step.{StepsBy, StepsBySome}
 use Rattle.ar_world.specs.declared.cause.Cause.{Cause}
@@ -81,7 +81,7 @@ pub ruleset made_laws = (made-taken, made-untold, made-untaken)
 -- ---- one part behind another
 
 behind-plays : {K C : Type 0} (faults : K → ℕ) (wrote : K → List ℕ → Type 0) (a b c : K) (s t u : Stand) (p q : Course C) (result : Result (Option C) Fault)
-    → PlaysPart faults wrote a b s t p (Ok None) → PlaysPart faults wrote b c t u q result → PlaysPart faults wrote a c s u (behind p.said q) result
+    → PlaysPart faults wrote a b s t p (Ok None) → PlaysPart faults wrote b c t u q result → PlaysPart faults wrote a c s u (printed_before p.said q) result
 behind-plays faults wrote a b c s t u p q (Ok refused) first later = record {
   refused = later.refused;
   stands = later.stands ∙ ap (λ (n : Counts). record { world = q.world; counts = n })
@@ -102,7 +102,7 @@ pub then-plays : {K C : Type 0} (faults : K → ℕ) (wrote : K → List ℕ →
 then-plays {C = C} faults wrote a b c s t u p next result first later =
     let taken : then_on p next ≡ then_if None p next = ap (λ (cause : Option C). then_if cause p next) (sym first.refused) in
     let there : next t.world ≡ next p.world = ap (λ (v : Stand). next v.world) first.stands in
-    subst (λ (q : Course C). PlaysPart faults wrote a c s u q result) (ap (behind p.said) there ∙ sym taken)
+    subst (λ (q : Course C). PlaysPart faults wrote a c s u q result) (ap (printed_before p.said) there ∙ sym taken)
     (behind-plays faults wrote a b c s t u p (next t.world) result first later)
 
 -- where it is refused, nothing follows

@@ -13,7 +13,7 @@ use Rattle.script_text.specs.declared.line.EventLine.TheVariants as event
 use Rattle.script_text.specs.declared.line.Line.{Line}
 use Rattle.script_text.specs.declared.line.SetupLine.{SetupLine}
 use Rattle.script_text.specs.declared.line.Line.TheVariants as line
-use Rattle.ar_world.specs.Run.{Progress, follows, line_taken, most_lines, progress_of, refusing, taken, taken_as, unmoved}
+use Rattle.ar_world.specs.Run.{Progress, deliveries_behind, line_taken, most_lines, progress_of, refusing, taken, taken_as, unmoved}
 use Rattle.ar_world.specs.State.{World}
 use Rattle.ar_world.specs.Step.{event_effect, step}
 use Rattle.ar_world.specs.declared.cause.Cause.{Cause}
@@ -26,26 +26,26 @@ use Rattle.script_play.proofs.Written.{wrote-nothing}
 -- ---- what follows a line
 
 abbrev pub Follows : {K : Type 0} → (K → ℕ) → (K → List ℕ → Type 0) → K → K → Stand → Stand → Line → Result (Option Cause) Fault → Type 0
-Follows faults wrote a b s t l result = PlaysSome faults wrote a b s t (λ (says : ℕ → Outcome). follows says l s.world) result
+Follows faults wrote a b s t l result = PlaysSome faults wrote a b s t (λ (says : ℕ → Outcome). deliveries_behind says l s.world) result
 
 -- nothing follows
-pub follow-none : {K : Type 0} (faults : K → ℕ) (wrote : K → List ℕ → Type 0) (a : K) (s : Stand) (l : Line) → ((says : ℕ → Outcome) (w : World) → follows says l w ≡ unmoved w)
+pub follow-none : {K : Type 0} (faults : K → ℕ) (wrote : K → List ℕ → Type 0) (a : K) (s : Stand) (l : Line) → ((says : ℕ → Outcome) (w : World) → deliveries_behind says l w ≡ unmoved w)
     → Follows faults wrote a a s s l (Ok None)
 follow-none faults wrote a s l none = record {
   says = λ _. Failed;
   plays = subst (λ (p : Progress). PlaysPart faults wrote a a s s p (Ok None)) (sym (none (λ _. Failed) s.world)) (plays-nothing faults wrote a s);
 }
 
-pub follows-none : (e : EventLine) → (e ≡ event.Flush → ⊥) → (says : ℕ → Outcome) (w : World) → follows says (line.Event e) w ≡ unmoved w
+pub follows-none : (e : EventLine) → (e ≡ event.Flush → ⊥) → (says : ℕ → Outcome) (w : World) → deliveries_behind says (line.Event e) w ≡ unmoved w
 follows-none event.Flush other says w = absurd (other refl)
 follows-none _ other says w = refl
 
 -- nor does anything follow a line of another kind
 pub plain-none : (l : Line) → ((x : SetupLine) × (l ≡ line.Setup x)) ⊎ ((l ≡ line.Burst) ⊎ (l ≡ line.End))
-    → (says : ℕ → Outcome) (w : World) → follows says l w ≡ unmoved w
-plain-none l (inl setup) says w = ap (λ (l : Line). follows says l w) setup.1
-plain-none l (inr (inl burst)) says w = ap (λ (l : Line). follows says l w) burst
-plain-none l (inr (inr end)) says w = ap (λ (l : Line). follows says l w) end
+    → (says : ℕ → Outcome) (w : World) → deliveries_behind says l w ≡ unmoved w
+plain-none l (inl setup) says w = ap (λ (l : Line). deliveries_behind says l w) setup.1
+plain-none l (inr (inl burst)) says w = ap (λ (l : Line). deliveries_behind says l w) burst
+plain-none l (inr (inr end)) says w = ap (λ (l : Line). deliveries_behind says l w) end
 
 -- ---- a line, with what follows it
 
@@ -53,7 +53,7 @@ plain-none l (inr (inr end)) says w = ap (λ (l : Line). follows says l w) end
 record Says (says : Outcome) (later : ℕ → Outcome) (l : Line) : Type 0 where
   all : ℕ → Outcome
   alone : (w : World) → step says w l ≡ step (all 0) w l
-  behind : (w : World) → follows later l w ≡ follows all l w
+  behind : (w : World) → deliveries_behind later l w ≡ deliveries_behind all l w
 
 says-both : (says : Outcome) (later : ℕ → Outcome) (l : Line) → Says says later l
 unfolding event_effect
@@ -73,7 +73,7 @@ take-followed faults wrote a b c s t u l result first later =
     let made = progress_of s.world (step (both.all 0) s.world l) in
     record {
       says = both.all;
-      plays = then-plays faults wrote a b c s t u made (follows both.all l) result
+      plays = then-plays faults wrote a b c s t u made (deliveries_behind both.all l) result
           (subst (λ (e : Progress). PlaysPart faults wrote a b s t e (Ok None)) (ap (progress_of s.world) (both.alone s.world)) first.plays)
           (subst (λ (p : Progress). PlaysPart faults wrote b c t u p result) (both.behind t.world) later.plays);
     }
@@ -84,7 +84,7 @@ take-refused faults wrote a b s t l cause first =
     let says : ℕ → Outcome = λ _. first.says in
     record {
       says = says;
-      plays = then-refused faults wrote a b s t (progress_of s.world (step first.says s.world l)) (follows says l) cause first.plays;
+      plays = then-refused faults wrote a b s t (progress_of s.world (step first.says s.world l)) (deliveries_behind says l) cause first.plays;
     }
 
 pub take-broken : {K : Type 0} (faults : K → ℕ) (wrote : K → List ℕ → Type 0) (a b : K) (s t : Stand) (l : Line) (f : Fault)
@@ -93,7 +93,7 @@ take-broken faults wrote a b s t l f first =
     let says : ℕ → Outcome = λ _. first.says in
     record {
       says = says;
-      plays = then-broken faults wrote a b s t (progress_of s.world (step first.says s.world l)) (follows says l) f first.plays;
+      plays = then-broken faults wrote a b s t (progress_of s.world (step first.says s.world l)) (deliveries_behind says l) f first.plays;
     }
 
 -- ---- a line as it was read

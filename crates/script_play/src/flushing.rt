@@ -1,8 +1,8 @@
 //! The deliveries of a flush.
 
-ghost use Rattle.std.specs.Prelude.{◌≡◌, ℕ};
+ghost use Rattle.std.specs.Prelude.{◌≡◌, ◌<◌, ℕ, IfSome};
 ghost use Rattle.owner_check.specs.declared.answer.Outcome.{Outcome};
-ghost use Rattle.ar_world.specs.Delivering.{deliver_line, next_due};
+ghost use Rattle.ar_world.specs.Delivering.{NothingDue, deliver_line, next_due};
 ghost use Rattle.ar_world.specs.Run.{flushed, most_deliveries, progress_of};
 ghost use Rattle.script_play.specs.Playing.{PlaysSome};
 
@@ -20,11 +20,13 @@ use std::alloc::Global;
 const MOST_DELIVERIES: u64 = 16 * (MOST_MESSAGES as u64 + 64);
 
 impl<C: OwnerCheck> Stage<C> {
-    /// The delivery that is due next.
-    fn next_due(&self) -> Option<(u64, Party)>
-        ensures { result ≡ next_due self.now.world }
+    /// The delivery that is due next, where nothing is due of so many messages in front.
+    fn next_due_behind(&self, front: usize) -> Option<(u64, Party)>
+        requires { NothingDue self.now.world front }
+        ensures due { result ≡ next_due self.now.world }
+        ensures number { IfSome result (λ due. 0 < due.0) }
     {
-        self.world.next_due()
+        self.world.next_due_behind(front)
     }
 
     /// Makes a delivery.
@@ -53,10 +55,13 @@ impl<C: OwnerCheck> Stage<C> {
         ensures { PlaysSome K.faults K.wrote sink.old sink.new self.old self.new
             (λ (says : ℕ → Outcome). flushed most_deliveries says 0 self.old.world) result }
     {
+        // Of so many messages in front nothing is due.
+        let mut front = 0;
         for _number in 0..MOST_DELIVERIES {
-            let Some((message, party)) = self.next_due() else {
+            let Some((message, party)) = self.next_due_behind(front) else {
                 return Ok(None);
             };
+            front = (message - 1) as usize;
             if let Some(cause) = self.deliver(alloc, sink, message, party)? {
                 return Ok(Some(cause));
             }

@@ -14,7 +14,7 @@ pub use counts::Counts;
 pub use lines::read_line;
 pub use played::Played;
 pub use playing::play;
-pub use refusing::{refused_line, tell_refusal, tell_too_long};
+pub use refusing::{refusal_line, tell_refusal, tell_too_long};
 pub use stage::Stage;
 pub use telling::{tell, tell_made};
 

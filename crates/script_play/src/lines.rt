@@ -1,10 +1,14 @@
 //! A line of a script, and what follows it.
 
-ghost use Rattle.std.specs.Prelude.{◌≡◌, ℕ};
+ghost use Rattle.std.specs.Prelude.{◌≡◌, ℕ, false, Some, Ok, Err};
+ghost use Rattle.ar_lines.specs.declared.refusal.Reason.{Reason};
+ghost use Rattle.ar_nodes.specs.declared.fault.WorldFault.TheVariants.{Order};
 ghost use Rattle.owner_check.specs.declared.answer.Outcome.{Outcome};
-ghost use Rattle.ar_world.specs.Run.{follows, line_taken, progress_of, taken, taken_as};
-ghost use Rattle.ar_world.specs.Step.{step};
+ghost use Rattle.ar_world.specs.Run.{deliveries_behind, line_taken, progress_of, taken, taken_as};
+ghost use Rattle.ar_world.specs.Step.{comes_now, step};
+ghost use Rattle.ar_world.specs.declared.cause.Cause.TheVariants.{Unread, Untaken};
 ghost use Rattle.script_play.specs.Playing.{PlaysSome, line_read};
+ghost use Rattle.script_text.specs.declared.line.Line.{Line as Words};
 
 use crate::stage::Stage;
 use crate::telling::tell_made;
@@ -39,9 +43,11 @@ impl<C: OwnerCheck> Stage<C> {
         sink: &mut K,
         line: &Line,
     ) -> Result<Option<Cause>, Fault>
-        ensures { PlaysSome K.faults K.wrote sink.old sink.new self.old self.new
+        ensures plays { PlaysSome K.faults K.wrote sink.old sink.new self.old self.new
             (λ (says : Outcome). progress_of self.old.world
             (step says self.old.world line.now)) result }
+        ensures order { comes_now self.old.world line.now ≡ false
+            → result ≡ Ok (Some (Untaken Order)) }
     {
         let made = self.world.step(alloc, line);
         tell_made(alloc, sink, &mut self.counts, made)
@@ -55,7 +61,8 @@ impl<C: OwnerCheck> Stage<C> {
         event: &EventLine,
     ) -> Result<Option<Cause>, Fault>
         ensures { PlaysSome K.faults K.wrote sink.old sink.new self.old self.new
-            (λ (says : ℕ → Outcome). follows says (Line.Event event.now) self.old.world) result }
+            (λ (says : ℕ → Outcome). deliveries_behind says
+            (Line.Event event.now) self.old.world) result }
     {
         match event {
             EventLine::Flush => self.flush(alloc, sink),
@@ -71,7 +78,7 @@ impl<C: OwnerCheck> Stage<C> {
         line: &Line,
     ) -> Result<Option<Cause>, Fault>
         ensures { PlaysSome K.faults K.wrote sink.old sink.new self.old self.new
-            (λ (says : ℕ → Outcome). follows says line.now self.old.world) result }
+            (λ (says : ℕ → Outcome). deliveries_behind says line.now self.old.world) result }
     {
         match line {
             Line::Event(event) => self.follow_event(alloc, sink, event),
@@ -86,8 +93,10 @@ impl<C: OwnerCheck> Stage<C> {
         sink: &mut K,
         line: &Line,
     ) -> Result<Option<Cause>, Fault>
-        ensures { PlaysSome K.faults K.wrote sink.old sink.new self.old self.new
+        ensures plays { PlaysSome K.faults K.wrote sink.old sink.new self.old self.new
             (λ (says : ℕ → Outcome). taken says self.old.world line.now) result }
+        ensures order { comes_now self.old.world line.now ≡ false
+            → result ≡ Ok (Some (Untaken Order)) }
     {
         match self.take_alone(alloc, sink, line)? {
             Some(cause) => Ok(Some(cause)),
@@ -98,7 +107,8 @@ impl<C: OwnerCheck> Stage<C> {
     /// Takes a line as it was read, and what follows it: one that is skipped does nothing, and one that could not be read is
     /// refused.
     ///
-    /// The answer is why the line was refused, if it was. Memory that runs out, and a write that fails, end it where it stands.
+    /// The answer is why the line was refused, if it was. Memory that runs out, and a write that fails, end it where it stands;
+    /// a line that could not be read, or may not come now, is refused all the same.
     #[tactic(auto, using(crate::proofs::Taking::read_laws))]
     pub fn take_read<K: Sink>(
         &mut self,
@@ -106,8 +116,11 @@ impl<C: OwnerCheck> Stage<C> {
         sink: &mut K,
         read: Result<Option<Line>, Reason>,
     ) -> Result<Option<Cause>, Fault>
-        ensures { PlaysSome K.faults K.wrote sink.old sink.new self.old self.new
+        ensures plays { PlaysSome K.faults K.wrote sink.old sink.new self.old self.new
             (λ (says : ℕ → Outcome). taken_as says self.old.world read.entry) result }
+        ensures unread { (why : Reason) → read.entry ≡ Err why → result ≡ Ok (Some (Unread why)) }
+        ensures order { (line : Words) → read.entry ≡ Ok (Some line)
+            → comes_now self.old.world line ≡ false → result ≡ Ok (Some (Untaken Order)) }
     {
         match read {
             Ok(Some(line)) => self.take(alloc, sink, &line),

@@ -13,7 +13,7 @@ use arpki_ask::refuse_long;
 use std::alloc::{AllocError, Global};
 
 /// The line that tells that the line with this number is refused, and why, with its newline.
-pub fn refused_line(alloc: Global, number: u64, cause: Cause) -> Result<Vec<u8>, AllocError>
+pub fn refusal_line(alloc: Global, number: u64, cause: Cause) -> Result<Vec<u8>, AllocError>
     ensures { IfOk result (λ line. line.items ≡ refused_text (number, cause)) }
 {
     let line = format!(in alloc; "line {number}: {cause}\n")?;
@@ -31,7 +31,7 @@ pub fn tell_refusal<K: Sink>(
 {
     match refusal {
         Some((number, cause)) => {
-            let line = refused_line(alloc, number, cause)?;
+            let line = refusal_line(alloc, number, cause)?;
             tell_line(sink, &line)
         }
         None => Ok(()),

@@ -1,7 +1,8 @@
 //! What happens is written, a line for each happening.
 
-ghost use Rattle.std.specs.Prelude.{◌≡◌, OnOk};
+ghost use Rattle.std.specs.Prelude.{◌≡◌, Err, OnOk};
 ghost use Rattle.report_text.specs.Lines.{line_of};
+ghost use Rattle.ar_nodes.specs.declared.fault.WorldFault.{WorldFault};
 ghost use Rattle.ar_world.specs.Finding.{Effect};
 ghost use Rattle.ar_world.specs.Run.{progress_of};
 ghost use Rattle.ar_world.specs.State.{World as Worlds};
@@ -72,9 +73,10 @@ pub fn tell_made<K: Sink>(
     counts: &mut Counts,
     made: Result<Items<Happening>, WorldFault>,
 ) -> Result<Option<Cause>, Fault>
-    ensures { (old new : Worlds) (effect : Effect) → StepsBy made old new effect
+    ensures plays { (old new : Worlds) (effect : Effect) → StepsBy made old new effect
         → PlaysPart K.faults K.wrote sink.old sink.new (record { world = old; counts = counts.old })
         (record { world = new; counts = counts.new }) (progress_of old effect) result }
+    ensures refused { (why : WorldFault) → made ≡ Err why → result ≡ refused_by why }
 {
     match made {
         Ok(said) => match tell(alloc, sink, counts, said.as_slice()) {

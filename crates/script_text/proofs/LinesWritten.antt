@@ -10,7 +10,7 @@ use Rattle.ar_base.specs.Chaining.{◌>>=◌}
 use Rattle.ar_base.proofs.Shown.{bind_ok, ok_is}
 use Rattle.ar_lines.specs.Forms.{number_in, number_of}
 use Rattle.ar_lines.specs.Lines.{is_text, parts_of, words_of}
-use Rattle.ar_lines.specs.Written.{Writes}
+use Rattle.ar_lines.specs.Written.{WritesBack}
 use Rattle.ar_lines.specs.declared.refusal.Reason.{Reason}
 use Rattle.ar_lines.specs.declared.refusal.Reason.TheVariants.{Text, Field}
 use Rattle.ar_lines.proofs.PartyWords.{party_writes}
@@ -33,7 +33,7 @@ abbrev done : {A : Type 0} → A → Result A Reason
 done x = Ok x
 
 -- a word of a form that was read is what is written of its value
-field : {A B : Type 0} (form : Form A) (write : A → List ℕ) (word : List ℕ) (k : ℕ) (f : A → Result B Reason) (y : B) → Writes form write → (ok_or (form word) (Field k) >>= f) ≡ Ok y → (x : A) × (write x ≡ word) × (f x ≡ Ok y)
+field : {A B : Type 0} (form : Form A) (write : A → List ℕ) (word : List ℕ) (k : ℕ) (f : A → Result B Reason) (y : B) → WritesBack form write → (ok_or (form word) (Field k) >>= f) ≡ Ok y → (x : A) × (write x ≡ word) × (f x ≡ Ok y)
 field {A = A} {B = B} form write word k f y writes h = by (form word) refl h
   where
     by : (o : Option A) → form word ≡ o → (ok_or o (Field k) >>= f) ≡ Ok y → (x : A) × (write x ≡ word) × (f x ≡ Ok y)
@@ -115,7 +115,7 @@ plain_row spelt word m written ws line h =
     let none = bind_ok (no_words ws) _ line h in
     ap spelt (sym (ok_is m line none.2)) ∙ written ∙ ap (λ l. word ∷ l) (sym (none_are ws none.0 none.1))
 
-one_row : {A L : Type 0} (spelt : L → List (List ℕ)) (word : List ℕ) (form : Form A) (write : A → List ℕ) (m : A → L) → Writes form write → ((a : A) → spelt (m a) ≡ word ∷ write a ∷ []) → FieldsWrite spelt word (one form m)
+one_row : {A L : Type 0} (spelt : L → List (List ℕ)) (word : List ℕ) (form : Form A) (write : A → List ℕ) (m : A → L) → WritesBack form write → ((a : A) → spelt (m a) ≡ word ∷ write a ∷ []) → FieldsWrite spelt word (one form m)
 one_row spelt word form write m writes written ws line h =
     let all = bind_ok (one_word ws) _ line h in
     let a = field form write all.0 1 _ line writes all.2 in
@@ -123,7 +123,7 @@ one_row spelt word form write m writes written ws line h =
     ∙ ap (λ x. word ∷ x ∷ []) a.1
     ∙ ap (λ l. word ∷ l) (sym (one_is ws all.0 all.1))
 
-two_row : {A B L : Type 0} (spelt : L → List (List ℕ)) (word : List ℕ) (first : Form A) (second : Form B) (write : A → List ℕ) (other : B → List ℕ) (m : A → B → L) → Writes first write → Writes second other → ((a : A) (b : B) → spelt (m a b) ≡ word ∷ write a ∷ other b ∷ []) → FieldsWrite spelt word (two first second m)
+two_row : {A B L : Type 0} (spelt : L → List (List ℕ)) (word : List ℕ) (first : Form A) (second : Form B) (write : A → List ℕ) (other : B → List ℕ) (m : A → B → L) → WritesBack first write → WritesBack second other → ((a : A) (b : B) → spelt (m a b) ≡ word ∷ write a ∷ other b ∷ []) → FieldsWrite spelt word (two first second m)
 two_row spelt word first second write other m writes others written ws line h =
     let all = bind_ok (two_words ws) _ line h in
     let a = field first write all.0.0 1 _ line writes all.2 in
@@ -131,7 +131,7 @@ two_row spelt word first second write other m writes others written ws line h =
     ap spelt (sym (ok_is (m a.0 b.0) line b.2)) ∙ written a.0 b.0
     ∙ rw (a.1, b.1) (ap (λ l. word ∷ l) (sym (two_are ws all.0 all.1)))
 
-bound_row : {A B L : Type 0} (spelt : L → List (List ℕ)) (word : List ℕ) (first : Form A) (second : A → Form B) (write : A → List ℕ) (other : B → List ℕ) (m : A → B → L) → Writes first write → ((a : A) → Writes (second a) other) → ((a : A) (b : B) → spelt (m a b) ≡ word ∷ write a ∷ other b ∷ []) → FieldsWrite spelt word (bound first second m)
+bound_row : {A B L : Type 0} (spelt : L → List (List ℕ)) (word : List ℕ) (first : Form A) (second : A → Form B) (write : A → List ℕ) (other : B → List ℕ) (m : A → B → L) → WritesBack first write → ((a : A) → WritesBack (second a) other) → ((a : A) (b : B) → spelt (m a b) ≡ word ∷ write a ∷ other b ∷ []) → FieldsWrite spelt word (bound first second m)
 bound_row spelt word first second write other m writes others written ws line h =
     let all = bind_ok (two_words ws) _ line h in
     let a = field first write all.0.0 1 _ line writes all.2 in
@@ -139,7 +139,7 @@ bound_row spelt word first second write other m writes others written ws line h 
     ap spelt (sym (ok_is (m a.0 b.0) line b.2)) ∙ written a.0 b.0
     ∙ rw (a.1, b.1) (ap (λ l. word ∷ l) (sym (two_are ws all.0 all.1)))
 
-three_row : {A B C L : Type 0} (spelt : L → List (List ℕ)) (word : List ℕ) (first : Form A) (second : Form B) (third : Form C) (wa : A → List ℕ) (wb : B → List ℕ) (wc : C → List ℕ) (m : A → B → C → L) → Writes first wa → Writes second wb → Writes third wc → ((a : A) (b : B) (c : C) → spelt (m a b c) ≡ word ∷ wa a ∷ wb b ∷ wc c ∷ []) → FieldsWrite spelt word (three first second third m)
+three_row : {A B C L : Type 0} (spelt : L → List (List ℕ)) (word : List ℕ) (first : Form A) (second : Form B) (third : Form C) (wa : A → List ℕ) (wb : B → List ℕ) (wc : C → List ℕ) (m : A → B → C → L) → WritesBack first wa → WritesBack second wb → WritesBack third wc → ((a : A) (b : B) (c : C) → spelt (m a b c) ≡ word ∷ wa a ∷ wb b ∷ wc c ∷ []) → FieldsWrite spelt word (three first second third m)
 three_row spelt word first second third wa wb wc m ha hb hc written ws line h =
     let all = bind_ok (three_words ws) _ line h in
     let a = field first wa all.0.0 1 _ line ha all.2 in
@@ -148,7 +148,7 @@ three_row spelt word first second third wa wb wc m ha hb hc written ws line h =
     ap spelt (sym (ok_is (m a.0 b.0 c.0) line c.2)) ∙ written a.0 b.0 c.0
     ∙ rw (a.1, b.1, c.1) (ap (λ l. word ∷ l) (sym (three_are ws all.0 all.1)))
 
-four_row : {A B C D L : Type 0} (spelt : L → List (List ℕ)) (word : List ℕ) (first : Form A) (second : Form B) (third : Form C) (fourth : Form D) (wa : A → List ℕ) (wb : B → List ℕ) (wc : C → List ℕ) (wd : D → List ℕ) (m : A → B → C → D → L) → Writes first wa → Writes second wb → Writes third wc → Writes fourth wd → ((a : A) (b : B) (c : C) (d : D) → spelt (m a b c d) ≡ word ∷ wa a ∷ wb b ∷ wc c ∷ wd d ∷ []) → FieldsWrite spelt word (four first second third fourth m)
+four_row : {A B C D L : Type 0} (spelt : L → List (List ℕ)) (word : List ℕ) (first : Form A) (second : Form B) (third : Form C) (fourth : Form D) (wa : A → List ℕ) (wb : B → List ℕ) (wc : C → List ℕ) (wd : D → List ℕ) (m : A → B → C → D → L) → WritesBack first wa → WritesBack second wb → WritesBack third wc → WritesBack fourth wd → ((a : A) (b : B) (c : C) (d : D) → spelt (m a b c d) ≡ word ∷ wa a ∷ wb b ∷ wc c ∷ wd d ∷ []) → FieldsWrite spelt word (four first second third fourth m)
 four_row spelt word first second third fourth wa wb wc wd m ha hb hc hd written ws line h =
     let all = bind_ok (four_words ws) _ line h in
     let a = field first wa all.0.0 1 _ line ha all.2 in
@@ -158,7 +158,7 @@ four_row spelt word first second third fourth wa wb wc wd m ha hb hc hd written 
     ap spelt (sym (ok_is (m a.0 b.0 c.0 d.0) line d.2)) ∙ written a.0 b.0 c.0 d.0
     ∙ rw (a.1, b.1, c.1, d.1) (ap (λ l. word ∷ l) (sym (four_are ws all.0 all.1)))
 
-five_row : {A B C D E L : Type 0} (spelt : L → List (List ℕ)) (word : List ℕ) (first : Form A) (second : Form B) (third : Form C) (fourth : Form D) (fifth : Form E) (wa : A → List ℕ) (wb : B → List ℕ) (wc : C → List ℕ) (wd : D → List ℕ) (we : E → List ℕ) (m : A → B → C → D → E → L) → Writes first wa → Writes second wb → Writes third wc → Writes fourth wd → Writes fifth we → ((a : A) (b : B) (c : C) (d : D) (e : E) → spelt (m a b c d e) ≡ word ∷ wa a ∷ wb b ∷ wc c ∷ wd d ∷ we e ∷ []) → FieldsWrite spelt word (five first second third fourth fifth m)
+five_row : {A B C D E L : Type 0} (spelt : L → List (List ℕ)) (word : List ℕ) (first : Form A) (second : Form B) (third : Form C) (fourth : Form D) (fifth : Form E) (wa : A → List ℕ) (wb : B → List ℕ) (wc : C → List ℕ) (wd : D → List ℕ) (we : E → List ℕ) (m : A → B → C → D → E → L) → WritesBack first wa → WritesBack second wb → WritesBack third wc → WritesBack fourth wd → WritesBack fifth we → ((a : A) (b : B) (c : C) (d : D) (e : E) → spelt (m a b c d e) ≡ word ∷ wa a ∷ wb b ∷ wc c ∷ wd d ∷ we e ∷ []) → FieldsWrite spelt word (five first second third fourth fifth m)
 five_row spelt word first second third fourth fifth wa wb wc wd we m ha hb hc hd he written ws line h =
     let all = bind_ok (five_words ws) _ line h in
     let a = field first wa all.0.0 1 _ line ha all.2 in
@@ -181,7 +181,7 @@ policy_written p terms more h =
     ap (λ (x : PolicyWords). policy_then x more) (sym (ok_is made terms r.2))
     ∙ rw (t.1, k.1, m.1, u.1, r.1) refl
 
-policy_row : {A B L : Type 0} (spelt : L → List (List ℕ)) (word : List ℕ) (first : Form A) (second : Form B) (wa : A → List ℕ) (wb : B → List ℕ) (m : A → B → PolicyWords → List ℕ → L) → Writes first wa → Writes second wb → ((a : A) (b : B) (p : PolicyWords) (asks : List ℕ) → spelt (m a b p asks) ≡ word ∷ wa a ∷ wb b ∷ policy_then p (list_word asks ∷ [])) → FieldsWrite spelt word (policy first second m)
+policy_row : {A B L : Type 0} (spelt : L → List (List ℕ)) (word : List ℕ) (first : Form A) (second : Form B) (wa : A → List ℕ) (wb : B → List ℕ) (m : A → B → PolicyWords → List ℕ → L) → WritesBack first wa → WritesBack second wb → ((a : A) (b : B) (p : PolicyWords) (asks : List ℕ) → spelt (m a b p asks) ≡ word ∷ wa a ∷ wb b ∷ policy_then p (list_word asks ∷ [])) → FieldsWrite spelt word (policy first second m)
 policy_row spelt word first second wa wb m ha hb written ws line h =
     let all = bind_ok (policy_words ws) _ line h in
     let a = field first wa all.0.0 1 _ line ha all.2 in
@@ -191,7 +191,7 @@ policy_row spelt word first second wa wb m ha hb written ws line h =
     ap spelt (sym (ok_is (m a.0 b.0 p.0 c.0) line c.2)) ∙ written a.0 b.0 p.0 c.0
     ∙ rw (a.1, b.1, policy_written all.0.2 p.0 (list_word c.0 ∷ []) p.1, c.1) (ap (λ l. word ∷ l) (sym (policy_are ws all.0 all.1)))
 
-pieces_row : {A L : Type 0} (spelt : L → List (List ℕ)) (word : List ℕ) (first : Form A) (wa : A → List ℕ) (m : A → List (List ℕ) → L) → Writes first wa → ((a : A) (ps : List (List ℕ)) → spelt (m a ps) ≡ word ∷ wa a ∷ ps) → FieldsWrite spelt word (pieces first m)
+pieces_row : {A L : Type 0} (spelt : L → List (List ℕ)) (word : List ℕ) (first : Form A) (wa : A → List ℕ) (m : A → List (List ℕ) → L) → WritesBack first wa → ((a : A) (ps : List (List ℕ)) → spelt (m a ps) ≡ word ∷ wa a ∷ ps) → FieldsWrite spelt word (pieces first m)
 pieces_row spelt word first wa m ha written ws line h =
     let all = bind_ok (some_words ws) _ line h in
     let a = field first wa all.0.0 1 _ line ha all.2 in

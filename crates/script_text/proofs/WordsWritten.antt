@@ -12,7 +12,7 @@ use Rattle.std.proofs.lemmas.List.{take-append-drop}
 use Rattle.std.proofs.lemmas.Map.Entries.{option_filter}
 use Rattle.ar_lines.specs.Forms.{name_of, number_in, number_of}
 use Rattle.ar_lines.specs.Lines.{parts_of}
-use Rattle.ar_lines.specs.Written.{Writes}
+use Rattle.ar_lines.specs.Written.{WritesBack}
 use Rattle.ar_lines.proofs.LineLaws.{pieces_are_some}
 use Rattle.ar_lines.proofs.PartyWords.{party_writes}
 use Rattle.ar_lines.proofs.Respelled.{name_own, number_in_writes, number_own, filtered_some, filtered_writes, stepped}
@@ -28,25 +28,25 @@ use Rattle.ar_base.proofs.Shown.{mapped}
 
 -- ---- numbers
 
-pub party_count_writes : Writes party_count_of decimal
+pub party_count_writes : WritesBack party_count_of decimal
 unfolding party_count_of
 party_count_writes = filtered_writes number_of decimal _ number_own
 
-pub quorum_writes : (n : ℕ) → Writes (quorum_of n) decimal
+pub quorum_writes : (n : ℕ) → WritesBack (quorum_of n) decimal
 unfolding quorum_of
 quorum_writes n = filtered_writes number_of decimal _ number_own
 
-pub lms_writes : Writes lms_of decimal
+pub lms_writes : WritesBack lms_of decimal
 unfolding lms_of
 lms_writes = filtered_writes number_of decimal _ number_own
 
-pub ots_writes : (lms : ℕ) → Writes (ots_of lms) decimal
+pub ots_writes : (lms : ℕ) → WritesBack (ots_of lms) decimal
 unfolding ots_of
 ots_writes lms = filtered_writes number_of decimal _ number_own
 
 -- ---- parties
 
-pub member_writes : (r : Role) → Writes (number_with r) (member_word r)
+pub member_writes : (r : Role) → WritesBack (number_with r) (member_word r)
 unfolding number_with
 member_writes r word number h =
     let found = mapped (λ (p : Party). p.number) (option_filter (λ (p : Party). role_number p.role == role_number r) (party_of word)) number h in
@@ -56,17 +56,17 @@ member_writes r word number h =
     ∙ ap (λ n. member_word found.0.role n) (sym found.2)
     ∙ party_writes word found.0 passed.0
 
-pub witness_writes : Writes witness_of party_word
+pub witness_writes : WritesBack witness_of party_word
 unfolding witness_of
 witness_writes = filtered_writes party_of party_word _ party_writes
 
-pub new_owner_writes : Writes new_owner_of (member_word role.Owner)
+pub new_owner_writes : WritesBack new_owner_of (member_word role.Owner)
 unfolding new_owner_of
 new_owner_writes = filtered_writes (number_with role.Owner) (member_word role.Owner) _ (member_writes role.Owner)
 
 -- ---- a word that stands for a choice, or another
 
-chosen : {T : Type 0} (word name : List ℕ) (form : List ℕ → Option T) (write : T → List ℕ) (value : Option T) → Writes form write → cond (bytes_eq word name) (Some None) (option_map Some (form word)) ≡ Some value → elim value as (λ _. List ℕ) [ None ↦ name | Some x ↦ write x ] ≡ word
+chosen : {T : Type 0} (word name : List ℕ) (form : List ℕ → Option T) (write : T → List ℕ) (value : Option T) → WritesBack form write → cond (bytes_eq word name) (Some None) (option_map Some (form word)) ≡ Some value → elim value as (λ _. List ℕ) [ None ↦ name | Some x ↦ write x ] ≡ word
 chosen {T = T} word name form write value writes h = by (bytes_eq word name) refl h
   where
     by : (b : Bool) → bytes_eq word name ≡ b → cond b (Some None) (option_map Some (form word)) ≡ Some value → elim value as (λ _. List ℕ) [ None ↦ name | Some x ↦ write x ] ≡ word
@@ -75,19 +75,19 @@ chosen {T = T} word name form write value writes h = by (bytes_eq word name) ref
         let found = mapped Some (form word) value h in
         subst (λ (v : Option T). elim v as (λ _. List ℕ) [ None ↦ name | Some x ↦ write x ] ≡ word) found.2 (writes word found.0 found.1)
 
-pub receiver_writes : Writes receiver_of receiver_word
+pub receiver_writes : WritesBack receiver_of receiver_word
 unfolding receiver_of
 receiver_writes word None h = chosen word (codes "logs") party_of party_word None party_writes h
 receiver_writes word (Some p) h = chosen word (codes "logs") party_of party_word (Some p) party_writes h
 
-pub judged_writes : Writes judged_of judged_word
+pub judged_writes : WritesBack judged_of judged_word
 unfolding judged_of
 judged_writes word None h = chosen word (codes "last") number_of decimal None number_own h
 judged_writes word (Some n) h = chosen word (codes "last") number_of decimal (Some n) number_own h
 
 -- ---- lists
 
-each_writes : (form : List ℕ → Option ℕ) (words : List (List ℕ)) (values : List ℕ) → Writes form decimal → each_of form words ≡ Some values → map decimal values ≡ words
+each_writes : (form : List ℕ → Option ℕ) (words : List (List ℕ)) (values : List ℕ) → WritesBack form decimal → each_of form words ≡ Some values → map decimal values ≡ words
 each_writes form [] values writes h = ap (map decimal) (sym (same_Some [] values h))
 each_writes form (word ∷ words) values writes h =
     let first = stepped _ (form word) values h in
@@ -109,10 +109,10 @@ ascending_each : (count most : ℕ) (word : List ℕ) (numbers : List ℕ) → a
 unfolding ascending_of
 ascending_each count most word numbers h = list_each count most word numbers (filtered_some _ (list_of count most word) numbers h).0
 
-ascending_writes : (count most : ℕ) → Writes (ascending_of count most) list_word
+ascending_writes : (count most : ℕ) → WritesBack (ascending_of count most) list_word
 ascending_writes count most word numbers h = ap (join_with_byte 44) (ascending_each count most word numbers h) ∙ parts_joined 44 word
 
-pub asks_writes : Writes asks_of list_word
+pub asks_writes : WritesBack asks_of list_word
 unfolding asks_of
 asks_writes = ascending_writes 8 0xffff_ffff_ffff_ffff
 
@@ -129,13 +129,13 @@ trusted_by : (word numbers : List ℕ) (b : Bool) → bytes_eq word (codes "-") 
 trusted_by word numbers true is h = ap trusted_word (sym (same_Some [] numbers h)) ∙ sym ((bytes_eq-Decides word (codes "-")).0 is)
 trusted_by word numbers false is h = trusted_list word numbers h
 
-pub trusted_writes : Writes trusted_of trusted_word
+pub trusted_writes : WritesBack trusted_of trusted_word
 unfolding trusted_of
 trusted_writes word numbers h = trusted_by word numbers (bytes_eq word (codes "-")) refl h
 
 -- ---- bindings
 
-wait_in_writes : Writes wait_in wait_word
+wait_in_writes : WritesBack wait_in wait_word
 wait_in_writes [] value h = ap wait_word (sym (same_Some None value h))
 wait_in_writes (mark ∷ digits) value h = by (mark == 47) refl h
   where
@@ -147,7 +147,7 @@ wait_in_writes (mark ∷ digits) value h = by (mark == 47) refl h
         ∙ ap (λ m. m ∷ decimal found.0) (sym (eqb-true mark 47 is))
         ∙ ap (λ d. mark ∷ d) (number_in_writes 1 10000 digits found.0 found.1)
 
-pub wait_writes : Writes wait_of wait_word
+pub wait_writes : WritesBack wait_of wait_word
 unfolding wait_of
 wait_writes = wait_in_writes
 
@@ -171,9 +171,9 @@ binding_by word None (Some text) value k f h =
     ∙ behind_is (codes "free") word text (bytes_eq (take 4 word) (codes "free")) refl f
 binding_by word None None value k f h = absurd cc
 
-pub binding_writes : Writes binding_of binding_word
+pub binding_writes : WritesBack binding_of binding_word
 unfolding binding_of
 binding_writes word value h = binding_by word (behind (codes "keyed") word) (behind (codes "free") word) value refl refl h
 
-pub name_writes : Writes name_of (λ name. name)
+pub name_writes : WritesBack name_of (λ name. name)
 name_writes = name_own

@@ -9,7 +9,7 @@
 pub use ar_lines::Reason;
 pub use forms::{party_count_of, quorum_of};
 pub use line::{EventLine, Line, PolicyWords, SetupLine};
-pub use numbers::Numbers;
+pub use numbers::NumberList;
 pub use pieces::{Pieces, slice_of};
 
 mod binding;

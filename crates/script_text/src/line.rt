@@ -1,4 +1,4 @@
-use crate::numbers::Numbers;
+use crate::numbers::NumberList;
 use crate::pieces::Pieces;
 use ar_names::NameView;
 use ar_statement::Party;
@@ -15,7 +15,7 @@ pub struct PolicyWords {
     /// The last epoch in which a certificate is taken.
     pub until: u64,
     /// The authorities that the domain trusts.
-    pub trusted: Numbers,
+    pub trusted: NumberList,
     /// For how many epochs a recovery waits, where there may be one.
     pub wait: Option<u16>,
 }
@@ -83,7 +83,7 @@ pub enum EventLine<'a> {
         name: NameView<'a>,
         policy: PolicyWords,
         /// The authorities that are asked to endorse it: 1 to 8, ascending.
-        asks: Numbers,
+        asks: NumberList,
     },
     /// An owner drafts the certificate behind a draft.
     Update {
@@ -92,7 +92,7 @@ pub enum EventLine<'a> {
         draft: u64,
         policy: PolicyWords,
         /// The authorities that are asked to endorse it: 1 to 8, ascending.
-        asks: Numbers,
+        asks: NumberList,
     },
     /// An owner drafts the certificate behind a draft by which its name is revoked.
     Revoke {
@@ -100,7 +100,7 @@ pub enum EventLine<'a> {
         /// The draft that it follows.
         draft: u64,
         /// The authorities that are asked to endorse it: 1 to 8, ascending.
-        asks: Numbers,
+        asks: NumberList,
     },
     /// An owner hands its name over to a draft.
     Handover {

@@ -4,13 +4,13 @@ use std::marker::Model;
 
 /// At most 16 numbers, which are kept without memory of their own.
 #[derive(Debug, Drop)]
-pub struct Numbers {
+pub struct NumberList {
     len: usize,
     list: [u64; 16],
 }
 
 // Clauses see the numbers in order.
-impl Model for Numbers {
+impl Model for NumberList {
     ghost use Rattle.std.specs.Prelude.{ℕ, List, ◌≤◌, take};
 
     ghost Value = { List ℕ };
@@ -20,12 +20,12 @@ impl Model for Numbers {
     ghost invariant = { λ n. n.len ≤ 16 };
 }
 
-impl Numbers {
+impl NumberList {
     /// No numbers.
-    pub fn new() -> Numbers
+    pub fn new() -> NumberList
         ensures { result ≡ [] }
     {
-        Numbers {
+        NumberList {
             len: 0,
             list: [0; 16],
         }
@@ -54,13 +54,13 @@ impl Numbers {
     }
 
     /// The numbers with one more.
-    pub(crate) fn with(self, number: u64) -> Numbers
+    pub(crate) fn with(self, number: u64) -> NumberList
         requires { length self < 16 }
         ensures { result ≡ self ++ (number ∷ []) }
     {
         let mut list = self.list;
         list[self.len] = number;
-        Numbers {
+        NumberList {
             len: self.len + 1,
             list,
         }

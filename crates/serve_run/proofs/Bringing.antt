@@ -1,12 +1,12 @@
 -- What all workers bring back, from their posts to the joined seat.
-use Rattle.std.proofs.Common.{rules, ◌≡◌, ℕ, zero, suc, ◌+◌, ◌-◌, ◌/◌, ◌%◌, ◌<◌, ◌≤◌, max, List, [], ◌∷◌, ◌++◌, length, map, get_or, All, Result, Ok, Err, IfOk, refl, sym, ap, ◌∙◌, subst, append_assoc, length-append, arith}
-use Rattle.std.proofs.lemmas.List.{append-nil, map-append}
+use Rattle.std.proofs.Common.{◌≡◌, ℕ, zero, suc, ◌+◌, ◌-◌, ◌/◌, ◌%◌, ◌<◌, ◌≤◌, List, [], ◌∷◌, ◌++◌, length, map, get_or, All, Result, Ok, Err, IfOk, refl, sym, ap, ◌∙◌, subst, append_assoc, length-append, arith}
+use Rattle.std.proofs.lemmas.List.{append-nil}
 use Rattle.std.proofs.lemmas.List.Elements.{All-nil, All-cons}
 use Rattle.std.specs.List.{AllByRecursion, AllZip}
 use Rattle.ar_seats.specs.Shares.{given_of, left_of, whole}
 use Rattle.ar_seats.specs.Totals.{total}
 use Rattle.ar_seats.proofs.TotalsLemmas.{total-append}
-use Rattle.leaf_book.specs.Book.{Book, Seat, first_seat, given_seat, joined_seat, left_seat}
+use Rattle.leaf_book.specs.Book.{LeafBookParts, LeafSeatParts, given_seat, joined_seat, left_seat}
 use Rattle.serve_run.specs.Reading.{Service}
 use Rattle.serve_run.specs.Serving.{IsInTurn, IsReply, dealt, drawn_in, serving_leaves}
 use Rattle.serve_run.specs.Workers.{AreNumbered, Brings, IsFresh, MayTell, Post, Posted, Tells, Told, flat, joined_all, missing_in}
@@ -26,35 +26,35 @@ zip_places R (x ∷ xs) (y ∷ ys) e each = (each 0 x y (omega arith), zip_place
 
 -- ---- posts
 
-numbered-last : (book : Book) (number : ℕ) (posts : List Post) (post : Post) → AreNumbered book number posts → post.worker ≡ number + length posts → IsFresh book post.seat → AreNumbered book number (posts ++ post ∷ [])
+numbered-last : (book : LeafBookParts) (number : ℕ) (posts : List Post) (post : Post) → AreNumbered book number posts → post.worker ≡ number + length posts → IsFresh book post.seat → AreNumbered book number (posts ++ post ∷ [])
 numbered-last book number [] post all e fresh = (omega (arith, e), fresh, tt)
 numbered-last book number (first ∷ posts) post all e fresh = (all.0, all.1, numbered-last book (number + 1) posts post all.2 (omega (arith, e)) fresh)
 
-pub posted_none : (book : Book) (seat : Seat) → IsFresh book seat → Posted book seat.share 0 seat []
+pub posted_none : (book : LeafBookParts) (seat : LeafSeatParts) → IsFresh book seat → Posted book seat.share 0 seat []
 posted_none book seat fresh = record { own = fresh; length_is = refl; numbered = tt; shares = omega arith }
 
 halves : (share : ℕ) → left_of share + given_of share ≡ share
 halves share = omega arith
 
-pub posted_next : (book : Book) (share many : ℕ) (seat new given : Seat) (posts : List Post) → Posted book share many seat posts → new ≡ left_seat seat → given ≡ given_seat seat → Posted book share (many + 1) new (posts ++ record { worker = many; seat = given } ∷ [])
+pub posted_next : (book : LeafBookParts) (share many : ℕ) (seat new given : LeafSeatParts) (posts : List Post) → Posted book share many seat posts → new ≡ left_seat seat → given ≡ given_seat seat → Posted book share (many + 1) new (posts ++ record { worker = many; seat = given } ∷ [])
 posted_next book share many seat new given posts posted left gave =
     let post : Post = record { worker = many; seat = given } in
     let fresh = posted.own in
-    let given_book : given.book ≡ book = ap (λ (s : Seat). s.book) gave ∙ fresh.own in
-    let given_none : given.drawn ≡ [] = ap (λ (s : Seat). s.drawn) gave in
-    let half : new.share ≡ left_of seat.share = ap (λ (s : Seat). s.share) left in
-    let other : given.share ≡ given_of seat.share = ap (λ (s : Seat). s.share) gave in
+    let given_book : given.book ≡ book = ap (λ (s : LeafSeatParts). s.book) gave ∙ fresh.own in
+    let given_none : given.drawn ≡ [] = ap (λ (s : LeafSeatParts). s.drawn) gave in
+    let half : new.share ≡ left_of seat.share = ap (λ (s : LeafSeatParts). s.share) left in
+    let other : given.share ≡ given_of seat.share = ap (λ (s : LeafSeatParts). s.share) gave in
     let both = halves seat.share in
     let as_before = posted.shares in
     let many_is = posted.length_is in
     let sum = total-append (λ (p : Post). p.seat.share) posts (post ∷ []) in record {
-      own = record { own = ap (λ (s : Seat). s.book) left ∙ fresh.own; none = ap (λ (s : Seat). s.drawn) left ∙ fresh.none };
+      own = record { own = ap (λ (s : LeafSeatParts). s.book) left ∙ fresh.own; none = ap (λ (s : LeafSeatParts). s.drawn) left ∙ fresh.none };
       length_is = omega (arith, many_is, length-append posts (post ∷ []));
       numbered = numbered-last book 0 posts post posted.numbered (omega (arith, many_is)) (record { own = given_book; none = given_none });
       shares = omega (arith, sum, half, other, both, as_before);
     }
 
-pub all_fresh : (book : Book) (number : ℕ) (posts : List Post) → AreNumbered book number posts → All (λ (post : Post). IsFresh book post.seat) posts
+pub all_fresh : (book : LeafBookParts) (number : ℕ) (posts : List Post) → AreNumbered book number posts → All (λ (post : Post). IsFresh book post.seat) posts
 all_fresh book number [] all = All-nil (λ (post : Post). IsFresh book post.seat)
 all_fresh book number (post ∷ posts) all = All-cons (λ (post : Post). IsFresh book post.seat) post posts all.1 (all_fresh book (number + 1) posts all.2)
 
@@ -77,7 +77,7 @@ told_each {E = E} items_of service workers posts results result each is =
     ok-then (λ all. results ≡ map Ok (items_of all)) (λ all. AllZip (Tells service workers) posts (items_of all)) result is
     (λ all same. told_all E service workers posts (items_of all) (subst (λ l. AllZip (MayTell {E = E} service workers) posts l) same each))
 
-pub told_books : (service : Service) (workers : ℕ) (book : Book) (number : ℕ) (posts : List Post) (told : List Told) → AreNumbered book number posts → AllZip (Tells service workers) posts told → AllByRecursion (λ (t : Told). t.seat.book ≡ book) told
+pub told_books : (service : Service) (workers : ℕ) (book : LeafBookParts) (number : ℕ) (posts : List Post) (told : List Told) → AreNumbered book number posts → AllZip (Tells service workers) posts told → AllByRecursion (λ (t : Told). t.seat.book ≡ book) told
 told_books service workers book number [] [] numbered all = tt
 told_books service workers book number [] (t ∷ told) numbered all = absurd all
 told_books service workers book number (p ∷ posts) [] numbered all = absurd all
@@ -98,7 +98,7 @@ told-length service workers [] (t ∷ told) all = absurd all
 told-length service workers (p ∷ posts) [] all = absurd all
 told-length service workers (p ∷ posts) (t ∷ told) all = ap suc (told-length service workers posts told all.1)
 
-told-rows : (service : Service) (workers : ℕ) (book : Book) (number : ℕ) (posts : List Post) (told : List Told) → AreNumbered book number posts → AllZip (Tells service workers) posts told
+told-rows : (service : Service) (workers : ℕ) (book : LeafBookParts) (number : ℕ) (posts : List Post) (told : List Told) → AreNumbered book number posts → AllZip (Tells service workers) posts told
     → (n : ℕ) → n < length posts → AllZip (IsReply service) (dealt workers (number + n) 0 service.challenges) (get_or (map (λ (t : Told). t.replies) told) n [])
 told-rows service workers book number [] told numbered all n lt = absurd (omega arith)
 told-rows service workers book number (p ∷ posts) [] numbered all n lt = absurd all
@@ -120,19 +120,19 @@ told-turns service workers (p ∷ posts) (t ∷ told) all (suc n) lt = told-turn
 
 -- ---- the joined seat
 
-joined-book : (seat : Seat) (told : List Told) → (joined_all seat told).book ≡ seat.book
+joined-book : (seat : LeafSeatParts) (told : List Told) → (joined_all seat told).book ≡ seat.book
 joined-book seat [] = refl
 joined-book seat (t ∷ told) = joined-book (joined_seat seat t.seat) told
 
-joined-share : (seat : Seat) (told : List Told) → (joined_all seat told).share ≡ seat.share + total (λ (t : Told). t.seat.share) told
+joined-share : (seat : LeafSeatParts) (told : List Told) → (joined_all seat told).share ≡ seat.share + total (λ (t : Told). t.seat.share) told
 joined-share seat [] = omega arith
 joined-share seat (t ∷ told) = let more = joined-share (joined_seat seat t.seat) told in omega (arith, more)
 
-joined-seen : (seat : Seat) (told : List Told) → seat.seen ≤ (joined_all seat told).seen
+joined-seen : (seat : LeafSeatParts) (told : List Told) → seat.seen ≤ (joined_all seat told).seen
 joined-seen seat [] = omega arith
 joined-seen seat (t ∷ told) = let more = joined-seen (joined_seat seat t.seat) told in omega (arith, more)
 
-joined-drawn : (service : Service) (workers : ℕ) (seat : Seat) (posts : List Post) (told : List Told) → AllZip (Tells service workers) posts told
+joined-drawn : (service : Service) (workers : ℕ) (seat : LeafSeatParts) (posts : List Post) (told : List Told) → AllZip (Tells service workers) posts told
     → (joined_all seat told).drawn ≡ seat.drawn ++ drawn_in (flat (map (λ (t : Told). t.replies) told))
 joined-drawn service workers seat [] [] all = sym (append-nil seat.drawn)
 joined-drawn service workers seat [] (t ∷ told) all = absurd all
@@ -148,7 +148,7 @@ past-one : (n m limit seen : ℕ) → (0 < n → limit ≤ seen) → (0 < m → 
 past-one zero m limit seen here more some = more (omega (arith, some))
 past-one (suc n) m limit seen here more some = here (omega arith)
 
-joined-past : (service : Service) (workers : ℕ) (seat : Seat) (posts : List Post) (told : List Told) → AllZip (Tells service workers) posts told
+joined-past : (service : Service) (workers : ℕ) (seat : LeafSeatParts) (posts : List Post) (told : List Told) → AllZip (Tells service workers) posts told
     → 0 < missing_in (flat (map (λ (t : Told). t.replies) told)) → serving_leaves ≤ (joined_all seat told).seen
 joined-past service workers seat [] [] all some = absurd (omega (arith, some))
 joined-past service workers seat [] (t ∷ told) all some = absurd all
@@ -163,7 +163,7 @@ joined-past service workers seat (p ∷ posts) (t ∷ told) all some =
     (subst (λ n. 0 < n) (missing_in-append t.replies rest) some)
 
 -- all that is brought back
-pub brings : (service : Service) (workers : ℕ) (book : Book) (left final : Seat) (posts : List Post) (told : List Told) (rows : List (List Reply))
+pub brings : (service : Service) (workers : ℕ) (book : LeafBookParts) (left final : LeafSeatParts) (posts : List Post) (told : List Told) (rows : List (List Reply))
     → Posted book whole workers left posts → AllZip (Tells service workers) posts told → final ≡ joined_all left told → rows ≡ map (λ (t : Told). t.replies) told
     → Brings service workers book final rows
 brings service workers book left final posts told rows posted all final_is rows_is =
@@ -189,7 +189,7 @@ brings service workers book left final posts told rows posted all final_is rows_
     subst (λ r. Brings service workers book final r) (sym rows_is) (subst (λ s. Brings service workers book s brought_rows) (sym final_is) built)
 
 -- the same, where the rows are of any kind that has replies, and perhaps none are handed out
-pub brings_ok : {D F : Type 0} (rows_of : D → List (List Reply)) (service : Service) (workers : ℕ) (book : Book) (left final : Seat) (posts : List Post) (told : List Told) (result : Result D F)
+pub brings_ok : {D F : Type 0} (rows_of : D → List (List Reply)) (service : Service) (workers : ℕ) (book : LeafBookParts) (left final : LeafSeatParts) (posts : List Post) (told : List Told) (result : Result D F)
     → Posted book whole workers left posts → AllZip (Tells service workers) posts told → IfOk result (λ rows. final ≡ joined_all left told) → IfOk result (λ rows. rows_of rows ≡ map (λ (t : Told). t.replies) told)
     → IfOk result (λ rows. Brings service workers book final (rows_of rows))
 brings_ok rows_of service workers book left final posts told (Ok rows) posted all seat_is rows_are = brings service workers book left final posts told (rows_of rows) posted all seat_is rows_are

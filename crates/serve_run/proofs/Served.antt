@@ -1,13 +1,13 @@
 -- That what is replied is as the clause of `serve` says.
-use Rattle.std.proofs.Common.{◌≡◌, ℕ, suc, ◌%◌, ◌<◌, ◌≤◌, min, List, [], ◌∷◌, length, map, get_or, Result, Ok, Err, IfOk, refl, sym, ap, ◌∙◌, subst, arith}
+use Rattle.std.proofs.Common.{◌≡◌, ℕ, suc, ◌%◌, ◌<◌, ◌≤◌, min, List, [], ◌∷◌, length, map, Result, Ok, Err, IfOk, refl, sym, ap, ◌∙◌, subst, arith}
 use Rattle.std.proofs.lemmas.List.{length-map}
 use Rattle.std.proofs.Math.Nat.{mod-lt}
 use Rattle.std.specs.List.{AllZip}
 use Rattle.ar_seats.specs.Numbers.{HasEachBelow}
-use Rattle.leaf_book.specs.Book.{Book, Seat}
+use Rattle.leaf_book.specs.Book.{LeafBookParts, LeafSeatParts}
 use Rattle.serve_run.specs.Reading.{Service}
-use Rattle.serve_run.specs.Serving.{IsInTurn, IsReply, IsServed, dealt, drawn_in, serving_leaves}
-use Rattle.serve_run.specs.Workers.{Brings, HasRows, IsWoven, flat, missing_in}
+use Rattle.serve_run.specs.Serving.{IsInTurn, IsReply, IsServed, drawn_in, serving_leaves}
+use Rattle.serve_run.specs.Workers.{Brings, HasRows, IsWoven}
 use Rattle.serve_run.specs.declared.reply.Reply.{Reply}
 use Rattle.serve_run.proofs.Leaves.{each_leaf}
 
@@ -17,7 +17,7 @@ zip-length R [] (y ∷ ys) all = absurd all
 zip-length R (x ∷ xs) [] all = absurd all
 zip-length R (x ∷ xs) (y ∷ ys) all = ap suc (zip-length R xs ys all.1)
 
-pub is_served : (service : Service) (workers many count : ℕ) (book : Book) (seat : Seat) (rows : List (List Reply)) (replies : List Reply)
+pub is_served : (service : Service) (workers many count : ℕ) (book : LeafBookParts) (seat : LeafSeatParts) (rows : List (List Reply)) (replies : List Reply)
     → 0 < workers → book.leaves ≡ serving_leaves → Brings service workers book seat rows → many ≡ workers → IsWoven service many rows replies
     → count ≡ length seat.drawn → HasEachBelow count seat.drawn → count ≤ book.leaves → (book.leaves ≤ seat.seen → count ≡ book.leaves)
     → IsServed service workers replies
@@ -31,16 +31,16 @@ is_served service workers many count book seat rows replies some leaves brought 
     }
 
 -- as many rows as workers, where the rows are of any kind that has replies
-pub rows_many : {D : Type 0} (items_of : D → List Reply) (service : Service) (workers : ℕ) (book : Book) (seat : Seat) (rows : List D) → Brings service workers book seat (map items_of rows) → length rows ≡ workers
+pub rows_many : {D : Type 0} (items_of : D → List Reply) (service : Service) (workers : ℕ) (book : LeafBookParts) (seat : LeafSeatParts) (rows : List D) → Brings service workers book seat (map items_of rows) → length rows ≡ workers
 rows_many items_of service workers book seat rows brought = sym (length-map rows items_of) ∙ brought.wide
 
-pub rows_some : {D : Type 0} (items_of : D → List Reply) (service : Service) (workers : ℕ) (book : Book) (seat : Seat) (rows : List D) → 0 < workers → Brings service workers book seat (map items_of rows) → 0 < length rows
+pub rows_some : {D : Type 0} (items_of : D → List Reply) (service : Service) (workers : ℕ) (book : LeafBookParts) (seat : LeafSeatParts) (rows : List D) → 0 < workers → Brings service workers book seat (map items_of rows) → 0 < length rows
 rows_some items_of service workers book seat rows some brought = subst (λ n. 0 < n) (sym (rows_many items_of service workers book seat rows brought)) some
 
-pub rows_there : {D : Type 0} (items_of : D → List Reply) (service : Service) (workers : ℕ) (book : Book) (seat : Seat) (rows : List D) → Brings service workers book seat (map items_of rows) → HasRows service (length rows) (map items_of rows)
+pub rows_there : {D : Type 0} (items_of : D → List Reply) (service : Service) (workers : ℕ) (book : LeafBookParts) (seat : LeafSeatParts) (rows : List D) → Brings service workers book seat (map items_of rows) → HasRows service (length rows) (map items_of rows)
 rows_there items_of service workers book seat rows brought = subst (λ n. HasRows service n (map items_of rows)) (sym (rows_many items_of service workers book seat rows brought)) brought.has_rows
 
-pub served_ok : {D F A : Type 0} (row_of : A → List Reply) (items_of : D → List Reply) (service : Service) (workers count : ℕ) (book : Book) (seat : Seat) (rows shown : List A) (result : Result D F)
+pub served_ok : {D F A : Type 0} (row_of : A → List Reply) (items_of : D → List Reply) (service : Service) (workers count : ℕ) (book : LeafBookParts) (seat : LeafSeatParts) (rows shown : List A) (result : Result D F)
     → 0 < workers → book.leaves ≡ serving_leaves → Brings service workers book seat (map row_of rows) → shown ≡ rows → IfOk result (λ replies. IsWoven service (length shown) (map row_of shown) (items_of replies))
     → count ≡ length seat.drawn → HasEachBelow count seat.drawn → count ≤ book.leaves → (book.leaves ≤ seat.seen → count ≡ book.leaves)
     → IfOk result (λ replies. IsServed service workers (items_of replies))

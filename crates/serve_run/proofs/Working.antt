@@ -1,9 +1,9 @@
 -- One reply more of a worker.
-use Rattle.std.proofs.Common.{◌≡◌, ℕ, zero, suc, ◌+◌, ◌<◌, ◌≤◌, List, [], ◌∷◌, ◌++◌, length, refl, sym, ap, ◌∙◌, subst, arith}
+use Rattle.std.proofs.Common.{◌≡◌, ℕ, zero, suc, ◌+◌, ◌<◌, ◌≤◌, List, [], ◌∷◌, ◌++◌, refl, sym, ap, ◌∙◌, subst, arith}
 use Rattle.std.proofs.lemmas.List.{append-nil}
 use Rattle.std.specs.List.{AllByRecursion, AllZip}
 use Rattle.ar_seats.specs.Numbers.{IsBelowEach}
-use Rattle.leaf_book.specs.Book.{Book, Draws, FindsNone, Seat}
+use Rattle.leaf_book.specs.Book.{Draws, FindsNone, LeafSeatParts}
 use Rattle.serve_run.specs.Reading.{Service}
 use Rattle.serve_run.specs.Serving.{IsInTurn, IsReply, drawn_in, serving_leaves}
 use Rattle.serve_run.specs.Workers.{Draws_for, Replies, missing_in}
@@ -61,10 +61,10 @@ turn-none (Signed first d ∷ replies) turn =
     (subst (λ l. IsBelowEach first l) same turn.0, turn-none replies turn.1)
 turn-none (Exhausted ∷ replies) turn = (drawn_in-append replies (Exhausted ∷ []) ∙ append-nil (drawn_in replies)) ∙ turn
 
-replied-signed : (service : Service) (own : List (List ℕ)) (old new : Seat) (replies : List Reply) (challenge : List ℕ) (leaf : ℕ) (digest : List ℕ) → Replies service own old replies → old.book.leaves ≡ serving_leaves → IsReply service challenge (Signed leaf digest) → Draws old leaf new → Replies service (own ++ challenge ∷ []) new (replies ++ Signed leaf digest ∷ [])
+replied-signed : (service : Service) (own : List (List ℕ)) (old new : LeafSeatParts) (replies : List Reply) (challenge : List ℕ) (leaf : ℕ) (digest : List ℕ) → Replies service own old replies → old.book.leaves ≡ serving_leaves → IsReply service challenge (Signed leaf digest) → Draws old leaf new → Replies service (own ++ challenge ∷ []) new (replies ++ Signed leaf digest ∷ [])
 replied-signed service own old new replies challenge leaf digest so_far book reply draws =
-    let seen : new.seen ≡ leaf + 1 = ap (λ (s : Seat). s.seen) draws.after in
-    let drawn : new.drawn ≡ old.drawn ++ leaf ∷ [] = ap (λ (s : Seat). s.drawn) draws.after in
+    let seen : new.seen ≡ leaf + 1 = ap (λ (s : LeafSeatParts). s.seen) draws.after in
+    let drawn : new.drawn ≡ old.drawn ++ leaf ∷ [] = ap (λ (s : LeafSeatParts). s.drawn) draws.after in
     let low = draws.below in
     let later = draws.later in
     let none : missing_in replies ≡ 0 = missing-none (missing_in replies) (λ some. let past = so_far.past some in absurd (omega (arith, book))) in record {
@@ -76,10 +76,10 @@ replied-signed service own old new replies challenge leaf digest so_far book rep
       past = λ some. absurd (omega (arith, some, none, missing_in-append replies (Signed leaf digest ∷ [])));
     }
 
-replied-none : (service : Service) (own : List (List ℕ)) (old new : Seat) (replies : List Reply) (challenge : List ℕ) (word : ℕ) → Replies service own old replies → old.book.leaves ≡ serving_leaves → FindsNone old word new → Replies service (own ++ challenge ∷ []) new (replies ++ Exhausted ∷ [])
+replied-none : (service : Service) (own : List (List ℕ)) (old new : LeafSeatParts) (replies : List Reply) (challenge : List ℕ) (word : ℕ) → Replies service own old replies → old.book.leaves ≡ serving_leaves → FindsNone old word new → Replies service (own ++ challenge ∷ []) new (replies ++ Exhausted ∷ [])
 replied-none service own old new replies challenge word so_far book none =
-    let seen : new.seen ≡ word = ap (λ (s : Seat). s.seen) none.after in
-    let drawn : new.drawn ≡ old.drawn = ap (λ (s : Seat). s.drawn) none.after in
+    let seen : new.seen ≡ word = ap (λ (s : LeafSeatParts). s.seen) none.after in
+    let drawn : new.drawn ≡ old.drawn = ap (λ (s : LeafSeatParts). s.drawn) none.after in
     let past = none.past in
     let same : drawn_in replies ≡ drawn_in (replies ++ Exhausted ∷ []) = sym (drawn_in-append replies (Exhausted ∷ []) ∙ append-nil (drawn_in replies)) in record {
       signed = zip_last (IsReply service) own replies challenge Exhausted so_far.signed tt;
@@ -91,6 +91,6 @@ replied-none service own old new replies challenge word so_far book none =
     }
 
 -- one reply more
-pub replied : (service : Service) (own : List (List ℕ)) (old new : Seat) (replies : List Reply) (challenge : List ℕ) (reply : Reply) → Replies service own old replies → old.book.leaves ≡ serving_leaves → IsReply service challenge reply → Draws_for old reply new → Replies service (own ++ challenge ∷ []) new (replies ++ reply ∷ [])
+pub replied : (service : Service) (own : List (List ℕ)) (old new : LeafSeatParts) (replies : List Reply) (challenge : List ℕ) (reply : Reply) → Replies service own old replies → old.book.leaves ≡ serving_leaves → IsReply service challenge reply → Draws_for old reply new → Replies service (own ++ challenge ∷ []) new (replies ++ reply ∷ [])
 replied service own old new replies challenge (Signed leaf digest) so_far book is draws = replied-signed service own old new replies challenge leaf digest so_far book is draws
 replied service own old new replies challenge Exhausted so_far book is none = replied-none service own old new replies challenge none.0 so_far book none.1

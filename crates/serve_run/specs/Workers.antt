@@ -3,14 +3,14 @@ use Rattle.std.specs.Prelude.{ℕ, ◌≡◌, ◌<◌, ◌≤◌, ◌+◌, ◌%�
 use Rattle.std.specs.List.{AllByRecursion, AllZip}
 use Rattle.ar_seats.specs.Shares.{whole}
 use Rattle.ar_seats.specs.Totals.{total}
-use Rattle.leaf_book.specs.Book.{Book, Draws, FindsNone, Seat, joined_seat}
+use Rattle.leaf_book.specs.Book.{LeafBookParts, Draws, FindsNone, LeafSeatParts, joined_seat}
 use Rattle.serve_run.specs.Reading.{Service}
 use Rattle.serve_run.specs.Serving.{IsInTurn, IsReply, dealt, drawn_in, serving_leaves}
 use Rattle.serve_run.specs.declared.reply.Reply.{Reply}
 use Rattle.serve_run.specs.declared.reply.Reply.TheVariants.{Signed, Exhausted}
 
 -- how the seat changed for a reply: it drew the leaf, or found that none is left
-abbrev pub Draws_for : Seat → Reply → Seat → Type 0
+abbrev pub Draws_for : LeafSeatParts → Reply → LeafSeatParts → Type 0
 Draws_for old (Signed leaf digest) new = Draws old leaf new
 Draws_for old Exhausted new = (word : ℕ) × FindsNone old word new
 
@@ -22,7 +22,7 @@ missing_in (Exhausted ∷ replies) = 1 + missing_in replies
 
 -- A worker replied to these challenges: by the leaves of its seat, which it drew in turn; where it found none, the seat has seen
 -- that all leaves are gone.
-pub record Replies (service : Service) (own : List (List ℕ)) (seat : Seat) (replies : List Reply) : Type 0 where
+pub record Replies (service : Service) (own : List (List ℕ)) (seat : LeafSeatParts) (replies : List Reply) : Type 0 where
   pub signed : AllZip (IsReply service) own replies
   pub drawn : seat.drawn ≡ drawn_in replies
   pub turns : IsInTurn replies
@@ -32,15 +32,15 @@ pub record Replies (service : Service) (own : List (List ℕ)) (seat : Seat) (re
 -- a worker's post before it begins: its number, and a seat that drew nothing
 pub record Post : Type 0 where
   pub worker : ℕ
-  pub seat : Seat
+  pub seat : LeafSeatParts
 
 -- what a worker brings back: its seat, and its replies
 pub record Told : Type 0 where
-  pub seat : Seat
+  pub seat : LeafSeatParts
   pub replies : List Reply
 
 -- a seat of this book that drew nothing
-pub record IsFresh (book : Book) (seat : Seat) : Type 0 where
+pub record IsFresh (book : LeafBookParts) (seat : LeafSeatParts) : Type 0 where
   pub own : seat.book ≡ book
   pub none : seat.drawn ≡ []
 
@@ -52,7 +52,7 @@ pub record Tells (service : Service) (workers : ℕ) (post : Post) (told : Told)
 
 -- A worker of the number has replied to those of the first challenges, as many as this, that are its own, by a seat of this book and
 -- this share.
-pub record Works (service : Service) (workers worker : ℕ) (book : Book) (share number : ℕ) (seat : Seat) (replies : List Reply) : Type 0 where
+pub record Works (service : Service) (workers worker : ℕ) (book : LeafBookParts) (share number : ℕ) (seat : LeafSeatParts) (replies : List Reply) : Type 0 where
   pub own : List (List ℕ)
   pub front : own ++ dealt workers worker number (drop number service.challenges) ≡ dealt workers worker 0 service.challenges
   pub replied : Replies service own seat replies
@@ -65,19 +65,19 @@ MayTell service workers post (Ok told) = Tells service workers post told
 MayTell service workers post (Err error) = Unit {0}
 
 -- these posts are numbered one after another, from this number on, and their seats are fresh
-abbrev pub AreNumbered : Book → ℕ → List Post → Type 0
+abbrev pub AreNumbered : LeafBookParts → ℕ → List Post → Type 0
 AreNumbered book number [] = Unit {0}
 AreNumbered book number (post ∷ posts) = (post.worker ≡ number) × IsFresh book post.seat × AreNumbered book (number + 1) posts
 
 -- So many posts, whose seats are split from one that had this share, and what is left of it.
-pub record Posted (book : Book) (share many : ℕ) (seat : Seat) (posts : List Post) : Type 0 where
+pub record Posted (book : LeafBookParts) (share many : ℕ) (seat : LeafSeatParts) (posts : List Post) : Type 0 where
   pub own : IsFresh book seat
   pub length_is : length posts ≡ many
   pub numbered : AreNumbered book 0 posts
   pub shares : seat.share + total (λ (post : Post). post.seat.share) posts ≡ share
 
 -- a seat that took in the seats of all that was told
-abbrev pub joined_all : Seat → List Told → Seat
+abbrev pub joined_all : LeafSeatParts → List Told → LeafSeatParts
 joined_all seat [] = seat
 joined_all seat (told ∷ more) = joined_all (joined_seat seat told.seat) more
 
@@ -112,7 +112,7 @@ TakesNext old row (Some reply) new = (rest : List Reply) × (get_or old row [] �
 
 -- What so many workers brought back: a row of replies each, and a seat with all shares and with the leaves of all rows; where a reply
 -- says that no leaf was left, the seat has seen that all leaves are gone.
-pub record Brings (service : Service) (workers : ℕ) (book : Book) (seat : Seat) (rows : List (List Reply)) : Type 0 where
+pub record Brings (service : Service) (workers : ℕ) (book : LeafBookParts) (seat : LeafSeatParts) (rows : List (List Reply)) : Type 0 where
   pub own : seat.book ≡ book
   pub all : seat.share ≡ whole
   pub wide : length rows ≡ workers

@@ -1,5 +1,4 @@
-ghost use Rattle.std.specs.Prelude.{◌≡◌, true};
-ghost use Rattle.ar_base.specs.Gives.{GivesUnless, with_error};
+ghost use Rattle.std.specs.Prelude.{◌≡◌};
 ghost use Rattle.ar_lines.specs.Forms.{sized_of_hex};
 ghost use Rattle.ar_lines.specs.Readings.{Follows, ReadsUnless, spelled, start_of_lines};
 ghost use Rattle.serve_run.specs.Reading.{are_none, bytes_at, challenges_at, most_challenges, one_too_many_at, service_at};

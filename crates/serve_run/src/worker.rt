@@ -1,5 +1,4 @@
 ghost use Rattle.std.specs.Prelude.{◌≡◌, ◌<◌, [], IfOk};
-ghost use Rattle.lms_tree.specs.Signature.{lms_signature_len_of};
 ghost use Rattle.serve_run.specs.Serving.{IsReply, IsServerOf};
 ghost use Rattle.serve_run.specs.Workers.{Draws_for, IsFresh, Tells};
 

@@ -5,7 +5,7 @@ use Rattle.std.proofs.lemmas.Bool.{ltb-true}
 use Rattle.std.proofs.lemmas.List.{get_or_append_left}
 use Rattle.std.proofs.Math.Seq.{get_or-append_seam}
 use Rattle.ar_statement.specs.declared.fault.BookFault.TheVariants.{Spent}
-use Rattle.sign_book.specs.Book.{Book, IsSound}
+use Rattle.sign_book.specs.Book.{Book, IsSignBook}
 use Rattle.ar_base.specs.Places.{place_of}
 use Rattle.ar_base.proofs.Places.{contained, less-not, not-contained, not-less, once-push, one-place, stands}
 use Rattle.sign_book.specs.Entry.{leaf_at, leaf_of, with_text, after_at, after_entry}
@@ -13,8 +13,8 @@ use Rattle.sign_book.specs.Entry.{leaf_at, leaf_of, with_text, after_at, after_e
 -- ---- entries
 
 -- a new text keeps a book sound that has a leaf left
-pub sound-push : (book : Book) (text : List ℕ) → IsSound book → place_of book.texts text ≡ None
-    → length book.texts < book.leaves → IsSound (with_text book text)
+pub sound-push : (book : Book) (text : List ℕ) → IsSignBook book → place_of book.texts text ≡ None
+    → length book.texts < book.leaves → IsSignBook (with_text book text)
 sound-push book text s none left =
     record {
       once = once-push book.texts text s.once none;
@@ -47,7 +47,7 @@ given book text leaf d = by (place_of book.texts text) refl
         subst P last (omega (arith, length-append book.texts (text ∷ [])), get_or-append_seam book.texts text [] d)
 
 -- the leaf that was given is one of the book's
-pub within-leaves : (book : Book) (text : List ℕ) (leaf : ℕ) → IsSound book → leaf_of book text ≡ Ok leaf → leaf < book.leaves
+pub within-leaves : (book : Book) (text : List ℕ) (leaf : ℕ) → IsSignBook book → leaf_of book text ≡ Ok leaf → leaf < book.leaves
 within-leaves book text leaf s = by (place_of book.texts text) refl
   where
     by : (place : Option ℕ) → place_of book.texts text ≡ place → leaf_at book place ≡ Ok leaf → leaf < book.leaves
@@ -80,7 +80,7 @@ one-text later text other leaf s = by (place_of later.texts other) refl
         absurd (omega (arith, last.1, s.0))
 
 -- a text that has a leaf keeps it
-pub kept : (later : Book) (text : List ℕ) (leaf : ℕ) → IsSound later
+pub kept : (later : Book) (text : List ℕ) (leaf : ℕ) → IsSignBook later
     → (leaf < length later.texts) × (get_or later.texts leaf [] ≡ text)
     → (leaf_of later text ≡ Ok leaf) × (after_entry later text ≡ later)
 kept later text leaf s there =
@@ -88,7 +88,7 @@ kept later text leaf s there =
     (ap (leaf_at later) at, ap (after_at later text) at)
 
 -- no leaf is left exactly where each serves another text
-pub spent-to : (book : Book) (text : List ℕ) → IsSound book → leaf_of book text ≡ Err Spent
+pub spent-to : (book : Book) (text : List ℕ) → IsSignBook book → leaf_of book text ≡ Err Spent
     → (length book.texts ≡ book.leaves) × ¬ Contains book.texts text
 spent-to book text s = by (place_of book.texts text) refl
   where
@@ -110,11 +110,11 @@ spent-from book text full = by (place_of book.texts text) refl
         ap (λ b. if b then Ok (length book.texts) else Err Spent) no
 
 -- entries keep a book sound
-pub sound-after : (book : Book) (text : List ℕ) (leaf : ℕ) → IsSound book → leaf_of book text ≡ Ok leaf
-    → IsSound (after_entry book text)
+pub sound-after : (book : Book) (text : List ℕ) (leaf : ℕ) → IsSignBook book → leaf_of book text ≡ Ok leaf
+    → IsSignBook (after_entry book text)
 sound-after book text leaf s = by (place_of book.texts text) refl
   where
-    by : (place : Option ℕ) → place_of book.texts text ≡ place → leaf_at book place ≡ Ok leaf → IsSound (after_at book text place)
+    by : (place : Option ℕ) → place_of book.texts text ≡ place → leaf_at book place ≡ Ok leaf → IsSignBook (after_at book text place)
     by (Some k) at e = s
     by None at e =
         let last = next-leaf (nat_lt (length book.texts) book.leaves) (length book.texts) leaf e in

@@ -10,6 +10,6 @@ pub record Book : Type 0 where
   pub room : ℕ
 
 -- what is true of each book: no text stands twice, and none stands past the last leaf
-pub record IsSound (book : Book) : Type 0 where
+pub record IsSignBook (book : Book) : Type 0 where
   pub once : HasNoneTwice book.texts
   pub within : length book.texts ≤ book.leaves

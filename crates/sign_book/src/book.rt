@@ -1,7 +1,7 @@
 ghost use Rattle.std.specs.Prelude.{◌≡◌, ◌<◌, ◌-◌, ◌↔◌, [], length, max, None, Err, Contains, IsTrue, OnOk, OnErr};
 ghost use Rattle.ar_base.specs.Gives.{GivesUnless};
 ghost use Rattle.ar_statement.specs.Claims.{claim_of, text_of};
-ghost use Rattle.sign_book.specs.Book.{IsSound};
+ghost use Rattle.sign_book.specs.Book.{IsSignBook};
 ghost use Rattle.sign_book.specs.Entry.{after_entry, due_at, due_of, next_leaf, with_text};
 ghost use Rattle.ar_base.specs.Places.{place_of};
 ghost use Rattle.ar_statement.specs.declared.fault.BookFault.TheVariants.{Memory, Spent};
@@ -28,7 +28,7 @@ pub struct SignBook {
 // Clauses see the texts, the leaves and the room.
 impl Model for SignBook {
     ghost use Rattle.std.specs.Prelude.{◌+◌, ◌≤◌, vec_len, vec_capacity};
-    ghost use Rattle.sign_book.specs.Book.{Book, IsSound};
+    ghost use Rattle.sign_book.specs.Book.{Book, IsSignBook};
 
     ghost Value = { Book };
 
@@ -38,7 +38,7 @@ impl Model for SignBook {
       room = book.room;
     } };
 
-    ghost invariant = { λ book. IsSound (record {
+    ghost invariant = { λ book. IsSignBook (record {
       texts = book.texts.items;
       leaves = book.leaves;
       room = book.room;
@@ -137,7 +137,7 @@ impl SignBook {
     /// The texts of the statements that have a leaf, in the order of their leaves from 0.
     pub fn texts(&self) -> &[Text]
         ensures texts { result.now ≡ self.now.texts }
-        ensures sound { IsSound self.now }
+        ensures sound { IsSignBook self.now }
     {
         &self.texts
     }

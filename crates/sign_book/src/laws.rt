@@ -3,7 +3,7 @@
 ghost use Rattle.std.specs.Prelude.{◌≡◌, ◌<◌, ◌↔◌, ℕ, List, [], ◌++◌, length, slice_index_or, Contains, Ok, Err};
 ghost use Rattle.ar_statement.specs.Claims.{Claim, text_of};
 ghost use Rattle.ar_statement.specs.Ranges.{IsHeld};
-ghost use Rattle.sign_book.specs.Book.{Book, IsSound};
+ghost use Rattle.sign_book.specs.Book.{Book, IsSignBook};
 ghost use Rattle.sign_book.specs.Entry.{after_entry, leaf_of};
 ghost use Rattle.ar_statement.specs.declared.fault.BookFault.TheVariants.{Spent};
 
@@ -12,7 +12,8 @@ use ar_statement::laws::a_text_is_of_one_statement;
 /// A book that gave a leaf to a text has the text at the place with the leaf's number, and the leaf
 /// is one of the book's.
 pub fn a_leaf_is_the_place_of_its_text()
-    ensures { (book : Book) (text : List ℕ) (leaf : ℕ) → IsSound book → leaf_of book text ≡ Ok leaf
+    ensures { (book : Book) (text : List ℕ) (leaf : ℕ) → IsSignBook book
+        → leaf_of book text ≡ Ok leaf
         → (leaf < book.leaves) × (leaf < length (after_entry book text).texts)
         × (slice_index_or (after_entry book text).texts leaf [] ≡ text) }
 {}
@@ -34,7 +35,7 @@ pub fn no_leaf_serves_two_statements()
 /// since, and it stays as it is.
 pub fn a_statement_keeps_its_leaf()
     ensures { (book later : Book) (more : List (List ℕ)) (text : List ℕ) (leaf : ℕ)
-        → IsSound later
+        → IsSignBook later
         → leaf_of book text ≡ Ok leaf
         → later.texts ≡ (after_entry book text).texts ++ more
         → (leaf_of later text ≡ Ok leaf) × (after_entry later text ≡ later) }
@@ -42,13 +43,14 @@ pub fn a_statement_keeps_its_leaf()
 
 /// No leaf is left exactly where each serves another text.
 pub fn a_book_is_spent_exactly_where_it_is_full()
-    ensures { (book : Book) (text : List ℕ) → IsSound book
+    ensures { (book : Book) (text : List ℕ) → IsSignBook book
         → (leaf_of book text ≡ Err Spent)
         ↔ ((length book.texts ≡ book.leaves) × ¬ Contains book.texts text) }
 {}
 
 /// After an entry no text stands twice in the book, and none past its last leaf.
 pub fn entries_keep_a_book_sound()
-    ensures { (book : Book) (text : List ℕ) (leaf : ℕ) → IsSound book → leaf_of book text ≡ Ok leaf
-        → IsSound (after_entry book text) }
+    ensures { (book : Book) (text : List ℕ) (leaf : ℕ) → IsSignBook book
+        → leaf_of book text ≡ Ok leaf
+        → IsSignBook (after_entry book text) }
 {}

@@ -2,7 +2,7 @@
 use Rattle.std.proofs.Common.{◌≡◌, ℕ, suc, ◌+◌, ◌-◌, ◌<◌, ◌≤◌, List, [], ◌∷◌, ◌++◌, length, get_or, sym, ap, ◌∙◌, append_assoc, arith}
 use Rattle.std.specs.FinMap.{entries}
 use Rattle.hash_tree.specs.Entries.{Entry, entries_of, HasAscendingKeys, bit, of_side}
-use Rattle.hash_tree.specs.Root.{digest_at}
+use Rattle.hash_tree.specs.Root.{subtree_digest}
 use Rattle.hash_tree.specs.Path.{bottom_below, steps_below}
 use Rattle.hash_tree.proofs.Maps.{entries-entries_of, half-entries_of}
 use Rattle.hash_tree.proofs.Paths.{bottom-more, bottom-none, bottom-one, steps-few, steps-more}
@@ -11,7 +11,7 @@ use Rattle.hash_tree.specs.declared.bottom.Bottom.TheVariants.{Empty, Other}
 -- at a depth, of ascending entries
 pub steps-parted : (es : List Entry) (key : List ℕ) (depth : ℕ) → HasAscendingKeys es → 2 ≤ length es → depth < 256
     → steps_below (256 - depth) key (entries_of es)
-    ≡ steps_below (256 - (depth + 1)) key (entries_of (of_side depth (bit key depth) es)) ++ digest_at (depth + 1) (entries_of (of_side depth (1 - bit key depth) es)) ∷ []
+    ≡ steps_below (256 - (depth + 1)) key (entries_of (of_side depth (bit key depth) es)) ++ subtree_digest (depth + 1) (entries_of (of_side depth (1 - bit key depth) es)) ∷ []
 steps-parted es key depth ascending several below =
     let left : 256 - depth ≡ suc (256 - (depth + 1)) = omega arith in
     let at : 255 - (256 - (depth + 1)) ≡ depth = omega arith in
@@ -44,7 +44,7 @@ bottom-list_one es key left d ascending some one =
 -- what the walk of the same half and the digest of the other make
 pub steps-walked : (es : List Entry) (key : List ℕ) (depth : ℕ) (same other : List Entry) (old mid new : List (List ℕ)) (digest : List ℕ)
     → HasAscendingKeys es → 2 ≤ length es → depth < 256 → same ≡ of_side depth (bit key depth) es → other ≡ of_side depth (1 - bit key depth) es
-    → mid ≡ old ++ steps_below (256 - (depth + 1)) key (entries_of same) → digest ≡ digest_at (depth + 1) (entries_of other) → new ≡ mid ++ digest ∷ []
+    → mid ≡ old ++ steps_below (256 - (depth + 1)) key (entries_of same) → digest ≡ subtree_digest (depth + 1) (entries_of other) → new ≡ mid ++ digest ∷ []
     → new ≡ old ++ steps_below (256 - depth) key (entries_of es)
 steps-walked es key depth same other old mid new digest ascending several below is_same is_other hm hd hn =
     let first = rw is_same at hm in

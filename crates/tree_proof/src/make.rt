@@ -5,7 +5,7 @@ ghost use Rattle.hash_tree.specs.Path.{bottom_below, bottom_of, steps_below, ste
 
 use crate::Path;
 use ar_base::Items;
-use hash_tree::{Bottom, digest_at, halves, key_bit};
+use hash_tree::{Bottom, halves, key_bit, subtree_digest};
 use std::alloc::{AllocError, Global};
 
 /// The path of a key that is among the entries.
@@ -73,7 +73,7 @@ fn walk(
         _ => {
             let (same, other) = parted(entries, key, depth);
             let bottom = walk(steps, same, key, depth + 1)?;
-            steps.push(digest_at(other, depth + 1))?;
+            steps.push(subtree_digest(other, depth + 1))?;
             Ok(bottom)
         }
     }

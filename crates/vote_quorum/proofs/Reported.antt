@@ -13,7 +13,7 @@ use Rattle.std.proofs.lemmas.List.Sums.{sum_by_more, sum_by_more_le, count_by-le
 use Rattle.std.proofs.lemmas.Slice.Eq.{bytes_eq-Decides}
 use Rattle.vote_quorum.specs.declared.value.Value.{Value}
 use Rattle.ar_base.specs.Counting.{one_if}
-use Rattle.vote_quorum.specs.Statuses.{Status, is_for, report_count, Leads, IsMostReported}
+use Rattle.vote_quorum.specs.Statuses.{Status, is_for, report_count, ComesBefore, IsMostReported}
 
 -- ---- the order of roots
 
@@ -47,10 +47,10 @@ le_turned x y not =
       | Greater ↦ λ e _. ap is_le (nat_list_cmp_total.antisymm y x ∙ ap ordering_reverse e)
     ] refl not
 
-leads_itself : (x : List ℕ) (n : ℕ) → Leads x n x n
+leads_itself : (x : List ℕ) (n : ℕ) → ComesBefore x n x n
 leads_itself x n = (omega arith, λ _. le_itself x)
 
-leads_through : (x y z : List ℕ) (k l m : ℕ) → Leads x k y l → Leads y l z m → Leads x k z m
+leads_through : (x y z : List ℕ) (k l m : ℕ) → ComesBefore x k y l → ComesBefore y l z m → ComesBefore x k z m
 leads_through x y z k l m one other = (
   omega (arith, one.0, other.0),
   λ same.
@@ -59,11 +59,11 @@ leads_through x y z k l m one other = (
       le_through x y z (one.1 first) (other.1 second),
 )
 
-pub leads_turned : (x y : List ℕ) (k l : ℕ) → (Leads x k y l → ⊥) → Leads y l x k
+pub leads_turned : (x y : List ℕ) (k l : ℕ) → (ComesBefore x k y l → ⊥) → ComesBefore y l x k
 leads_turned x y k l not =
     ⊎_elim
     (λ (same : l ≡ k).
-    elim (is_le (slice_cmp nat_cmp x y)) as (λ b. is_le (slice_cmp nat_cmp x y) ≡ b → Leads y l x k) [
+    elim (is_le (slice_cmp nat_cmp x y)) as (λ b. is_le (slice_cmp nat_cmp x y) ≡ b → ComesBefore y l x k) [
       | true ↦ λ e. absurd (not (omega (arith, same), λ _. e))
       | false ↦ λ e. (omega (arith, same), λ _. le_turned x y e)
     ] refl)
@@ -99,7 +99,7 @@ report_count-le root ss = count_by-le-length (λ (s : Status). is_for root s.1) 
 abbrev pub IsFirstIn : List Status → List Status → Option (List ℕ) → ℕ → Type 0
 IsFirstIn all front None count = (count ≡ 0) × ((root : List ℕ) → report_count root front ≡ 0)
 IsFirstIn all front (Some root) count =
-    (report_count root all ≡ count) × (0 < count) × ((other : List ℕ) → 0 < report_count other front → Leads root count other (report_count other all))
+    (report_count root all ≡ count) × (0 < count) × ((other : List ℕ) → 0 < report_count other front → ComesBefore root count other (report_count other all))
 
 -- a status without a ballot changes nothing
 pub first_stays : (all : List Status) (i : ℕ) (most : Option (List ℕ)) (count : ℕ) → i < length all → (get_or all i none).1 ≡ None → IsFirstIn all (take i all) most count → IsFirstIn all (take (i + 1) all) most count
@@ -130,30 +130,30 @@ in_front all i v other h is some =
 
 -- what leads the front and the new root leads the longer front
 leads_more : (all : List Status) (i : ℕ) (v : Value) (root : List ℕ) (count : ℕ) → i < length all → (get_or all i none).1 ≡ Some v
-    → ((other : List ℕ) → 0 < report_count other (take i all) → Leads root count other (report_count other all)) → Leads root count v.root (report_count v.root all)
-    → (other : List ℕ) → 0 < report_count other (take (i + 1) all) → Leads root count other (report_count other all)
+    → ((other : List ℕ) → 0 < report_count other (take i all) → ComesBefore root count other (report_count other all)) → ComesBefore root count v.root (report_count v.root all)
+    → (other : List ℕ) → 0 < report_count other (take (i + 1) all) → ComesBefore root count other (report_count other all)
 leads_more all i v root count h is front new other some =
     ⊎_elim (front other)
-    (λ (same : v.root ≡ other). subst (λ x. Leads root count x (report_count x all)) same new)
+    (λ (same : v.root ≡ other). subst (λ x. ComesBefore root count x (report_count x all)) same new)
     (in_front all i v other h is some)
 
 -- the first so far leads the new root
 pub leader_stays : (all : List Status) (i : ℕ) (v : Value) (most : Option (List ℕ)) (count : ℕ) → i < length all → (get_or all i none).1 ≡ Some v
-    → IsSomeAnd most (λ root. Leads root count v.root (report_count v.root all)) → IsFirstIn all (take i all) most count → IsFirstIn all (take (i + 1) all) most count
+    → IsSomeAnd most (λ root. ComesBefore root count v.root (report_count v.root all)) → IsFirstIn all (take i all) most count → IsFirstIn all (take (i + 1) all) most count
 leader_stays all i v None count h is new first = absurd new
 leader_stays all i v (Some root) count h is new first = (first.0, first.1, leads_more all i v root count h is first.2 new)
 
 -- the new root leads the first so far
 pub leader_goes : (all : List Status) (i : ℕ) (v : Value) (most : Option (List ℕ)) (count : ℕ) → i < length all → (get_or all i none).1 ≡ Some v
-    → IfSome most (λ root. Leads v.root (report_count v.root all) root count)
+    → IfSome most (λ root. ComesBefore v.root (report_count v.root all) root count)
     → IsFirstIn all (take i all) most count → IsFirstIn all (take (i + 1) all) (Some v.root) (report_count v.root all)
 leader_goes all i v most count h is new first = (
   refl,
   report_count-some v.root all i h (ap (is_for v.root) is ∙ (bytes_eq-Decides v.root v.root).1 refl),
   leads_more all i v v.root (report_count v.root all) h is (front most new first) (leads_itself v.root (report_count v.root all)),
 ) where
-  front : (most : Option (List ℕ)) → IfSome most (λ root. Leads v.root (report_count v.root all) root count)
-      → IsFirstIn all (take i all) most count → (other : List ℕ) → 0 < report_count other (take i all) → Leads v.root (report_count v.root all) other (report_count other all)
+  front : (most : Option (List ℕ)) → IfSome most (λ root. ComesBefore v.root (report_count v.root all) root count)
+      → IsFirstIn all (take i all) most count → (other : List ℕ) → 0 < report_count other (take i all) → ComesBefore v.root (report_count v.root all) other (report_count other all)
   front None new first other some = absurd (omega (arith, some, first.1 other))
   front (Some root) new first other some = leads_through v.root root other (report_count v.root all) count (report_count other all) new (first.2 other some)
 
@@ -161,7 +161,7 @@ leader_goes all i v most count h is new first = (
 pub first_of_all : (all : List Status) (most : Option (List ℕ)) (count : ℕ) → IsFirstIn all all most count → IsMostReported all most count
 first_of_all all None count first = first
 first_of_all all (Some root) count first = record { counted = first.0; reported = first.1; leads = each } where
-  each : (other : List ℕ) → Leads root count other (report_count other all)
+  each : (other : List ℕ) → ComesBefore root count other (report_count other all)
   each other =
       ⊎_elim
       (λ (unreported : report_count other all ≡ 0). (omega (arith, unreported), λ same. absurd (omega (arith, first.1, unreported, same))))
@@ -184,11 +184,11 @@ pub first_moved : (all front : List Status) (m n : Option (List ℕ)) (k l : ℕ
 first_moved all front m n k l e f first = subst (λ o. IsFirstIn all front o l) (sym e) (subst (IsFirstIn all front m) (sym f) first)
 
 -- whether a root comes before the first so far, by the test of the other way round
-pub before_first : (first : Option (List ℕ)) (other root : List ℕ) (most count : ℕ) (b : Bool) → first ≡ Some other → (b ≡ true) ↔ Leads other most root count
-    → MatchBool (not b) (IfSome first (λ x. Leads root count x most)) (IsSomeAnd first (λ x. Leads x most root count))
-before_first first other root most count true is test = subst (λ o. IsSomeAnd o (λ x. Leads x most root count)) (sym is) (test.0 refl)
+pub before_first : (first : Option (List ℕ)) (other root : List ℕ) (most count : ℕ) (b : Bool) → first ≡ Some other → (b ≡ true) ↔ ComesBefore other most root count
+    → MatchBool (not b) (IfSome first (λ x. ComesBefore root count x most)) (IsSomeAnd first (λ x. ComesBefore x most root count))
+before_first first other root most count true is test = subst (λ o. IsSomeAnd o (λ x. ComesBefore x most root count)) (sym is) (test.0 refl)
 before_first first other root most count false is test =
-    subst (λ o. IfSome o (λ x. Leads root count x most)) (sym is) (leads_turned other root most count (λ leads. absurd (let no : false ≡ true = test.1 leads in cc)))
+    subst (λ o. IfSome o (λ x. ComesBefore root count x most)) (sym is) (leads_turned other root most count (λ leads. absurd (let no : false ≡ true = test.1 leads in cc)))
 
 -- one root alone is reported most often
 pub one_most : (all : List Status) (one other : Option (List ℕ)) (k l : ℕ) → IsMostReported all one k → IsMostReported all other l → (one ≡ other) × (k ≡ l)
@@ -196,7 +196,7 @@ one_most all None None k l first second = (refl, first.0 ∙ sym second.0)
 one_most all None (Some other) k l first second = absurd (omega (arith, first.1 other, second.counted, second.reported))
 one_most all (Some one) None k l first second = absurd (omega (arith, second.1 one, first.counted, first.reported))
 one_most all (Some one) (Some other) k l first second =
-    let over : Leads one k other l = subst (Leads one k other) second.counted (first.leads other) in
-    let under : Leads other l one k = subst (Leads other l one) first.counted (second.leads one) in
+    let over : ComesBefore one k other l = subst (ComesBefore one k other) second.counted (first.leads other) in
+    let under : ComesBefore other l one k = subst (ComesBefore other l one) first.counted (second.leads one) in
     let same : k ≡ l = omega (arith, over.0, under.0) in
     (ap (λ x. Some x) (both_least one other (over.1 (sym same)) (under.1 same)), same)

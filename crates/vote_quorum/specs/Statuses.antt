@@ -36,14 +36,14 @@ Excludes n q statuses = (root : List ℕ) → report_count root statuses + (n - 
 
 -- A root comes before another, or is it: it is reported more often, or as often and is not the greater by
 -- bytes. Each stands with the number of its reports.
-abbrev pub Leads : List ℕ → ℕ → List ℕ → ℕ → Type 0
-Leads root count other others = (others ≤ count) × (others ≡ count → IsTrue (is_le (slice_cmp nat_cmp root other)))
+abbrev pub ComesBefore : List ℕ → ℕ → List ℕ → ℕ → Type 0
+ComesBefore root count other others = (others ≤ count) × (others ≡ count → IsTrue (is_le (slice_cmp nat_cmp root other)))
 
 -- a root is reported so many times, and comes before each other
 pub record IsFirst (statuses : List Status) (root : List ℕ) (count : ℕ) : Type 0 where
   pub counted : report_count root statuses ≡ count
   pub reported : 0 < count
-  pub leads : (other : List ℕ) → Leads root count other (report_count other statuses)
+  pub leads : (other : List ℕ) → ComesBefore root count other (report_count other statuses)
 
 -- the root that is reported most often, the least by bytes among equals, and how often that is; or none and
 -- 0 where none is reported

@@ -1,5 +1,5 @@
 ghost use Rattle.std.specs.Prelude.{◌≡◌, ◌≤◌, ◌↔◌, IsOk, IfErr, IfSome, IsSomeAnd, MatchBool, IsTrue, length};
-ghost use Rattle.vote_quorum.specs.Statuses.{AreStatuses, Excludes, IsMostReported, Leads, is_for, report_count};
+ghost use Rattle.vote_quorum.specs.Statuses.{AreStatuses, Excludes, IsMostReported, ComesBefore, is_for, report_count};
 
 use crate::Value;
 
@@ -29,15 +29,15 @@ fn report_count(statuses: &[(u16, Option<Value>)], root: &[u8; 32]) -> usize
 
 /// Whether a root, reported `count` times, comes before another one, reported `others` times, or is it.
 fn leads(root: &[u8; 32], count: usize, other: &[u8; 32], others: usize) -> bool
-    ensures { IsTrue result ↔ Leads root.now count other.now others }
+    ensures { IsTrue result ↔ ComesBefore root.now count other.now others }
 {
     others < count || (others == count && root.cmp(other).is_le())
 }
 
 /// Whether a root, reported `count` times, comes before the first one so far, where there is one.
 fn comes_first(root: &[u8; 32], count: usize, first: &Option<[u8; 32]>, most: usize) -> bool
-    ensures { MatchBool result (IfSome first.now (λ other. Leads root.now count other most))
-        (IsSomeAnd first.now (λ other. Leads other most root.now count)) }
+    ensures { MatchBool result (IfSome first.now (λ other. ComesBefore root.now count other most))
+        (IsSomeAnd first.now (λ other. ComesBefore other most root.now count)) }
 {
     match first {
         Some(other) => !leads(other, most, root, count),

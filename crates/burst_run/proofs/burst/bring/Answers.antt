@@ -1,7 +1,7 @@
 -- What the crowd gives back, and that a station may be sent to a worker.
 use denote.Exit.{no}
 use denote.Param.Send.{arg_send, param_send}
-use Rattle.shared_station.proofs.Crossing.{station_send}
+use Rattle.burst_run.proofs.Crossing.{station_send}
 use Rattle.burst_run.proofs.burst.bring.Goals as goal
 
 pub crowd-requires-send-C : goal.crowd-requires-send-C

@@ -13,5 +13,5 @@ returns-clause-passes g c = λ workers.
     let t : Stand = record { world = c.step-made.new.self; counts = c.tell_made.new.counts } in
     let Passes : Stand → Type 0 = λ from. LinePasses g.K.Sink.faults g.K.Sink.wrote c.args.sink.now c.tell_made.new.sink workers from t None (Ok (Some lines.Burst)) c.tell_made.result in
     subst Passes c.stage.view_is (burst_passed g.K.Sink.faults g.K.Sink.wrote c.args.sink.now c.tell_made.new.sink workers s t c.tell_made.result
-    (some-made g.K.Sink.faults g.K.Sink.wrote c.args.sink.now c.tell_made.new.sink s t c.step-made.result c.step-made.new.self _ c.tell_made.result c.step-made.ensures
-    (λ effect steps. c.tell_made.ensures s.world c.step-made.new.self effect steps)))
+    (some-made g.K.Sink.faults g.K.Sink.wrote c.args.sink.now c.tell_made.new.sink s t c.step-made.result c.step-made.new.self _ c.tell_made.result c.step-made.ensures.steps
+    (λ effect steps. c.tell_made.ensures.plays s.world c.step-made.new.self effect steps)))

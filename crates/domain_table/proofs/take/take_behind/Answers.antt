@@ -1,6 +1,6 @@
 use Rattle.std.proofs.Common.{◌≡◌, ◌<◌, ◌+◌, ◌-◌, ◌++◌, ◌∷◌, [], length, get_or, sym, ap, ◌∙◌, arith, length-append, None, Some}
 use Rattle.std.specs.Option.{option_len}
-use Rattle.domain_table.specs.Applying.{taken, takes_a_place}
+use Rattle.domain_table.specs.Applying.{taking_change, takes_a_place}
 use Rattle.domain_table.specs.Rows.{RowData, data_in, data_of, table_of}
 use Rattle.domain_table.proofs.Places.{get_data, length_data}
 use Rattle.domain_table.proofs.Changed.{taken_full, taken_recovery, taken_objected}
@@ -33,7 +33,7 @@ returns-in_ok-append-in-Full-clause-ok c =
     taken_full (data_in c.args.rows.now.items) (data_in c.append.new.rows.items) c.append.new.trie c.args.i d c.args.epoch c.args.change
     (omega (arith, c.requires.place, length_data c.args.rows.now.items)) c.requires.kept.are
     (ap (λ (r : RowData). r.name) (get_data c.args.rows.now.items c.args.i c.index.result.now d c.requires.place) ∙ c.requires.name c.index.result.now)
-    (c.in_ok-append-in-Full.ensures.ok d) ∙ ap (taken (table_of (data_in c.args.rows.now.items)) c.args.epoch c.args.change) (sym c.in-Full.is)
+    (c.in_ok-append-in-Full.ensures.ok d) ∙ ap (taking_change (table_of (data_in c.args.rows.now.items)) c.args.epoch c.args.change) (sym c.in-Full.is)
 
 pub returns-in_ok-wait-in-Recovery-clause-kept : goal.returns-in_ok-wait-in-Recovery-clause-kept
 returns-in_ok-wait-in-Recovery-clause-kept c =
@@ -54,7 +54,7 @@ returns-in_ok-wait-in-Recovery-clause-ok c =
     taken_recovery (data_in c.args.rows.now.items) (data_in c.wait.new.rows.items) c.wait.new.trie c.args.i d c.args.epoch c.args.change
     (omega (arith, c.requires.place, length_data c.args.rows.now.items)) c.requires.kept.are
     (ap (λ (r : RowData). r.name) (get_data c.args.rows.now.items c.args.i c.index.result.now d c.requires.place) ∙ c.requires.name c.index.result.now)
-    (c.in_ok-wait-in-Recovery.ensures.ok d) ∙ ap (taken (table_of (data_in c.args.rows.now.items)) c.args.epoch c.args.change) (sym c.in-Recovery.is)
+    (c.in_ok-wait-in-Recovery.ensures.ok d) ∙ ap (taking_change (table_of (data_in c.args.rows.now.items)) c.args.epoch c.args.change) (sym c.in-Recovery.is)
 
 pub returns-in_ok-wait-in-Objected-clause-kept : goal.returns-in_ok-wait-in-Objected-clause-kept
 returns-in_ok-wait-in-Objected-clause-kept c =
@@ -74,4 +74,4 @@ returns-in_ok-wait-in-Objected-clause-ok c =
     taken_objected (data_in c.args.rows.now.items) (data_in c.wait-in-Objected.new.rows.items) c.wait-in-Objected.new.trie c.args.i d c.args.epoch c.args.change
     (omega (arith, c.requires.place, length_data c.args.rows.now.items)) c.requires.kept.are
     (ap (λ (r : RowData). r.name) (get_data c.args.rows.now.items c.args.i c.index.result.now d c.requires.place) ∙ c.requires.name c.index.result.now)
-    (c.in_ok-wait-in-Objected.ensures.ok d) ∙ ap (taken (table_of (data_in c.args.rows.now.items)) c.args.epoch c.args.change) (sym c.in-Objected.is)
+    (c.in_ok-wait-in-Objected.ensures.ok d) ∙ ap (taking_change (table_of (data_in c.args.rows.now.items)) c.args.epoch c.args.change) (sym c.in-Objected.is)

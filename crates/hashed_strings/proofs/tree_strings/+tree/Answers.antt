@@ -3,17 +3,17 @@ use Rattle.std.proofs.Common.{rules, [], arith}
 use Rattle.hashed_strings.proofs.TreeLists.{ascending-left, agree-left, on-ok, put-none, put-one, put-several}
 use Rattle.hashed_strings.proofs.tree_strings.+tree.Goals as goal
 
-pub put_node-digest_at-requires-clause-ascending : goal.put_node-digest_at-requires-clause-ascending
-put_node-digest_at-requires-clause-ascending t c = ascending-left c.args.entries.now c.halves.result.0.now c.args.depth 0 c.halves.ensures.left c.requires.ascending
+pub put_node-subtree_digest-requires-clause-ascending : goal.put_node-subtree_digest-requires-clause-ascending
+put_node-subtree_digest-requires-clause-ascending t c = ascending-left c.args.entries.now c.halves.result.0.now c.args.depth 0 c.halves.ensures.left c.requires.ascending
 
-pub put_node-digest_at-requires-clause-agreed : goal.put_node-digest_at-requires-clause-agreed
-put_node-digest_at-requires-clause-agreed t c = agree-left c.args.entries.now c.halves.result.0.now c.args.depth 0 c.halves.ensures.left c.requires.agreed
+pub put_node-subtree_digest-requires-clause-agreed : goal.put_node-subtree_digest-requires-clause-agreed
+put_node-subtree_digest-requires-clause-agreed t c = agree-left c.args.entries.now c.halves.result.0.now c.args.depth 0 c.halves.ensures.left c.requires.agreed
 
-pub put_node-digest_at-requires-2-clause-ascending : goal.put_node-digest_at-requires-2-clause-ascending
-put_node-digest_at-requires-2-clause-ascending t c = ascending-left c.args.entries.now c.halves.result.1.now c.args.depth 1 c.halves.ensures.right c.requires.ascending
+pub put_node-subtree_digest-requires-2-clause-ascending : goal.put_node-subtree_digest-requires-2-clause-ascending
+put_node-subtree_digest-requires-2-clause-ascending t c = ascending-left c.args.entries.now c.halves.result.1.now c.args.depth 1 c.halves.ensures.right c.requires.ascending
 
-pub put_node-digest_at-requires-2-clause-agreed : goal.put_node-digest_at-requires-2-clause-agreed
-put_node-digest_at-requires-2-clause-agreed t c = agree-left c.args.entries.now c.halves.result.1.now c.args.depth 1 c.halves.ensures.right c.requires.agreed
+pub put_node-subtree_digest-requires-2-clause-agreed : goal.put_node-subtree_digest-requires-2-clause-agreed
+put_node-subtree_digest-requires-2-clause-agreed t c = agree-left c.args.entries.now c.halves.result.1.now c.args.depth 1 c.halves.ensures.right c.requires.agreed
 
 pub put_node-put_tree-requires : goal.put_node-put_tree-requires
 put_node-put_tree-requires t c = (
@@ -37,8 +37,8 @@ pub put_node-returns : goal.put_node-returns
 put_node-returns t c =
     on-ok c.put_tree-2.result _ _
     (λ last. put-several c.args.strings.now.items c.put_string.new.strings.items c.put_tree.new.strings.items c.put_tree-2.new.strings.items
-    c.args.entries.now c.halves.result.0.now c.halves.result.1.now c.args.depth c.digest_at.result c.digest_at-2.result
-    c.requires.ascending c.requires.several c.halves.ensures.in_key c.halves.ensures.left c.halves.ensures.right c.digest_at.ensures c.digest_at-2.ensures
+    c.args.entries.now c.halves.result.0.now c.halves.result.1.now c.args.depth c.subtree_digest.result c.subtree_digest-2.result
+    c.requires.ascending c.requires.several c.halves.ensures.in_key c.halves.ensures.left c.halves.ensures.right c.subtree_digest.ensures c.subtree_digest-2.ensures
     c.in_ok-put_string.ensures c.in_ok-put_tree.ensures last)
     c.put_tree-2.ensures
 

@@ -3,7 +3,7 @@ use Rattle.std.proofs.lemmas.Result.{on_ok_weaker}
 use Rattle.kept_journal.specs.Appending.{WantsAll}
 use Rattle.kept_journal.specs.Journal.{IsAsBefore}
 use Rattle.kept_journal.specs.Opening.{behind_gate, behind_reading, cutting, opening}
-use Rattle.kept_journal.specs.Replays.{Replays}
+use Rattle.kept_journal.specs.Replays.{ReachesBy}
 use Rattle.kept_journal.proofs.Costs.{cost, early_wants, opened_spends, opened_wants, opening_long, opening_short}
 use Rattle.kept_journal.proofs.Moments.{goes_on, started, then_only}
 use Rattle.kept_journal.proofs.Opened.{as_before, fresh_settled, fresh_stands}
@@ -53,7 +53,7 @@ pub returns-clause-replays : goal.returns-clause-replays
 returns-clause-replays g c =
     let few : length c.in_ok-file.file.items ≤ 9 = search rules in
     let short : length (g.K.Disk.seen c.args.disk.now) ≤ 9 = omega (arith, few, ap length c.in_ok-file.ensures.bytes, ap length c.sync.ensures.seen) in
-    subst (λ (texts : List (List ℕ)). Replays g.P.Replay.takes c.args.party.now texts c.args.party.now) (sym (short_recovered (g.K.Disk.seen c.args.disk.now) short)) refl
+    subst (λ (texts : List (List ℕ)). ReachesBy g.P.Replay.takes c.args.party.now texts c.args.party.now) (sym (short_recovered (g.K.Disk.seen c.args.disk.now) short)) refl
 
 pub returns-clause-stood : goal.returns-clause-stood
 returns-clause-stood g c =

@@ -1,7 +1,7 @@
 use Rattle.std.proofs.Common.{rules, ◌-◌, List, ℕ, ◌++◌, None, length, take, drop, subst, sym}
 use Rattle.kept_disk.specs.Memory.{synced}
 use Rattle.kept_journal.specs.Journal.{Stands}
-use Rattle.kept_journal.specs.Replays.{Replays}
+use Rattle.kept_journal.specs.Replays.{ReachesBy}
 use Rattle.log_journal.specs.Inputs.{mark}
 use Rattle.log_journal.specs.Steps.{standing_of, takes}
 use Rattle.log_restart.specs.Inputs.{texts_of}
@@ -15,7 +15,7 @@ ask_all-requires c =
       going = c.requires.going;
       replays = (
         c.requires.replays.0,
-        subst (λ (ts : List (List ℕ)). Replays takes (standing_of c.args.kept.now.log) ts c.requires.replays.0) (sym whole) c.requires.replays.1,
+        subst (λ (ts : List (List ℕ)). ReachesBy takes (standing_of c.args.kept.now.log) ts c.requires.replays.0) (sym whole) c.requires.replays.1,
       );
     }
 
@@ -30,7 +30,7 @@ unreachable-requires c =
 pub returns-clause-became : goal.returns-clause-became
 returns-clause-became c =
     let all = c.in_ok-ask_all.ensures.took (search rules) in
-    subst (λ (ts : List (List ℕ)). Replays takes (standing_of c.args.kept.now.log) ts (standing_of c.ask_all.new.kept.log)) (rest-whole c.args.inputs.now c.args.from) all.took.became
+    subst (λ (ts : List (List ℕ)). ReachesBy takes (standing_of c.args.kept.now.log) ts (standing_of c.ask_all.new.kept.log)) (rest-whole c.args.inputs.now c.args.from) all.took.became
 
 pub returns-clause-stands : goal.returns-clause-stands
 returns-clause-stands c =

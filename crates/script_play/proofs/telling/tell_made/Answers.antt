@@ -7,7 +7,7 @@ use Rattle.script_play.specs.Playing.{PlaysPart}
 use Rattle.script_play.proofs.Parts.{made-untaken}
 use Rattle.script_play.proofs.telling.tell_made.Goals as goal
 
-pub returns : goal.returns
-returns g c old new effect steps =
+pub returns-clause-plays : goal.returns-clause-plays
+returns-clause-plays g c old new effect steps =
     let Plays = λ (result : Result (Option Cause) Fault). PlaysPart g.K.Sink.faults g.K.Sink.wrote c.args.sink.now c.args.sink.now (record { world = old; counts = c.args.counts.now }) (record { world = new; counts = c.args.counts.now }) (progress_of old effect) result in
     subst Plays (sym c.refused_by.ensures) (made-untaken g.K.Sink.faults g.K.Sink.wrote c.args.sink.now c.args.counts.now old new effect c.args.made c.in-Err.fault steps c.in-Err.is)

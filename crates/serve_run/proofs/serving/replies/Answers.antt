@@ -1,4 +1,4 @@
-use Rattle.std.proofs.Common.{rules, map}
+use Rattle.std.proofs.Common.{rules}
 use Rattle.serve_run.proofs.Served.{served_ok}
 use Rattle.serve_run.proofs.serving.replies.Goals as goal
 

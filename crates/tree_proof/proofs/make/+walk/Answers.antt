@@ -14,12 +14,12 @@ walk-requires t c = (
   ),
 )
 
-pub digest_at-requires-clause-ascending : goal.digest_at-requires-clause-ascending
-digest_at-requires-clause-ascending t c =
+pub subtree_digest-requires-clause-ascending : goal.subtree_digest-requires-clause-ascending
+subtree_digest-requires-clause-ascending t c =
     rw c.parted.ensures.other (ascending-of_side c.args.depth (1 - bit c.args.key.now c.args.depth) c.args.entries.now c.requires.ascending)
 
-pub digest_at-requires-clause-agreed : goal.digest_at-requires-clause-agreed
-digest_at-requires-clause-agreed t c =
+pub subtree_digest-requires-clause-agreed : goal.subtree_digest-requires-clause-agreed
+subtree_digest-requires-clause-agreed t c =
     rw c.parted.ensures.other (agree-of_side c.args.entries.now c.args.depth (1 - bit c.args.key.now c.args.depth) c.requires.agreed)
 
 pub returns-in-empty-clause-bottom : goal.returns-in-empty-clause-bottom
@@ -44,4 +44,4 @@ returns-in_ok-push-in_default-clause-bottom t c =
 pub returns-in_ok-push-in_default-clause-steps : goal.returns-in_ok-push-in_default-clause-steps
 returns-in_ok-push-in_default-clause-steps t c =
     steps-walked c.args.entries.now c.args.key.now c.args.depth _ _ _ _ _ _ c.requires.ascending c.in_default.len_at_least c.parted.ensures.in_key
-    c.parted.ensures.same c.parted.ensures.other c.in_ok-bottom-in_default.ensures.steps c.digest_at.ensures c.in_ok-push-in_default.ensures.items
+    c.parted.ensures.same c.parted.ensures.other c.in_ok-bottom-in_default.ensures.steps c.subtree_digest.ensures c.in_ok-push-in_default.ensures.items

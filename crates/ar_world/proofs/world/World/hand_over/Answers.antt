@@ -19,4 +19,4 @@ returns-in-Err g c me found is at held same =
     let mine = subst (λ (w : World). me ≡ get_or w.owners c.args.place me) old is in
     let within = subst (λ (w : World). c.args.place < length w.owners) old c.requires in
     let answer = c.in-Err.ensures.answer in
-    rw (← c.self.view_is) (hands_refused _ _ _ _ _ me c.index_mut.result.now _ found _ _ _ within mine c.index_mut.ensures.value answer.0 answer.1 c.party-owner.ensures c.refused.ensures.ok c.refused.ensures.err)
+    rw (← c.self.view_is) (hands_refused _ _ _ _ _ me c.index_mut.result.now _ found _ _ _ within mine c.index_mut.ensures.value answer.0 answer.1 c.party-owner.ensures c.say_refused.ensures.ok c.say_refused.ensures.err)

@@ -1,5 +1,7 @@
 use Rattle.std.proofs.Common.{◌∙◌, false, ap}
-use Rattle.ar_world.specs.Drafting.{next_certificate, terms_of}
+use Rattle.cert_drafts.specs.Certificates.{next_certificate}
+use Rattle.cert_drafts.specs.Policies.{terms_of}
+use Rattle.lms_tree.specs.Key.{public_of}
 use Rattle.ar_world.specs.State.{Drafted}
 use Rattle.ar_world.proofs.Drafts.{updated}
 use Rattle.ar_world.proofs.world.World.update_line.Goals as goal
@@ -7,5 +9,5 @@ use Rattle.ar_world.proofs.world.World.update_line.Goals as goal
 pub returns : goal.returns
 returns g c =
     let i = c.in_ok-place.ensures in
-    let same = c.in_ok-cert.ensures ∙ ap (λ (d : Drafted). next_certificate c.index-2.result.now d.cert (terms_of c.args.policy.now) false) c.behind-self.view_is in
+    let same = c.in_ok-cert.ensures ∙ ap (λ (d : Drafted). next_certificate (public_of c.index-2.result.now.key) d.cert (terms_of c.args.policy.now) false) c.behind-self.view_is in
     updated _ c.args.self.now _ _ _ _ _ _ _ c.index-2.result.now c.index.result.now _ i.place (rw (← c.self.view_is) c.index-2.ensures) i.draft i.found (rw (← c.self.view_is) c.index.ensures) i.ascend i.wait i.asks i.room same c.make_draft.ensures

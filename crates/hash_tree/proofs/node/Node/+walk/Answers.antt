@@ -1,6 +1,6 @@
 use Rattle.std.proofs.Common.{rules, ◌≡◌, ◌<◌, ◌+◌, ◌-◌, ◌++◌, ap, sym, ◌∙◌, length, append-nil, append_assoc, arith}
 use Rattle.hash_tree.specs.Entries.{bit, half}
-use Rattle.hash_tree.specs.Root.{digest_at}
+use Rattle.hash_tree.specs.Root.{subtree_digest}
 use Rattle.hash_tree.specs.Kept.{map_of, map_both}
 use Rattle.hash_tree.specs.Path.{bottom_below}
 use Rattle.hash_tree.proofs.Paths.{steps-few, bottom-none}
@@ -53,8 +53,8 @@ returns-in_ok-push-in-Branch-clause-steps t c =
     = ap (λ b. map_both b.left b.right) c.deref.ensures ∙ sym (ap map_of c.in-Branch.is) in
     let below_is : map_of c.sides.result.0.now ≡ half c.args.depth (bit c.args.key.now c.args.depth) (map_of c.args.self.now)
     = keeps-map _ _ _ c.sides.ensures.same ∙ ap (half c.args.depth (bit c.args.key.now c.args.depth)) same in
-    let other : c.digest.result ≡ digest_at (c.args.depth + 1) (half c.args.depth (1 - bit c.args.key.now c.args.depth) (map_of c.args.self.now))
-    = c.digest.ensures ∙ digest-kept _ _ _ c.sides.ensures.other ∙ ap (λ m. digest_at (c.args.depth + 1) (half c.args.depth (1 - bit c.args.key.now c.args.depth) m)) same in
+    let other : c.digest.result ≡ subtree_digest (c.args.depth + 1) (half c.args.depth (1 - bit c.args.key.now c.args.depth) (map_of c.args.self.now))
+    = c.digest.ensures ∙ digest-kept _ _ _ c.sides.ensures.other ∙ ap (λ m. subtree_digest (c.args.depth + 1) (half c.args.depth (1 - bit c.args.key.now c.args.depth) m)) same in
     c.in_ok-push-in-Branch.ensures.items
     ∙ rw (c.in_ok-bottom-in-Branch.ensures.steps, other, below_is)
     (append_assoc c.args.steps.now.items _ _ ∙ ap (λ s. c.args.steps.now.items ++ s) (sym (steps-parted c.args.depth c.args.key.now (map_of c.args.self.now) halves.0 halves.1)))

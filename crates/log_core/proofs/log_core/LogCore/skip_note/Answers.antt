@@ -16,7 +16,7 @@ skip-requires c =
     let was : CoreState = record { log = c.self.inside.log.state; keys = c.self.inside.log.keys; queue = c.self.inside.queue.items; signature_len = c.self.inside.signature_len } in
     let statuses : List LogStatus = c.args.statuses.now in
     let judged : skip_judged was c.args.epoch statuses ≡ Ok tt = subst (λ (s : CoreState). skip_judged s c.args.epoch statuses ≡ Ok tt) (sym c.self.view_is) c.in-Ok.ensures in
-    let are : lists.AreStatuses statuses = subst lists.AreStatuses c.statuses.view_is c.statuses.invariant in
+    let are : lists.AreLogStatuses statuses = subst lists.AreLogStatuses c.statuses.view_is c.statuses.invariant in
     let same : statuses_in c.in_ok-signed.signed.items ≡ signed_statuses statuses = c.in_ok-signed.ensures ∙ ap signed_statuses (c.as_slice.ensures.value ∙ c.statuses.view_is) in
     subst (CanSkip was.log) (sym same) (can-skip was c.args.epoch statuses c.self.invariant are judged)
 
@@ -25,7 +25,7 @@ invariant_of-self-2 c =
     let was : CoreState = record { log = c.self.inside.log.state; keys = c.self.inside.log.keys; queue = c.self.inside.queue.items; signature_len = c.self.inside.signature_len } in
     let statuses : List LogStatus = c.args.statuses.now in
     let judged : skip_judged was c.args.epoch statuses ≡ Ok tt = subst (λ (s : CoreState). skip_judged s c.args.epoch statuses ≡ Ok tt) (sym c.self.view_is) c.in-Ok.ensures in
-    let are : lists.AreStatuses statuses = subst lists.AreStatuses c.statuses.view_is c.statuses.invariant in
+    let are : lists.AreLogStatuses statuses = subst lists.AreLogStatuses c.statuses.view_is c.statuses.invariant in
     let same : statuses_in c.in_ok-signed.signed.items ≡ signed_statuses statuses = c.in_ok-signed.ensures ∙ ap signed_statuses (c.as_slice.ensures.value ∙ c.statuses.view_is) in
     skip-keeps was c.args.epoch statuses (statuses_in c.in_ok-signed.signed.items) c.skip.new.self c.self.invariant are judged same c.in_ok-skip.ensures.ok
 

@@ -1,6 +1,6 @@
 use Rattle.std.proofs.Common.{rules, arith, ◌≡◌, ◌<◌, ap, ◌∙◌, sym, subst, length, None, ◌++◌, ◌∷◌, []}
 use Rattle.ar_base.specs.Places.{HasNoneTwice}
-use Rattle.sign_book.specs.Book.{Book, IsSound}
+use Rattle.sign_book.specs.Book.{Book, IsSignBook}
 use Rattle.ar_base.specs.Places.{place_of}
 use Rattle.sign_book.proofs.Entries.{sound-push}
 use Rattle.sign_book.proofs.book.SignBook.append.Goals as goal
@@ -8,7 +8,7 @@ use Rattle.sign_book.proofs.book.SignBook.append.Goals as goal
 pub invariant_of-self-2 : goal.invariant_of-self-2
 invariant_of-self-2 c =
     let book : Book = record { texts = c.self.inside.texts.items; leaves = c.self.inside.leaves; room = c.self.inside.room } in
-    let sound : IsSound book = c.self.invariant.0 in
+    let sound : IsSignBook book = c.self.invariant.0 in
     let pushed = c.push_reserved.ensures in
     let reserved = c.in_ok-reserve.ensures in
     let none : place_of book.texts c.args.text ≡ None =

@@ -1,0 +1,5 @@
+pub mod Answered
+pub mod Lessons
+pub mod Orders
+pub mod Rolled
+pub mod Spelled

@@ -1,0 +1,13 @@
+-- The check of an authority that is kept: a book, and the answers that it did not let go.
+use Rattle.std.specs.Prelude.{List, [], Option}
+use Rattle.std.specs.Option.{option_map}
+use Rattle.owner_check.specs.Answers.{Booked}
+use Rattle.owner_check.specs.declared.pair.Pair.{Pair}
+
+-- its book, where it is there
+abbrev pub book_of : Option Booked → Option (List Pair)
+book_of check = option_map (λ c. c.book) check
+
+-- a check that let go of its answers
+abbrev pub without_answers : Booked → Booked
+without_answers check = record check { answers = [] }

@@ -1,0 +1,5 @@
+pub mod Checks
+pub mod Determined
+pub mod Inputs
+pub mod Keeping
+pub mod Said

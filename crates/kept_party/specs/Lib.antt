@@ -1,0 +1,4 @@
+pub mod Lives
+pub mod Parts
+pub mod Recalled
+pub mod Taking

@@ -1,0 +1,120 @@
+-- What an order leaves of the certificates and of the directory.
+use Rattle.std.proofs.Common.{◌≡◌, ℕ, ◌+◌, ◌-◌, List, [], ◌∷◌, ◌++◌, length, Bool, true, false, cond, eqb, None, Some, Result, Ok, Err, refl, sym, ap, ◌∙◌, arith}
+use Rattle.std.specs.Prelude.{nat_le, slice_get}
+use Rattle.std.proofs.lemmas.Bool.{eqb-true}
+use Rattle.std.proofs.lemmas.List.{append-nil}
+use Rattle.ar_base.specs.Chaining.{◌>>=◌, need}
+use Rattle.ar_base.proofs.Lists.{get-more}
+use Rattle.ar_base.proofs.Shown.{bind_ok, ok_is}
+use Rattle.ar_cert.specs.Certificate.{Certificate, digest_of}
+use Rattle.ar_message.specs.declared.sent.Sent.{Sent}
+use Rattle.owner_core.specs.Rows.{OwnerAnswer, attach_row, begin_row, object_row, step_row, submit_row}
+use Rattle.owner_core.specs.State.{Owner}
+use Rattle.owner_core.specs.declared.refusal.OwnerRefusal.{OwnerRefusal}
+use Rattle.owner_keeper.specs.Keeping.{OwnerStanding, answered, draft_in, draft_of, handing_row, known_in, order_row, silent, submitted}
+use Rattle.owner_keeper.specs.Texts.{most_asks, most_handover}
+use Rattle.owner_keeper.specs.declared.order.OwnerOrder.{OwnerOrder}
+use Rattle.owner_keeper.specs.declared.order.OwnerOrder.TheVariants.{Take, Begin, Know, Handover, Attach, Object, Submit}
+use Rattle.owner_keeper.specs.declared.refusal.DraftRefusal.TheVariants as refusals
+use Rattle.owner_keeper.specs.declared.reply.OwnerReply.{OwnerReply}
+use Rattle.owner_keeper.specs.declared.reply.OwnerReply.TheVariants.{Handed, Sends}
+
+-- ---- answers of rows
+
+-- an order was done by a row, which left the owner so; beside it stand these certificates
+pub record IsDone {T : Type 0} (certs : List Certificate) (row : OwnerAnswer T) (later : OwnerStanding) : Type 0 where
+  pub value : T
+  pub row_is : row ≡ Ok (value, later.owner)
+  pub certs_are : later.certs ≡ certs
+
+pub done_by : {T : Type 0} (reply : T → OwnerReply) (certs : List Certificate) (row : OwnerAnswer T) (said : OwnerReply) (later : OwnerStanding)
+    → answered reply certs row ≡ Ok (said, later) → IsDone certs row later
+done_by {T} reply certs (Ok r) said later e =
+    let at : OwnerStanding = record { owner = r.1; certs = certs } in
+    let same : (reply r.0, at) ≡ (said, later) = ok_is (reply r.0, at) (said, later) e in
+    let owner : r.1 ≡ later.owner = ap (λ (p : OwnerReply × OwnerStanding). p.1.owner) same in
+    record {
+      value = r.0;
+      row_is = ap (λ (me : Owner). Ok (r.0, me)) owner;
+      certs_are = sym (ap (λ (p : OwnerReply × OwnerStanding). p.1.certs) same);
+    }
+done_by reply certs (Err refusal) said later e = absurd cc
+
+-- a draft that is sent leaves all as it is
+pub sent_stays : (party : OwnerStanding) (row : Result Sent OwnerRefusal) (said : OwnerReply) (later : OwnerStanding) → submitted party row ≡ Ok (said, later) → later ≡ party
+sent_stays party (Ok sent) said later e = sym (ap (λ (p : OwnerReply × OwnerStanding). p.1) (ok_is (Sends sent, party) (said, later) e))
+sent_stays party (Err refusal) said later e = absurd cc
+
+-- ---- certificates
+
+abbrev pub Behind : List Certificate → List Certificate → Type 0
+Behind certs later = (more : List Certificate) × (later ≡ certs ++ more)
+
+same-behind : (certs later : List Certificate) → later ≡ certs → Behind certs later
+same-behind certs later e = ([], e ∙ sym (append-nil certs))
+
+-- what was known is known
+pub certs_grow : (party : OwnerStanding) (order : OwnerOrder) (reply : OwnerReply) (later : OwnerStanding) → order_row party order ≡ Ok (reply, later) → Behind party.certs later.certs
+certs_grow party (Take bytes) reply later e =
+    same-behind party.certs later.certs (done_by Sends party.certs (step_row party.owner bytes) reply later e).certs_are
+certs_grow party (Begin cert asks) reply later e =
+    let b = bind_ok (need (nat_le (length asks) most_asks) refusals.Long) (λ few. answered Sends (party.certs ++ cert ∷ []) (begin_row party.owner cert asks)) (reply, later) e in
+    (cert ∷ [], (done_by Sends (party.certs ++ cert ∷ []) (begin_row party.owner cert asks) reply later b.2).certs_are)
+certs_grow party (Know cert) reply later e =
+    let at : OwnerStanding = record party { certs = party.certs ++ cert ∷ [] } in
+    (cert ∷ [], sym (ap (λ (p : OwnerReply × OwnerStanding). p.1.certs) (ok_is (silent tt, at) (reply, later) e)))
+certs_grow party (Handover draft) reply later e =
+    let b = bind_ok (known_in party.certs draft) (λ cert. answered (Handed (digest_of cert)) party.certs (handing_row party.owner (digest_of cert))) (reply, later) e in
+    same-behind party.certs later.certs (done_by (Handed (digest_of b.0)) party.certs (handing_row party.owner (digest_of b.0)) reply later b.2).certs_are
+certs_grow party (Attach draft handover) reply later e =
+    let a = bind_ok (need (nat_le (length handover) most_handover) refusals.Long)
+    (λ short. known_in party.certs draft >>= λ cert. answered silent party.certs (attach_row party.owner (digest_of cert) handover)) (reply, later) e in
+    let b = bind_ok (known_in party.certs draft) (λ cert. answered silent party.certs (attach_row party.owner (digest_of cert) handover)) (reply, later) a.2 in
+    same-behind party.certs later.certs (done_by silent party.certs (attach_row party.owner (digest_of b.0) handover) reply later b.2).certs_are
+certs_grow party (Object draft) reply later e =
+    let b = bind_ok (known_in party.certs draft) (λ cert. answered Sends party.certs (object_row party.owner cert)) (reply, later) e in
+    same-behind party.certs later.certs (done_by Sends party.certs (object_row party.owner b.0) reply later b.2).certs_are
+certs_grow party (Submit draft) reply later e =
+    let b = bind_ok (known_in party.certs draft) (λ cert. submitted party (submit_row party.owner (digest_of cert))) (reply, later) e in
+    same-behind party.certs later.certs (ap (λ (p : OwnerStanding). p.certs) (sent_stays party (submit_row party.owner (digest_of b.0)) reply later b.2))
+
+-- ---- drafts by their numbers
+
+at-place : (certs : List Certificate) (draft place : ℕ) → draft ≡ place + 1 → draft_in certs draft ≡ slice_get certs place
+at-place certs draft place is = by (eqb draft 0) refl
+  where
+    by : (b : Bool) → eqb draft 0 ≡ b → cond b None (slice_get certs (draft - 1)) ≡ slice_get certs place
+    by true e = absurd (omega (arith, eqb-true draft 0 e))
+    by false e = let same : draft - 1 ≡ place = omega (arith, is) in ap (slice_get certs) same
+
+last-of : (certs : List Certificate) (cert : Certificate) → slice_get (certs ++ cert ∷ []) (length certs) ≡ Some cert
+last-of [] cert = refl
+last-of (c ∷ certs) cert = last-of certs cert
+
+-- the newest certificate has the next number
+next-number : (certs later : List Certificate) (cert : Certificate) → later ≡ certs ++ cert ∷ [] → draft_in later (length certs + 1) ≡ Some cert
+next-number certs later cert is =
+    at-place later (length certs + 1) (length certs) refl ∙ ap (λ (cs : List Certificate). slice_get cs (length certs)) is ∙ last-of certs cert
+
+pub begun_number : (party later : OwnerStanding) (cert : Certificate) (asks : List ℕ) (reply : OwnerReply) → order_row party (Begin cert asks) ≡ Ok (reply, later)
+    → draft_of later (length party.certs + 1) ≡ Some cert
+begun_number party later cert asks reply e =
+    let b = bind_ok (need (nat_le (length asks) most_asks) refusals.Long) (λ few. answered Sends (party.certs ++ cert ∷ []) (begin_row party.owner cert asks)) (reply, later) e in
+    next-number party.certs later.certs cert (done_by Sends (party.certs ++ cert ∷ []) (begin_row party.owner cert asks) reply later b.2).certs_are
+
+pub known_number : (party later : OwnerStanding) (cert : Certificate) (reply : OwnerReply) → order_row party (Know cert) ≡ Ok (reply, later)
+    → draft_of later (length party.certs + 1) ≡ Some cert
+known_number party later cert reply e =
+    let at : OwnerStanding = record party { certs = party.certs ++ cert ∷ [] } in
+    next-number party.certs later.certs cert (sym (ap (λ (p : OwnerReply × OwnerStanding). p.1.certs) (ok_is (silent tt, at) (reply, later) e)))
+
+kept-in : (certs later : List Certificate) (draft : ℕ) (cert : Certificate) → Behind certs later → draft_in certs draft ≡ Some cert → draft_in later draft ≡ Some cert
+kept-in certs later draft cert behind e = by (eqb draft 0) e
+  where
+    by : (b : Bool) → cond b None (slice_get certs (draft - 1)) ≡ Some cert → cond b None (slice_get later (draft - 1)) ≡ Some cert
+    by true e = absurd cc
+    by false e = ap (λ (cs : List Certificate). slice_get cs (draft - 1)) behind.1 ∙ get-more certs behind.0 (draft - 1) cert e
+
+pub kept_number : (party later : OwnerStanding) (order : OwnerOrder) (reply : OwnerReply) (draft : ℕ) (cert : Certificate) → order_row party order ≡ Ok (reply, later)
+    → draft_of party draft ≡ Some cert → draft_of later draft ≡ Some cert
+kept_number party later order reply draft cert e there = kept-in party.certs later.certs draft cert (certs_grow party order reply later e) there

@@ -1,0 +1,185 @@
+-- The text of an order says it, and no other text does.
+use Rattle.std.proofs.Common.{◌≡◌, ◌<◌, ◌≤◌, ◌^◌, ◌+◌, ℕ, suc, List, [], ◌∷◌, ◌++◌, length, Bool, true, false, cond, eqb, leb, Option, None, Some, Result, Ok, Err, refl, sym, ap, subst, ◌∙◌, arith}
+use Rattle.std.specs.Int.{w16, w64}
+use Rattle.std.specs.List.{AllByRecursion}
+use Rattle.std.specs.Option.{option_map}
+use Rattle.std.specs.Result.{result_ok}
+use Rattle.std.proofs.lemmas.Bool.{eqb-true, le-leb, leb-true}
+use Rattle.ar_base.specs.Bytes.{AreBytes}
+use Rattle.ar_base.specs.Chaining.{◌>>=◌}
+use Rattle.ar_base.proofs.Shown.{bind_ok, gave, mapped, ok_is}
+use Rattle.ar_bytes.specs.Lists.{list_at}
+use Rattle.ar_bytes.specs.Reading.{Reading, number_at, start_of, whole}
+use Rattle.ar_bytes.specs.RoundTrip.{IsSpelledBy, Passes, ReadsBack, number_text}
+use Rattle.ar_bytes.proofs.Lists.{counted_list_again, counted_list_pass, list_again, list_pass}
+use Rattle.ar_bytes.proofs.Parts.{whole_again, whole_pass}
+use Rattle.ar_bytes.proofs.Passing.{number_again, number_pass, wide16, wide64}
+use Rattle.ar_bytes.proofs.Steps.{between, next}
+use Rattle.ar_cert.specs.Certificate.{Certificate, IsCertificate, certificate_at, certificate_text}
+use Rattle.ar_cert.proofs.CertificateLaws.{certificate_again, certificate_pass}
+use Rattle.ar_message.specs.Messages.{longest}
+use Rattle.owner_keeper.specs.Texts.{IsWhole, asks_at, asks_text, attached_by, beginning_at, draft_kept, kept_order, kept_text, message_kept, most_asks, most_handover, text_if}
+use Rattle.owner_keeper.specs.declared.order.OwnerOrder.{OwnerOrder}
+use Rattle.owner_keeper.specs.declared.order.OwnerOrder.TheVariants.{Take, Begin, Know, Handover, Attach, Object, Submit}
+
+-- ---- parts
+
+-- a text that is there is short enough
+there : (short : Bool) (x text : List ℕ) → text_if short x ≡ Some text → (short ≡ true) × (x ≡ text)
+there true x text e = (refl, cc)
+there false x text e = absurd cc
+
+-- the cursor behind a text at the start
+passes-first : (front back : List ℕ) → Passes (start_of (front ++ back)) front (between (start_of (front ++ back)) front back)
+passes-first front back = record { bytes = refl; place = refl }
+
+-- each list of numbers is read back where it is short enough, and what is read is spelled so
+asks-again : (asks : List ℕ) → length asks ≤ most_asks → AllByRecursion (λ n. n < 2 ^ 16) asks → ReadsBack asks_at asks (asks_text asks)
+asks-again asks few fit =
+    counted_list_again most_asks (list_at (number_at w16)) (number_text w16) asks few (omega (arith, few))
+    (list_again (number_at w16) (number_text w16) (λ n. n < 2 ^ 16) (λ n lt. number_again w16 (2 ^ 16) wide16 n lt) (length asks) asks refl fit)
+
+asks-pass : IsSpelledBy asks_at asks_text (λ asks. (length asks ≤ most_asks) × AllByRecursion (λ n. n < 2 ^ 16) asks)
+asks-pass =
+    counted_list_pass most_asks (list_at (number_at w16)) (number_text w16) (AllByRecursion (λ n. n < 2 ^ 16))
+    (list_pass (number_at w16) (number_text w16) (λ n. n < 2 ^ 16) (number_pass w16 (2 ^ 16) wide16))
+
+beginning-again : (cert : Certificate) (asks : List ℕ) → IsCertificate cert → AllByRecursion (λ n. n < 2 ^ 16) asks → length asks ≤ most_asks
+    → beginning_at (start_of (asks_text asks ++ certificate_text cert)) ≡ Ok (Begin cert asks)
+unfolding beginning_at
+beginning-again cert asks is fit few =
+    let back = certificate_text cert in
+    let at = start_of (asks_text asks ++ back) in
+    let mid = between at (asks_text asks) back in
+    let read : asks_at at ≡ Ok (asks, mid) = asks-again asks few fit at mid (passes-first (asks_text asks) back) in
+    let behind : whole certificate_at back ≡ Ok cert = whole_again certificate_at cert back (certificate_again cert is) in
+    ap (λ (r : Reading (List ℕ)). r >>= λ a. whole certificate_at a.1.ahead >>= λ c. Ok (Begin c a.0)) read
+    ∙ ap (λ (r : Result Certificate ℕ). r >>= λ c. Ok (Begin c asks)) behind
+
+draft-again : (draft : ℕ) → draft < 2 ^ 64 → draft_kept (number_text w64 draft) ≡ Some draft
+draft-again draft lt = ap result_ok (whole_again (number_at w64) draft (number_text w64 draft) (number_again w64 (2 ^ 64) wide64 draft lt))
+
+draft-pass : (bytes : List ℕ) (draft : ℕ) → AreBytes bytes → draft_kept bytes ≡ Some draft → (bytes ≡ number_text w64 draft) × (draft < 2 ^ 64)
+draft-pass bytes draft are e =
+    whole_pass (number_at w64) (number_text w64) (λ n. n < 2 ^ 64) (number_pass w64 (2 ^ 64) wide64) bytes draft are (gave (whole (number_at w64) bytes) draft e)
+
+-- ---- an order is read back
+
+attached-again : (draft : ℕ) (handover : List ℕ) → draft < 2 ^ 64 → leb (length handover) most_handover ≡ true
+    → attached_by (result_ok (number_at w64 (start_of (number_text w64 draft ++ handover)))) ≡ Some (Attach draft handover)
+attached-again draft handover lt short =
+    let front = number_text w64 draft in
+    let at = start_of (front ++ handover) in
+    let mid = between at front handover in
+    let read : number_at w64 at ≡ Ok (draft, mid) = number_again w64 (2 ^ 64) wide64 draft lt at mid (passes-first front handover) in
+    ap (λ (r : Reading ℕ). attached_by (result_ok r)) read ∙ ap (λ (b : Bool). cond b (Some (Attach draft handover)) None) short
+
+-- behind its kind, an order's text says it
+spelled : (order : OwnerOrder) (x text : List ℕ) → x ≡ text → kept_order x ≡ Some order → kept_order text ≡ Some order
+spelled order x text same says = subst (λ (t : List ℕ). kept_order t ≡ Some order) same says
+
+same-text : (x text : List ℕ) → Some x ≡ Some text → x ≡ text
+same-text x text e = cc
+
+pub says_it : (order : OwnerOrder) (text : List ℕ) → IsWhole order → kept_text order ≡ Some text → kept_order text ≡ Some order
+says_it (Take bytes) text is e =
+    let t = there (leb (length bytes) longest) (1 ∷ bytes) text e in
+    spelled (Take bytes) (1 ∷ bytes) text t.1 (ap (λ (b : Bool). cond b (Some (Take bytes)) None) t.0)
+says_it (Begin cert asks) text is e =
+    let x = 2 ∷ (asks_text asks ++ certificate_text cert) in
+    let t = there (leb (length asks) most_asks) x text e in
+    spelled (Begin cert asks) x text t.1 (ap result_ok (beginning-again cert asks is.0 is.1 (leb-true (length asks) most_asks t.0)))
+says_it (Know cert) text is e =
+    let x = 3 ∷ certificate_text cert in
+    spelled (Know cert) x text (same-text x text e)
+    (ap (λ (r : Result Certificate ℕ). option_map Know (result_ok r)) (whole_again certificate_at cert (certificate_text cert) (certificate_again cert is)))
+says_it (Handover draft) text is e =
+    let x = 4 ∷ number_text w64 draft in
+    spelled (Handover draft) x text (same-text x text e) (ap (option_map Handover) (draft-again draft is))
+says_it (Attach draft handover) text is e =
+    let x = 5 ∷ (number_text w64 draft ++ handover) in
+    let t = there (leb (length handover) most_handover) x text e in
+    spelled (Attach draft handover) x text t.1 (attached-again draft handover is t.0)
+says_it (Object draft) text is e =
+    let x = 6 ∷ number_text w64 draft in
+    spelled (Object draft) x text (same-text x text e) (ap (option_map Object) (draft-again draft is))
+says_it (Submit draft) text is e = absurd cc
+
+-- ---- what is read is spelled so
+
+abbrev Spells : List ℕ → OwnerOrder → Type 0
+Spells text order = (kept_text order ≡ Some text) × IsWhole order
+
+-- a value that passed a test
+passed : {A : Type 0} (short : Bool) (x y : A) → cond short (Some x) None ≡ Some y → (short ≡ true) × (x ≡ y)
+passed true x y e = (refl, cc)
+passed false x y e = absurd cc
+
+message-pass : (bytes : List ℕ) (order : OwnerOrder) → message_kept bytes ≡ Some order → Spells (1 ∷ bytes) order
+message-pass bytes order e =
+    let p = passed (leb (length bytes) longest) (Take bytes) order e in
+    subst (Spells (1 ∷ bytes)) p.1 (ap (λ (b : Bool). text_if b (1 ∷ bytes)) p.0, tt)
+
+beginning-pass : (bytes : List ℕ) (order : OwnerOrder) → AreBytes bytes → result_ok (beginning_at (start_of bytes)) ≡ Some order → Spells (2 ∷ bytes) order
+unfolding beginning_at
+beginning-pass bytes order are e =
+    let made = gave (beginning_at (start_of bytes)) order e in
+    let a = next asks_at asks_text (λ asks. (length asks ≤ most_asks) × AllByRecursion (λ n. n < 2 ^ 16) asks) asks-pass
+    (λ asks. whole certificate_at asks.1.ahead >>= λ cert. Ok (Begin cert asks.0)) (start_of bytes) order are made in
+    let c = bind_ok (whole certificate_at a.1.ahead) (λ cert. Ok (Begin cert a.0)) order a.5 in
+    let w = whole_pass certificate_at certificate_text IsCertificate certificate_pass a.1.ahead c.0 a.4 c.1 in
+    let is : Begin c.0 a.0 ≡ order = ok_is (Begin c.0 a.0) order c.2 in
+    let bytes-are : asks_text a.0 ++ certificate_text c.0 ≡ bytes = ap (λ (t : List ℕ). asks_text a.0 ++ t) (sym w.0) ∙ sym a.2.bytes in
+    let text : kept_text (Begin c.0 a.0) ≡ Some (2 ∷ bytes) =
+    ap (λ (b : Bool). text_if b (2 ∷ (asks_text a.0 ++ certificate_text c.0))) (le-leb (length a.0) most_asks a.3.0) ∙ ap (λ (t : List ℕ). Some (2 ∷ t)) bytes-are in
+    subst (Spells (2 ∷ bytes)) is (text, (w.1, a.3.1))
+
+know-pass : (bytes : List ℕ) (order : OwnerOrder) → AreBytes bytes → option_map Know (result_ok (whole certificate_at bytes)) ≡ Some order → Spells (3 ∷ bytes) order
+know-pass bytes order are e =
+    let m = mapped Know (result_ok (whole certificate_at bytes)) order e in
+    let w = whole_pass certificate_at certificate_text IsCertificate certificate_pass bytes m.0 are (gave (whole certificate_at bytes) m.0 m.1) in
+    subst (Spells (3 ∷ bytes)) m.2 (ap (λ (t : List ℕ). Some (3 ∷ t)) (sym w.0), w.1)
+
+handover-pass : (bytes : List ℕ) (order : OwnerOrder) → AreBytes bytes → option_map Handover (draft_kept bytes) ≡ Some order → Spells (4 ∷ bytes) order
+handover-pass bytes order are e =
+    let m = mapped Handover (draft_kept bytes) order e in
+    let d = draft-pass bytes m.0 are m.1 in
+    subst (Spells (4 ∷ bytes)) m.2 (ap (λ (t : List ℕ). Some (4 ∷ t)) (sym d.0), d.1)
+
+object-pass : (bytes : List ℕ) (order : OwnerOrder) → AreBytes bytes → option_map Object (draft_kept bytes) ≡ Some order → Spells (6 ∷ bytes) order
+object-pass bytes order are e =
+    let m = mapped Object (draft_kept bytes) order e in
+    let d = draft-pass bytes m.0 are m.1 in
+    subst (Spells (6 ∷ bytes)) m.2 (ap (λ (t : List ℕ). Some (6 ∷ t)) (sym d.0), d.1)
+
+attach-pass : (bytes : List ℕ) (order : OwnerOrder) → AreBytes bytes → attached_by (result_ok (number_at w64 (start_of bytes))) ≡ Some order → Spells (5 ∷ bytes) order
+attach-pass bytes order are e = by (number_at w64 (start_of bytes)) refl e
+  where
+    by : (r : Reading ℕ) → number_at w64 (start_of bytes) ≡ r → attached_by (result_ok r) ≡ Some order → Spells (5 ∷ bytes) order
+    by (Err place) read e = absurd cc
+    by (Ok d) read e =
+        let n = number_pass w64 (2 ^ 64) wide64 (start_of bytes) d.1 d.0 are read in
+        let p = passed (leb (length d.1.ahead) most_handover) (Attach d.0 d.1.ahead) order e in
+        let text : kept_text (Attach d.0 d.1.ahead) ≡ Some (5 ∷ bytes) =
+        ap (λ (b : Bool). text_if b (5 ∷ (number_text w64 d.0 ++ d.1.ahead))) p.0 ∙ ap (λ (t : List ℕ). Some (5 ∷ t)) (sym n.0.bytes) in
+        subst (Spells (5 ∷ bytes)) p.1 (text, n.1)
+
+-- the order of the kind with this number, or of those behind it
+or-else : (kind number : ℕ) (bytes : List ℕ) (order : OwnerOrder) (here other : Option OwnerOrder) → cond (eqb kind number) here other ≡ Some order
+    → (here ≡ Some order → Spells (number ∷ bytes) order) → (other ≡ Some order → Spells (kind ∷ bytes) order) → Spells (kind ∷ bytes) order
+or-else kind number bytes order here other e one rest = by (eqb kind number) refl e
+  where
+    by : (b : Bool) → eqb kind number ≡ b → cond b here other ≡ Some order → Spells (kind ∷ bytes) order
+    by true is e = subst (λ (k : ℕ). Spells (k ∷ bytes) order) (sym (eqb-true kind number is)) (one e)
+    by false is e = rest e
+
+pub only_text : (text : List ℕ) (order : OwnerOrder) → AreBytes text → kept_order text ≡ Some order → Spells text order
+only_text [] order are e = absurd cc
+only_text (kind ∷ bytes) order are e =
+    let behind : AreBytes bytes = λ i. are (suc i) in
+    or-else kind 1 bytes order _ _ e (message-pass bytes order) (λ e2.
+    or-else kind 2 bytes order _ _ e2 (beginning-pass bytes order behind) (λ e3.
+    or-else kind 3 bytes order _ _ e3 (know-pass bytes order behind) (λ e4.
+    or-else kind 4 bytes order _ _ e4 (handover-pass bytes order behind) (λ e5.
+    or-else kind 5 bytes order _ _ e5 (attach-pass bytes order behind) (λ e6.
+    or-else kind 6 bytes order _ _ e6 (object-pass bytes order behind) (λ e7. absurd cc))))))

@@ -1,0 +1,4 @@
+pub mod Determined
+pub mod Keeping
+pub mod Lasting
+pub mod Texts

@@ -1,0 +1,23 @@
+//! An owner that is kept: an owner of domains (`owner_core`) with the certificates that it knows, as a `Keeper` (`kept_party`).
+//!
+//! Drafts have numbers here, from 1: those of the certificates that it began, and of those that it was told of, in order. What its
+//! journal has of it is what it was asked and did not refuse (`specs/Texts.antt`); the order to submit a draft changes nothing,
+//! and has no text. `specs/Keeping.antt` has the row of each order: the reply with the owner behind it, or why it is refused.
+//! Each leaf of an owner's key signs once, and which statement a leaf signed stands in the journal before the signature leaves.
+//!
+//! Its tests: `tools/network`.
+#![tactic(auto)]
+
+pub use keeper::OwnerKeeper;
+pub use order::OwnerOrder;
+pub use refusal::DraftRefusal;
+pub use reply::OwnerReply;
+
+mod keeper;
+mod knowing;
+pub mod laws;
+mod order;
+mod reading;
+mod refusal;
+mod reply;
+mod text;

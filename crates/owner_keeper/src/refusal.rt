@@ -1,0 +1,45 @@
+ghost use Rattle.std.specs.Prelude.{◌≡◌};
+ghost use Rattle.owner_core.specs.declared.refusal.OwnerRefusal.TheVariants as owner;
+ghost use Rattle.owner_keeper.specs.declared.refusal.DraftRefusal.TheVariants as refusals;
+
+use owner_core::OwnerRefusal;
+use std::alloc::{AllocError, AllocFailed};
+use thiserror::Error;
+
+/// Why an owner does not do what it is asked. After each of these it is as before.
+#[derive(Clone, Copy, Debug, PartialEq, Eq, Error)]
+pub enum DraftRefusal {
+    /// Its row refuses, or memory is wanting.
+    #[error("{0}")]
+    Owner(OwnerRefusal),
+    /// It knows no certificate with this number.
+    #[error("there is no such draft")]
+    NoCertificate,
+    /// A handover that is to be attached has more than 65,535 bytes, or more than 255 authorities are asked at once.
+    #[error("the handover or the list of authorities is too long")]
+    Long,
+}
+
+impl From<OwnerRefusal> for DraftRefusal {
+    ghost from_gives = { λ refusal e. e ≡ refusals.Owner refusal };
+
+    fn from(refusal: OwnerRefusal) -> DraftRefusal {
+        DraftRefusal::Owner(refusal)
+    }
+}
+
+impl From<AllocError> for DraftRefusal {
+    ghost from_gives = { λ _ e. e ≡ refusals.Owner owner.Memory };
+
+    fn from(_error: AllocError) -> DraftRefusal {
+        DraftRefusal::Owner(OwnerRefusal::Memory)
+    }
+}
+
+impl<T: Drop> From<AllocFailed<T>> for DraftRefusal {
+    ghost from_gives = { λ _ e. e ≡ refusals.Owner owner.Memory };
+
+    fn from(_error: AllocFailed<T>) -> DraftRefusal {
+        DraftRefusal::Owner(OwnerRefusal::Memory)
+    }
+}

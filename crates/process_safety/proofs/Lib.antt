@@ -1,0 +1,12 @@
+pub mod Agreeing
+pub mod Along
+pub mod Authorities
+pub mod Claims
+pub mod Clients
+pub mod Either
+pub mod Examples
+pub mod Going
+pub mod Kept
+pub mod Lasting
+pub mod Logs
+pub mod Real

@@ -1,0 +1,5 @@
+pub mod Examples
+pub mod Going
+pub mod Lasting
+pub mod Network
+pub mod Unforged
