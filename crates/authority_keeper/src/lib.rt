@@ -5,7 +5,7 @@
 //! check are among them, so what the check answered is known again without a record of its own: an endorsement in a journal is one
 //! to which the book said yes (`specs/Keeping.antt`).
 //!
-//! Its tests: `tools/network`.
+//! Its tests: none yet; its laws (`laws`) stand in their place.
 #![tactic(auto)]
 
 pub use keeper::AuthorityKeeper;

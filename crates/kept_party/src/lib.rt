@@ -7,7 +7,7 @@
 //!
 //! `specs/Taking.antt` says what texts make of a party, `specs/Lives.antt` what it means that something is kept over many runs.
 //!
-//! Its tests: `disk_tests`, module `kept_party_tests`, and `tools/network`.
+//! Its tests: `disk_tests`, module `kept_party_tests`.
 #![tactic(auto)]
 
 pub use done::Done;

@@ -3,7 +3,7 @@
 //! What its journal has of it is what it was asked and did not refuse: 1 and a message, 2 (propose), 3 (pass), or 4 and the key of 56
 //! bytes (roll). Opened again it sends what the last of them makes it send, signed by the same leaf.
 //!
-//! Its tests: `tools/network`.
+//! Its tests: none yet; its laws (`laws`) stand in their place.
 #![tactic(auto)]
 
 pub use keeper::LogKeeper;

@@ -5,7 +5,7 @@
 //! and has no text. `specs/Keeping.antt` has the row of each order: the reply with the owner behind it, or why it is refused.
 //! Each leaf of an owner's key signs once, and which statement a leaf signed stands in the journal before the signature leaves.
 //!
-//! Its tests: `tools/network`.
+//! Its tests: none yet; its laws (`laws`) stand in their place.
 #![tactic(auto)]
 
 pub use keeper::OwnerKeeper;
