@@ -14,15 +14,20 @@ TAKE = b"\x01"  # the kind of an input that is a message
 
 
 class Key:
-    """A key of LMS, with the nodes of its tree."""
+    """A key of LMS, with the nodes of its tree, which are made unless they are given."""
 
-    def __init__(self, seed):
-        self.seed = seed
+    def __init__(self, seed, lms=LMS, ots=OTS, nodes=None):
+        self.seed, self.lms, self.ots = seed, lms, ots
         self.name = sha256(b"\x49", seed)[:16]
-        self.leaves = 1 << HEIGHTS[LMS]
-        self.nodes = [b""] * self.leaves + [self.leaf(q) for q in range(self.leaves)]
+        self.leaves = 1 << HEIGHTS[lms]
+        self.nodes = nodes or self.made()
+
+    def made(self):
+        """The nodes, by their numbers."""
+        nodes = [b""] * self.leaves + [self.leaf(q) for q in range(self.leaves)]
         for at in range(self.leaves - 1, 0, -1):
-            self.nodes[at] = sha256(self.name, struct.pack(">I", at), b"\x83\x83", *self.nodes[2 * at:2 * at + 2])
+            nodes[at] = sha256(self.name, struct.pack(">I", at), b"\x83\x83", *nodes[2 * at:2 * at + 2])
+        return nodes
 
     def chain(self, q, number, steps):
         """The value behind so many steps of a chain, from its secret element on."""
@@ -34,26 +39,35 @@ class Key:
 
     def leaf(self, q):
         """The node of a leaf."""
-        last = (1 << WIDTHS[OTS]) - 1
-        ends = b"".join(self.chain(q, number, last) for number in range(CHAINS[OTS]))
+        last = (1 << WIDTHS[self.ots]) - 1
+        ends = b"".join(self.chain(q, number, last) for number in range(CHAINS[self.ots]))
         public = sha256(self.name, struct.pack(">I", q), b"\x80\x80", ends)
         return sha256(self.name, struct.pack(">I", self.leaves + q), b"\x82\x82", public)
 
     def sign(self, q, text):
         """The signature of a text, whose randomizer is all zeros."""
         randomizer = bytes(32)
-        steps = digits(OTS, sha256(self.name, struct.pack(">I", q), b"\x81\x81", randomizer, text))
+        steps = digits(self.ots, sha256(self.name, struct.pack(">I", q), b"\x81\x81", randomizer, text))
         elements = [self.chain(q, number, count) for number, count in enumerate(steps)]
         at, path = self.leaves + q, []
         while at > 1:
             path.append(self.nodes[at ^ 1])
             at //= 2
-        return b"".join([struct.pack(">II", q, OTS), randomizer, *elements, struct.pack(">I", LMS), *path])
+        return b"".join([struct.pack(">II", q, self.ots), randomizer, *elements, struct.pack(">I", self.lms), *path])
+
+    def public(self):
+        """The public key."""
+        return struct.pack(">II", self.lms, self.ots) + self.name + self.nodes[1]
+
+
+def party_key(secret, role, number, lms=LMS, ots=OTS, nodes=None):
+    """The first key of a party (docs/PROTOCOL.md): its role is 1 for a log, 2 for an authority and 3 for an owner."""
+    return Key(sha256(b"\x53", secret, bytes([role]), struct.pack(">H", number)), lms, ots, nodes)
 
 
 def log_key():
     """The key of the log, and of each party of its directory."""
-    return Key(sha256(b"\x53", bytes(32), b"\x01", struct.pack(">H", LOG)))
+    return party_key(bytes(32), 1, LOG)
 
 
 def ballot(key, number, epoch=1):

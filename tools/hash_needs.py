@@ -6,6 +6,7 @@ import hashlib
 HEIGHTS = {5: 5, 6: 10, 7: 15}  # by the LMS type
 WIDTHS = {1: 1, 2: 2, 3: 4, 4: 8}  # of a digit in bits, by the LM-OTS type
 CHAINS = {1: 265, 2: 133, 3: 67, 4: 34}
+LANES = 4  # chains that are stepped side by side
 SHIFTS = {1: 7, 2: 6, 3: 4, 4: 0}  # of the checksum
 HEAD = 16 + 4 + 2  # the bytes that each text of LMS begins with
 
@@ -75,6 +76,30 @@ def needed_to_sign(key, message, signature):
     _, ots = types_of(key)
     steps = sum(1 + digit for digit in signed_digits(ots, key, message, signature))
     return blocks(1 + 32) + message_hash(message) + steps * STEP
+
+
+def dropped(chains):
+    """The steps that lanes take for nothing, where the longest chains go first, and the next that waits takes the lane of
+    one that is at its end."""
+    lanes = [0] * LANES
+    for steps in sorted(chains, reverse=True):
+        lanes[lanes.index(min(lanes))] += steps
+    return LANES * max(lanes) - sum(lanes)
+
+
+def dropped_to_make(lms, ots):
+    """Of a key, whose chains begin side by side too."""
+    return 2 ** HEIGHTS[lms] * (-CHAINS[ots] % LANES + dropped([2 ** WIDTHS[ots] - 1] * CHAINS[ots]))
+
+
+def dropped_to_sign(key, message, signature):
+    _, ots = types_of(key)
+    return -CHAINS[ots] % LANES + dropped(signed_digits(ots, key, message, signature))
+
+
+def dropped_to_verify(key, message, signature):
+    _, ots = types_of(key)
+    return dropped([2 ** WIDTHS[ots] - 1 - digit for digit in signed_digits(ots, key, message, signature)])
 
 
 @functools.lru_cache(maxsize=None)

@@ -126,7 +126,7 @@ def share_picture():
     for place, (look, what) in enumerate(zip(LOOKS, SHARES)):
         x, y = 40 + place % 3 * 250, bottom + place // 3 * 24
         parts += [f'  <rect class="{look} bar" x="{x}" y="{y}" width="14" height="14"/>', text(x + 22, y + 12, what, "note")]
-    title = "Most of the cost of a year is the verifying of signatures, and then the making of keys"
+    title = "The greatest part of the cost of a year is the verifying of signatures; then come keys, and signatures made"
     return picture(780, bottom + 62, title, parts)
 
 

@@ -229,11 +229,12 @@ def statements(council, load):
     logs, quorum, asked = council.logs, council.quorum, load.asked + load.absent
     endorsed = load.changes * council.endorsers
     taken = load.epochs * (logs - 1)  # proposals that arrive, or ballots, or decisions
+    first_seen = min(2 * asked, load.told_in * council.authorities)  # an authority verifies the votes of an epoch once
     rows = [
         Signed("Endorse", AUTHORITY, 36, endorsed, {OWNER: endorsed, LOG: endorsed * logs}),
         Signed("Handover", OWNER, 36, load.handed, {LOG: load.handed * logs}),
         Signed("Propose", LOG, 76, load.epochs, {LOG: taken}),
-        Signed("Vote", LOG, 76, load.epochs * logs, {LOG: taken * (1 + quorum), AUTHORITY: 2 * asked * quorum}),
+        Signed("Vote", LOG, 76, load.epochs * logs, {LOG: taken * (1 + quorum), AUTHORITY: first_seen * quorum}),
     ]
     confirms = ("Confirm", 77 + load.name, load.asked), ("ConfirmAbsent", 45 + load.other, load.absent)
     for kind, length, count in confirms:
@@ -297,12 +298,6 @@ def verified_needs(council, load):
         for role, count in row.verified.items():
             needs[role] += count * types_of(council, row.role).verify(round(row.length))
     return needs
-
-
-def repeated_needs(council, load):
-    """Of what authorities verify, the votes that the same authority verified before: all but once in each epoch."""
-    again = 2 * (load.asked + load.absent) - load.told_in * council.authorities
-    return max(0, again) * council.quorum * council.types.verify(76)
 
 
 def tree_needs(council, load):

@@ -9,7 +9,7 @@ import typing
 import pages
 from hash_needs import CHAINS
 from scale_model import (DAYS, Council, Habit, Load, Types, a_year, change_bytes, confirmation_bytes, decision_bytes,
-                         generations, leaves_of, likely_tree, messages, needs, repeated_needs, roll_bytes, vote_bytes)
+                         generations, leaves_of, likely_tree, messages, needs, roll_bytes, vote_bytes)
 from scale_runs import DOMAINS, ROLES, compared, per_compression, speed
 from script_needs import AUTHORITY, CLIENT, LOG, OWNER
 
@@ -158,7 +158,7 @@ def answer():
         f"**The program as it is ends before both.** A party keeps all that it signed and saw in memory, and looks for "
         f"each statement from the front of a list: that authority would compare {short(signed ** 2 / 2)} pairs of texts "
         f"in a year, and keep {size_of(signed * LONGEST_TEXT)} of texts in its book alone. No cost below has this in it. "
-        f"And there is no network: messages pass inside one process.",
+        f"And no program opens a socket: something else has to carry the lines between parties.",
     ])
 
 
@@ -248,14 +248,12 @@ def rates():
     load, one = one_load(asked=1), COUNCIL.types
     leaf = seconds({"keys": one.key / one.leaves})
     first, second = (seconds(counts) for counts in confirming(load))
-    again = seconds({"verified": COUNCIL.quorum * one.verify(76)})
     log = lambda load: seconds({**by_purpose(load, roles=(LOG,)), "keys": 0}) / COUNCIL.logs
     signed = lambda text: seconds({"signed": one.sign(text)})
     rows = [[f"verdicts of a browser, types {types.lms} and {types.ots}", short(1 / verdict(types)), ""] for types in TYPES]
     for what, time, leaves in (
             ("endorsements of an authority", signed(36), 1),
             ("confirmations of an authority", (first + second) / 2, 1),
-            ("the same, if it remembered the votes of the epoch", (first + second) / 2 - again, 1),
             ("confirmations of a log", signed(77 + load.name), 1),
             (f"epochs of a log, with {MOST_CHANGES} changes each", log(one_load(changes=MOST_CHANGES)), 1 + 1 / COUNCIL.logs),
             ("epochs of a log, without changes", log(one_load()), 1 + 1 / COUNCIL.logs)):
@@ -264,13 +262,13 @@ def rates():
 
 
 def confirming(load):
-    """The compressions by purpose of a first and of a second authority, for one question."""
+    """The compressions by purpose of a first and of a second authority, for one question behind the epoch's first."""
     both = by_purpose(load, roles=(AUTHORITY,))
     one = COUNCIL.types
     text = 77 + load.name
     beside = {purpose: both[purpose] / 2 for purpose in ("trees", "certificates")}
     for signers in (1, 2):
-        yield {"signed": one.sign(text), "verified": signers * one.verify(text) + COUNCIL.quorum * one.verify(76), **beside}
+        yield {"signed": one.sign(text), "verified": signers * one.verify(text), **beside}
 
 
 def ratios():
@@ -294,21 +292,18 @@ def costs():
     return table([ASKED, *(f"{whole(names)} names" for names in SIZES)], rows)
 
 
-SHARES = {"keys of logs and authorities": ("keys", (LOG, AUTHORITY)), "keys of owners": ("keys", (OWNER,)),
-          "signatures made": ("signed", ROLES), "votes verified again": ("again", ROLES),
-          "other signatures verified": ("verified", ROLES), "trees and certificates": ("digests", ROLES)}
+SHARES = {"keys of logs and authorities": (["keys"], (LOG, AUTHORITY)), "keys of owners": (["keys"], (OWNER,)),
+          "signatures made": (["signed"], ROLES), "signatures verified": (["verified"], ROLES),
+          "trees and certificates": (["trees", "certificates"], ROLES)}
 
 
 def shares(title):
     """Which part of the cost of a year each purpose has, of 1, in the order of SHARES."""
-    again, counts = repeated_needs(COUNCIL, YEARS[title]), []
-    for purpose, roles in SHARES.values():
+    counts = []
+    for purposes, roles in SHARES.values():
         found = by_purpose(YEARS[title], roles=roles)
-        counts.append({"again": {"verified": again}, "verified": {"verified": found["verified"] - again},
-                       "digests": {key: found[key] for key in ("trees", "certificates")},
-                       "keys": {"keys": found["keys"]}, "signed": {"signed": found["signed"]}}[purpose])
-    total = sum(map(seconds, counts))
-    return [seconds(one) / total for one in counts]
+        counts.append(seconds({purpose: found[purpose] for purpose in purposes}))
+    return [count / sum(counts) for count in counts]
 
 
 def share_table():

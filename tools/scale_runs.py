@@ -9,7 +9,7 @@ import pathlib
 import pages
 from hash_needs import ENTRY, NODE, blocks
 from scale_model import (Council, Types, decision_bytes, likely_steps, likely_tree, made_script, message_needs, messages, needs,
-                         repeated_needs, statements)
+                         statements)
 from script_needs import AUTHORITY, CLIENT, LOG, OWNER
 
 FILE = pathlib.Path(__file__).resolve().parent / "scale-runs.tsv"
@@ -41,7 +41,6 @@ def measured(world):
     for purpose in ("keys", "signed", "verified", "trees", "certificates"):
         figures[f"compressions, {purpose}"] = world.needs[purpose]
     figures["compressions, messages"] = world.needs["printed"] - blocks(len(world.printed))
-    figures["compressions, votes again"] = world.needs["repeated"]
     return figures
 
 
@@ -62,7 +61,6 @@ def predicted(domains):
             figures[f"verified by {ROLES[role]}"] += count
     for purpose, count in {**needs(council, load), "messages": message_needs(council, load)}.items():
         figures[f"compressions, {purpose}"] = sum(count.values())
-    figures["compressions, votes again"] = repeated_needs(council, load)
     return figures
 
 

@@ -9,10 +9,10 @@ What is counted (`Needs`):
 
 - keys: each key that is made (RFC 8554), with the party's seed, and the digest of its text, which is printed;
 - signed: each signature, by the leaf that its statement has;
-- verified: each signature that a row has to verify, by the party whose row it is. A log that has queued a change
-  verified its endorsements and its handover then, and needs no second look where it is proposed and decided;
-- repeated: those of the verified ones that the same party verified in an earlier message, of the same signer, text
-  and signature: what it would save if it remembered them;
+- verified: each signature that a row has to verify, by the party whose row it is, once by each party: one of the same
+  signer, text and signature is not verified again where it comes in a later message, as an epoch's votes come to an
+  authority in each answer. A log that has queued a change verified its endorsements and its handover then, and needs
+  no second look where it is proposed and decided;
 - trees: at each log for each epoch the entries that changed and the nodes above them, each once; at each log the
   key of each name, once; of each confirmation that an authority or a client judges, the name's key and value, the
   entry and the path;
@@ -20,15 +20,21 @@ What is counted (`Needs`):
 - printed: the digest of each message's bytes, and for `make <n> run` that of all that is printed.
 
 Beside them, under a word and a role, how many signatures the parties of each role made and verified, for tools/scale.
+
+And under `above` and a word of ABOVE what is not needed, but known to run (docs/PERFORMANCE.md, "Scripts"): lanes that are
+dropped where keys are made, and of signatures; a handover of a queued change that is verified once more where the change
+is tried; the own vote that a log signs once more into each confirmation, where it had the turn to propose; and the nodes
+that are hashed once more where an epoch's entries are set one by one.
 """
 import collections
 import functools
 import struct
 
-from hash_needs import (CHAINS, ENTRY, HEIGHTS, NODE, WIDTHS, blocks, needed_to_make, needed_to_sign,
-                        needed_to_verify, sha256, signed_digits)
+from hash_needs import (CHAINS, ENTRY, HEIGHTS, NODE, WIDTHS, blocks, dropped_to_make, dropped_to_sign,
+                        dropped_to_verify, needed_to_make, needed_to_sign, needed_to_verify, sha256, signed_digits)
 
 WANTS = ("keys", "signed", "verified", "trees", "certificates", "printed")
+ABOVE = ("lanes of keys", "lanes of signatures", "handovers", "own votes", "nodes")
 LOG, AUTHORITY, OWNER, CLIENT = 1, 2, 3, 4
 LETTERS = {LOG: "L", AUTHORITY: "A", OWNER: "D", CLIENT: "C"}
 LOGS = "logs"
@@ -131,6 +137,7 @@ class Signer:
         self.key = Key(seed, lms, ots)
         self.book, self.judged = {}, set()
         self.needs["keys"] += blocks(1 + 32 + 1 + 2) + needed_to_make(lms, ots) + blocks(56)
+        self.needs["above", "lanes of keys"] += dropped_to_make(lms, ots)
         world.say("party", word(party), sha256(self.key.public).hex())
 
     def sign(self, text):
@@ -138,6 +145,7 @@ class Signer:
         leaf = self.book.setdefault(text, len(self.book))
         signature = self.key.sign(leaf, text)
         self.needs["signed"] += needed_to_sign(self.key.public, text, signature)
+        self.needs["above", "lanes of signatures"] += dropped_to_sign(self.key.public, text, signature)
         self.needs["made by", self.party[0]] += 1
         return signature if self.party[0] == OWNER else u32(0) + signature
 
@@ -150,13 +158,12 @@ class Signer:
 
 
 def judge(needs, role, judged, key, text, signature):
-    """Counts a valid signature that a row or a client verifies."""
-    count = needed_to_verify(key, text, signature)
-    needs["verified"] += count
-    needs["verified by", role] += 1
-    if (key, text, signature) in judged:
-        needs["repeated"] += count
-    judged.add((key, text, signature))
+    """Counts a valid signature that a row or a client verifies, unless the same party has judged this very one."""
+    if (key, text, signature) not in judged:
+        judged.add((key, text, signature))
+        needs["verified"] += needed_to_verify(key, text, signature)
+        needs["above", "lanes of signatures"] += dropped_to_verify(key, text, signature)
+        needs["verified by", role] += 1
 
 
 # Statements
@@ -236,6 +243,12 @@ def tree_path(entries, key):
         path.insert(0, tree_digest(both[1 - bit(key, depth)], depth + 1))
         entries, depth = both[bit(key, depth)], depth + 1
     return entries, path
+
+
+def steps_to(key, keys):
+    """The nodes above a key, by the bits in which it agrees with one of the others."""
+    agrees = lambda other: 256 - (int.from_bytes(key, "big") ^ int.from_bytes(other, "big")).bit_length()
+    return max((1 + agrees(other) for other in keys if other != key), default=0)
 
 
 def nodes_above(entries, changed, depth=0):
@@ -348,7 +361,7 @@ class Log(Signer):
     def __init__(self, *words):
         super().__init__(*words)
         self.epoch, self.table, self.queue = 1, Table(), []
-        self.names, self.newest, self.proposed, self.votes = set(), None, None, {}
+        self.names, self.newest, self.proposed, self.votes, self.turn = set(), None, None, {}, None
 
     def take(self, kind, fields):
         return getattr(self, kind)(*fields)
@@ -377,11 +390,27 @@ class Log(Signer):
         keys = {change.certificate.entry[0] for change in changes}
         for change in changes:
             self.know(change.certificate.name)
-        self.needs["trees"] += len(keys) * (VALUE + ENTRY) + nodes_above(after.entries, keys) * NODE
+        nodes = nodes_above(after.entries, keys)
+        self.needs["trees"] += len(keys) * (VALUE + ENTRY) + nodes * NODE
+        self.tried_above(changes, nodes)
         self.proposed = (self.table.root, after, changes)
         return after.root
 
+    def tried_above(self, changes, nodes):
+        """What is run above need where the changes are tried, if each has a name of its own."""
+        keys, steps = {key for key, _ in self.table.entries}, 0
+        for change in changes:
+            steps += steps_to(change.certificate.entry[0], keys)
+            keys.add(change.certificate.entry[0])
+            old = self.table.newest.get(change.certificate.name)
+            if old is not None and old.keyed:
+                signed = old.owner.key.public, handover(change.certificate.digest), change.handover
+                self.needs["above", "handovers"] += needed_to_verify(*signed)
+                self.needs["above", "lanes of signatures"] += dropped_to_verify(*signed)
+        self.needs["above", "nodes"] += (steps - nodes) * NODE
+
     def propose(self):
+        self.turn = self.epoch
         base, changes = self.table.root, self.queue[:64]
         root, number = self.voted_for(changes), self.party[1]
         signature = self.sign(of_epoch(3, number, self.epoch, base, root))
@@ -432,6 +461,11 @@ class Log(Signer):
     def ConfirmAsk(self, client, name, first, second):
         self.know(name)
         told = Confirmed(client, name, first, second, self)
+        if self.turn == told.epoch:
+            vote = of_epoch(4, self.party[1], told.epoch, told.base, told.root)
+            signed = self.key.public, vote, dict(told.votes)[self.party[1]][4:]
+            self.needs["above", "own votes"] += needed_to_sign(*signed)
+            self.needs["above", "lanes of signatures"] += dropped_to_sign(*signed)
         return [("LogConfirmed", (AUTHORITY, first), u8(10) + told.fields, (told,))]
 
 

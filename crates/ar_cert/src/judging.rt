@@ -3,7 +3,7 @@ ghost use Rattle.std.specs.Option.{option_map};
 ghost use Rattle.ar_base.specs.FirstFailing.{first_failing};
 ghost use Rattle.ar_statement.specs.Claims.{claim_of, text_of};
 ghost use Rattle.ar_statement.specs.Claims as claims;
-ghost use Rattle.cert_policy.specs.Clauses.{follow_answer, in_manner};
+ghost use Rattle.cert_policy.specs.Clauses.{follow_answer, in_manner, update_answer};
 ghost use Rattle.cert_policy.specs.Terms.{cert_terms};
 ghost use Rattle.cert_policy.specs.declared.manner.Manner.TheVariants.{Objected};
 ghost use Rattle.cert_policy.specs.declared.refusal.PolicyRefusal.TheVariants.{NotPending, Objection};
@@ -13,7 +13,7 @@ use crate::cert::Cert;
 use crate::change::{Change, Endorsement};
 use ar_base::Items;
 use ar_statement::{Statement, Text};
-use cert_policy::{Facts, Manner, PolicyRefusal, follows, registrable, update};
+use cert_policy::{Facts, Manner, PolicyRefusal, follows, meets_common, registrable, update};
 use lms_tree::{LmsPublic, Verdict, valid};
 
 /// The numbers of the authorities that endorse, in the front of an array.
@@ -78,12 +78,34 @@ fn judge_objection(
     }
 }
 
+/// How a change without an objection is taken, with this handover under the key. The signature is verified only where each
+/// clause holds that every update has to meet.
+fn judge_plain(
+    old: &Facts,
+    new: &Facts,
+    endorsers: &[u16],
+    key: &LmsPublic,
+    handover: &Option<Items<u8>>,
+    pending: bool,
+) -> Result<Manner, PolicyRefusal>
+    ensures { result ≡ update_answer (cert_terms old.now) (cert_terms new.now) endorsers.now
+        ((cert_terms old.now).policy.keyed && is_signed key.now
+        (text_of (claims.handover (cert_terms new.now).digest)) handover.now) pending }
+{
+    match meets_common(old, new, endorsers) {
+        Ok(()) => {}
+        Err(refusal) => return Err(refusal),
+    }
+    let handover = hands_over(old, new, key, handover);
+    update(old, new, endorsers, handover, pending)
+}
+
 /// How a change behind the certificate `old` is taken, by the digest of the certificate that is pending for the
 /// name, if one is; or the first clause of the policy rule that fails.
 ///
 /// A change without an objection is taken as the rule says of an update, with its endorsers and its handover as
 /// for `judge_change`. One with an objection is `Objected` where its certificate is what is pending and the
-/// objection is valid under the old key. It takes no memory.
+/// objection is valid under the old key. Where a clause of every update fails no handover is verified. It takes no memory.
 pub fn judge_update(
     old: &Cert,
     pending: Option<&[u8; 32]>,
@@ -99,8 +121,15 @@ pub fn judge_update(
     }
     let numbers = authorities(change.endorsements.as_slice());
     let endorsers = &numbers[..change.endorsements.len()];
-    let handover = hands_over(&before, &after, &old.subject, &change.handover);
-    update(&before, &after, endorsers, handover, pending.is_some())
+    let handover = &change.handover;
+    judge_plain(
+        &before,
+        &after,
+        endorsers,
+        &old.subject,
+        handover,
+        pending.is_some(),
+    )
 }
 
 /// Whether a change by these endorsers follows the old certificate, whatever it objects to.

@@ -12,14 +12,14 @@ use Rattle.std.proofs.lemmas.List.Elements.{All-cons, All-nil}
 use Rattle.ar_base.specs.Chaining.{◌>>=◌}
 use Rattle.ar_statement.specs.declared.party.Role.{Role}
 use Rattle.ar_statement.specs.declared.party.Role.TheVariants.{LogServer, Authority}
-use Rattle.authority_core.specs.State.{AuthorityState}
+use Rattle.ar_nodes.specs.authority_core.State.{AuthorityState}
 use Rattle.key_roll.specs.Book.{empty_book}
 use Rattle.key_roll.specs.Ring.{AreKeysOf, RingParts, ring_signature_len}
 use Rattle.lms_tree.specs.Key.{public_of}
 use Rattle.lms_tree.specs.KeyParts.{KeyParts}
 use Rattle.lms_tree.specs.LmsKind.{leaves_of}
 use Rattle.lms_tree.specs.declared.public_key.LmsPublic.{LmsPublic}
-use Rattle.log_core.specs.State.{CoreState}
+use Rattle.ar_nodes.specs.log_core.State.{CoreState}
 use Rattle.party_keys.specs.Directory.{Directory, directory_of, directory_with, is_party_count, is_quorum}
 use Rattle.party_keys.specs.declared.fault.DirectoryFault.{DirectoryFault}
 use Rattle.party_keys.specs.declared.fault.DirectoryFault.TheVariants.{Logs, Authorities, Quorum}

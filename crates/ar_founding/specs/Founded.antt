@@ -3,11 +3,11 @@ use Rattle.std.specs.Prelude.{ℕ, ◌<◌, ◌^◌, List, [], ◌∷◌, drop, 
 use Rattle.std.specs.List.{range_with_len}
 use Rattle.ar_base.specs.Chaining.{◌>>=◌}
 use Rattle.ar_statement.specs.declared.party.Role.TheVariants.{LogServer, Authority}
-use Rattle.authority_core.specs.Keyed as authority
-use Rattle.authority_core.specs.State.{AuthorityState}
+use Rattle.ar_nodes.specs.authority_core.Keyed as authority
+use Rattle.ar_nodes.specs.authority_core.State.{AuthorityState}
 use Rattle.key_roll.specs.Ring.{RingParts}
-use Rattle.log_core.specs.Keyed as log
-use Rattle.log_core.specs.State.{CoreState}
+use Rattle.ar_nodes.specs.log_core.Keyed as log
+use Rattle.ar_nodes.specs.log_core.State.{CoreState}
 use Rattle.party_keys.specs.Directory.{Directory}
 use Rattle.report_text.specs.declared.happening.Happening.{Happening}
 use Rattle.ar_nodes.specs.Finding.{named}

@@ -4,13 +4,13 @@ use Rattle.std.specs.List.{range_with_len}
 use Rattle.std.specs.Result.{result_ok}
 use Rattle.ar_council.specs.Council.{council_of}
 use Rattle.ar_statement.specs.declared.party.Role.TheVariants.{LogServer, Authority}
-use Rattle.authority_core.specs.Calls.{fresh_authority}
-use Rattle.authority_core.specs.State.{AuthorityState}
+use Rattle.ar_nodes.specs.authority_core.Calls.{fresh_authority}
+use Rattle.ar_nodes.specs.authority_core.State.{AuthorityState}
 use Rattle.epoch_log.specs.Calls.{fresh}
 use Rattle.key_roll.specs.Ring.{RingParts, ring_signature_len}
 use Rattle.lms_tree.specs.Key.{public_of}
 use Rattle.lms_tree.specs.KeyParts.{KeyParts}
-use Rattle.log_core.specs.State.{CoreState}
+use Rattle.ar_nodes.specs.log_core.State.{CoreState}
 use Rattle.party_keys.specs.Directory.{Directory, directory_of}
 use Rattle.ar_nodes.specs.Parties.{AuthorityNode, CheckParts, LogNode}
 use Rattle.lms_tree.specs.LmsKind.{leaves_of}

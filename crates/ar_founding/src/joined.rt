@@ -2,16 +2,16 @@
 
 ghost use Rattle.std.specs.Prelude.{◌≡◌, ◌≤◌, ◌<◌, ◌+◌, ◌++◌, ◌∷◌, [], length, vec_len, vec_capacity, Some, drop, slice_get};
 ghost use Rattle.std.specs.Option.{option_map};
-ghost use Rattle.log_core.specs.Keyed as log;
-ghost use Rattle.authority_core.specs.Keyed as authority;
+ghost use Rattle.ar_nodes.specs.log_core.Keyed as log;
+ghost use Rattle.ar_nodes.specs.authority_core.Keyed as authority;
 ghost use Rattle.ar_founding.specs.Founded.{EachHasRing, IsAuthorityRing, IsLogRing, authorities_of, logs_of};
 ghost use Rattle.ar_founding.specs.Founding.{authority_node, log_node};
 ghost use Rattle.ar_nodes.specs.Parties.{check_told, checks_told};
 
-use ar_nodes::{HonestAuthority, HonestLog};
-use authority_core::{Authority, AuthorityCore, AuthorityState};
+use ar_nodes::{
+    Authority, AuthorityCore, AuthorityState, HonestAuthority, HonestLog, Log, LogCore,
+};
 use key_roll::KeyRing;
-use log_core::{Log, LogCore};
 use owner_check::OwnerCheck;
 use std::alloc::Global;
 use std::collections::VecDeque;

@@ -25,8 +25,8 @@ use Rattle.log_core.specs.Keyed.{AreBehind, IsOwn, IsPlain, SendsBy}
 use Rattle.log_core.specs.Rolling.{rolling_row}
 use Rattle.log_core.specs.Row as log_row
 use Rattle.log_core.specs.State.{LogAnswer, CoreState, Input, passes, proposes, rolls, takes}
-use Rattle.log_sending.specs.declared.refusal.LogRefusal.{LogRefusal}
-use Rattle.log_sending.specs.declared.refusal.LogRefusal.TheVariants.{Memory}
+use Rattle.log_core.below.log_sending.specs.declared.refusal.LogRefusal.{LogRefusal}
+use Rattle.log_core.below.log_sending.specs.declared.refusal.LogRefusal.TheVariants.{Memory}
 use Rattle.owner_check.specs.Answers.{Told, outcome_of}
 use Rattle.owner_check.specs.declared.answer.CheckAnswer as check
 use Rattle.owner_check.specs.declared.answer.Outcome.{Outcome}

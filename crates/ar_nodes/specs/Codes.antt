@@ -7,8 +7,8 @@ use Rattle.authority_core.specs.declared.refusal.AuthorityRefusal.TheVariants as
 use Rattle.cert_policy.specs.Refusals.{number_of}
 use Rattle.domain_table.specs.declared.refusal.ChangeRefusal.{ChangeRefusal}
 use Rattle.domain_table.specs.declared.refusal.ChangeRefusal.TheVariants as change
-use Rattle.log_sending.specs.declared.refusal.LogRefusal.{LogRefusal}
-use Rattle.log_sending.specs.declared.refusal.LogRefusal.TheVariants as log
+use Rattle.log_core.below.log_sending.specs.declared.refusal.LogRefusal.{LogRefusal}
+use Rattle.log_core.below.log_sending.specs.declared.refusal.LogRefusal.TheVariants as log
 use Rattle.owner_core.specs.declared.refusal.OwnerRefusal.{OwnerRefusal}
 use Rattle.owner_core.specs.declared.refusal.OwnerRefusal.TheVariants as owner
 use Rattle.report_text.specs.declared.happening.Code.{Code}

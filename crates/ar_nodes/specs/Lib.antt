@@ -9,3 +9,5 @@ pub mod Parties
 pub mod Pool
 pub mod Sending
 pub mod Teaching
+pub use Rattle.authority_core.specs as authority_core
+pub use Rattle.log_core.specs as log_core

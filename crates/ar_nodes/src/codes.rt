@@ -4,7 +4,7 @@ ghost use Rattle.std.specs.Prelude.{◌≡◌};
 ghost use Rattle.report_text.specs.declared.happening.CodeValue.TheVariants as shown;
 ghost use Rattle.report_text.specs.declared.happening.Values.TheVariants.{Nothing, One, Two};
 ghost use Rattle.ar_nodes.specs.Codes.{authority_code, change_shown, code, log_code, owner_code, root_shown};
-ghost use Rattle.log_sending.specs.declared.refusal.LogRefusal.TheVariants.{BadChange, CouldBeDecided};
+ghost use Rattle.log_core.below.log_sending.specs.declared.refusal.LogRefusal.TheVariants.{BadChange, CouldBeDecided};
 
 use ar_statement::{Party, Role};
 use authority_core::AuthorityRefusal;

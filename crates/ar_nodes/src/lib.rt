@@ -10,7 +10,7 @@
 //! codes of refusals, and `Sending` what is printed beside them. `Composing` and `Forging` have the bytes that a script
 //! composes, and what dishonest parties sign.
 //!
-//! Its tests: `examples/play`, and `play_tests`, module `records`.
+//! Its tests: `examples/play`, and `arpki`, module `records`.
 #![tactic(auto)]
 
 mod authorities;
@@ -34,10 +34,12 @@ pub mod submitting;
 pub mod taking;
 pub mod teaching;
 
+pub use authority_core::{Authority, AuthorityCore, AuthorityState};
 pub use composing::composed;
 pub use event::LogEvent;
 pub use fault::WorldFault;
 pub use lesson::Lesson;
+pub use log_core::{Log, LogCore, LogInput};
 pub use parties::{Forger, HonestAuthority, HonestLog};
 pub use pool::{MOST_MESSAGES, Pool, Pooled, numbered};
 pub use replying::Reply;

@@ -8,7 +8,7 @@
 //! `specs/Held.antt` has the same records as the nodes of a run hold them. `specs/Examples.antt` and
 //! `specs/RegisteredRun.antt` have small runs, in which the premises are met, or one alone is not.
 //!
-//! It has laws alone, and no tests; `play_tests`, module `records`, shows records of a run.
+//! It has laws alone, and no tests; `arpki`, module `records`, shows records of a run.
 #![tactic(auto)]
 
 pub mod laws;

@@ -167,6 +167,18 @@ is_an_owner w v message who result is h = subst (λ (p : Party). StepsBySome res
 
 pub ruleset roles = (is_log, is_authority, is_an_owner, not_delivered)
 
+-- why a delivery to a party is refused, if it is
+pub to_log : (w : World) (message : ℕ) (who : Party) (why : WorldFault) → who.role ≡ LogServer → deliverable w message who ≡ Err why → deliverable w message (log_party who.number) ≡ Err why
+to_log w message who why is e = ap (deliverable w message) (as-log who is) ∙ e
+
+pub to_authority : (w : World) (message : ℕ) (who : Party) (why : WorldFault) → who.role ≡ Authority → deliverable w message who ≡ Err why → deliverable w message (authority_party who.number) ≡ Err why
+to_authority w message who why is e = ap (deliverable w message) (as-authority who is) ∙ e
+
+pub to_an_owner : (w : World) (message : ℕ) (who : Party) (why : WorldFault) → who.role ≡ role.Owner → deliverable w message who ≡ Err why → deliverable w message (owner_party who.number) ≡ Err why
+to_an_owner w message who why is e = ap (deliverable w message) (as-owner who is) ∙ e
+
+pub ruleset refusals = (to_log, to_authority, to_an_owner)
+
 -- a client takes nothing
 no-client : (w : World) (r : Role) (number : ℕ) → r ≡ role.Client → is_some (taker_in w r number) ≡ false
 no-client w r number is = ap (λ (r : Role). is_some (taker_in w r number)) is
@@ -344,3 +356,23 @@ pub owner_full : (w : World) (message number : ℕ) (fault : WorldFault) → is_
 owner_full w message number fault a b e = refused w message (owner_party number) fault (full-by (message_at w message) (owner_at w number) (room w) fault a b e)
 
 pub ruleset to_owner = (owner_no_message, owner_unknown, owner_full)
+
+-- why it is refused, if it is
+pub owner_unknown_is : (w : World) (message number : ℕ) (fault : WorldFault) → is_some (message_at w message) ≡ true → named 2 (owner_at w number) ≡ Err fault
+    → deliverable w message (owner_party number) ≡ Err fault
+owner_unknown_is w message number fault a e = ap whether (no-owner-by (message_at w message) (owner_at w number) (room w) fault a e)
+
+pub owner_full_is : (w : World) (message number : ℕ) (fault : WorldFault) → is_some (message_at w message) ≡ true → is_ok (named 2 (owner_at w number)) ≡ true → room w ≡ Err fault
+    → deliverable w message (owner_party number) ≡ Err fault
+owner_full_is w message number fault a b e = ap whether (full-by (message_at w message) (owner_at w number) (room w) fault a b e)
+
+free-by : (p : Option Pooled) (o : Option Owner) (free : Result (Unit {0}) WorldFault) (u : Unit {0}) → is_some p ≡ true → is_ok (named 2 o) ≡ true → free ≡ Ok u → whether (owner-can p o free) ≡ Ok tt
+free-by (Some p) (Some o) free u a b e = ap (λ (r : Result (Unit {0}) WorldFault). whether (r >>= (λ u. Ok (an_owner o)))) e
+free-by (Some p) None free u a b e = absurd cc
+free-by None o free u a b e = absurd cc
+
+pub owner_free_is : (w : World) (message number : ℕ) (u : Unit {0}) → is_some (message_at w message) ≡ true → is_ok (named 2 (owner_at w number)) ≡ true → room w ≡ Ok u
+    → deliverable w message (owner_party number) ≡ Ok tt
+owner_free_is w message number u a b e = free-by (message_at w message) (owner_at w number) (room w) u a b e
+
+pub ruleset owner_refusals = (can_no_message, owner_unknown_is, owner_full_is, owner_free_is)

@@ -23,3 +23,5 @@ pub mod Settling
 pub mod Small
 pub mod Stepping
 pub mod Terms
+pub use Rattle.ar_nodes.proofs as ar_nodes
+pub use Rattle.ar_nodes.proofs.log_core as log_core

@@ -10,10 +10,10 @@ use Rattle.ar_statement.specs.Claims.{authority_party, client_party, log_party, 
 use Rattle.ar_statement.specs.declared.party.Party.{Party}
 use Rattle.ar_statement.specs.declared.party.Role.{Role}
 use Rattle.ar_statement.specs.declared.party.Role.TheVariants as role
-use Rattle.authority_core.specs.RollRows.{roll_row}
+use Rattle.ar_nodes.specs.authority_core.RollRows.{roll_row}
 use Rattle.lms_tree.specs.KeyParts.{KeyParts}
-use Rattle.log_core.specs.Row.{row}
-use Rattle.log_core.specs.State.{Input, rolls}
+use Rattle.ar_nodes.specs.log_core.Row.{row}
+use Rattle.ar_nodes.specs.log_core.State.{Input, rolls}
 use Rattle.ar_message.specs.Messages.{message_in}
 use Rattle.lms_tree.specs.Key.{public_of, type_to_make}
 use Rattle.lm_ots.specs.OtsKind.{type_of_number}

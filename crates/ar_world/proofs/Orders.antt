@@ -6,7 +6,7 @@ use Rattle.std.proofs.lemmas.Option.{same_Some}
 use Rattle.ar_base.specs.Chaining.{◌>>=◌, need}
 use Rattle.ar_statement.specs.declared.party.Role.TheVariants.{LogServer, Authority}
 use Rattle.lms_tree.specs.KeyParts.{KeyParts}
-use Rattle.log_core.specs.State.{Input}
+use Rattle.ar_nodes.specs.log_core.State.{Input}
 use Rattle.report_text.specs.declared.happening.Happening.{Happening}
 use Rattle.report_text.specs.declared.happening.What.{What}
 use Rattle.ar_nodes.specs.Acting.{ActsBy, ChangesThere, authority_rolled, log_obeyed, log_rolled}

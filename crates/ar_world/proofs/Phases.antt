@@ -7,7 +7,7 @@ use Rattle.ar_message.specs.declared.sent.Sent.{Sent}
 use Rattle.ar_statement.specs.declared.party.Party.{Party}
 use Rattle.ar_statement.specs.declared.party.Role.{Role}
 use Rattle.ar_statement.specs.declared.party.Role.TheVariants as role
-use Rattle.log_core.specs.State as log_input
+use Rattle.ar_nodes.specs.log_core.State as log_input
 use Rattle.owner_check.specs.Answers.{Told, forgotten, learnt}
 use Rattle.owner_check.specs.declared.answer.Outcome.{Outcome}
 use Rattle.owner_core.specs.Rows.{OwnerAnswer, begin_row, handover_row}

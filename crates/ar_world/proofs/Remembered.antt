@@ -5,7 +5,7 @@ use Rattle.std.proofs.lemmas.List.Elements.{All-get_or}
 use Rattle.std.proofs.lemmas.Option.{get_or_from_slice_get, slice_get_within}
 use Rattle.ar_nodes.specs.Parties.{AuthorityNode, Forger, LogNode}
 use Rattle.ar_records.specs.Records.{held_by}
-use Rattle.ar_safety.specs.Held.{AcceptedBytes}
+use Rattle.ar_records.specs.ar_safety.Held.{AcceptedBytes}
 use Rattle.ar_statement.specs.declared.text.SeenText.{SeenText}
 use Rattle.party_keys.specs.Directory.{Directory}
 use Rattle.ar_world.specs.Records.{held_of}

@@ -6,7 +6,7 @@ use Rattle.ar_lines.specs.Lines.{lines_of}
 use Rattle.ar_lines.specs.declared.refusal.Reason.{Reason}
 use Rattle.ar_lines.specs.declared.refusal.Reason.TheVariants as reason
 use Rattle.ar_statement.specs.declared.party.Party.{Party}
-use Rattle.log_core.specs.State.{passes, proposes}
+use Rattle.ar_nodes.specs.log_core.State.{passes, proposes}
 use Rattle.owner_check.specs.Answers.{forgotten, learnt}
 use Rattle.owner_check.specs.declared.answer.Outcome.{Outcome}
 use Rattle.report_text.specs.declared.happening.Happening.{Happening}

@@ -27,13 +27,13 @@ use Rattle.ar_nodes.specs.Pool.{Pooled, numbered, pooled_from}
 use Rattle.ar_world.specs.State.{World, with_authority, with_log}
 use Rattle.ar_nodes.specs.declared.event.LogEvent.{LogEvent}
 use Rattle.ar_nodes.specs.declared.event.LogEvent.TheVariants as events
-use Rattle.authority_core.proofs.Few as authority
-use Rattle.authority_core.specs.Row.{asked_in}
-use Rattle.authority_core.specs.State as authority_state
+use Rattle.ar_nodes.proofs.authority_core.Few as authority
+use Rattle.ar_nodes.specs.authority_core.Row.{asked_in}
+use Rattle.ar_nodes.specs.authority_core.State as authority_state
 use Rattle.lms_tree.specs.KeyParts.{KeyParts}
-use Rattle.log_core.proofs.Few as log
-use Rattle.log_core.specs.Row.{row}
-use Rattle.log_core.specs.State as log_state
+use Rattle.ar_nodes.proofs.log_core.Few as log
+use Rattle.ar_nodes.specs.log_core.Row.{row}
+use Rattle.ar_nodes.specs.log_core.State as log_state
 use Rattle.owner_check.specs.declared.answer.Outcome.{Outcome}
 use Rattle.owner_core.proofs.Counted.{stepped}
 use Rattle.owner_core.specs.Rows.{OwnerAnswer, step_row}

@@ -12,9 +12,9 @@ use Rattle.ar_nodes.specs.declared.event.LogEvent.TheVariants as events
 use Rattle.ar_nodes.proofs.Spots.{honest-below, put-there}
 use Rattle.ar_statement.specs.Claims.{authority_party, log_party}
 use Rattle.ar_statement.specs.declared.party.Party.{Party}
-use Rattle.log_core.specs.Row.{row}
-use Rattle.log_core.specs.State as log
-use Rattle.log_core.specs.State.{takes}
+use Rattle.ar_nodes.specs.log_core.Row.{row}
+use Rattle.ar_nodes.specs.log_core.State as log
+use Rattle.ar_nodes.specs.log_core.State.{takes}
 use Rattle.owner_check.specs.declared.answer.Outcome.{Outcome}
 use Rattle.report_text.specs.declared.happening.Happening.{Happening}
 use Rattle.ar_world.specs.Delivering.{a_log, an_authority, delivery}

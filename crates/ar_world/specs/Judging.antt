@@ -1,7 +1,7 @@
 -- The line `judge`: a client judges a message.
 use Rattle.std.specs.Prelude.{ℕ, ◌+◌, Bool, false, true, if◌then◌else◌, List, [], ◌∷◌, ◌++◌, Option, Some, None, Ok}
 use Rattle.ar_base.specs.Chaining.{◌>>=◌}
-use Rattle.ar_safety.specs.Held.{AcceptedBytes, verdict_on}
+use Rattle.ar_records.specs.ar_safety.Held.{AcceptedBytes, verdict_on}
 use Rattle.ar_statement.specs.declared.party.Role.{Role}
 use Rattle.ar_statement.specs.declared.party.Role.TheVariants as role
 use Rattle.client_rule.specs.declared.judgement.Judgement.{Judgement}

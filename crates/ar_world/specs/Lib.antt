@@ -18,3 +18,6 @@ pub mod Settling
 pub mod State
 pub mod Step
 pub mod Submitting
+pub use Rattle.ar_founding.specs as ar_founding
+pub use Rattle.ar_nodes.specs as ar_nodes
+pub use Rattle.ar_nodes.specs.log_core as log_core

@@ -4,7 +4,7 @@ use Rattle.ar_base.specs.Chaining.{◌>>=◌}
 use Rattle.ar_statement.specs.declared.party.Party.{Party}
 use Rattle.ar_statement.specs.declared.party.Role.{Role}
 use Rattle.ar_statement.specs.declared.party.Role.TheVariants.{LogServer, Authority, Owner, Client}
-use Rattle.log_core.specs.State.{Input, passes, proposes}
+use Rattle.ar_nodes.specs.log_core.State.{Input, passes, proposes}
 use Rattle.report_text.specs.declared.happening.What.{What}
 use Rattle.report_text.specs.declared.happening.What.TheVariants as whats
 use Rattle.ar_nodes.specs.Acting.{authority_rolled, log_obeyed, log_rolled}

@@ -2,7 +2,7 @@
 use Rattle.std.specs.Prelude.{◌≡◌, ℕ, List, All, true, Option, Some}
 use Rattle.std.specs.Option.{option_map}
 use Rattle.ar_base.specs.Bytes.{AreBytes}
-use Rattle.ar_safety.specs.Held.{Held}
+use Rattle.ar_records.specs.ar_safety.Held.{Held}
 use Rattle.epoch_log.specs.Record.{LogRecord}
 use Rattle.party_keys.specs.Directory.{IsDirectory}
 use Rattle.ar_world.specs.Finding.{authority_at, log_at, message_at}

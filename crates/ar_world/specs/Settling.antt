@@ -4,8 +4,8 @@ use Rattle.ar_nodes.specs.Acting.{Reply, authority_took, bytes_of, log_answers, 
 use Rattle.ar_nodes.specs.Parties.{AuthorityNode, LogNode}
 use Rattle.ar_statement.specs.Claims.{authority_party, log_party}
 use Rattle.ar_statement.specs.declared.party.Party.{Party}
-use Rattle.log_core.specs.Row.{row}
-use Rattle.log_core.specs.State.{takes}
+use Rattle.ar_nodes.specs.log_core.Row.{row}
+use Rattle.ar_nodes.specs.log_core.State.{takes}
 use Rattle.owner_check.specs.declared.answer.Outcome.{Outcome}
 use Rattle.ar_world.specs.Finding.{message_at}
 use Rattle.ar_world.specs.State.{Moved, World, with_authority, with_log}

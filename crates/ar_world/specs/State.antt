@@ -1,7 +1,7 @@
 -- A world between two lines of a script, as plain data.
 use Rattle.std.specs.Prelude.{ℕ, ◌+◌, List, [], ◌++◌, length, slice_set, Option, Some}
 use Rattle.ar_cert.specs.Certificate.{Certificate}
-use Rattle.ar_safety.specs.Held.{AcceptedBytes}
+use Rattle.ar_records.specs.ar_safety.Held.{AcceptedBytes}
 use Rattle.ar_statement.specs.declared.text.SeenText.{SeenText}
 use Rattle.owner_core.specs.State.{Owner}
 use Rattle.party_keys.specs.Directory.{Directory, directory_with}

@@ -1,6 +1,7 @@
 //! Deliveries: the line `deliver`, and which delivery is the next of a `flush`.
 
 ghost use Rattle.std.specs.Prelude.{◌≡◌, ◌&&◌, not, true, is_some, length, find, drop, ◌+◌, ◌<◌, IfSome, OnOk, Err};
+ghost use Rattle.ar_nodes.specs.declared.fault.WorldFault.{WorldFault};
 ghost use Rattle.ar_statement.specs.declared.party.Role.TheVariants as roles;
 ghost use Rattle.ar_statement.specs.Claims.{authority_party, log_party, owner_party};
 ghost use Rattle.report_text.specs.declared.happening.Target.TheVariants as target;
@@ -88,8 +89,10 @@ impl<C: OwnerCheck> World<C> {
         message: u64,
         number: u16,
     ) -> Result<Items<Happening>, WorldFault>
-        ensures { StepsBySome result self.old self.new (λ says.
+        ensures steps { StepsBySome result self.old self.new (λ says.
             deliver_line says self.old message (log_party number)) }
+        ensures refused { (why : WorldFault)
+            → deliverable self.old message (log_party number) ≡ Err why → result ≡ Err why }
     {
         self.can_deliver_to_log(message, number)?;
         logs_take(alloc, &mut self.pool, &mut self.logs, message, number)
@@ -103,8 +106,10 @@ impl<C: OwnerCheck> World<C> {
         message: u64,
         number: u16,
     ) -> Result<Items<Happening>, WorldFault>
-        ensures { StepsBySome result self.old self.new (λ says.
+        ensures steps { StepsBySome result self.old self.new (λ says.
             deliver_line says self.old message (authority_party number)) }
+        ensures refused { (why : WorldFault)
+            → deliverable self.old message (authority_party number) ≡ Err why → result ≡ Err why }
     {
         self.can_deliver_to_authority(message, number)?;
         authorities_take(
@@ -117,15 +122,17 @@ impl<C: OwnerCheck> World<C> {
     }
 
     /// A message goes to an owner.
-    #[tactic(auto, using(crate::proofs::Deliveries::to_owner))]
+    #[tactic(auto, using(crate::proofs::Deliveries::to_owner, crate::proofs::Deliveries::owner_refusals))]
     fn deliver_to_owner(
         &mut self,
         alloc: Global,
         message: u64,
         number: u16,
     ) -> Result<Items<Happening>, WorldFault>
-        ensures { StepsBySome result self.old self.new (λ says.
+        ensures steps { StepsBySome result self.old self.new (λ says.
             deliver_line says self.old message (owner_party number)) }
+        ensures refused { (why : WorldFault)
+            → deliverable self.old message (owner_party number) ≡ Err why → result ≡ Err why }
     {
         if !self.pool.has(message) {
             return Err(WorldFault::Absent(1));
@@ -150,17 +157,19 @@ impl<C: OwnerCheck> World<C> {
 
     /// Delivers a message to a party, whoever it is addressed to, and however often it was delivered: what happens, in order.
     ///
-    /// It is what a line `deliver` does, where that may come. The errors are those of `can_deliver`, and want of memory; then
-    /// nothing has changed.
-    #[tactic(auto, using(crate::proofs::Deliveries::roles))]
+    /// It is what a line `deliver` does, where that may come. The errors are those of `can_deliver`, which no want of memory
+    /// replaces, and behind them want of memory; then nothing has changed.
+    #[tactic(auto, using(crate::proofs::Deliveries::roles, crate::proofs::Deliveries::refusals))]
     pub fn deliver(
         &mut self,
         alloc: Global,
         message: u64,
         who: Party,
     ) -> Result<Items<Happening>, WorldFault>
-        ensures { StepsBySome result self.old self.new
+        ensures steps { StepsBySome result self.old self.new
             (λ says. deliver_line says self.old message who) }
+        ensures refused { (why : WorldFault)
+            → deliverable self.old message who ≡ Err why → result ≡ Err why }
     {
         match who.role {
             Role::LogServer => self.deliver_to_log(alloc, message, who.number),

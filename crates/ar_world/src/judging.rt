@@ -4,7 +4,7 @@ ghost use Rattle.std.specs.Prelude.{◌≡◌, ◌∷◌, [], true, IfOk, OnOk, 
 ghost use Rattle.report_text.specs.Verdicts.{said_of};
 ghost use Rattle.report_text.specs.declared.happening.Happening.TheVariants as happening;
 ghost use Rattle.ar_world.specs.Records.{HasParties};
-ghost use Rattle.ar_safety.specs.Held.{verdict_on};
+ghost use Rattle.ar_records.specs.ar_safety.Held.{verdict_on};
 ghost use Rattle.ar_world.specs.Judging.{accepted_with, is_accepted, is_to_client, judge_line, judged_number, newest_from};
 ghost use Rattle.ar_world.specs.Step.{StepsBy};
 

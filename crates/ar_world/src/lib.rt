@@ -19,7 +19,7 @@
 //! what the words of a line name, `Kept` what the program keeps beside what its lines speak of, `Printed` what the printed
 //! lines tell of the pool, and `Examples` has small scripts with all that is written of them.
 //!
-//! Its tests: `examples/play`, and `play_tests`, module `records`.
+//! Its tests: `examples/play`, and `arpki`, module `records`.
 #![tactic(auto)]
 
 mod asking;
@@ -44,7 +44,7 @@ mod step;
 mod submitting;
 mod world;
 
-pub use ar_nodes::{LogEvent, Reply, WorldFault};
+pub use ar_nodes::{LogEvent, MOST_MESSAGES, Reply, WorldFault};
 pub use ar_records::{Judged, Records};
 pub use cause::Cause;
 pub use parties::Parties;

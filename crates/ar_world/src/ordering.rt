@@ -2,8 +2,8 @@
 
 ghost use Rattle.std.specs.Prelude.{◌≡◌, ◌<◌, length, is_some, true, IfSome, OnOk, Some};
 ghost use Rattle.ar_base.specs.Chaining.{need};
-ghost use Rattle.log_core.specs.Inputs.{input_of};
-ghost use Rattle.log_core.specs.Keyed.{IsPlain};
+ghost use Rattle.ar_nodes.specs.log_core.Inputs.{input_of};
+ghost use Rattle.ar_nodes.specs.log_core.Keyed.{IsPlain};
 ghost use Rattle.ar_world.specs.Finding.{authority_at, log_at};
 ghost use Rattle.ar_world.specs.Ordering.{log_order, pass_line, propose_line, roll_line, roll_of};
 ghost use Rattle.ar_world.specs.Step.{StepsBy};
@@ -14,9 +14,8 @@ use crate::world::World;
 use ar_base::Items;
 use ar_nodes::finding::honest;
 use ar_nodes::obeying::{authority_rolls_there, log_obeys_there, log_rolls_there};
-use ar_nodes::{LogEvent, WorldFault};
+use ar_nodes::{LogEvent, LogInput, WorldFault};
 use ar_statement::{Party, Role};
-use log_core::LogInput;
 use owner_check::OwnerCheck;
 use report_text::{Happening, What};
 use std::alloc::Global;

@@ -11,10 +11,10 @@ use Rattle.ar_run.specs.Runs.{TakesAll, most_read_bytes}
 use Rattle.ar_run.specs.declared.fault.Fault.{Fault}
 use Rattle.ar_run.specs.declared.fault.Fault.TheVariants as fault
 use Rattle.owner_check.specs.declared.answer.Outcome.TheVariants.{Failed}
-use Rattle.ar_nodes.specs.Parties.{CheckParts}
-use Rattle.ar_world.specs.Run.{Saying, text_of_run}
-use Rattle.run_safety.specs.Headline.{IsSafeRun}
-use Rattle.run_safety.proofs.Safe.{safe-run}
+use Rattle.script_play.specs.ar_nodes.Parties.{CheckParts}
+use Rattle.script_play.specs.ar_world.Run.{Saying, text_of_run}
+use Rattle.run_restart.specs.run_safety.Headline.{IsSafeRun}
+use Rattle.run_restart.proofs.run_safety.Safe.{safe-run}
 use Rattle.script_play.specs.Played.{IsPlayed, Plays, PlaysFront, PlaysWhole, RefusesLong, run_with}
 use Rattle.script_play.specs.Playing.{Played}
 use Rattle.script_play.proofs.Inputs.{input-front, input-sink, input-taken, input-whole, long-played, script-same}

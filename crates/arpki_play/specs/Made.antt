@@ -4,10 +4,10 @@ use Rattle.std.specs.Fmt.{decimal}
 use Rattle.hex.specs.Hex.{encode_lower}
 use Rattle.sha2.specs.Sha256.{sha256}
 use Rattle.ar_run.specs.Answers.{Answer}
-use Rattle.ar_nodes.specs.Parties.{CheckParts}
-use Rattle.ar_world.specs.Run as world
+use Rattle.script_play.specs.ar_nodes.Parties.{CheckParts}
+use Rattle.script_play.specs.ar_world.Run as world
 use Rattle.script_make.specs.Script.{last_script_epoch, script}
-use Rattle.ar_world.specs.declared.cause.Cause.{Cause}
+use Rattle.script_play.specs.ar_world.declared.cause.Cause.{Cause}
 use Rattle.script_play.specs.Playing.{Played, played_of}
 use Rattle.script_play.specs.declared.counts.Counts.{Counts}
 

@@ -4,9 +4,9 @@ use Rattle.std.specs.declared.alloc.Global.{Global}
 use Rattle.ar_io.specs.Wrote.{Appended, AppendedFront, Unchanged}
 use Rattle.ar_run.specs.Answers.{Answer, written_of}
 use Rattle.ar_run.specs.Runs as runs
-use Rattle.ar_nodes.specs.Parties.{CheckParts}
-use Rattle.ar_world.specs.Run.{Saying, run}
-use Rattle.run_safety.specs.Headline.{IsSafeRun}
+use Rattle.script_play.specs.ar_nodes.Parties.{CheckParts}
+use Rattle.script_play.specs.ar_world.Run.{Saying, run}
+use Rattle.run_restart.specs.run_safety.Headline.{IsSafeRun}
 use Rattle.script_make.specs.Script.{script}
 use Rattle.script_play.specs.Played.{IsAnswered, PlaysFront, PlaysWhole, run_with}
 use Rattle.arpki_ask.specs.Answers.{answer_to}

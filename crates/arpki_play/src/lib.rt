@@ -5,7 +5,7 @@
 //! `play` answers is in `script_play`, what `restart` answers in `run_restart`, what `sig` and `check` answer in `arpki_ask`, and
 //! what the commands answer that `review_named` names in `review`.
 //!
-//! Its tests: `play_tests`, and `examples/`.
+//! Its tests: those of the program `arpki`, and `examples/`.
 #![tactic(auto)]
 
 pub use program::arpki_main;

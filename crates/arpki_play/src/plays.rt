@@ -4,8 +4,8 @@ ghost use Rattle.std.specs.Prelude.{◌≡◌, ◌≢◌, ◌<◌, ◌≤◌, �
 ghost use Rattle.ar_base.specs.Faults.{HasRisen};
 ghost use Rattle.ar_io.specs.Wrote.{Unchanged};
 ghost use Rattle.ar_run.specs.Runs.{IsInput, TakesAtMost, most_read_bytes};
-ghost use Rattle.ar_nodes.specs.Parties.{checks_told};
-ghost use Rattle.run_safety.specs.Headline.{IsSafeRun};
+ghost use Rattle.script_play.specs.ar_nodes.Parties.{checks_told};
+ghost use Rattle.run_restart.specs.run_safety.Headline.{IsSafeRun};
 ghost use Rattle.script_make.specs.Script.{script};
 ghost use Rattle.script_play.specs.Played.{IsPlayed, PlaysFront, PlaysWhole, run_with};
 ghost use Rattle.arpki_play.specs.Made.{summary_line, summed};

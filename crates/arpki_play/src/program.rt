@@ -4,7 +4,7 @@ ghost use Rattle.ar_io.specs.Wrote.{Appended, AppendedFront, Unchanged};
 ghost use Rattle.ar_run.specs.Answers.{written_of};
 ghost use Rattle.ar_run.specs.Runs.{TakesAtMost, most_read_bytes};
 ghost use Rattle.ar_run.specs.Writing.{Writes};
-ghost use Rattle.ar_nodes.specs.Parties.{checks_told};
+ghost use Rattle.script_play.specs.ar_nodes.Parties.{checks_told};
 ghost use Rattle.arpki_play.specs.Program.{Answers, BreaksOff, Stops};
 ghost use Rattle.script_make.specs.Script.{script};
 ghost use Rattle.arpki_play.specs.declared.request.Request.TheVariants.{Make, Restart, Run};

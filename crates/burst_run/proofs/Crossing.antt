@@ -8,6 +8,7 @@ use Rattle.ar_base.proofs.items.Items.TheSendSync.{the_send as items_send}
 use Rattle.ar_cert.proofs.change.Change.TheSendSync.{the_send as change_send}
 use Rattle.authority_core.proofs.keyless.AuthorityCore.TheSendSync.{the_send as authority_send}
 use Rattle.domain_table.proofs.row.Row.TheSendSync.{the_send as row_send}
+use Rattle.domain_table.specs.contracts.counted_trie.CountedTrie as CountedTrie
 use Rattle.domain_table.specs.contracts.table.Table as Table
 use Rattle.epoch_log.proofs.entries.Newest.TheSendSync.{the_send as newest_send}
 use Rattle.epoch_log.proofs.past.Record.TheSendSync.{the_send as record_send}
@@ -25,8 +26,11 @@ use Rattle.vote_quorum.proofs.value.Value.TheSendSync.{the_send as value_send}
 pub trie_send : IsSend Trie.the_row
 trie_send = search (knot.crosses, crosses, sendable) depth 30
 
+counted_send : IsSend CountedTrie.the_row
+counted_send = search (trie_send, crosses, sendable) depth 30
+
 pub table_send : IsSend Table.the_row
-table_send = search (trie_send, row_send, crosses, sendable) depth 30
+table_send = search (counted_send, row_send, crosses, sendable) depth 30
 
 -- what a log holds
 pub parts_send : IsSend Parts.the_row

@@ -11,7 +11,7 @@
 pub use facts::{Facts, PolicyFacts};
 pub use manner::Manner;
 pub use refusal::PolicyRefusal;
-pub use rules::{follows, registrable, update};
+pub use rules::{follows, meets_common, registrable, update};
 
 mod facts;
 pub mod laws;

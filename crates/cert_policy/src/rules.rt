@@ -87,8 +87,9 @@ pub fn registrable(new: &Facts, endorsers: &[u16]) -> Result<(), PolicyRefusal>
     Ok(())
 }
 
-// Whether the first five clauses hold, or else the least that fails.
-fn meets_common(old: &Facts, new: &Facts, endorsers: &[u16]) -> Result<(), PolicyRefusal>
+/// Whether the first five clauses hold, which are of every update, or else the least that fails. An update that fails one
+/// of them is refused for it, whatever else it has.
+pub fn meets_common(old: &Facts, new: &Facts, endorsers: &[u16]) -> Result<(), PolicyRefusal>
     ensures { result ≡ first_failing
         (common_clauses (cert_terms old.now) (cert_terms new.now) endorsers.now) }
 {

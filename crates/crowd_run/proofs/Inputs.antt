@@ -4,7 +4,7 @@ use Rattle.ar_base.specs.Faults.{HasRisen}
 use Rattle.ar_run.specs.Runs.{TakesAll, most_read_bytes}
 use Rattle.ar_run.specs.declared.fault.Fault.{Fault}
 use Rattle.ar_run.specs.declared.fault.Fault.TheVariants as fault
-use Rattle.ar_nodes.specs.Parties.{CheckParts}
+use Rattle.script_play.specs.ar_nodes.Parties.{CheckParts}
 use Rattle.run_safety.specs.Headline.{IsSafeRun}
 use Rattle.script_play.specs.Played.{IsPlayed, PlaysFront, PlaysWhole, RefusesLong}
 use Rattle.script_play.proofs.Inputs.{input-front, input-sink, input-taken, input-whole, long-played, script-same}

@@ -5,16 +5,16 @@ use Rattle.ar_lines.specs.Readings.{LineCursor, line_at, next_of}
 use Rattle.ar_lines.specs.declared.refusal.Reason.{Reason}
 use Rattle.ar_lines.specs.declared.refusal.Reason.TheVariants.{Words}
 use Rattle.ar_lines.specs.declared.refusal.Refusal.{Refusal}
-use Rattle.ar_nodes.specs.Parties.{CheckParts}
-use Rattle.ar_nodes.specs.declared.fault.WorldFault.{WorldFault}
-use Rattle.ar_nodes.specs.declared.fault.WorldFault.TheVariants.{Order}
+use Rattle.script_play.specs.ar_nodes.Parties.{CheckParts}
+use Rattle.script_play.specs.ar_nodes.declared.fault.WorldFault.{WorldFault}
+use Rattle.script_play.specs.ar_nodes.declared.fault.WorldFault.TheVariants.{Order}
 use Rattle.ar_run.specs.declared.fault.Fault.{Fault}
 use Rattle.ar_run.specs.declared.fault.Fault.TheVariants as fault
-use Rattle.ar_world.specs.Run.{Progress, at_line, progress_of, refusing, taken_as}
-use Rattle.ar_world.specs.State.{World}
-use Rattle.ar_world.specs.Step.{step}
-use Rattle.ar_world.specs.declared.cause.Cause.{Cause}
-use Rattle.ar_world.specs.declared.cause.Cause.TheVariants.{Unread, Untaken}
+use Rattle.script_play.specs.ar_world.Run.{Progress, at_line, progress_of, refusing, taken_as}
+use Rattle.script_play.specs.ar_world.State.{World}
+use Rattle.script_play.specs.ar_world.Step.{step}
+use Rattle.script_play.specs.ar_world.declared.cause.Cause.{Cause}
+use Rattle.script_play.specs.ar_world.declared.cause.Cause.TheVariants.{Unread, Untaken}
 use Rattle.burst_run.specs.Bursts.{AreOrders, Sequence, burst_made, may_join}
 use Rattle.burst_run.specs.Stations.{Deliveries}
 use Rattle.owner_check.specs.declared.answer.Outcome.{Outcome}

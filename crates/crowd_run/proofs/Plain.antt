@@ -5,10 +5,10 @@ use Rattle.std.specs.List.{AllByRecursion}
 use Rattle.ar_lines.specs.Lines.{lines_of}
 use Rattle.ar_lines.specs.declared.refusal.Reason.{Reason}
 use Rattle.ar_lines.specs.declared.refusal.Reason.TheVariants as reason
-use Rattle.ar_nodes.specs.Parties.{CheckParts}
-use Rattle.ar_world.specs.Run.{Run, Saying, at_line, printed_before, line_taken, most_lines, run, run_from, taken_as, then_if, then_on}
-use Rattle.ar_world.specs.State.{World, first_world}
-use Rattle.ar_world.specs.declared.cause.Cause.{Cause}
+use Rattle.script_play.specs.ar_nodes.Parties.{CheckParts}
+use Rattle.script_play.specs.ar_world.Run.{Run, Saying, at_line, printed_before, line_taken, most_lines, run, run_from, taken_as, then_if, then_on}
+use Rattle.script_play.specs.ar_world.State.{World, first_world}
+use Rattle.script_play.specs.ar_world.declared.cause.Cause.{Cause}
 use Rattle.burst_run.specs.Stations.{Deliveries}
 use Rattle.owner_check.specs.declared.answer.Outcome.{Outcome}
 use Rattle.owner_check.specs.declared.answer.Outcome.TheVariants.{Failed}

@@ -4,14 +4,14 @@ use Rattle.std.specs.Prelude.{is_some, length, nat_lt}
 use Rattle.std.specs.List.{AllByRecursion}
 use Rattle.ar_base.specs.Chaining.{◌>>=◌, need}
 use Rattle.ar_base.proofs.Lists.{both-lists}
-use Rattle.ar_nodes.specs.Finding.{named}
-use Rattle.ar_nodes.specs.Pool.{Pooled}
-use Rattle.ar_nodes.specs.declared.fault.WorldFault.{WorldFault}
-use Rattle.ar_nodes.specs.declared.fault.WorldFault.TheVariants.{Limit}
+use Rattle.script_play.specs.ar_nodes.Finding.{named}
+use Rattle.script_play.specs.ar_nodes.Pool.{Pooled}
+use Rattle.script_play.specs.ar_nodes.declared.fault.WorldFault.{WorldFault}
+use Rattle.script_play.specs.ar_nodes.declared.fault.WorldFault.TheVariants.{Limit}
 use Rattle.ar_statement.specs.declared.party.Party.{Party}
-use Rattle.ar_world.specs.Delivering.{Taker}
-use Rattle.ar_world.specs.Finding.{message_at, room}
-use Rattle.ar_world.specs.State.{World}
+use Rattle.script_play.specs.ar_world.Delivering.{Taker}
+use Rattle.script_play.specs.ar_world.Finding.{message_at, room}
+use Rattle.script_play.specs.ar_world.State.{World}
 use Rattle.burst_run.specs.Bursts.{IsDeliverable, may_join, most_in_burst, station_at}
 use Rattle.burst_run.specs.Stations.{Deliveries}
 use Rattle.script_text.specs.declared.line.Line.TheVariants as line

@@ -2,24 +2,24 @@
 use Rattle.std.proofs.Common.{◌≡◌, ℕ, ◌+◌, List, [], ◌∷◌, refl, subst, Option, Some, None, Result, Ok, Err, IfOk}
 use Rattle.std.specs.Prelude.{slice_get}
 use Rattle.ar_lines.specs.Lines.{lines_of}
-use Rattle.ar_nodes.specs.Parties.{CheckParts}
-use Rattle.ar_nodes.specs.Pool.{Pooled}
-use Rattle.ar_nodes.specs.declared.fault.WorldFault.{WorldFault}
+use Rattle.script_play.specs.ar_nodes.Parties.{CheckParts}
+use Rattle.script_play.specs.ar_nodes.Pool.{Pooled}
+use Rattle.script_play.specs.ar_nodes.declared.fault.WorldFault.{WorldFault}
 use Rattle.ar_statement.specs.declared.party.Party.{Party}
 use Rattle.ar_statement.specs.declared.party.Role.{Role}
 use Rattle.ar_statement.specs.declared.party.Role.TheVariants as role
-use Rattle.ar_world.specs.Delivering.{Taker, delivery, taker_at, taker_in}
-use Rattle.ar_world.specs.Finding.{Effect, message_at}
-use Rattle.ar_world.specs.Run.{Progress, Run, at_line, progress_of, taken_as, then_if}
-use Rattle.ar_world.specs.State.{Moved, World, first_world, printing}
-use Rattle.ar_world.specs.Step.{step}
-use Rattle.ar_world.proofs.Runs.{Goes, HoldsOfSteps, line-goes}
+use Rattle.script_play.specs.ar_world.Delivering.{Taker, delivery, taker_at, taker_in}
+use Rattle.script_play.specs.ar_world.Finding.{Effect, message_at}
+use Rattle.script_play.specs.ar_world.Run.{Progress, Run, at_line, progress_of, taken_as, then_if}
+use Rattle.script_play.specs.ar_world.State.{Moved, World, first_world, printing}
+use Rattle.script_play.specs.ar_world.Step.{step}
+use Rattle.run_safety.proofs.ar_world.Runs.{Goes, HoldsOfSteps, line-goes}
 use Rattle.owner_check.specs.declared.answer.Outcome.{Outcome}
 use Rattle.report_text.specs.declared.happening.Happening.{Happening}
 use Rattle.report_text.specs.declared.happening.Happening.TheVariants.{Order}
 use Rattle.script_play.specs.Playing.{line_read}
 use Rattle.script_play.proofs.Taking.{taken-as-read}
-use Rattle.ar_world.specs.declared.cause.Cause.{Cause}
+use Rattle.script_play.specs.ar_world.declared.cause.Cause.{Cause}
 use Rattle.script_text.specs.declared.line.EventLine.TheVariants as event
 use Rattle.script_text.specs.declared.line.Line.{Line}
 use Rattle.script_text.specs.declared.line.Line.TheVariants as line

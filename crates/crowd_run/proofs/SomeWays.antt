@@ -1,8 +1,8 @@
 -- There is a way for each line, whatever comes.
 use Rattle.std.proofs.Common.{ℕ, ◌+◌, ◌<◌, List, [], ◌∷◌, Some, None, Ok, Err}
 use Rattle.ar_lines.specs.Lines.{lines_of}
-use Rattle.ar_nodes.specs.Parties.{CheckParts}
-use Rattle.ar_world.specs.State.{World, first_world}
+use Rattle.script_play.specs.ar_nodes.Parties.{CheckParts}
+use Rattle.script_play.specs.ar_world.State.{World, first_world}
 use Rattle.burst_run.proofs.SomeOrders.{some_orders}
 use Rattle.burst_run.specs.Stations.{Deliveries}
 use Rattle.owner_check.specs.declared.answer.Outcome.TheVariants.{Failed}

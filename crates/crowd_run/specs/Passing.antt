@@ -2,8 +2,8 @@
 use Rattle.std.specs.Prelude.{ℕ, List, Option, Result, IfSome}
 use Rattle.std.specs.List.{AllByRecursion}
 use Rattle.ar_run.specs.declared.fault.Fault.{Fault}
-use Rattle.ar_world.specs.State.{World}
-use Rattle.ar_world.specs.declared.cause.Cause.{Cause}
+use Rattle.script_play.specs.ar_world.State.{World}
+use Rattle.script_play.specs.ar_world.declared.cause.Cause.{Cause}
 use Rattle.burst_run.specs.Bursts.{IsDeliverable}
 use Rattle.script_play.specs.Playing.{PlaysSome, Stand}
 use Rattle.crowd_run.specs.Scripts.{OpenBurst, LineRead, passed_so}

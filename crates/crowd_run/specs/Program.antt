@@ -4,7 +4,7 @@ use Rattle.std.specs.Str.{bytes_eq}
 use Rattle.std.specs.declared.alloc.Global.{Global}
 use Rattle.ar_io.specs.Wrote.{Appended, AppendedFront, Unchanged}
 use Rattle.ar_lines.specs.Forms.{number_in}
-use Rattle.ar_nodes.specs.Parties.{CheckParts}
+use Rattle.script_play.specs.ar_nodes.Parties.{CheckParts}
 use Rattle.ar_run.specs.Answers.{Answer, one_line, written_of}
 use Rattle.crowd_run.specs.Scripts.{crowd_with}
 use Rattle.crowd_run.specs.declared.request.Request.{Request}

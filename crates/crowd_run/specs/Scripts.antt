@@ -3,14 +3,14 @@
 use Rattle.std.specs.Prelude.{ℕ, ◌+◌, Bool, true, false, List, [], ◌∷◌, ◌++◌, Option, Some, None, Result, Ok, Err}
 use Rattle.ar_lines.specs.Lines.{lines_of}
 use Rattle.ar_lines.specs.declared.refusal.Reason.{Reason}
-use Rattle.ar_nodes.specs.Parties.{CheckParts}
-use Rattle.ar_nodes.specs.declared.fault.WorldFault.{WorldFault}
-use Rattle.ar_nodes.specs.declared.fault.WorldFault.TheVariants.{Order}
-use Rattle.ar_world.specs.Finding.{Effect}
-use Rattle.ar_world.specs.Run.{Progress, Run, at_line, progress_of, refusing, taken_as, then_on, unmoved}
-use Rattle.ar_world.specs.State.{World, first_world, silent}
-use Rattle.ar_world.specs.Step.{step}
-use Rattle.ar_world.specs.declared.cause.Cause.TheVariants.{Unread, Untaken}
+use Rattle.script_play.specs.ar_nodes.Parties.{CheckParts}
+use Rattle.script_play.specs.ar_nodes.declared.fault.WorldFault.{WorldFault}
+use Rattle.script_play.specs.ar_nodes.declared.fault.WorldFault.TheVariants.{Order}
+use Rattle.script_play.specs.ar_world.Finding.{Effect}
+use Rattle.script_play.specs.ar_world.Run.{Progress, Run, at_line, progress_of, refusing, taken_as, then_on, unmoved}
+use Rattle.script_play.specs.ar_world.State.{World, first_world, silent}
+use Rattle.script_play.specs.ar_world.Step.{step}
+use Rattle.script_play.specs.ar_world.declared.cause.Cause.TheVariants.{Unread, Untaken}
 use Rattle.burst_run.specs.Bursts.{AreOrders, Sequence, burst_made, may_join}
 use Rattle.burst_run.specs.Stations.{Deliveries}
 use Rattle.owner_check.specs.declared.answer.Outcome.{Outcome}

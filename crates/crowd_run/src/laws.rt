@@ -2,8 +2,8 @@
 ghost use Rattle.std.specs.Prelude.{◌≡◌, ℕ, List, false};
 ghost use Rattle.std.specs.List.{AllByRecursion};
 ghost use Rattle.ar_lines.specs.Lines.{lines_of};
-ghost use Rattle.ar_nodes.specs.Parties.{CheckParts};
-ghost use Rattle.ar_world.specs.Run.{Saying, run};
+ghost use Rattle.script_play.specs.ar_nodes.Parties.{CheckParts};
+ghost use Rattle.script_play.specs.ar_world.Run.{Saying, run};
 ghost use Rattle.script_text.specs.Rows.{read_of};
 ghost use Rattle.crowd_run.specs.Scripts.{InputWays, crowd_with, is_burst};
 

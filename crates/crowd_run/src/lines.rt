@@ -2,7 +2,7 @@
 
 ghost use Rattle.std.specs.Prelude.{◌≡◌, ◌<◌, ◌≤◌, ◌++◌, ◌∷◌, [], ℕ, List, IfOk, None, Ok, Some};
 ghost use Rattle.std.specs.List.{AllByRecursion};
-ghost use Rattle.ar_world.specs.Run.{progress_of};
+ghost use Rattle.script_play.specs.ar_world.Run.{progress_of};
 ghost use Rattle.burst_run.specs.Bursts.{IsDeliverable, may_join};
 ghost use Rattle.crowd_run.specs.Passing.{IsOpenIn, LinePasses};
 ghost use Rattle.crowd_run.specs.Scripts.{is_burst, joins_burst, open_behind, open_behind_line, passed_inside};
@@ -14,11 +14,10 @@ use ar_io::Sink;
 use ar_lines::Reason;
 use ar_run::Fault;
 use ar_statement::Party;
-use ar_world::{Cause, World, WorldFault};
 use burst_run::{may_join, run_burst};
 use node_crowd::Gate;
 use owner_check::OwnerCheck;
-use script_play::{Stage, tell, tell_made};
+use script_play::{Cause, Stage, World, WorldFault, tell, tell_made};
 use script_text::{EventLine, Line};
 use std::alloc::{AllocError, Global};
 use std::mem;

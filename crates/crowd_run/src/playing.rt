@@ -2,8 +2,8 @@
 
 ghost use Rattle.std.specs.Prelude.{◌≡◌, ◌<◌, ◌≤◌, None};
 ghost use Rattle.ar_lines.specs.Lines.{lines_of};
-ghost use Rattle.ar_nodes.specs.Parties.{checks_told};
-ghost use Rattle.ar_world.specs.State.{World};
+ghost use Rattle.script_play.specs.ar_nodes.Parties.{checks_told};
+ghost use Rattle.script_play.specs.ar_world.State.{World};
 ghost use Rattle.crowd_run.specs.Scripts.{crowd_from, crowd_with, script_end};
 ghost use Rattle.script_play.specs.Played.{Plays};
 ghost use Rattle.script_play.specs.Playing.{PlaysAll, PlaysSome};
@@ -12,10 +12,9 @@ use crate::lines::{OpenBurst, take_read};
 use ar_io::Sink;
 use ar_lines::Lines;
 use ar_run::Fault;
-use ar_world::{Cause, WorldFault};
 use node_crowd::Gate;
 use owner_check::OwnerCheck;
-use script_play::{Played, Stage, read_line, tell_refusal};
+use script_play::{Cause, Played, Stage, WorldFault, read_line, tell_refusal};
 use std::alloc::Global;
 use std::sync::Wait;
 use std::thread::Threads;

@@ -1,7 +1,7 @@
 -- A map that is filled from the last entry to the first has the entries of the finite map that they make.
-use Rattle.std.proofs.Common.{◌≡◌, ℕ, ◌+◌, ◌<◌, List, [], ◌∷◌, ◌++◌, map, length, get_or, drop, refl, sym, ap, ◌∙◌, arith}
-use Rattle.std.proofs.lemmas.List.{drop_more, drop_all}
-use Rattle.std.specs.List.{filter_map, cons_option}
+use Rattle.std.proofs.Common.{◌≡◌, ℕ, List, [], ◌∷◌, map, length, drop, refl, sym, ap, ◌∙◌, arith}
+use Rattle.std.proofs.lemmas.List.{drop_all}
+use Rattle.std.specs.List.{filter_map}
 use Rattle.std.specs.declared.cmp.Ordering.{Ordering}
 use Rattle.std.specs.declared.cmp.Ordering.TheVariants.{Less, Equal, Greater}
 use Rattle.std.specs.Ordering.{match_ordering}
@@ -10,8 +10,8 @@ use Rattle.std.specs.FinMap.Entries.{by_order, put}
 use Rattle.std.specs.BTreeMap.{insert_entry}
 use Rattle.hash_tree.specs.Entries.{Entry, entries_of, key_cmp}
 use Rattle.hash_tree.proofs.Maps.{total, entries-entries_of}
-use Rattle.domain_table.specs.declared.row.Row.{Row}
-use Rattle.domain_table.specs.Rows.{data_in, marks_of, name_entry, pending_entry}
+use Rattle.domain_table.specs.declared.row.Listed.{Listed}
+use Rattle.domain_table.specs.Rows.{marks_listed, pending_entry}
 
 insert-put : (es : List Entry) (key value : List ℕ) → insert_entry key_cmp es key value ≡ put key_cmp key value es
 insert-put [] key value = refl
@@ -27,14 +27,6 @@ pub first_put : (list es : List Entry) (key value : List ℕ) → list ≡ entri
 first_put list es key value is =
     ap (λ xs. insert_entry key_cmp xs key value) is ∙ insert-put (entries (entries_of es)) key value ∙ sym (entries-insert total (entries_of es) key value)
 
-pub pending_from : (rows : List Row) (i : ℕ) (d : Row) → i < length rows
-    → cons_option (pending_entry (get_or rows i d).marks) (filter_map pending_entry (marks_of (data_in (drop (i + 1) rows)))) ≡ filter_map pending_entry (marks_of (data_in (drop i rows)))
-pending_from rows i d l = ap (λ rs. filter_map pending_entry (marks_of (data_in rs))) (sym (drop_more rows i d l))
-
-pub names_from : (rows : List Row) (i : ℕ) (d : Row) (es : List Entry) → i < length rows
-    → name_entry (get_or rows i d).marks ∷ (map name_entry (marks_of (data_in (drop (i + 1) rows))) ++ es) ≡ map name_entry (marks_of (data_in (drop i rows))) ++ es
-names_from rows i d es l = ap (λ rs. map name_entry (marks_of (data_in rs)) ++ es) (sym (drop_more rows i d l))
-
 -- behind the last row nothing is listed
-pub none_behind : (rows : List Row) → entries (entries_of (filter_map pending_entry (marks_of (data_in (drop (length rows) rows))))) ≡ []
-none_behind rows = ap (λ rs. entries (entries_of (filter_map pending_entry (marks_of (data_in rs))))) (drop_all (length rows) rows (omega arith)) ∙ entries-entries_of [] refl
+pub none_behind : (rows : List Listed) → entries (entries_of (filter_map pending_entry (marks_listed (drop (length rows) rows)))) ≡ []
+none_behind rows = ap (λ rs. entries (entries_of (filter_map pending_entry (marks_listed rs)))) (drop_all (length rows) rows (omega arith)) ∙ entries-entries_of [] refl

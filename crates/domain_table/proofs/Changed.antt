@@ -12,8 +12,8 @@ use Rattle.cert_policy.specs.declared.manner.Manner.TheVariants.{Full, Recovery,
 use Rattle.ar_cert.specs.Changes.{Change}
 use Rattle.domain_table.specs.Tables.{Pending, chain_of, size}
 use Rattle.domain_table.specs.Applying.{taking_change}
-use Rattle.domain_table.specs.Rows.{RowData, chain_pair, table_of, with_row, IsMarked, AreRows, IsChanged}
-use Rattle.domain_table.proofs.RowLists.{changed_chains, changed_waiting, with_pending, rise_changed, places, places_split, size_rows}
+use Rattle.domain_table.specs.Rows.{RowData, chain_pair, table_of, waiting_in, with_row, IsMarked, AreRows, IsChanged}
+use Rattle.domain_table.proofs.RowLists.{changed_chains, changed_waiting, with_pending, rise_changed, places, places_split, size_rows, waiting_split}
 use Rattle.domain_table.proofs.RipeRows.{Stands, stands}
 use Rattle.domain_table.proofs.Places.{split_at}
 
@@ -62,6 +62,12 @@ module _ (old new : List RowData) (trie : Entries) (i : ℕ) (d : RowData) (chai
       let one = ap places (split_at old i d within) ∙ places_split (take i old) (get_or old i d) (drop (i + 1) old) in
       let two = ap places is.rows ∙ places_split (take i old) other (drop (i + 1) old) in
       omega (arith, before, after, one, two)
+
+  pub waiting_now : waiting_in new + option_len (get_or old i d).waiting ≡ waiting_in old + option_len waiting
+  waiting_now =
+      let one = ap waiting_in (split_at old i d within) ∙ waiting_split (take i old) (get_or old i d) (drop (i + 1) old) in
+      let two = ap waiting_in is.rows ∙ waiting_split (take i old) other (drop (i + 1) old) in
+      omega (arith, one, two)
 
   -- the chain of the row's name in the table is the row's
   own_chain : get (table_of old).chains (get_or old i d).name ≡ Some (get_or old i d).chain

@@ -11,7 +11,10 @@ pub mod Once
 pub mod Ripe
 pub mod RowLists
 pub mod Retrie
+pub mod Alone
+pub mod ListedRows
 pub mod Places
+pub mod ByName
 pub mod RipeRows
 pub mod ChangedRow
 pub mod Changed
@@ -19,4 +22,5 @@ pub mod Taking
 pub mod Ripening
 pub mod Copies
 pub mod ByKeys
+pub mod Coming
 pub mod Waiting

@@ -13,10 +13,6 @@ hit_apart : (q key : List ℕ) (o : Option (List ℕ)) → eq_by_cmp key_cmp q k
 hit_apart q key None apart = refl
 hit_apart q key (Some v) apart = ap (λ b. cond b (Some v) None) apart
 
--- the part of the names, and the part of what waits
-both_parts : Option (List ℕ) → Option (List ℕ) → Option (List ℕ) → Option (List ℕ) → Option (List ℕ) → Option (List ℕ)
-both_parts names name fronts mine backs = option_or (option_or names name) (option_or fronts (option_or mine backs))
-
 name_apart : (q : List ℕ) (m : Marks) (rest : Option (List ℕ)) → eq_by_cmp key_cmp q m.key ≡ false → cond (eq_by_cmp key_cmp q m.key) (Some m.value) rest ≡ rest
 name_apart q m rest apart = ap (λ b. cond b (Some m.value) rest) apart
 

@@ -1,6 +1,6 @@
 -- Rows as the table that they are: what is found under a name, the entries in their order, and a row that is
 -- changed or comes in between two parts.
-use Rattle.std.proofs.Common.{◌≡◌, ℕ, ◌+◌, List, [], ◌∷◌, ◌++◌, map, length, refl, sym, ap, ◌∙◌, arith, Bool, true, false, cond, ◌&&◌, Option, Some, None}
+use Rattle.std.proofs.Common.{◌≡◌, ℕ, ◌+◌, ◌≤◌, ◌||◌, List, [], ◌∷◌, ◌++◌, map, length, refl, sym, ap, ◌∙◌, arith, Bool, true, false, cond, ◌&&◌, Option, Some, None}
 use Rattle.std.specs.Prelude.{IsTrue, sum}
 use Rattle.std.specs.List.{filter_map, cons_option, AllByRecursion}
 use Rattle.std.specs.Option.{option_len, option_map, option_or}
@@ -23,10 +23,12 @@ use Rattle.hash_tree.proofs.Maps.{total, exact, less_is}
 use Rattle.hash_tree.proofs.Changed.{same_key}
 use Rattle.ar_cert.specs.Changes.{Change}
 use Rattle.domain_table.specs.declared.row.Marks.{Marks}
-use Rattle.domain_table.specs.Tables.{Pending, size}
+use Rattle.domain_table.specs.Applying.{is_ripe_behind}
+use Rattle.domain_table.specs.Tables.{Pending, newest, size}
 use Rattle.domain_table.specs.Tree.{value_of, pending_value, valued, keyed, tree_entries}
-use Rattle.domain_table.specs.Rows.{RowData, hit, chain_pair, pending_pair, table_of, name_entry, pending_entry, marked, marks_of, with_entry, IsMarked, AreRows}
+use Rattle.domain_table.specs.Rows.{RowData, any_ripe, waiting_in, hit, chain_pair, pending_pair, table_of, name_entry, pending_entry, marked, marks_of, with_entry, IsMarked, AreRows}
 use Rattle.domain_table.proofs.Keyed.{find_both}
+use Rattle.domain_table.proofs.Once.{nothing_waits}
 use Rattle.ar_base.proofs.Shown.{or_none}
 
 -- ---- the order of names
@@ -49,9 +51,6 @@ none_below q (e ∷ es) h =
 greater_apart : (q k : List ℕ) → key_cmp k q ≡ Less → eq_by_cmp key_cmp q k ≡ false
 greater_apart q k less = ap is_eq (total.antisymm q k ∙ ap ordering_reverse less)
 
-less_apart : (q k : List ℕ) → key_cmp q k ≡ Less → eq_by_cmp key_cmp q k ≡ false
-less_apart q k less = ap is_eq less
-
 -- ---- a row between two parts
 
 -- in ascending rows the names before a row are less, and those behind it are greater
@@ -59,7 +58,7 @@ pub record Between (front : List RowData) (r : RowData) (back : List RowData) : 
   pub before : find key_cmp r.name (map chain_pair front) ≡ None
   pub behind : find key_cmp r.name (map chain_pair back) ≡ None
 
-less_than_row : (x : List ℕ) (front : List RowData) (r : RowData) (back : List RowData) → below_all key_cmp x (map chain_pair (front ++ r ∷ back)) ≡ true → key_cmp x r.name ≡ Less
+pub less_than_row : (x : List ℕ) (front : List RowData) (r : RowData) (back : List RowData) → below_all key_cmp x (map chain_pair (front ++ r ∷ back)) ≡ true → key_cmp x r.name ≡ Less
 less_than_row x [] r back h = less_is (key_cmp x r.name) (and_parts (is_lt (key_cmp x r.name)) _ h).0
 less_than_row x (f ∷ front) r back h = less_than_row x front r back (and_parts (is_lt (key_cmp x f.name)) _ h).1
 
@@ -326,6 +325,37 @@ size_rows rows rise =
     ap (λ es. sum (map (λ e. length e.1) es) + length (entries (table_of rows).waiting)) (entries_list (map chain_pair rows) rise)
     ∙ ap (λ es. sum (map (λ e. length e.1) (map chain_pair rows)) + length es) (entries_list (filter_map pending_pair rows) (waits_rise rows rise))
     ∙ lengths rows
+
+-- in how many something waits
+waiting_first : (r : RowData) (rows : List RowData) → waiting_in (r ∷ rows) ≡ option_len r.waiting + waiting_in rows
+waiting_first r rows = at r.waiting where
+  at : (w : Option Pending) → length (cons_option (option_map (λ p. (r.name, p)) w) (filter_map pending_pair rows)) ≡ option_len w + length (filter_map pending_pair rows)
+  at None = omega arith
+  at (Some p) = omega arith
+
+pub waiting_split : (front : List RowData) (r : RowData) (back : List RowData) → waiting_in (front ++ r ∷ back) ≡ waiting_in (front ++ back) + option_len r.waiting
+waiting_split [] r back = let first = waiting_first r back in omega (arith, first)
+waiting_split (f ∷ front) r back =
+    let with_row = waiting_first f (front ++ r ∷ back) in
+    let without = waiting_first f (front ++ back) in
+    let rest = waiting_split front r back in
+    omega (arith, with_row, without, rest)
+
+pub waiting_places : (rows : List RowData) → waiting_in rows ≤ places rows
+waiting_places [] = omega arith
+waiting_places (r ∷ rows) =
+    let first = waiting_first r rows in
+    let rest = waiting_places rows in
+    omega (arith, first, rest)
+
+pub none_ripe : (e : ℕ) (rows : List RowData) → waiting_in rows ≡ 0 → any_ripe e rows ≡ false
+none_ripe e [] none = refl
+none_ripe e (r ∷ rows) none =
+    let first = waiting_first r rows in
+    λ j. at r.waiting (omega (arith, first, none)) j || none_ripe e rows (omega (arith, first, none)) j where
+      at : (w : Option Pending) → option_len w ≡ 0 → is_ripe_behind e (newest r.chain) w ≡ false
+      at None none = nothing_waits e (newest r.chain)
+      at (Some p) none = absurd (omega (arith, none))
 
 -- ---- the tree after a change
 

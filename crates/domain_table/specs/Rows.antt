@@ -1,11 +1,12 @@
--- What the code keeps for a table: rows whose names ascend, each with what it has in the integrity tree.
+-- What the code keeps for a table: rows by name, in the order in which they came, each with what it has in the integrity tree.
+-- What they say is told in the order of names.
 use Rattle.std.specs.Borrow.{Bor}
-use Rattle.std.specs.Prelude.{[], ◌≡◌, ℕ, ◌<◌, ◌≤◌, List, ◌∷◌, ◌++◌, map, length, take, drop, ◌+◌, Bool, true, false, if◌then◌else◌, All, IsTrue, Option, Some, None}
-use Rattle.std.specs.List.{filter_map, list_any}
+use Rattle.std.specs.Prelude.{Vec, [], ◌≡◌, ℕ, ◌<◌, ◌≤◌, List, ◌∷◌, ◌++◌, map, length, take, drop, ◌+◌, Bool, true, false, if◌then◌else◌, filter, All, IsTrue, Option, Some, None}
+use Rattle.std.specs.declared.alloc.Global.{Global}
+use Rattle.std.specs.List.{AllByRecursion, filter_map, list_any}
 use Rattle.std.specs.Option.{option_map}
 use Rattle.std.specs.Ordering.{eq_by_cmp, is_lt}
-use Rattle.std.specs.List.Sorted.{IsPartitionPoint}
-use Rattle.std.specs.FinMap.{from_entries, insert, remove, is_sorted}
+use Rattle.std.specs.FinMap.{find, from_entries, insert, len, remove, is_sorted}
 use Rattle.ar_names.specs.Names.{name_digest_of}
 use Rattle.hash_tree.specs.Strings as strings
 use Rattle.hash_tree.specs.Entries.{Entry, Entries, key_cmp}
@@ -14,6 +15,7 @@ use Rattle.ar_cert.specs.Certificate.{Certificate}
 use Rattle.domain_table.specs.declared.row.Waiting.{Waiting}
 use Rattle.domain_table.specs.declared.row.Marks.{Marks}
 use Rattle.domain_table.specs.declared.row.Row.{Row}
+use Rattle.domain_table.specs.declared.row.Listed.{Listed}
 use Rattle.domain_table.specs.Tables.{Pending, Table, newest, size}
 use Rattle.domain_table.specs.Applying.{is_ripe_behind, most_kept, ripen}
 use Rattle.domain_table.specs.Tree.{value_of, pending_value}
@@ -29,11 +31,41 @@ pub record RowData : Type 0 where
 abbrev pub pending_of : Waiting → Pending
 pending_of w = record { change = w.change; since = w.since }
 
-abbrev pub data_of : Row → RowData
-data_of r = record { name = r.name.items; chain = r.chain.items; waiting = option_map pending_of r.waiting; marks = r.marks }
+-- an entry of the map: a name, and its row
+abbrev pub Named : Type 0
+Named = Vec ℕ Global × Row
 
-abbrev pub data_in : List Row → List RowData
-data_in rows = map data_of rows
+abbrev pub data_of : Named → RowData
+data_of e = record { name = e.0.items; chain = e.1.chain.items; waiting = option_map pending_of e.1.waiting; marks = e.1.marks }
+
+-- the rows in the order in which they came
+abbrev pub rows_in : List Named → List RowData
+rows_in es = map data_of es
+
+-- a row put before the first whose name is greater
+abbrev pub put_row : RowData → List RowData → List RowData
+put_row r [] = r ∷ []
+put_row r (s ∷ rows) = if is_lt (key_cmp r.name s.name) then r ∷ s ∷ rows else s ∷ put_row r rows
+
+-- rows, with each of a list put among them
+abbrev pub put_rows : List RowData → List RowData → List RowData
+put_rows rows [] = rows
+put_rows rows (r ∷ more) = put_rows (put_row r rows) more
+
+-- rows in the order of their names
+abbrev pub by_name : List RowData → List RowData
+by_name rows = put_rows [] rows
+
+-- the rows of a map in the order of their names
+abbrev pub data_in : List Named → List RowData
+data_in es = by_name (rows_in es)
+
+-- the rows with a lesser name, and those with a greater one
+abbrev pub lesser : List ℕ → List RowData → List RowData
+lesser name rows = filter (λ r. is_lt (key_cmp r.name name)) rows
+
+abbrev pub greater : List ℕ → List RowData → List RowData
+greater name rows = filter (λ r. is_lt (key_cmp name r.name)) rows
 
 -- a name with its chain
 abbrev pub chain_pair : RowData → List ℕ × List Change
@@ -75,13 +107,18 @@ pub record AreRows (rows : List RowData) : Type 0 where
   pub rise : IsTrue (is_sorted key_cmp (map chain_pair rows))
   pub marked : All IsMarked rows
 
--- what is kept of a table: its rows, their entries in the tree, and how many certificates and waiting changes
--- there are
-pub record IsKept (rows : List RowData) (trie : Entries) (kept : ℕ) : Type 0 where
+-- how many rows have a change that waits
+abbrev pub waiting_in : List RowData → ℕ
+waiting_in rows = length (filter_map pending_pair rows)
+
+-- what is kept of a table: its rows, their entries in the tree, how many certificates and waiting changes there
+-- are, and how many of these wait
+pub record IsKept (rows : List RowData) (trie : Entries) (kept waiting : ℕ) : Type 0 where
   pub are : AreRows rows
   pub tree : trie ≡ from_entries (marked (marks_of rows))
   pub count : kept ≡ size (table_of rows)
   pub most : kept ≤ most_kept
+  pub wait : waiting ≡ waiting_in rows
 
 -- what is told of a change that waits, as the table has it
 abbrev pub pending_told : Bor Change × ℕ → Pending
@@ -105,9 +142,26 @@ pending_at epoch (Some r) = if is_ripe_row epoch r then None else r.waiting
 
 -- ---- the row of a name
 
--- the rows before the place have lesser names, and those from it on none that is less
-abbrev pub IsPlace : List Row → List ℕ → ℕ → Type 0
-IsPlace rows name i = IsPartitionPoint (λ r. is_lt (key_cmp r.name.items name) ≡ true) (λ r. is_lt (key_cmp r.name.items name) ≡ false) rows i
+-- no row has the name
+abbrev pub IsMissing : List ℕ → List Named → Type 0
+IsMissing name es = All (λ e. eq_by_cmp key_cmp name e.0.items ≡ false) es
+
+-- the marks of the rows with a lesser name, then these, and then those of the rows with a greater one
+abbrev pub with_marks : List ℕ → Marks → List Named → List Marks
+with_marks name m es = marks_of (lesser name (data_in es)) ++ m ∷ marks_of (greater name (data_in es))
+
+-- ---- rows as they are listed
+
+-- a name with its marks
+abbrev pub listed : RowData → List ℕ × Marks
+listed r = (r.name, r.marks)
+
+abbrev pub listed_in : List Listed → List (List ℕ × Marks)
+listed_in ls = map (λ l. (l.name.items, l.marks)) ls
+
+-- the marks of what is listed
+abbrev pub marks_listed : List Listed → List Marks
+marks_listed ls = map (λ l. l.marks) ls
 
 -- ---- the tree
 
@@ -120,6 +174,17 @@ with_entry m key None = remove m key
 abbrev pub hit : {V : Type 0} → List ℕ → Option (List ℕ × V) → Option V
 hit q None = None
 hit q (Some e) = if eq_by_cmp key_cmp q e.0 then Some e.1 else None
+
+-- no marks of these have an entry under the key
+pub record IsAlone (key : List ℕ) (front back : List Marks) : Type 0 where
+  pub names_before : find key_cmp key (map name_entry front) ≡ None
+  pub names_behind : find key_cmp key (map name_entry back) ≡ None
+  pub pendings_before : find key_cmp key (filter_map pending_entry front) ≡ None
+  pub pendings_behind : find key_cmp key (filter_map pending_entry back) ≡ None
+
+-- no two of the entries that marks have are one in the map, if this is told
+abbrev pub HaveOwnKeys : Bool → List Marks → Entries → Type 0
+HaveOwnKeys apart ms trie = apart ≡ true → length (marked ms) ≤ len trie
 
 -- ---- a row that changes
 
@@ -138,19 +203,25 @@ pub record IsChanged (old new : List RowData) (trie : Entries) (i : ℕ) (r : Ro
   pub is_marked : IsMarked (with_row r chain waiting marks)
   pub tree : trie ≡ from_entries (marked (marks_of new))
 
+-- the same of a map: the places are those of its order, and the tree is that of the order of names
+pub record IsChangedIn (old new : List Named) (trie : Entries) (i : ℕ) (r : RowData) (chain : List Change) (waiting : Option Pending) : Type 0 where
+  pub marks : Marks
+  pub rows : rows_in new ≡ take i (rows_in old) ++ with_row r chain waiting marks ∷ drop (i + 1) (rows_in old)
+  pub is_marked : IsMarked (with_row r chain waiting marks)
+  pub tree : trie ≡ from_entries (marked (marks_of (data_in new)))
+
 -- ---- a row that comes in
 
 -- the row of a name whose first change this is
 abbrev pub first_row : List ℕ → Change → Marks → RowData
 first_row name change marks = record { name = name; chain = change ∷ []; waiting = None; marks = marks }
 
--- before the row at a place stands now one that begins with this change, all others are as before, and the tree
--- is theirs
-pub record IsCome (old new : List RowData) (trie : Entries) (i : ℕ) (change : Change) : Type 0 where
+-- behind the rows of a map stands now one that begins with this change, all others are as before, and the tree is theirs
+pub record IsCome (old new : List Named) (trie : Entries) (change : Change) : Type 0 where
   pub marks : Marks
-  pub rows : new ≡ take i old ++ first_row change.cert.name change marks ∷ drop i old
+  pub rows : rows_in new ≡ rows_in old ++ first_row change.cert.name change marks ∷ []
   pub is_marked : IsMarked (first_row change.cert.name change marks)
-  pub tree : trie ≡ from_entries (marked (marks_of new))
+  pub tree : trie ≡ from_entries (marked (marks_of (data_in new)))
 
 -- ---- what ripens
 
@@ -158,10 +229,11 @@ pub record IsCome (old new : List RowData) (trie : Entries) (i : ℕ) (change : 
 abbrev pub any_ripe : ℕ → List RowData → Bool
 any_ripe epoch rows = list_any (is_ripe_row epoch) rows
 
--- up to a place nothing is ripe any longer, and the rows ripen to the table to which the first ones do
-pub record IsRipeUpTo (epoch : ℕ) (first rows : List RowData) (trie : Entries) (i : ℕ) : Type 0 where
-  pub are : AreRows rows
-  pub tree : trie ≡ from_entries (marked (marks_of rows))
-  pub count : length rows ≡ length first
-  pub done : any_ripe epoch (take i rows) ≡ false
-  pub same : ripen (table_of rows) epoch ≡ ripen (table_of first) epoch
+-- up to a place of a map nothing is ripe any longer, and its rows ripen to the table to which the first ones do
+pub record IsRipeUpTo (epoch : ℕ) (first : List RowData) (es : List Named) (trie : Entries) (waiting i : ℕ) : Type 0 where
+  pub are : AreRows (data_in es)
+  pub tree : trie ≡ from_entries (marked (marks_of (data_in es)))
+  pub count : length es ≡ length first
+  pub wait : waiting ≡ waiting_in (data_in es)
+  pub done : any_ripe epoch (take i (rows_in es)) ≡ false
+  pub same : ripen (table_of (data_in es)) epoch ≡ ripen (table_of first) epoch

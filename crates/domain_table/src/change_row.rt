@@ -1,14 +1,18 @@
-ghost use Rattle.std.specs.Prelude.{◌≡◌, ◌<◌, ◌+◌, ◌++◌, ◌∷◌, [], length, take, drop, get_or, None, IfErr, OnOk, OnErr, vec_len, vec_capacity};
+ghost use Rattle.std.specs.Prelude.{◌≡◌, ℕ, ◌<◌, ◌++◌, ◌∷◌, [], length, get_or, None, IfErr, OnOk, OnErr, Vec, vec_len, vec_capacity};
+ghost use Rattle.std.specs.declared.alloc.Global.{Global};
 ghost use Rattle.std.specs.FinMap.{from_entries};
 ghost use Rattle.std.specs.Option.{option_map};
 ghost use Rattle.ar_cert.specs.Certificate.{certificate_value};
 ghost use Rattle.domain_table.specs.Tree.{pending_value};
-ghost use Rattle.domain_table.specs.Rows.{RowData, AreRows, IsChanged, data_in, data_of, marked, marks_of, waits, with_row};
+ghost use Rattle.domain_table.specs.Rows.{RowData, HaveOwnKeys, AreRows, IsChangedIn, Named, data_in, data_of, marked, marks_of, rows_in, waits, with_marks, with_row};
 
+use crate::counted_trie::CountedTrie;
 use crate::row::{Marks, Row, Waiting};
+use crate::rows::row_at;
 use crate::tree::{retrie_both, retrie_name, retrie_pending};
 use ar_cert::Change;
-use hash_tree::{Trie, pending_digest};
+use hash_tree::pending_digest;
+use indexmap::IndexMap;
 use std::alloc::{AllocError, Global};
 
 /// The value of a change in the tree once it is the newest.
@@ -28,24 +32,24 @@ fn waiting_value(change: &Change, since: Option<u64>) -> Option<[u8; 32]>
     }
 }
 
-/// The rows before a place, and those behind it.
-fn parts(rows: &[Row], i: usize) -> (&[Row], &[Row])
-    requires { i < length rows.now }
-    ensures front { data_in result.0.now ≡ take i (data_in rows.now) }
-    ensures back { data_in result.1.now ≡ drop (i + 1) (data_in rows.now) }
+/// The name of the row at a place.
+fn name_at(rows: &IndexMap<Vec<u8>, Row>, i: usize) -> &[u8]
+    requires { i < length rows.now.entries }
+    ensures { (d : Named) → result.now ≡ (get_or rows.now.entries i d).0.items }
 {
-    let (front, _) = rows.split_at(i);
-    let (_, back) = rows.split_at(i + 1);
-    (front, back)
+    match rows.get_index(i) {
+        Some((name, _)) => name.as_slice(),
+        None => unreachable!(),
+    }
 }
 
 /// Makes room for one more change in the row at a place.
-fn make_room(rows: &mut Vec<Row>, i: usize) -> Result<(), AllocError>
-    requires { i < length rows.old.items }
-    ensures same { data_in rows.new.items ≡ data_in rows.old.items }
-    ensures ok { OnOk result ((d : Row)
-        → vec_len (get_or rows.new.items i d).chain
-        < vec_capacity (get_or rows.new.items i d).chain) }
+fn make_room(rows: &mut IndexMap<Vec<u8>, Row>, i: usize) -> Result<(), AllocError>
+    requires { i < length rows.old.entries }
+    ensures same { rows_in rows.new.entries ≡ rows_in rows.old.entries }
+    ensures ok { OnOk result ((d : Named)
+        → vec_len (get_or rows.new.entries i d).1.chain
+        < vec_capacity (get_or rows.new.entries i d).1.chain) }
 {
     rows[i].chain.reserve(1)
 }
@@ -53,8 +57,8 @@ fn make_room(rows: &mut Vec<Row>, i: usize) -> Result<(), AllocError>
 /// Appends a change, for which there is room, to the chain of a row. Nothing waits then.
 fn grow(row: &mut Row, change: Change, marks: Marks)
     requires { vec_len row.old.chain < vec_capacity row.old.chain }
-    ensures { data_of row.new
-        ≡ with_row (data_of row.old) ((data_of row.old).chain ++ change ∷ []) None marks }
+    ensures { (name : Vec ℕ Global) → data_of (name, row.new)
+        ≡ with_row (data_of (name, row.old)) (row.old.chain.items ++ change ∷ []) None marks }
 {
     row.chain.push_reserved(change);
     row.waiting = None;
@@ -64,26 +68,27 @@ fn grow(row: &mut Row, change: Change, marks: Marks)
 /// Brings the tree up to date where a row grows and nothing waits.
 fn retrie(
     alloc: Global,
-    trie: &mut Trie,
-    front: &[Row],
+    rows: &IndexMap<Vec<u8>, Row>,
+    trie: &mut CountedTrie,
+    name: &[u8],
     old: &Marks,
     new: &Marks,
-    back: &[Row],
+    apart: bool,
 ) -> Result<(), AllocError>
     requires key { new.now.key ≡ old.now.key }
     requires pending_key { new.now.pending_key ≡ old.now.pending_key }
     requires pending { new.now.pending_value ≡ None }
+    requires are { AreRows (data_in rows.now.entries) }
     requires tree { trie.old
-        ≡ from_entries (marked
-        (marks_of (data_in front.now) ++ old.now ∷ marks_of (data_in back.now))) }
+        ≡ from_entries (marked (with_marks name.now old.now rows.now.entries)) }
+    requires apart { HaveOwnKeys apart (with_marks name.now old.now rows.now.entries) trie.old }
     ensures ok { OnOk result
-        (trie.new ≡ from_entries
-        (marked (marks_of (data_in front.now) ++ new.now ∷ marks_of (data_in back.now)))) }
+        (trie.new ≡ from_entries (marked (with_marks name.now new.now rows.now.entries))) }
     ensures err { OnErr result (trie.new ≡ trie.old) }
 {
     match old.pending_value {
-        None => retrie_name(alloc, trie, front, old, new, back),
-        Some(_) => retrie_both(alloc, trie, front, old, new, back),
+        None => retrie_name(alloc, rows, trie, name, old, new, apart),
+        Some(_) => retrie_both(alloc, rows, trie, name, old, new, apart),
     }
 }
 
@@ -91,34 +96,36 @@ fn retrie(
 /// no longer.
 pub(crate) fn append(
     alloc: Global,
-    rows: &mut Vec<Row>,
-    trie: &mut Trie,
+    rows: &mut IndexMap<Vec<u8>, Row>,
+    trie: &mut CountedTrie,
     i: usize,
     change: Change,
+    apart: bool,
 ) -> Result<(), (Change, AllocError)>
-    requires place { i < length rows.old.items }
-    requires are { AreRows (data_in rows.old.items) }
-    requires tree { trie.old ≡ from_entries (marked (marks_of (data_in rows.old.items))) }
+    requires place { i < length rows.old.entries }
+    requires are { AreRows (data_in rows.old.entries) }
+    requires tree { trie.old ≡ from_entries (marked (marks_of (data_in rows.old.entries))) }
+    requires apart { HaveOwnKeys apart (marks_of (data_in rows.old.entries)) trie.old }
     ensures ok { OnOk result ((d : RowData)
-        → IsChanged (data_in rows.old.items) (data_in rows.new.items) trie.new i
-        (get_or (data_in rows.old.items) i d)
-        ((get_or (data_in rows.old.items) i d).chain ++ change ∷ []) None) }
+        → IsChangedIn rows.old.entries rows.new.entries trie.new i
+        (get_or (rows_in rows.old.entries) i d)
+        ((get_or (rows_in rows.old.entries) i d).chain ++ change ∷ []) None) }
     ensures back { IfErr result (λ e. e.0 ≡ change) }
-    ensures same { OnErr result (data_in rows.new.items ≡ data_in rows.old.items) }
+    ensures same { OnErr result (data_in rows.new.entries ≡ data_in rows.old.entries) }
     ensures same_tree { OnErr result (trie.new ≡ trie.old) }
 {
     if let Err(error) = make_room(rows, i) {
         return Err((change, error));
     }
-    let old = rows[i].marks;
+    let old = row_at(rows, i).marks;
     let new = Marks {
         key: old.key,
         value: newest_value(&change),
         pending_key: old.pending_key,
         pending_value: None,
     };
-    let (front, back) = parts(rows, i);
-    if let Err(error) = retrie(alloc, trie, front, &old, &new, back) {
+    let name = name_at(rows, i);
+    if let Err(error) = retrie(alloc, rows, trie, name, &old, &new, apart) {
         return Err((change, error));
     }
     grow(&mut rows[i], change, new);
@@ -127,8 +134,8 @@ pub(crate) fn append(
 
 /// The change waits in a row since this epoch, or nothing waits there where none is told.
 fn hold(row: &mut Row, change: Change, since: Option<u64>, marks: Marks)
-    ensures { data_of row.new
-        ≡ with_row (data_of row.old) (data_of row.old).chain (waits change since) marks }
+    ensures { (name : Vec ℕ Global) → data_of (name, row.new)
+        ≡ with_row (data_of (name, row.old)) row.old.chain.items (waits change since) marks }
 {
     row.waiting = match since {
         Some(since) => Some(Waiting { change, since }),
@@ -141,32 +148,34 @@ fn hold(row: &mut Row, change: Change, since: Option<u64>, marks: Marks)
 /// the tree is brought up to date.
 pub(crate) fn wait(
     alloc: Global,
-    rows: &mut Vec<Row>,
-    trie: &mut Trie,
+    rows: &mut IndexMap<Vec<u8>, Row>,
+    trie: &mut CountedTrie,
     i: usize,
     change: Change,
     since: Option<u64>,
+    apart: bool,
 ) -> Result<(), (Change, AllocError)>
-    requires place { i < length rows.old.items }
-    requires are { AreRows (data_in rows.old.items) }
-    requires tree { trie.old ≡ from_entries (marked (marks_of (data_in rows.old.items))) }
+    requires place { i < length rows.old.entries }
+    requires are { AreRows (data_in rows.old.entries) }
+    requires tree { trie.old ≡ from_entries (marked (marks_of (data_in rows.old.entries))) }
+    requires apart { HaveOwnKeys apart (marks_of (data_in rows.old.entries)) trie.old }
     ensures ok { OnOk result ((d : RowData)
-        → IsChanged (data_in rows.old.items) (data_in rows.new.items) trie.new i
-        (get_or (data_in rows.old.items) i d)
-        (get_or (data_in rows.old.items) i d).chain (waits change since)) }
+        → IsChangedIn rows.old.entries rows.new.entries trie.new i
+        (get_or (rows_in rows.old.entries) i d)
+        (get_or (rows_in rows.old.entries) i d).chain (waits change since)) }
     ensures back { IfErr result (λ e. e.0 ≡ change) }
-    ensures same { OnErr result (data_in rows.new.items ≡ data_in rows.old.items) }
+    ensures same { OnErr result (data_in rows.new.entries ≡ data_in rows.old.entries) }
     ensures same_tree { OnErr result (trie.new ≡ trie.old) }
 {
-    let old = rows[i].marks;
+    let old = row_at(rows, i).marks;
     let new = Marks {
         key: old.key,
         value: old.value,
         pending_key: old.pending_key,
         pending_value: waiting_value(&change, since),
     };
-    let (front, back) = parts(rows, i);
-    if let Err(error) = retrie_pending(alloc, trie, front, &old, &new, back) {
+    let name = name_at(rows, i);
+    if let Err(error) = retrie_pending(alloc, rows, trie, name, &old, &new, apart) {
         return Err((change, error));
     }
     hold(&mut rows[i], change, since, new);

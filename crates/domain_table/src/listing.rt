@@ -2,9 +2,11 @@ ghost use Rattle.std.specs.Prelude.{◌≡◌, ◌++◌, ◌∷◌, [], List, ma
 ghost use Rattle.std.specs.List.{cons_option, filter_map};
 ghost use Rattle.std.specs.FinMap.{entries};
 ghost use Rattle.hash_tree.specs.Entries.{Entry, entries_of};
-ghost use Rattle.domain_table.specs.Rows.{data_in, marked, marks_of, name_entry, pending_entry};
+ghost use Rattle.domain_table.specs.Rows.{data_in, marked, marks_listed, marks_of, name_entry, pending_entry};
 
-use crate::row::{Marks, Row};
+use crate::listed::list_rows;
+use crate::row::{Listed, Marks, Row};
+use indexmap::IndexMap;
 use std::alloc::{AllocError, Global};
 use std::collections::BTreeMap;
 
@@ -33,11 +35,11 @@ fn put_pending(list: &mut BTreeMap<[u8; 32], [u8; 32]>, marks: &Marks) -> Result
 }
 
 /// Adds the entries of what waits in rows, from the last to the first.
-fn list_pending(list: &mut BTreeMap<[u8; 32], [u8; 32]>, rows: &[Row]) -> Result<(), AllocError>
+fn list_pending(list: &mut BTreeMap<[u8; 32], [u8; 32]>, rows: &[Listed]) -> Result<(), AllocError>
     requires { list.old.entries ≡ [] }
     ensures { OnOk result
         (list.new.entries ≡ entries
-        (entries_of (filter_map pending_entry (marks_of (data_in rows.now))))) }
+        (entries_of (filter_map pending_entry (marks_listed rows.now)))) }
 {
     let mut i = rows.len();
     while i > 0 {
@@ -48,10 +50,10 @@ fn list_pending(list: &mut BTreeMap<[u8; 32], [u8; 32]>, rows: &[Row]) -> Result
 }
 
 /// Adds the entries of the names of rows, from the last to the first, in front of others.
-fn list_names(list: &mut BTreeMap<[u8; 32], [u8; 32]>, rows: &[Row]) -> Result<(), AllocError>
+fn list_names(list: &mut BTreeMap<[u8; 32], [u8; 32]>, rows: &[Listed]) -> Result<(), AllocError>
     ensures { OnOk result ((es : List Entry) → list.old.entries ≡ entries (entries_of es)
         → list.new.entries ≡ entries
-        (entries_of (map name_entry (marks_of (data_in rows.now)) ++ es))) }
+        (entries_of (map name_entry (marks_listed rows.now) ++ es))) }
 {
     let mut i = rows.len();
     while i > 0 {
@@ -61,17 +63,26 @@ fn list_names(list: &mut BTreeMap<[u8; 32], [u8; 32]>, rows: &[Row]) -> Result<(
     Ok(())
 }
 
-/// The entries of rows, in the order of their keys. Where two have one key, names come before what waits, and
-/// the lesser name first.
-pub(crate) fn list_entries(
-    alloc: Global,
-    rows: &[Row],
-) -> Result<Vec<([u8; 32], [u8; 32])>, AllocError>
+/// The entries of what is listed, in the order of their keys.
+fn entries_listed(alloc: Global, rows: &[Listed]) -> Result<Vec<([u8; 32], [u8; 32])>, AllocError>
     ensures { IfOk result (λ list.
-        list.items ≡ entries (entries_of (marked (marks_of (data_in rows.now))))) }
+        list.items ≡ entries (entries_of (marked (marks_listed rows.now)))) }
 {
     let mut list = BTreeMap::new(alloc);
     list_pending(&mut list, rows)?;
     list_names(&mut list, rows)?;
     list.into_iter().collect(alloc)
+}
+
+/// The entries of rows, in the order of their keys. Where two have one key, names come before what waits, and
+/// the lesser name first.
+pub(crate) fn list_entries(
+    alloc: Global,
+    rows: &IndexMap<Vec<u8>, Row>,
+) -> Result<Vec<([u8; 32], [u8; 32])>, AllocError>
+    ensures { IfOk result (λ list.
+        list.items ≡ entries (entries_of (marked (marks_of (data_in rows.now.entries))))) }
+{
+    let rows = list_rows(alloc, rows)?;
+    entries_listed(alloc, &rows)
 }

@@ -1,16 +1,20 @@
-ghost use Rattle.std.specs.Prelude.{◌≡◌, ◌<◌, ◌≤◌, ◌++◌, ◌∷◌, [], length, take, drop, None, IfErr, IfOk, OnOk, OnErr, vec_len, vec_capacity};
+ghost use Rattle.std.specs.Prelude.{◌≡◌, ℕ, ◌<◌, ◌++◌, ◌∷◌, [], None, IfErr, IfOk, OnOk, OnErr, Vec, vec_len, vec_capacity};
+ghost use Rattle.std.specs.declared.alloc.Global.{Global};
+ghost use Rattle.indexmap.specs.IndexMap.{spare};
 ghost use Rattle.std.specs.FinMap.{from_entries};
 ghost use Rattle.ar_cert.specs.Certificate.{certificate_value};
 ghost use Rattle.ar_names.specs.Names.{name_digest_of};
 ghost use Rattle.hash_tree.specs.Strings as strings;
-ghost use Rattle.domain_table.specs.declared.row.Row.{Row};
-ghost use Rattle.domain_table.specs.Rows.{IsCome, data_in, data_of, first_row, marked, marks_of};
+ghost use Rattle.domain_table.specs.Rows.{AreRows, IsCome, IsMissing, data_in, data_of, first_row, marked, marks_of, with_marks};
 
+use crate::counted_trie::CountedTrie;
 use crate::row::{Marks, Row};
+use crate::row_copy::push_row;
 use crate::rows::name_of;
-use crate::tree::refresh;
+use crate::tree::{name_now, refresh};
 use ar_cert::Change;
-use hash_tree::{Trie, pending_key};
+use hash_tree::pending_key;
+use indexmap::IndexMap;
 use std::alloc::{AllocError, Global};
 
 /// What a name has in the tree whose first change this is.
@@ -28,39 +32,32 @@ fn first_marks(change: &Change) -> Marks
     }
 }
 
-/// The rows before a place, and those from it on.
-fn halves(rows: &[Row], i: usize) -> (&[Row], &[Row])
-    requires { i ≤ length rows.now }
-    ensures front { data_in result.0.now ≡ take i (data_in rows.now) }
-    ensures back { data_in result.1.now ≡ drop i (data_in rows.now) }
-{
-    rows.split_at(i)
-}
-
-/// The tree with the entry of marks that come in between two parts.
+/// The tree with the entry of the marks of a name that no row has.
 fn retrie_come(
     alloc: Global,
-    trie: &mut Trie,
-    front: &[Row],
+    rows: &IndexMap<Vec<u8>, Row>,
+    trie: &mut CountedTrie,
+    name: &[u8],
     marks: &Marks,
-    back: &[Row],
 ) -> Result<(), AllocError>
     requires free { marks.now.pending_value ≡ None }
-    requires tree { trie.old
-        ≡ from_entries (marked (marks_of (data_in front.now) ++ marks_of (data_in back.now))) }
+    requires are { AreRows (data_in rows.now.entries) }
+    requires absent { IsMissing name.now rows.now.entries }
+    requires tree { trie.old ≡ from_entries (marked (marks_of (data_in rows.now.entries))) }
     ensures ok { OnOk result
-        (trie.new ≡ from_entries
-        (marked (marks_of (data_in front.now) ++ marks.now ∷ marks_of (data_in back.now)))) }
+        (trie.new ≡ from_entries (marked (with_marks name.now marks.now rows.now.entries))) }
     ensures err { OnErr result (trie.new ≡ trie.old) }
 {
-    refresh(alloc, trie, front, marks, back, &marks.key)?;
+    let alone = trie.get(&marks.key).is_none();
+    let value = name_now(alloc, rows, name, marks, alone)?;
+    refresh(alloc, trie, &marks.key, value)?;
     Ok(())
 }
 
 /// Makes room for one more row.
-fn make_place(rows: &mut Vec<Row>) -> Result<(), AllocError>
-    ensures same { rows.new.items ≡ rows.old.items }
-    ensures ok { OnOk result (vec_len rows.new < vec_capacity rows.new) }
+fn make_place(rows: &mut IndexMap<Vec<u8>, Row>) -> Result<(), AllocError>
+    ensures same { rows.new.entries ≡ rows.old.entries }
+    ensures ok { OnOk result (0 < spare rows.new) }
 {
     rows.reserve(1)
 }
@@ -75,29 +72,27 @@ fn chain_room(alloc: Global) -> Result<Vec<Change>, AllocError>
 }
 
 /// A row of one change.
-fn row_with(name: Vec<u8>, chain: Vec<Change>, change: Change, marks: Marks) -> Row
+fn row_with(chain: Vec<Change>, change: Change, marks: Marks) -> Row
     requires empty { chain.items ≡ [] }
     requires room { vec_len chain < vec_capacity chain }
-    ensures { data_of result ≡ first_row name.items change marks }
+    ensures { (name : Vec ℕ Global) → data_of (name, result) ≡ first_row name.items change marks }
 {
     let mut chain = chain;
     chain.push_reserved(change);
     Row {
-        name,
         chain,
         waiting: None,
         marks,
     }
 }
 
-/// Puts a row at a place, for which there is room.
-fn set_in(rows: &mut Vec<Row>, i: usize, row: Row)
-    requires place { i ≤ length rows.old.items }
-    requires room { vec_len rows.old < vec_capacity rows.old }
-    ensures { data_in rows.new.items ≡ take i (data_in rows.old.items) ++ data_of row
-        ∷ drop i (data_in rows.old.items) }
+/// Puts the row of a name that no row has behind the others, for which there is room.
+fn set_in(rows: &mut IndexMap<Vec<u8>, Row>, name: Vec<u8>, row: Row)
+    requires absent { IsMissing name.items rows.old.entries }
+    requires room { 0 < spare rows.old }
+    ensures { rows.new.entries ≡ rows.old.entries ++ (name, row) ∷ [] }
 {
-    match rows.insert(i, row) {
+    match push_row(rows, name, row) {
         Ok(()) => {}
         Err(_) => unreachable!(),
     }
@@ -114,21 +109,19 @@ fn memory_of(alloc: Global, change: &Change) -> Result<(Vec<u8>, Vec<Change>), A
     Ok((name, chain))
 }
 
-/// Begins the chain of a name that no row has, at the place that it has among the others, and brings the tree
-/// up to date.
+/// Begins the chain of a name that no row has, behind the others, and brings the tree up to date.
 pub(crate) fn come(
     alloc: Global,
-    rows: &mut Vec<Row>,
-    trie: &mut Trie,
-    i: usize,
+    rows: &mut IndexMap<Vec<u8>, Row>,
+    trie: &mut CountedTrie,
     change: Change,
 ) -> Result<(), (Change, AllocError)>
-    requires place { i ≤ length rows.old.items }
-    requires tree { trie.old ≡ from_entries (marked (marks_of (data_in rows.old.items))) }
-    ensures ok { OnOk result
-        (IsCome (data_in rows.old.items) (data_in rows.new.items) trie.new i change) }
+    requires are { AreRows (data_in rows.old.entries) }
+    requires absent { IsMissing change.cert.name rows.old.entries }
+    requires tree { trie.old ≡ from_entries (marked (marks_of (data_in rows.old.entries))) }
+    ensures ok { OnOk result (IsCome rows.old.entries rows.new.entries trie.new change) }
     ensures back { IfErr result (λ e. e.0 ≡ change) }
-    ensures same { OnErr result (data_in rows.new.items ≡ data_in rows.old.items) }
+    ensures same { OnErr result (data_in rows.new.entries ≡ data_in rows.old.entries) }
     ensures same_tree { OnErr result (trie.new ≡ trie.old) }
 {
     let (name, chain) = match memory_of(alloc, &change) {
@@ -139,10 +132,9 @@ pub(crate) fn come(
         return Err((change, error));
     }
     let marks = first_marks(&change);
-    let (front, back) = halves(rows, i);
-    if let Err(error) = retrie_come(alloc, trie, front, &marks, back) {
+    if let Err(error) = retrie_come(alloc, rows, trie, name.as_slice(), &marks) {
         return Err((change, error));
     }
-    set_in(rows, i, row_with(name, chain, change, marks));
+    set_in(rows, name, row_with(chain, change, marks));
     Ok(())
 }

@@ -21,13 +21,19 @@ pub(crate) struct Marks {
     pub(crate) pending_value: Option<[u8; 32]>,
 }
 
-/// A name of a table.
+/// What a table has of a name.
 #[derive(Debug, Drop)]
 pub(crate) struct Row {
-    pub(crate) name: Vec<u8>,
     /// The changes of the name, the oldest first: there is one at least.
     pub(crate) chain: Vec<Change>,
     /// The change that waits for the name.
     pub(crate) waiting: Option<Waiting>,
+    pub(crate) marks: Marks,
+}
+
+/// A name, and what it has in the integrity tree.
+#[derive(Debug, Drop)]
+pub(crate) struct Listed {
+    pub(crate) name: Vec<u8>,
     pub(crate) marks: Marks,
 }

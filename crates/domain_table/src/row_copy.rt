@@ -1,9 +1,12 @@
-ghost use Rattle.std.specs.Prelude.{◌≡◌, IfOk};
+ghost use Rattle.std.specs.Prelude.{◌≡◌, ℕ, ◌++◌, ◌∷◌, [], ◌<◌, IfOk, IsOk, OnOk, OnErr, Vec};
+ghost use Rattle.std.specs.declared.alloc.Global.{Global};
+ghost use Rattle.indexmap.specs.IndexMap.{spare};
 ghost use Rattle.std.specs.Option.{option_map};
-ghost use Rattle.domain_table.specs.Rows.{data_in, data_of, pending_of};
+ghost use Rattle.domain_table.specs.Rows.{IsMissing, data_of, pending_of, rows_in};
 
 use crate::row::{Row, Waiting};
 use ar_cert::Change;
+use indexmap::IndexMap;
 use std::alloc::{AllocError, Global};
 
 /// Copies of changes, in their order. The only error is want of memory.
@@ -32,26 +35,48 @@ fn copy_waiting(alloc: Global, waiting: &Option<Waiting>) -> Result<Option<Waiti
 
 /// A row that says the same.
 fn copy_row(alloc: Global, row: &Row) -> Result<Row, AllocError>
-    ensures { IfOk result (λ copy. data_of copy ≡ data_of row.now) }
+    ensures { IfOk result (λ copy.
+        (name : Vec ℕ Global) → data_of (name, copy) ≡ data_of (name, row.now)) }
 {
-    let name = Vec::from_slice(alloc, row.name.as_slice())?;
     let chain = copy_changes(alloc, row.chain.as_slice())?;
     let waiting = copy_waiting(alloc, &row.waiting)?;
     Ok(Row {
-        name,
         chain,
         waiting,
         marks: row.marks,
     })
 }
 
-/// Rows that say the same, in memory of their own.
-pub(crate) fn copy_rows(alloc: Global, rows: &[Row]) -> Result<Vec<Row>, AllocError>
-    ensures { IfOk result (λ copies. data_in copies.items ≡ data_in rows.now) }
+/// Puts a row behind others, of a name that none of them has. The only error is want of memory, and then all is as
+/// before.
+pub(crate) fn push_row(
+    rows: &mut IndexMap<Vec<u8>, Row>,
+    name: Vec<u8>,
+    row: Row,
+) -> Result<(), AllocError>
+    requires { IsMissing name.items rows.old.entries }
+    ensures ok { OnOk result (rows.new.entries ≡ rows.old.entries ++ (name, row) ∷ []) }
+    ensures same { OnErr result (rows.new.entries ≡ rows.old.entries) }
+    ensures room { 0 < spare rows.old → IsOk result }
 {
-    let mut copies = Vec::with_capacity(alloc, rows.len())?;
-    for row in rows {
-        copies.push(copy_row(alloc, row)?)?;
+    match rows.insert(name, row) {
+        Ok(_) => Ok(()),
+        Err(_) => Err(AllocError),
+    }
+}
+
+/// Rows that say the same, in the same order, in memory of their own.
+pub(crate) fn copy_rows(
+    alloc: Global,
+    rows: &IndexMap<Vec<u8>, Row>,
+) -> Result<IndexMap<Vec<u8>, Row>, AllocError>
+    ensures { IfOk result (λ copies. rows_in copies.entries ≡ rows_in rows.now.entries) }
+{
+    let mut copies = IndexMap::with_capacity(alloc, rows.len())?;
+    for (name, row) in rows.iter() {
+        let name = Vec::from_slice(alloc, name.as_slice())?;
+        let row = copy_row(alloc, row)?;
+        push_row(&mut copies, name, row)?;
     }
     Ok(copies)
 }

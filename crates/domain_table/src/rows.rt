@@ -1,37 +1,20 @@
-ghost use Rattle.std.specs.Prelude.{option_and_then, ◌≡◌, ◌≤◌, ◌<◌, length, map, ℕ, get_or, Some, None, IfErr, IfOk, IsTrue, false};
+ghost use Rattle.std.specs.Prelude.{option_and_then, ◌≡◌, ◌<◌, length, map, ℕ, get_or, Some, None, IfSome, IfNone, IsTrue, Vec};
+ghost use Rattle.std.specs.declared.alloc.Global.{Global};
 ghost use Rattle.std.specs.Option.{option_map};
-ghost use Rattle.std.specs.Ordering.{eq_by_cmp, is_lt};
-ghost use Rattle.std.specs.List.Sorted.{IsPartitionedBy};
 ghost use Rattle.std.specs.FinMap.{get, is_sorted};
 ghost use Rattle.hash_tree.specs.Entries.{key_cmp};
 ghost use Rattle.domain_table.specs.Tables.{chain_of, newest, size};
-ghost use Rattle.domain_table.specs.declared.row.Row.{Row};
-ghost use Rattle.domain_table.specs.Applying.{is_over, judge, manner_of, ripen, with_room};
-ghost use Rattle.domain_table.specs.Rows.{AreRows, IsPlace, chain_pair, data_in, data_of, table_of, is_ripe_row, newest_at, pending_at, pending_of, pending_told};
+ghost use Rattle.domain_table.specs.Applying.{is_over, is_ripe_behind, judge, manner_of, ripen, with_room};
+ghost use Rattle.domain_table.specs.Rows.{AreRows, IsMissing, Named, chain_pair, data_in, data_of, table_of, newest_at, pending_at, pending_of, pending_told};
 
 use crate::refusal::ChangeRefusal;
 use crate::row::Row;
 use ar_cert::{Cert, Change, judge_change, judge_update};
 use cert_policy::{Manner, PolicyRefusal};
+use indexmap::IndexMap;
 
 /// How many certificates and waiting changes a table may have.
 const MOST_KEPT: usize = 4096;
-
-/// Whether a row has a lesser name.
-fn is_before(row: &Row, name: &[u8]) -> bool
-    ensures { result ≡ is_lt (key_cmp row.now.name.items name.now) }
-{
-    row.name.as_slice().cmp(name).is_lt()
-}
-
-/// The place of a name among rows whose names ascend: the rows before it have lesser names.
-pub(crate) fn place(rows: &[Row], name: &[u8]) -> usize
-    ensures in_range { result ≤ length rows.now }
-    ensures point { IsPartitionedBy (λ r. is_lt (key_cmp r.name.items name.now)) rows.now
-        → IsPlace rows.now name.now result }
-{
-    rows.partition_point(|row| is_before(row, name))
-}
 
 /// Whether a change that waits since then has waited as long as the policy says.
 fn is_over(epoch: u64, since: u64, wait: Option<u16>) -> bool
@@ -65,7 +48,9 @@ pub(crate) fn newest_certificate(chain: &[Change]) -> Option<&Cert>
 
 /// Whether what waits in a row is ripe at an epoch.
 pub(crate) fn is_ripe(row: &Row, epoch: u64) -> bool
-    ensures { result ≡ is_ripe_row epoch (data_of row.now) }
+    ensures { result
+        ≡ is_ripe_behind epoch (newest row.now.chain.items)
+        (option_map pending_of row.now.waiting) }
 {
     let (Some(last), Some(waiting)) = (newest(&row.chain), &row.waiting) else {
         return false;
@@ -87,8 +72,9 @@ fn judge_first(change: &Change) -> Result<Manner, PolicyRefusal>
 /// How a change is taken behind the changes of a row as they stand at the epoch.
 fn judge_next(row: &Row, epoch: u64, change: &Change) -> Result<Manner, PolicyRefusal>
     requires { 0 < length row.now.chain.items }
-    ensures { result ≡ manner_of (newest_at epoch (Some (data_of row.now)))
-        (pending_at epoch (Some (data_of row.now))) change.now }
+    ensures { (name : Vec ℕ Global) → result
+        ≡ manner_of (newest_at epoch (Some (data_of (name, row.now))))
+        (pending_at epoch (Some (data_of (name, row.now)))) change.now }
 {
     if is_ripe(row, epoch) {
         let Some(waiting) = &row.waiting else {
@@ -105,45 +91,35 @@ fn judge_next(row: &Row, epoch: u64, change: &Change) -> Result<Manner, PolicyRe
     }
 }
 
-/// Whether a row has this name.
-fn has_name(row: &Row, name: &[u8]) -> bool
-    ensures { result ≡ eq_by_cmp key_cmp name.now row.now.name.items }
+/// The place of the row of a name, among rows in the order in which they came.
+pub(crate) fn find(rows: &IndexMap<Vec<u8>, Row>, name: &[u8]) -> Option<usize>
+    ensures found { IfSome result (λ i. (i < length rows.now.entries)
+        × ((d : Named) → (get_or rows.now.entries i d).0.items ≡ name.now)) }
+    ensures absent { IfNone result (IsMissing name.now rows.now.entries) }
 {
-    name.cmp(row.name.as_slice()).is_eq()
+    rows.get_index_of(name)
 }
 
-/// The place of the row with this name, or the place that the name has among the others.
-pub(crate) fn find(rows: &[Row], name: &[u8]) -> Result<usize, usize>
-    requires { IsTrue (is_sorted key_cmp (map chain_pair (data_in rows.now))) }
-    ensures found { IfOk result (λ i.
-        (i < length rows.now) × ((d : Row) → (get_or rows.now i d).name.items ≡ name.now)) }
-    ensures absent { IfErr result (λ i. (i ≤ length rows.now) × (IsPlace rows.now name.now i
-        × ((k : ℕ) (d : Row) → k < length rows.now
-        → eq_by_cmp key_cmp name.now (get_or rows.now k d).name.items ≡ false))) }
+/// The row at a place.
+pub(crate) fn row_at(rows: &IndexMap<Vec<u8>, Row>, i: usize) -> &Row
+    requires { i < length rows.now.entries }
+    ensures { (d : Named) → result.now ≡ (get_or rows.now.entries i d).1 }
 {
-    let i = place(rows, name);
-    if i == rows.len() {
-        return Err(i);
-    }
-    if has_name(&rows[i], name) {
-        Ok(i)
-    } else {
-        Err(i)
-    }
+    &rows[i]
 }
 
-/// The row with this name.
-pub(crate) fn row_of<'a>(rows: &'a [Row], name: &[u8]) -> Option<&'a Row>
-    requires { IsTrue (is_sorted key_cmp (map chain_pair (data_in rows.now))) }
-    ensures chain { option_map (λ row.
-        row.now.chain.items) result ≡ get (table_of (data_in rows.now)).chains name.now }
+/// The row of a name.
+pub(crate) fn row_of<'a>(rows: &'a IndexMap<Vec<u8>, Row>, name: &[u8]) -> Option<&'a Row>
+    requires { IsTrue (is_sorted key_cmp (map chain_pair (data_in rows.now.entries))) }
+    ensures chain { option_map (λ row. row.now.chain.items) result
+        ≡ get (table_of (data_in rows.now.entries)).chains name.now }
     ensures waiting { option_and_then (λ row.
         option_map pending_of row.now.waiting) result
-        ≡ get (table_of (data_in rows.now)).waiting name.now }
+        ≡ get (table_of (data_in rows.now.entries)).waiting name.now }
 {
     match find(rows, name) {
-        Ok(i) => Some(&rows[i]),
-        Err(_) => None,
+        Some(i) => Some(row_at(rows, i)),
+        None => None,
     }
 }
 
@@ -163,15 +139,20 @@ pub(crate) fn name_of(change: &Change) -> &[u8]
 }
 
 /// How a change is taken at an epoch among rows.
-pub(crate) fn judge_rows(rows: &[Row], epoch: u64, change: &Change) -> Result<Manner, PolicyRefusal>
-    requires { AreRows (data_in rows.now) }
+pub(crate) fn judge_rows(
+    rows: &IndexMap<Vec<u8>, Row>,
+    epoch: u64,
+    change: &Change,
+) -> Result<Manner, PolicyRefusal>
+    requires { AreRows (data_in rows.now.entries) }
     ensures { result ≡ manner_of
-        (newest (chain_of (ripen (table_of (data_in rows.now)) epoch) change.now.cert.name))
-        (get (ripen (table_of (data_in rows.now)) epoch).waiting change.now.cert.name) change.now }
+        (newest (chain_of (ripen (table_of (data_in rows.now.entries)) epoch) change.now.cert.name))
+        (get (ripen (table_of (data_in rows.now.entries)) epoch).waiting change.now.cert.name)
+        change.now }
 {
     match find(rows, name_of(change)) {
-        Ok(i) => judge_next(&rows[i], epoch, change),
-        Err(_) => judge_first(change),
+        Some(i) => judge_next(row_at(rows, i), epoch, change),
+        None => judge_first(change),
     }
 }
 
@@ -198,14 +179,14 @@ pub(crate) fn with_room(
 /// How a change is taken at an epoch among rows that are so many certificates and waiting changes, or why it is
 /// refused.
 pub(crate) fn judged(
-    rows: &[Row],
+    rows: &IndexMap<Vec<u8>, Row>,
     kept: usize,
     epoch: u64,
     change: &Change,
 ) -> Result<Manner, ChangeRefusal>
-    requires are { AreRows (data_in rows.now) }
-    requires count { kept ≡ size (table_of (data_in rows.now)) }
-    ensures { result ≡ judge (table_of (data_in rows.now)) epoch change.now }
+    requires are { AreRows (data_in rows.now.entries) }
+    requires count { kept ≡ size (table_of (data_in rows.now.entries)) }
+    ensures { result ≡ judge (table_of (data_in rows.now.entries)) epoch change.now }
 {
     with_room(kept, judge_rows(rows, epoch, change))
 }

@@ -8,6 +8,8 @@ ghost use Rattle.domain_table.specs.Applying.{answer_of, apply, judge, judge_rip
 ghost use Rattle.domain_table.specs.Tree.{root_of, tree_entries};
 ghost use Rattle.domain_table.specs.Rows.{pending_told};
 
+use crate::counted_trie::CountedTrie;
+use crate::counts::Counts;
 use crate::fault::ApplyFault;
 use crate::listing::list_entries;
 use crate::refusal::ChangeRefusal;
@@ -19,17 +21,20 @@ use crate::take::take;
 use ar_cert::{Cert, Change};
 use cert_policy::Manner;
 use hash_tree::Trie;
+use indexmap::IndexMap;
 use std::alloc::{AllocError, Global};
 use std::marker::Model;
 
 /// For each name the chain of its changes and at most one change that waits, with a kept tree of the entries.
 #[derive(Drop)]
 pub struct Table {
-    // In the order of their names.
-    rows: Vec<Row>,
-    trie: Trie,
+    // By name, in the order in which the names came.
+    rows: IndexMap<Vec<u8>, Row>,
+    trie: CountedTrie,
     // How many certificates and waiting changes there are.
     kept: usize,
+    // How many of these wait.
+    waiting: usize,
 }
 
 // Clauses see the two maps by name, and nothing of rows, tree and count.
@@ -44,9 +49,9 @@ impl Model for Table {
 
     ghost use Rattle.domain_table.specs.Rows.{IsKept, data_in, table_of};
 
-    ghost view = { λ t. table_of (data_in t.rows.items) };
+    ghost view = { λ t. table_of (data_in t.rows.entries) };
 
-    ghost invariant = { λ t. IsKept (data_in t.rows.items) t.trie t.kept };
+    ghost invariant = { λ t. IsKept (data_in t.rows.entries) t.trie t.kept t.waiting };
 }
 
 impl Table {
@@ -55,9 +60,10 @@ impl Table {
         ensures { result ≡ no_table }
     {
         Table {
-            rows: Vec::new(alloc),
-            trie: Trie::new(),
+            rows: IndexMap::new(alloc),
+            trie: CountedTrie::new(),
             kept: 0,
+            waiting: 0,
         }
     }
 
@@ -96,14 +102,14 @@ impl Table {
     pub fn root(&self) -> [u8; 32]
         ensures { result ≡ root_of self.now }
     {
-        self.trie.root()
+        self.trie.trie().root()
     }
 
     /// The entries in their kept tree.
     pub fn trie(&self) -> &Trie
         ensures { result.now ≡ tree_entries self.now }
     {
-        &self.trie
+        self.trie.trie()
     }
 
     /// The entries in the integrity tree, in the order of their keys. The only error is want of memory.
@@ -147,7 +153,7 @@ impl Table {
             Ok(manner) => manner,
             Err(refusal) => return Err((change, ApplyFault::Change(refusal))),
         };
-        if !has_ripe(&self.rows, epoch) {
+        if !has_ripe(&self.rows, self.waiting, epoch) {
             return self.take_judged(alloc, epoch, change, manner);
         }
         let mut ripe = match self.ripened(alloc, epoch) {
@@ -176,13 +182,17 @@ impl Table {
             alloc,
             &mut self.rows,
             &mut self.trie,
-            self.kept,
+            Counts {
+                kept: self.kept,
+                waiting: self.waiting,
+            },
             epoch,
             change,
             manner,
         ) {
-            Ok(kept) => {
-                self.kept = kept;
+            Ok(counts) => {
+                self.kept = counts.kept;
+                self.waiting = counts.waiting;
                 Ok(())
             }
             Err((change, _)) => Err((change, ApplyFault::Memory)),
@@ -195,11 +205,12 @@ impl Table {
     {
         let mut rows = copy_rows(alloc, &self.rows)?;
         let mut trie = self.trie.copy(alloc)?;
-        ripen_rows(alloc, &mut rows, &mut trie, epoch)?;
+        let waiting = ripen_rows(alloc, &mut rows, &mut trie, self.waiting, epoch)?;
         Ok(Table {
             rows,
             trie,
             kept: self.kept,
+            waiting,
         })
     }
 
@@ -209,7 +220,7 @@ impl Table {
         ensures ok { OnOk result (self.new ≡ ripen self.old epoch) }
         ensures same { OnErr result (self.new ≡ self.old) }
     {
-        if has_ripe(&self.rows, epoch) {
+        if has_ripe(&self.rows, self.waiting, epoch) {
             *self = self.ripened(alloc, epoch)?;
         }
         Ok(())
@@ -223,6 +234,7 @@ impl Table {
             rows: copy_rows(alloc, &self.rows)?,
             trie: self.trie.copy(alloc)?,
             kept: self.kept,
+            waiting: self.waiting,
         })
     }
 }

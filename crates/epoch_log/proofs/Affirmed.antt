@@ -13,6 +13,7 @@ use Rattle.epoch_log.specs.State.{LogState, table_of}
 use Rattle.epoch_log.specs.declared.entries.Confirmed.{Confirmed}
 use Rattle.epoch_log.specs.declared.entries.Newest.{Newest}
 use Rattle.epoch_log.specs.declared.parts.Parts.{Parts}
+use Rattle.epoch_log.specs.declared.parts.Tables.{Tables}
 use Rattle.epoch_log.proofs.Acting.{kept-confirming}
 use Rattle.epoch_log.proofs.Moved.{log-moved}
 
@@ -20,23 +21,23 @@ use Rattle.epoch_log.proofs.Moved.{log-moved}
 abbrev pub by_newest : Newest → List ℕ → Option (List ℕ) → Confirmed
 by_newest w name certificate = record { epoch = w.epoch; name = name; certificate = certificate; root = w.root }
 
-same-digest : (p : Parts) (name : List ℕ) (certificate : Option (List ℕ)) → IsLog p → certificate ≡ newest_digest p.table name
+same-digest : (p : Parts) (name : List ℕ) (certificate : Option (List ℕ)) → IsLog p → certificate ≡ newest_digest p.tables.base name
     → certificate ≡ newest_digest (table_of (state_in p)) name
-same-digest p name certificate log is = is ∙ ap (λ t. newest_digest t name) log.table
+same-digest p name certificate log is = is ∙ ap (λ (t : Tables). newest_digest t.base name) log.tables
 
-same : (p : Parts) (w : Newest) (name : List ℕ) (certificate : Option (List ℕ)) → IsLog p → certificate ≡ newest_digest p.table name
+same : (p : Parts) (w : Newest) (name : List ℕ) (certificate : Option (List ℕ)) → IsLog p → certificate ≡ newest_digest p.tables.base name
     → by_newest w name certificate ≡ confirmed_of (state_in p) w name
 same p w name certificate log is = ap (by_newest w name) (same-digest p name certificate log is)
 
 pub at-newest : (p : Parts) (w : Newest) (name : List ℕ) (certificate : Option (List ℕ)) (Q : Confirmed → Type 0) → p.newest ≡ Some w → IsLog p
-    → certificate ≡ newest_digest p.table name → Q (by_newest w name certificate) → IfSome p.newest (λ v. Q (confirmed_of (state_in p) v name))
+    → certificate ≡ newest_digest p.tables.base name → Q (by_newest w name certificate) → IfSome p.newest (λ v. Q (confirmed_of (state_in p) v name))
 at-newest p w name certificate Q is log digest holds =
     subst (λ (o : Option Newest). IfSome o (λ v. Q (confirmed_of (state_in p) v name))) (sym is) (subst Q (same p w name certificate log digest) holds)
 
-pub log-confirmed : (p q : Parts) (w : Newest) (name : List ℕ) (certificate : Option (List ℕ)) → p.newest ≡ Some w → IsLog p → certificate ≡ newest_digest p.table name
+pub log-confirmed : (p q : Parts) (w : Newest) (name : List ℕ) (certificate : Option (List ℕ)) → p.newest ≡ Some w → IsLog p → certificate ≡ newest_digest p.tables.base name
     → IsName name → IfSome certificate IsDigest → IsDigest w.root
     → HasRoom (state_in p).past.signed (text_of (confirmation_claim p.number (by_newest w name certificate)) ∷ [])
-    → parts_of q ≡ moved (parts_of p) (confirming (state_in p) (text_of (confirmation_claim p.number (by_newest w name certificate))) (by_newest w name certificate)) → q.table ≡ p.table → IsLog q
+    → parts_of q ≡ moved (parts_of p) (confirming (state_in p) (text_of (confirmation_claim p.number (by_newest w name certificate))) (by_newest w name certificate)) → q.tables ≡ p.tables → IsLog q
 log-confirmed p q w name certificate is log digest named one root room there table =
     let s : LogState = state_in p in
     let now : by_newest w name certificate ≡ confirmed_of s w name = same p w name certificate log digest in

@@ -18,7 +18,8 @@ use Rattle.epoch_log.specs.declared.closing.Verdict.TheVariants as verdicts
 use Rattle.epoch_log.specs.declared.entries.Voted.{Voted}
 use Rattle.epoch_log.specs.declared.foreseeing.Foreseen.{Foreseen}
 use Rattle.epoch_log.specs.declared.foreseeing.Foreseen.TheVariants as foreseen
-use Rattle.epoch_log.proofs.Plans.{closed-outcome, outcome, own-decides, own-told}
+use Rattle.epoch_log.proofs.Plans.{closed-outcome, outcome, own-decides}
+use Rattle.epoch_log.proofs.Tried.{own-told}
 
 -- ---- the closing rule
 

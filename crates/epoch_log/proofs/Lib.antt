@@ -18,3 +18,4 @@ pub mod Plans
 pub mod Read
 pub mod Saw
 pub mod Texts
+pub mod Tried

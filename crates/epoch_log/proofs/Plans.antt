@@ -1,10 +1,10 @@
 -- The closing rule by its verdict, and what a log keeps where its epoch ends as planned.
-use Rattle.std.proofs.Common.{◌≡◌, ◌≢◌, ℕ, ◌<◌, ◌≤◌, ◌^◌, List, [], ◌∷◌, ◌++◌, length, refl, sym, ap, ◌∙◌, subst, arith, Bool, true, false, cond, eqb, ◌==◌, Option, Some, None, vec_capacity}
-use Rattle.std.specs.Prelude.{◌↔◌, All, Contains, IfSome, IsOk, IsSome, Result, Ok, Err, Vec, is_ok}
+use Rattle.std.proofs.Common.{◌≡◌, ℕ, ◌<◌, ◌≤◌, ◌^◌, List, [], length, refl, sym, ap, ◌∙◌, subst, arith, Bool, true, false, cond, eqb, ◌==◌, Option, Some, None, vec_capacity}
+use Rattle.std.specs.Prelude.{◌↔◌, Contains, IfSome, IsOk, IsSome, Result, Ok, Err, Vec, is_ok, option_and_then}
 use Rattle.std.specs.declared.alloc.Global.{Global}
-use Rattle.std.proofs.lemmas.Bool.{eq-eqb, eqb-true, le-ltb, lt-ltb, ne_eqb}
+use Rattle.std.proofs.lemmas.Bool.{eqb-true, le-ltb, lt-ltb}
 use Rattle.std.proofs.lemmas.List.{length-map}
-use Rattle.std.proofs.lemmas.List.Elements.{All-contains, All-head, All-tail}
+use Rattle.std.proofs.lemmas.List.Elements.{All-contains}
 use Rattle.ar_council.proofs.Lists.{find-some}
 use Rattle.ar_council.specs.Council.{Council, council_of}
 use Rattle.vote_quorum.specs.Statuses.{Status}
@@ -14,8 +14,8 @@ use Rattle.domain_table.specs.Sound.{IsSound}
 use Rattle.domain_table.specs.Tables.{Table}
 use Rattle.vote_quorum.specs.Ballots.{Ballot}
 use Rattle.vote_quorum.specs.Statuses.{Excludes}
-use Rattle.epoch_log.specs.Ending.{closed, closed_by, closed_by_statuses, decided, excludes_all, has_quorum, may_end, own_vote, skipped, votes_for}
-use Rattle.epoch_log.specs.Log.{IsLog, LogParts, moved, parts_of, state_in}
+use Rattle.epoch_log.specs.Ending.{closed, closed_by, closed_by_statuses, decided, excludes_all, has_quorum, may_end, own_table, own_vote, skipped, votes_for}
+use Rattle.epoch_log.specs.Log.{IsLog, LogParts, moved, parts_of, standing_tables, state_in, untried}
 use Rattle.epoch_log.specs.Plans.{IsDecision, IsOwnDecision, IsPlan, IsPlanIn, verdict_at, verdict_of}
 use Rattle.epoch_log.specs.Right.{IsRightVote, LeadsTo}
 use Rattle.epoch_log.specs.Record.{base_of}
@@ -29,11 +29,12 @@ use Rattle.epoch_log.specs.declared.entries.Closing.{Closing}
 use Rattle.epoch_log.specs.declared.entries.Closing.TheVariants as closings
 use Rattle.epoch_log.specs.declared.entries.Voted.{Voted}
 use Rattle.epoch_log.specs.declared.parts.Parts.{Parts}
+use Rattle.epoch_log.specs.declared.parts.Tables.{Tables}
 use Rattle.epoch_log.proofs.Applying.{sound-applied}
 use Rattle.epoch_log.proofs.Counted.{excludes-each}
 use Rattle.epoch_log.proofs.Kept.{kept-closed}
-use Rattle.epoch_log.proofs.Moved.{log-moved}
-use Rattle.epoch_log.proofs.Read.{excludes-tested, table-decided, table-skipped}
+use Rattle.epoch_log.proofs.Read.{excludes-tested}
+use Rattle.epoch_log.proofs.Tried.{tables-decided, tables-skipped}
 
 -- the test that is asked of the statuses is the one of the closing rule
 pub excludes-asked : {V F : Type 0} (council : Council) (statuses : List Status) (n q : ℕ) (answer : Result V F) (b : Bool) → n ≡ council.logs → q ≡ council.quorum
@@ -107,19 +108,17 @@ closes-decided p v is own =
 -- ---- the own vote
 
 -- the changes of the own vote lead from the base of the epoch to its root
-own-leads : (s : LogState) (v : Voted) → IsKeptLog s → own_vote s.past.voted (epoch_of s) ≡ Some v → LeadsTo s.past.seen (epoch_of s) (table_of s) v.changes v.root
+pub own-leads : (s : LogState) (v : Voted) → IsKeptLog s → own_vote s.past.voted (epoch_of s) ≡ Some v → LeadsTo s.past.seen (epoch_of s) (table_of s) v.changes v.root
 own-leads s v kept is =
     let there : Contains s.past.voted v × (eqb v.epoch (epoch_of s) ≡ true) = find-some (λ (w : Voted). w.epoch == epoch_of s) s.past.voted v is in
     let right : IsRightVote s.past.seen s.past.ended v = All-contains (IsRightVote s.past.seen s.past.ended) s.past.voted v kept.honest.votes_rightly there.0 in
     subst (λ n. LeadsTo s.past.seen n (base_of s.past.ended n) v.changes v.root) (eqb-true v.epoch (epoch_of s) there.1) right.leads
 
--- and so they apply to the table that is kept
-pub own-applies : (p : Parts) (own : Option Voted) → IsLog p → own_vote p.past.voted.items (epoch_of (state_in p)) ≡ own
-    → IfSome own (λ (v : Voted). IsSome (apply p.table (epoch_of (state_in p)) v.changes))
-own-applies p None log is = tt
-own-applies p (Some v) log is =
-    let leads = own-leads (state_in p) v log.kept is in
-    subst IsSome (sym (ap (λ t. apply t (epoch_of (state_in p)) v.changes) log.table ∙ leads.reaches.applied)) refl
+-- and so there is a table that was tried for it
+pub own-has-tried : (s : LogState) (own : Option Voted) → IsKeptLog s → own_vote s.past.voted (epoch_of s) ≡ own → IfSome own (λ (v : Voted). IsSome (own_table s))
+own-has-tried s None kept is = tt
+own-has-tried s (Some v) kept is =
+    subst IsSome (sym (ap (option_and_then (λ (w : Voted). apply (table_of s) (epoch_of s) w.changes)) is ∙ (own-leads s v kept is).reaches.applied)) refl
 
 -- the verdict is a decision only where there is an own vote
 pub own-decides : (council : Council) (own : Option Voted) (ballots : List Ballot) (reports : List Status) → verdict_of council own ballots reports ≡ verdicts.Decided → IsSome own
@@ -136,34 +135,34 @@ verdict-now : (epoch : ℕ) (council : Council) (own : Option Voted) (ballots : 
     → verdict_at epoch council own ballots reports ≡ verdict_of council own ballots reports
 verdict-now epoch council own ballots reports low = ap (λ b. cond b (verdict_of council own ballots reports) verdicts.Open) (lt-ltb epoch (2 ^ 63) low)
 
-pub planned-late : (council : Council) (epoch : ℕ) (table : Table) (own : Option Voted) (ballots : List Ballot) (reports : List Status) → 2 ^ 63 ≤ epoch
-    → IsPlan council epoch table own ballots reports plans.Open
+pub planned-late : (council : Council) (epoch : ℕ) (own : Option Voted) (tried : Option Table) (ballots : List Ballot) (reports : List Status) → 2 ^ 63 ≤ epoch
+    → IsPlan council epoch own tried ballots reports plans.Open
 unfolding IsPlan
-planned-late council epoch table own ballots reports late =
+planned-late council epoch own tried ballots reports late =
     ap (λ b. cond b (verdict_of council own ballots reports) verdicts.Open) (le-ltb epoch (2 ^ 63) late)
 
-pub planned-open : (council : Council) (epoch : ℕ) (table : Table) (own : Option Voted) (ballots : List Ballot) (reports : List Status) → epoch < 2 ^ 63
-    → verdict_of council own ballots reports ≡ verdicts.Open → IsPlan council epoch table own ballots reports plans.Open
+pub planned-open : (council : Council) (epoch : ℕ) (own : Option Voted) (tried : Option Table) (ballots : List Ballot) (reports : List Status) → epoch < 2 ^ 63
+    → verdict_of council own ballots reports ≡ verdicts.Open → IsPlan council epoch own tried ballots reports plans.Open
 unfolding IsPlan
-planned-open council epoch table own ballots reports low is = verdict-now epoch council own ballots reports low ∙ is
+planned-open council epoch own tried ballots reports low is = verdict-now epoch council own ballots reports low ∙ is
 
-pub planned-skipped : (council : Council) (epoch : ℕ) (table : Table) (own : Option Voted) (ballots : List Ballot) (statuses : Vec (ℕ × Option Value) Global) → epoch < 2 ^ 63
-    → verdict_of council own ballots statuses.items ≡ verdicts.Skipped → IsPlan council epoch table own ballots statuses.items (plans.Skipped statuses)
+pub planned-skipped : (council : Council) (epoch : ℕ) (own : Option Voted) (tried : Option Table) (ballots : List Ballot) (statuses : Vec (ℕ × Option Value) Global) → epoch < 2 ^ 63
+    → verdict_of council own ballots statuses.items ≡ verdicts.Skipped → IsPlan council epoch own tried ballots statuses.items (plans.Skipped statuses)
 unfolding IsPlan
-planned-skipped council epoch table own ballots statuses low is = (verdict-now epoch council own ballots statuses.items low ∙ is, refl)
+planned-skipped council epoch own tried ballots statuses low is = (verdict-now epoch council own ballots statuses.items low ∙ is, refl)
 
-pub planned-decided : (council : Council) (epoch : ℕ) (table : Table) (own : Option Voted) (ballots : List Ballot) (reports : List Status) (d : Decision) → epoch < 2 ^ 63
-    → verdict_of council own ballots reports ≡ verdicts.Decided → IsOwnDecision epoch table own (length ballots) d → IsPlan council epoch table own ballots reports (plans.Decided d)
+pub planned-decided : (council : Council) (epoch : ℕ) (own : Option Voted) (tried : Option Table) (ballots : List Ballot) (reports : List Status) (d : Decision) → epoch < 2 ^ 63
+    → verdict_of council own ballots reports ≡ verdicts.Decided → IsOwnDecision own tried (length ballots) d → IsPlan council epoch own tried ballots reports (plans.Decided d)
 unfolding IsPlan
-planned-decided council epoch table own ballots reports d low is made = (verdict-now epoch council own ballots reports low ∙ is, made)
+planned-decided council epoch own tried ballots reports d low is made = (verdict-now epoch council own ballots reports low ∙ is, made)
 
 -- ---- plans
 
-pub plan-open : (p : Parts) → IsPlanIn (state_in p) p.table plans.Open → closed (state_in p) ≡ (state_in p, closings.Open)
+pub plan-open : (p : Parts) → IsPlanIn (state_in p) plans.Open → closed (state_in p) ≡ (state_in p, closings.Open)
 unfolding IsPlan
 plan-open p is = closes-open p is
 
-pub plan-skipped : (p : Parts) (statuses : Vec (ℕ × Option Value) Global) → IsPlanIn (state_in p) p.table (plans.Skipped statuses)
+pub plan-skipped : (p : Parts) (statuses : Vec (ℕ × Option Value) Global) → IsPlanIn (state_in p) (plans.Skipped statuses)
     → closed (state_in p) ≡ (skipped (state_in p) statuses.items, closings.Skipped p.statuses.items)
 unfolding IsPlan
 plan-skipped p statuses is = closes-skipped p is.0 ∙ ap (λ l. (skipped (state_in p) l, closings.Skipped p.statuses.items)) (sym is.1)
@@ -173,53 +172,52 @@ pub record Decides (p : Parts) (d : Decision) : Type 0 where
   pub ends : closed (state_in p) ≡ (decided (state_in p) d.changes.items d.value (votes_for p.votes.items d.value), closings.Decided)
   pub none : d.votes.items ≡ []
   pub room : length p.votes.items ≤ vec_capacity d.votes
-  pub applied : apply p.table (epoch_of (state_in p)) d.changes.items ≡ Some d.table
+  pub applied : apply (table_of (state_in p)) (epoch_of (state_in p)) d.changes.items ≡ Some d.table
   pub sound : IsSound d.table
 
-pub plan-decided : (p : Parts) (d : Decision) → IsLog p → IsPlanIn (state_in p) p.table (plans.Decided d) → Decides p d
+pub plan-decided : (p : Parts) (d : Decision) → IsLog p → IsPlanIn (state_in p) (plans.Decided d) → Decides p d
 unfolding IsPlan
 plan-decided p d log is =
     let v : Voted = is.1.0 in
     let own = is.1.1 in
-    let made : IsDecision (epoch_of (state_in p)) p.table v (length (ballots_of p.votes.items)) d = is.1.2 in
-    let applied : apply p.table (epoch_of (state_in p)) d.changes.items ≡ Some d.table = ap (apply p.table (epoch_of (state_in p))) made.changes ∙ made.applied in
+    let made : IsDecision v (own_table (state_in p)) (length (ballots_of p.votes.items)) d = is.1.2 in
     let leads = own-leads (state_in p) v log.kept own in
+    let its : own_table (state_in p) ≡ apply (table_of (state_in p)) (epoch_of (state_in p)) v.changes =
+    ap (option_and_then (λ (w : Voted). apply (table_of (state_in p)) (epoch_of (state_in p)) w.changes)) own in
+    let applied : apply (table_of (state_in p)) (epoch_of (state_in p)) v.changes ≡ Some d.table = sym its ∙ made.table in
     record {
       ends = closes-decided p v is.0 own
           ∙ ap (λ cs. (decided (state_in p) cs (value_of v) (votes_for p.votes.items (value_of v)), closings.Decided)) (sym made.changes)
           ∙ ap (λ x. (decided (state_in p) d.changes.items x (votes_for p.votes.items x), closings.Decided)) (sym made.value);
       none = made.none;
       room = subst (λ n. n ≤ vec_capacity d.votes) (length-map p.votes.items (λ (w : CountedVote). (w.0, w.1))) made.has_room;
-      applied = applied;
-      sound = sound-applied p.table d.table (epoch_of (state_in p)) v.changes (omega (arith, log.kept.honest.ends_in_order.in_range)) log.sound leads.are_changes made.applied;
+      applied = ap (apply (table_of (state_in p)) (epoch_of (state_in p))) made.changes ∙ applied;
+      sound = sound-applied (table_of (state_in p)) d.table (epoch_of (state_in p)) v.changes (omega (arith, log.kept.honest.ends_in_order.in_range))
+          (subst IsSound (ap (λ (t : Tables). t.base) log.tables) log.sound) leads.are_changes applied;
     }
 
 -- ---- what a log keeps where its epoch ends as planned
 
 pub log-ended : (p q : Parts) (d : Decision) → IsLog p → Decides p d
-    → parts_of q ≡ moved (parts_of p) (decided (state_in p) d.changes.items d.value (votes_for p.votes.items d.value)) → q.table ≡ d.table → IsLog q
+    → parts_of q ≡ moved (parts_of p) (decided (state_in p) d.changes.items d.value (votes_for p.votes.items d.value)) → q.tables ≡ untried d.table → IsLog q
 log-ended p q d log is there same =
     let s : LogState = state_in p in
     let later : LogState = decided s d.changes.items d.value (votes_for p.votes.items d.value) in
     let state : state_in q ≡ later = ap (λ (l : LogParts). l.state) there in
     record {
       kept = subst IsKeptLog (ap (λ (x : LogState × Closing). x.0) is.ends ∙ sym state) (kept-closed s log.kept);
-      table = same ∙ sym (table-decided s d.changes.items d.value (votes_for p.votes.items d.value) d.table log.kept.honest.ends_in_order (ap (λ t. apply t (epoch_of s) d.changes.items) (sym log.table) ∙ is.applied))
-          ∙ sym (ap table_of state);
-      sound = subst IsSound (sym same) is.sound;
+      tables = same ∙ sym (tables-decided s d.changes.items d.value (votes_for p.votes.items d.value) d.table log.kept.honest.ends_in_order log.kept.honest.votes_once is.applied)
+          ∙ sym (ap standing_tables state);
+      sound = subst IsSound (sym (ap (λ (t : Tables). t.base) same)) is.sound;
     }
 
 pub log-passed : (p q : Parts) (statuses : List Status) → IsLog p → closed (state_in p) ≡ (skipped (state_in p) statuses, closings.Skipped p.statuses.items)
-    → parts_of q ≡ moved (parts_of p) (skipped (state_in p) statuses) → q.table ≡ p.table → IsLog q
+    → parts_of q ≡ moved (parts_of p) (skipped (state_in p) statuses) → q.tables ≡ untried p.tables.base → IsLog q
 log-passed p q statuses log is there same =
-    log-moved p q (skipped (state_in p) statuses) there same log (subst IsKeptLog (ap (λ (x : LogState × Closing). x.0) is) (kept-closed (state_in p) log.kept))
-    (table-skipped (state_in p) statuses log.kept.honest.ends_in_order)
-
--- ---- the own vote is told
-
--- where there was none the vote that is told is the own one
-pub own-told : (voted : List Voted) (v : Voted) → All (λ (w : Voted). w.epoch ≢ v.epoch) voted → own_vote (voted ++ v ∷ []) v.epoch ≡ Some v
-own-told [] v none = ap (λ b. cond b (Some v) None) (eq-eqb v.epoch v.epoch refl)
-own-told (w ∷ voted) v none =
-    let other : eqb w.epoch v.epoch ≡ false = ne_eqb w.epoch v.epoch (All-head (λ (w : Voted). w.epoch ≢ v.epoch) w voted none) in
-    ap (λ b. cond b (Some w) (own_vote (voted ++ v ∷ []) v.epoch)) other ∙ own-told voted v (All-tail (λ (w : Voted). w.epoch ≢ v.epoch) w voted none)
+    let s : LogState = state_in p in
+    let state : state_in q ≡ skipped s statuses = ap (λ (l : LogParts). l.state) there in
+    record {
+      kept = subst IsKeptLog (ap (λ (x : LogState × Closing). x.0) is ∙ sym state) (kept-closed s log.kept);
+      tables = same ∙ ap (λ (t : Tables). untried t.base) log.tables ∙ sym (tables-skipped s statuses log.kept.honest.ends_in_order log.kept.honest.votes_once) ∙ sym (ap standing_tables state);
+      sound = subst IsSound (sym (ap (λ (t : Tables). t.base) same)) log.sound;
+    }

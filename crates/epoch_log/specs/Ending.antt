@@ -1,14 +1,16 @@
 -- How an epoch ends: when the counted ballots decide it, when the counted statuses skip it, and what stands then.
-use Rattle.std.specs.Prelude.{ℕ, ◌+◌, ◌-◌, ◌==◌, Bool, false, ◌&&◌, nat_le, nat_lt, if◌then◌else◌, List, [], ◌∷◌, ◌++◌, map, filter, find, length, Option, Some, None}
+use Rattle.std.specs.Prelude.{ℕ, ◌+◌, ◌-◌, ◌==◌, Bool, false, ◌&&◌, nat_le, nat_lt, if◌then◌else◌, List, [], ◌∷◌, ◌++◌, map, filter, find, length, Option, Some, None, option_and_then}
 use Rattle.std.specs.List.{list_all}
 use Rattle.ar_statement.specs.Fields.{last_epoch}
 use Rattle.ar_cert.specs.Changes.{Change}
+use Rattle.domain_table.specs.Applying.{apply}
+use Rattle.domain_table.specs.Tables.{Table}
 use Rattle.vote_quorum.specs.Ballots.{Ballot, is_same, log_count}
 use Rattle.vote_quorum.specs.Statuses.{Status, report_count}
 use Rattle.vote_quorum.specs.declared.value.Value.{Value}
 use Rattle.ar_council.specs.Council.{Council}
 use Rattle.epoch_log.specs.Record.{LogRecord, current}
-use Rattle.epoch_log.specs.State.{CountedVote, LogState, ballots_of, epoch_of, reports_of}
+use Rattle.epoch_log.specs.State.{CountedVote, LogState, ballots_of, epoch_of, reports_of, table_of}
 use Rattle.epoch_log.specs.Told.{value_of}
 use Rattle.epoch_log.specs.declared.entries.Closing.{Closing}
 use Rattle.epoch_log.specs.declared.entries.Closing.TheVariants as closings
@@ -60,6 +62,10 @@ skipped_if s statuses = if may_end s.past then skipped s statuses else s
 -- the log's own vote of an epoch
 abbrev pub own_vote : List Voted → ℕ → Option Voted
 own_vote voted epoch = find (λ v. v.epoch == epoch) voted
+
+-- the table to which the changes of the own vote of the current epoch lead, where there is one
+abbrev pub own_table : LogState → Option Table
+own_table s = option_and_then (λ v. apply (table_of s) (epoch_of s) v.changes) (own_vote s.past.voted (epoch_of s))
 
 -- the counted ballots for a value, as logs with their signatures
 abbrev pub votes_for : List CountedVote → Value → List (ℕ × Option (List ℕ))

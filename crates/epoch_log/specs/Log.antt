@@ -1,11 +1,14 @@
 -- What a log holds, where it stands by that, and what is kept between the two.
-use Rattle.std.specs.Prelude.{◌≡◌, ℕ, ◌+◌, ◌≤◌, vec_capacity, vec_len}
+use Rattle.std.specs.Prelude.{◌≡◌, ℕ, ◌+◌, ◌≤◌, Some, None, vec_capacity, vec_len}
 use Rattle.ar_council.specs.Council.{council_of}
 use Rattle.party_keys.specs.Directory.{Directory}
 use Rattle.domain_table.specs.Sound.{IsSound}
+use Rattle.domain_table.specs.Tables.{Table}
+use Rattle.epoch_log.specs.Ending.{own_table}
 use Rattle.epoch_log.specs.Record.{LogRecord}
 use Rattle.epoch_log.specs.State.{IsKeptLog, LogState, table_of}
 use Rattle.epoch_log.specs.declared.parts.Parts.{Parts}
+use Rattle.epoch_log.specs.declared.parts.Tables.{Tables}
 use Rattle.epoch_log.specs.declared.past.Record.{Record}
 
 -- what contracts see of a log: where it stands, and the keys that it knows
@@ -42,11 +45,23 @@ state_in p = record {
 abbrev pub parts_of : Parts → LogParts
 parts_of p = record { state = state_in p; keys = p.directory }
 
--- What a log keeps: its record is honest with all that belongs to it, and its table is the base of the current epoch.
+-- a table in which an epoch begins, where none is tried yet
+abbrev pub untried : Table → Tables
+untried base = record { base = base; tried = None }
+
+-- the same table with one that was tried
+abbrev pub having_tried : Tables → Table → Tables
+having_tried before tried = record { base = before.base; tried = Some tried }
+
+-- the tables of a log that stands so: the base of the current epoch, and where the changes of the own vote lead
+abbrev pub standing_tables : LogState → Tables
+standing_tables s = record { base = table_of s; tried = own_table s }
+
+-- What a log keeps: its record is honest with all that belongs to it, and its tables are those of where it stands.
 pub record IsLog (p : Parts) : Type 0 where
   pub kept : IsKeptLog (state_in p)
-  pub table : p.table ≡ table_of (state_in p)
-  pub sound : IsSound p.table
+  pub tables : p.tables ≡ standing_tables (state_in p)
+  pub sound : IsSound p.tables.base
 
 -- there is room in the lists of a record: for so many texts seen and statements signed, and for one entry more of each other
 pub record HasRoomIn (seen signed : ℕ) (r : Record) : Type 0 where

@@ -4,9 +4,8 @@ use Rattle.ar_statement.specs.Fields.{last_epoch}
 use Rattle.ar_council.specs.Council.{Council}
 use Rattle.vote_quorum.specs.Ballots.{Ballot}
 use Rattle.vote_quorum.specs.Statuses.{Status}
-use Rattle.domain_table.specs.Applying.{apply}
 use Rattle.domain_table.specs.Tables.{Table}
-use Rattle.epoch_log.specs.Ending.{backs, excludes_all, own_vote}
+use Rattle.epoch_log.specs.Ending.{backs, excludes_all, own_table, own_vote}
 use Rattle.epoch_log.specs.State.{LogState, ballots_of, epoch_of, reports_of}
 use Rattle.epoch_log.specs.Told.{value_of}
 use Rattle.epoch_log.specs.declared.ending.Decision.{Decision}
@@ -28,30 +27,30 @@ abbrev pub verdict_at : ℕ → Council → Option Voted → List Ballot → Lis
 verdict_at epoch council own ballots reports =
     if nat_lt epoch last_epoch then verdict_of council own ballots reports else verdicts.Open
 
--- A decision is that of this vote, with the table to which its changes lead from that one, and has room for so many votes.
-pub record IsDecision (epoch : ℕ) (table : Table) (vote : Voted) (room : ℕ) (d : Decision) : Type 0 where
+-- A decision is that of this vote, with the table that was tried for it, and has room for so many votes.
+pub record IsDecision (vote : Voted) (tried : Option Table) (room : ℕ) (d : Decision) : Type 0 where
   pub changes : d.changes.items ≡ vote.changes
   pub value : d.value ≡ value_of vote
-  pub applied : apply table epoch vote.changes ≡ Some d.table
+  pub table : tried ≡ Some d.table
   pub none : d.votes.items ≡ []
   pub has_room : room ≤ vec_capacity d.votes
 
 -- a decision is that of the own vote
-abbrev pub IsOwnDecision : ℕ → Table → Option Voted → ℕ → Decision → Type 0
-IsOwnDecision epoch table own room d = (vote : Voted) × (own ≡ Some vote) × IsDecision epoch table vote room d
+abbrev pub IsOwnDecision : Option Voted → Option Table → ℕ → Decision → Type 0
+IsOwnDecision own tried room d = (vote : Voted) × (own ≡ Some vote) × IsDecision vote tried room d
 
 -- the plan is for what the verdict says
-abbrev pub IsPlanFor : Verdict → ℕ → Table → Option Voted → ℕ → List Status → Plan → Type 0
-IsPlanFor verdict epoch table own room reports plans.Open = verdict ≡ verdicts.Open
-IsPlanFor verdict epoch table own room reports (plans.Decided d) =
-    (verdict ≡ verdicts.Decided) × IsOwnDecision epoch table own room d
-IsPlanFor verdict epoch table own room reports (plans.Skipped statuses) = (verdict ≡ verdicts.Skipped) × (statuses.items ≡ reports)
+abbrev pub IsPlanFor : Verdict → Option Voted → Option Table → ℕ → List Status → Plan → Type 0
+IsPlanFor verdict own tried room reports plans.Open = verdict ≡ verdicts.Open
+IsPlanFor verdict own tried room reports (plans.Decided d) = (verdict ≡ verdicts.Decided) × IsOwnDecision own tried room d
+IsPlanFor verdict own tried room reports (plans.Skipped statuses) = (verdict ≡ verdicts.Skipped) × (statuses.items ≡ reports)
 
--- the plan is for these ballots and statuses
-unfoldable pub IsPlan : Council → ℕ → Table → Option Voted → List Ballot → List Status → Plan → Type 0
-IsPlan council epoch table own ballots reports plan =
-    IsPlanFor (verdict_at epoch council own ballots reports) epoch table own (length ballots) reports plan
+-- the plan is for this own vote, with the table that was tried for it, and for these ballots and statuses
+unfoldable pub IsPlan : Council → ℕ → Option Voted → Option Table → List Ballot → List Status → Plan → Type 0
+IsPlan council epoch own tried ballots reports plan =
+    IsPlanFor (verdict_at epoch council own ballots reports) own tried (length ballots) reports plan
 
--- the plan is for a log that stands so, with this table
-abbrev pub IsPlanIn : LogState → Table → Plan → Type 0
-IsPlanIn s table plan = IsPlan s.council (epoch_of s) table (own_vote s.past.voted (epoch_of s)) (ballots_of s.votes) (reports_of s.statuses) plan
+-- the plan is for a log that stands so
+abbrev pub IsPlanIn : LogState → Plan → Type 0
+IsPlanIn s plan =
+    IsPlan s.council (epoch_of s) (own_vote s.past.voted (epoch_of s)) (own_table s) (ballots_of s.votes) (reports_of s.statuses) plan

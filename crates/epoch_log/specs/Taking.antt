@@ -6,9 +6,10 @@ use Rattle.key_roll.specs.Due.{DueParts}
 use Rattle.key_roll.specs.Entry.{entered}
 use Rattle.ar_council.specs.Room.{HasRoom}
 use Rattle.vote_quorum.specs.declared.value.Value.{Value}
+use Rattle.domain_table.specs.Tables.{Table}
 use Rattle.epoch_log.specs.Answers.{first_entered}
 use Rattle.epoch_log.specs.Calls.{casting, log_with_ballot, own_status_text, own_vote_text, proposal_texts, propose_claim, proposing, stating, with_report}
-use Rattle.epoch_log.specs.Log.{moved, parts_of, state_in}
+use Rattle.epoch_log.specs.Log.{having_tried, moved, parts_of, state_in}
 use Rattle.epoch_log.specs.State.{epoch_of}
 use Rattle.epoch_log.specs.Told.{value_of}
 use Rattle.epoch_log.specs.declared.entries.Voted.{Voted}
@@ -23,11 +24,11 @@ pub record CanSignProposal (p : Parts) (vote : Voted) : Type 0 where
   pub room : 1 < p.past.signed.room
   pub voted : vec_len p.past.voted < vec_capacity p.past.voted
 
--- The log signed the proposal, which is due so, and then its vote, of which its record tells.
-pub record SignsProposal (old new : Parts) (vote : Voted) (answer : DueParts) : Type 0 where
+-- The log signed the proposal, which is due so, and then its vote, of which its record tells, with the table that was tried.
+pub record SignsProposal (old new : Parts) (vote : Voted) (tried : Table) (answer : DueParts) : Type 0 where
   pub due : first_entered (state_in old).past.signed (text_of (propose_claim (state_in old) (value_of vote))) (own_vote_text (state_in old) (value_of vote)) ≡ Ok answer
   pub parts : parts_of new ≡ moved (parts_of old) (casting (proposing (state_in old) (value_of vote)) vote)
-  pub table : new.table ≡ old.table
+  pub tables : new.tables ≡ having_tried old.tables tried
   pub seen : new.past.seen ≡ old.past.seen
   pub ended : new.past.ended ≡ old.past.ended
   pub votes : new.votes ≡ old.votes
@@ -44,7 +45,7 @@ pub record CanSignStatus (p : Parts) : Type 0 where
 pub record SignsStatus (old new : Parts) (answer : DueParts) : Type 0 where
   pub due : entered (state_in old).past.signed (own_status_text (state_in old)) ≡ Ok answer
   pub parts : parts_of new ≡ moved (parts_of old) (stating (state_in old))
-  pub table : new.table ≡ old.table
+  pub tables : new.tables ≡ old.tables
   pub seen : new.past.seen ≡ old.past.seen
   pub ended : new.past.ended ≡ old.past.ended
   pub statuses : new.statuses ≡ old.statuses
@@ -59,7 +60,7 @@ pub record HasRoomForBallot (p : Parts) : Type 0 where
 -- a log's ballot was seen and counted
 pub record CountsBallot (old new : Parts) (log : ℕ) (value : Value) (signature : Option (List ℕ)) : Type 0 where
   pub parts : parts_of new ≡ moved (parts_of old) (log_with_ballot (state_in old) log value signature)
-  pub table : new.table ≡ old.table
+  pub tables : new.tables ≡ old.tables
   pub ended : new.past.ended ≡ old.past.ended
 
 -- there is room for a status more
@@ -70,5 +71,5 @@ pub record HasRoomForReport (p : Parts) : Type 0 where
 -- a log's status was seen and counted
 pub record CountsReport (old new : Parts) (log : ℕ) (value : Option Value) (signature : Option (List ℕ)) : Type 0 where
   pub parts : parts_of new ≡ moved (parts_of old) (with_report (state_in old) log value signature)
-  pub table : new.table ≡ old.table
+  pub tables : new.tables ≡ old.tables
   pub ended : new.past.ended ≡ old.past.ended

@@ -1,14 +1,14 @@
 -- What another log tells of the end of an epoch, as calls take it.
-use Rattle.std.specs.Prelude.{◌≡◌, ℕ, List, map, Option, Some, Vec, if◌then◌else◌}
+use Rattle.std.specs.Prelude.{ℕ, List, map, Option, Vec, if◌then◌else◌}
 use Rattle.std.specs.declared.alloc.Global.{Global}
-use Rattle.ar_cert.specs.Changes.{Change}
 use Rattle.vote_quorum.specs.declared.value.Value.{Value}
-use Rattle.domain_table.specs.Applying.{apply}
 use Rattle.domain_table.specs.Tables.{Table}
 use Rattle.domain_table.specs.Tree.{root_of}
 use Rattle.epoch_log.specs.Calls.{SignedStatus}
 use Rattle.epoch_log.specs.Ending.{may_end}
-use Rattle.epoch_log.specs.State.{LogState, epoch_of, table_of}
+use Rattle.epoch_log.specs.Log.{untried}
+use Rattle.epoch_log.specs.State.{LogState, table_of}
+use Rattle.epoch_log.specs.declared.parts.Tables.{Tables}
 
 -- statuses of logs with their signatures
 abbrev pub statuses_in : List (ℕ × Option Value × Vec ℕ Global) → List SignedStatus
@@ -22,10 +22,6 @@ votes_in votes = map (λ v. (v.0, v.1.items)) votes
 abbrev pub to_root : LogState → List ℕ → Value
 to_root s root = record { base = root_of (table_of s); root = root }
 
--- the table in which the next epoch begins, unless the epoch is the last
-abbrev pub table_if : LogState → Table → Table → Table
-table_if s before after = if may_end s.past then after else before
-
--- what the table is behind a decision: the one to which the changes lead, unless the epoch is the last
-abbrev pub IsTableBehind : LogState → List Change → Table → Table → Type 0
-IsTableBehind s changes before after = Some after ≡ (if may_end s.past then apply before (epoch_of s) changes else Some before)
+-- the tables of the epoch that begins in this one, or those before it, where the epoch is the last and does not end
+abbrev pub tables_if : LogState → Tables → Table → Tables
+tables_if s before after = if may_end s.past then untried after else before

@@ -23,7 +23,7 @@ impl Parts {
         ensures { IfOk result (λ plan.
             (signature : Option (List ℕ))
             → IsPlanIn (log_with_ballot
-            (state_in self.now) log value.now signature) self.now.table plan) }
+            (state_in self.now) log value.now signature) plan) }
     {
         let ballots = ballots_with(alloc, &self.votes, log, value)?;
         let reports = reports(alloc, &self.statuses)?;

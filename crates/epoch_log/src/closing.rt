@@ -4,15 +4,11 @@ ghost use Rattle.std.specs.Option.{option_map};
 ghost use Rattle.ar_council.specs.Council.{council_of};
 ghost use Rattle.vote_quorum.specs.Ballots.{is_same, log_count};
 ghost use Rattle.vote_quorum.specs.Statuses.{AreStatuses};
-ghost use Rattle.domain_table.specs.Applying.{apply};
-ghost use Rattle.domain_table.specs.Sound.{IsSound};
 ghost use Rattle.epoch_log.specs.Ending.{backs, excludes_all};
 ghost use Rattle.epoch_log.specs.Plans.{IsDecision, IsOwnDecision, IsPlan, verdict_of};
 
 use crate::Voted;
 use crate::ending::Decision;
-use crate::statements::changes_told;
-use crate::tables::table_after;
 use ar_statement::fields::LAST_EPOCH;
 use domain_table::{Table, copy_changes};
 use party_keys::Directory;
@@ -107,67 +103,59 @@ pub(crate) fn verdict_on(
     Ok(Verdict::Open)
 }
 
-/// What the decision of a vote takes, with room for so many votes.
+/// What the decision of a vote takes, by the table that was tried for it, with room for so many votes.
 fn decision_of(
     alloc: Global,
-    epoch: u64,
-    table: &Table,
     vote: &Voted,
+    tried: &Table,
     room: usize,
 ) -> Result<Decision, AllocError>
-    requires sound { IsSound table.now }
-    requires applies { IsSome (apply table.now epoch vote.now.changes) }
-    ensures { IfOk result (IsDecision epoch table.now vote.now room) }
+    ensures { IfOk result (IsDecision vote.now (Some tried.now) room) }
 {
-    let changes = copy_changes(alloc, vote.changes.as_slice())?;
-    changes_told(&changes);
-    let table = table_after(alloc, epoch, table, &changes)?;
-    let votes = Vec::with_capacity(alloc, room)?;
     Ok(Decision {
-        changes,
+        changes: copy_changes(alloc, vote.changes.as_slice())?,
         value: vote.value(),
-        table,
-        votes,
+        table: tried.copy(alloc)?,
+        votes: Vec::with_capacity(alloc, room)?,
     })
 }
 
 /// What the decision of the own vote takes.
 fn own_decision(
     alloc: Global,
-    epoch: u64,
-    table: &Table,
     own: Option<&Voted>,
+    tried: Option<&Table>,
     room: usize,
 ) -> Result<Decision, AllocError>
-    requires sound { IsSound table.now }
-    requires some { IsSome (option_map (λ v. v.now) own) }
-    requires applies { IfSome (option_map (λ v.
-        v.now) own) (λ v. IsSome (apply table.now epoch v.changes)) }
-    ensures { IfOk result (IsOwnDecision epoch table.now (option_map (λ v. v.now) own.entry) room) }
+    requires vote { IsSome (option_map (λ v. v.now) own) }
+    requires table { IsSome (option_map (λ t. t.now) tried) }
+    ensures { IfOk result
+        (IsOwnDecision (option_map (λ v. v.now) own.entry)
+        (option_map (λ t. t.now) tried.entry) room) }
 {
-    match own {
-        Some(vote) => decision_of(alloc, epoch, table, vote, room),
-        None => unreachable!(),
-    }
+    let (Some(vote), Some(table)) = (own, tried) else {
+        unreachable!()
+    };
+    decision_of(alloc, vote, table, room)
 }
 
-/// How the epoch is to end, by what will be counted. The changes of the own vote apply to the table.
+/// How the epoch is to end, by what will be counted. A table was tried for the own vote.
 pub(crate) fn plan_for(
     alloc: Global,
     directory: &Directory,
     epoch: u64,
-    table: &Table,
     own: Option<&Voted>,
+    tried: Option<&Table>,
     ballots: &[(u16, Value)],
     reports: Vec<(u16, Option<Value>)>,
 ) -> Result<Plan, AllocError>
     requires statuses { AreStatuses (length directory.now.logs) reports.items }
-    requires sound { IsSound table.now }
-    requires applies { IfSome (option_map (λ v.
-        v.now) own) (λ v. IsSome (apply table.now epoch v.changes)) }
+    requires tried { IfSome (option_map (λ v. v.now) own) (λ _.
+        IsSome (option_map (λ t. t.now) tried)) }
     ensures { IfOk result
-        (IsPlan (council_of directory.now) epoch table.now (option_map (λ v.
-        v.now) own.entry) ballots.now reports.items) }
+        (IsPlan (council_of directory.now) epoch
+        (option_map (λ v. v.now) own.entry)
+        (option_map (λ t. t.now) tried.entry) ballots.now reports.items) }
 {
     if epoch >= LAST_EPOCH {
         return Ok(Plan::Open);
@@ -176,7 +164,7 @@ pub(crate) fn plan_for(
         Verdict::Open => Ok(Plan::Open),
         Verdict::Skipped => Ok(Plan::Skipped(reports)),
         Verdict::Decided => {
-            let decision = own_decision(alloc, epoch, table, own, ballots.len())?;
+            let decision = own_decision(alloc, own, tried, ballots.len())?;
             Ok(Plan::Decided(decision))
         }
     }

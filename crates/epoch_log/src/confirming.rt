@@ -110,7 +110,7 @@ impl Parts {
               root = root;
             }))) }
         ensures err { OnErr result (parts_of self.new ≡ parts_of self.old) }
-        ensures table { self.new.table ≡ self.old.table }
+        ensures tables { self.new.tables ≡ self.old.tables }
         ensures leaf { OnOk result
             (HasRoom (state_in self.old).past.signed (text_of (claim_of statement.now) ∷ [])) }
     {
@@ -149,7 +149,7 @@ impl Parts {
         let epoch = newest.epoch;
         let root = newest.root;
         let text = name.text();
-        let certificate = newest_digest(&self.table, text);
+        let certificate = newest_digest(&self.tables.base, text);
         digest_told(&root);
         some_digest_told(&certificate);
         let statement = confirm_statement(self.number, epoch, name.view(), certificate, root);

@@ -1,24 +1,23 @@
 //! Decisions of which other logs tell.
-ghost use Rattle.std.specs.Prelude.{◌≡◌, ◌++◌, flat_map, All, IfOk, IsSome, OnOk, OnErr};
-ghost use Rattle.ar_cert.specs.Changes.{IsChange};
+ghost use Rattle.std.specs.Prelude.{◌≡◌, ◌++◌, flat_map, IfOk, OnOk, OnErr, Some};
 ghost use Rattle.party_keys.specs.Seen.{seen_of};
 ghost use Rattle.ar_council.specs.Values.{vote_claim};
 ghost use Rattle.domain_table.specs.Applying.{apply};
 ghost use Rattle.ar_statement.specs.Claims.{log_party};
 ghost use Rattle.epoch_log.specs.Calls.{after_decide, endorsements_of, signed_votes, votes_seen, CanDecide};
 ghost use Rattle.epoch_log.specs.Log.{IsLog, moved, parts_of, state_in};
-ghost use Rattle.epoch_log.specs.State.{epoch_of};
-ghost use Rattle.epoch_log.specs.Telling.{IsTableBehind, to_root, votes_in};
+ghost use Rattle.epoch_log.specs.State.{epoch_of, table_of};
+ghost use Rattle.epoch_log.specs.Telling.{tables_if, to_root, votes_in};
 
 use crate::ending::Decision;
 use crate::parts::Parts;
 use crate::seeing::push_all_endorsements;
 use crate::statements::changes_told;
-use crate::tables::table_after;
 use ar_base::Items;
 use ar_cert::Change;
 use ar_council::{see_each, seen_text, vote_statement};
 use ar_statement::{Role, SeenText, value_told};
+use domain_table::Table;
 use std::alloc::{AllocError, Global};
 use vote_quorum::Value;
 
@@ -86,23 +85,20 @@ impl Parts {
         alloc: Global,
         value: Value,
         changes: Vec<Change>,
+        table: Table,
         votes: Vec<(u16, Vec<u8>)>,
     ) -> Result<(), AllocError>
-        requires kept { IsLog self.old }
-        requires are { All IsChange changes.items }
-        requires applies { IsSome (apply self.old.table
-            (epoch_of (state_in self.old)) changes.items) }
+        requires { IsLog self.old }
         ensures ok { OnOk result
             (parts_of self.new ≡ moved (parts_of self.old)
             (after_decide (state_in self.old) value changes.items (votes_in votes.items))) }
-        ensures table { OnOk result
-            (IsTableBehind (state_in self.old) changes.items self.old.table self.new.table) }
+        ensures tables { OnOk result
+            (self.new.tables ≡ tables_if (state_in self.old) self.old.tables table) }
         ensures err { OnErr result (parts_of self.new ≡ parts_of self.old) }
-        ensures same { OnErr result (self.new.table ≡ self.old.table) }
+        ensures same { OnErr result (self.new.tables ≡ self.old.tables) }
     {
         let epoch = self.epoch();
         let seen = seen_by(alloc, epoch, &value, &changes, &votes)?;
-        let table = table_after(alloc, epoch, &self.table, &changes)?;
         let votes = signed(alloc, votes)?;
         self.reserve(alloc, seen.len(), 0)?;
         see_each(&mut self.past.seen, &seen);
@@ -125,10 +121,13 @@ impl Parts {
         alloc: Global,
         changes: Vec<Change>,
         root: [u8; 32],
+        table: Table,
         votes: Vec<(u16, Vec<u8>)>,
     ) -> Result<(), AllocError>
         requires kept { IsLog self.old }
         requires may { CanDecide (state_in self.old) changes.items root (votes_in votes.items) }
+        requires table { apply (table_of (state_in self.old))
+            (epoch_of (state_in self.old)) changes.items ≡ Some table }
         ensures ok { OnOk result
             (parts_of self.new ≡ moved (parts_of self.old)
             (after_decide (state_in self.old) (to_root (state_in self.old) root) changes.items
@@ -138,11 +137,11 @@ impl Parts {
     {
         changes_told(&changes);
         let value = Value {
-            base: self.table.root(),
+            base: self.tables.base.root(),
             root,
         };
         value_told(&value);
-        match self.decide_by(alloc, value, changes, votes) {
+        match self.decide_by(alloc, value, changes, table, votes) {
             Ok(()) => Ok(()),
             Err(error) => Err(error),
         }

@@ -1,11 +1,11 @@
 //! An epoch ends: its ending is kept, and what was counted is dropped.
 ghost use Rattle.std.specs.Prelude.{◌≡◌, ◌<◌, vec_len, vec_capacity};
 ghost use Rattle.epoch_log.specs.Ending.{decided, decided_if, skipped, skipped_if};
-ghost use Rattle.epoch_log.specs.Log.{moved, parts_of, state_in};
+ghost use Rattle.epoch_log.specs.Log.{moved, parts_of, state_in, untried};
 ghost use Rattle.epoch_log.specs.State.{epoch_of};
-ghost use Rattle.epoch_log.specs.Telling.{table_if};
+ghost use Rattle.epoch_log.specs.Telling.{tables_if};
 
-use crate::parts::{CountedStatus, Parts};
+use crate::parts::{CountedStatus, Parts, Tables};
 use crate::{Ended, How, Newest};
 use ar_base::Items;
 use ar_cert::Change;
@@ -33,7 +33,7 @@ impl Parts {
             ≡ moved (parts_of self.old)
             (decided (state_in self.old) decision.changes.items decision.value
             decision.votes.items) }
-        ensures table { self.new.table ≡ decision.table }
+        ensures tables { self.new.tables ≡ untried decision.table }
     {
         let Decision {
             changes,
@@ -57,7 +57,10 @@ impl Parts {
             root,
             votes: Items::from_vec(votes),
         });
-        self.table = table;
+        self.tables = Tables {
+            base: table,
+            tried: None,
+        };
     }
 
     /// The same, unless the epoch is the last.
@@ -68,8 +71,8 @@ impl Parts {
             ≡ moved (parts_of self.old)
             (decided_if (state_in self.old) decision.changes.items decision.value
             decision.votes.items) }
-        ensures table { self.new.table
-            ≡ table_if (state_in self.old) self.old.table decision.table }
+        ensures tables { self.new.tables
+            ≡ tables_if (state_in self.old) self.old.tables decision.table }
     {
         if epoch < LAST_EPOCH {
             self.end_decided(alloc, epoch, decision);
@@ -88,7 +91,7 @@ impl Parts {
         ensures counted { result ≡ self.old.statuses.items }
         ensures parts { parts_of self.new
             ≡ moved (parts_of self.old) (skipped (state_in self.old) statuses.items) }
-        ensures table { self.new.table ≡ self.old.table }
+        ensures tables { self.new.tables ≡ untried self.old.tables.base }
     {
         self.past.ended.push_reserved(Ended {
             epoch,
@@ -97,6 +100,7 @@ impl Parts {
             },
         });
         self.votes = Vec::new(alloc);
+        self.tables.tried = None;
         Items::from_vec(mem::replace(&mut self.statuses, Vec::new(alloc)))
     }
 
@@ -111,7 +115,8 @@ impl Parts {
         requires room { vec_len self.old.past.ended < vec_capacity self.old.past.ended }
         ensures parts { parts_of self.new
             ≡ moved (parts_of self.old) (skipped_if (state_in self.old) statuses.items) }
-        ensures table { self.new.table ≡ self.old.table }
+        ensures tables { self.new.tables
+            ≡ tables_if (state_in self.old) self.old.tables self.old.tables.base }
     {
         if epoch < LAST_EPOCH {
             let _counted = self.end_skipped(alloc, epoch, statuses);

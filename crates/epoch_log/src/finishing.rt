@@ -2,8 +2,8 @@
 ghost use Rattle.std.specs.Prelude.{◌≡◌, ◌≤◌, ◌<◌, [], IfOk, length, vec_len, vec_capacity};
 ghost use Rattle.std.specs.Option.{option_map};
 ghost use Rattle.vote_quorum.specs.Statuses.{AreStatuses};
-ghost use Rattle.epoch_log.specs.Ending.{closed, decided, own_vote, votes_for};
-ghost use Rattle.epoch_log.specs.Log.{IsLog, moved, parts_of, state_in};
+ghost use Rattle.epoch_log.specs.Ending.{closed, decided, own_table, own_vote, votes_for};
+ghost use Rattle.epoch_log.specs.Log.{IsLog, moved, parts_of, state_in, untried};
 ghost use Rattle.epoch_log.specs.Plans.{IsPlan, IsPlanIn};
 ghost use Rattle.epoch_log.specs.State.{epoch_of};
 ghost use Rattle.epoch_log.specs.Told.{value_of};
@@ -63,17 +63,17 @@ impl Parts {
         requires kept { IsLog self.now }
         requires statuses { AreStatuses (state_in self.now).council.logs reports.items }
         ensures { IfOk result
-            (IsPlan (state_in self.now).council (epoch_of (state_in self.now)) self.now.table
-            (own_vote (state_in self.now).past.voted
-            (epoch_of (state_in self.now))) ballots.now reports.items) }
+            (IsPlan (state_in self.now).council (epoch_of (state_in self.now))
+            (own_vote (state_in self.now).past.voted (epoch_of (state_in self.now)))
+            (own_table (state_in self.now)) ballots.now reports.items) }
     {
         let epoch = self.epoch();
         plan_for(
             alloc,
             &self.directory,
             epoch,
-            &self.table,
             own_vote(&self.past.voted, epoch),
+            self.tables.tried.as_ref(),
             ballots,
             reports,
         )
@@ -89,7 +89,7 @@ impl Parts {
             ≡ moved (parts_of self.old)
             (decided (state_in self.old) decision.changes.items decision.value
             (votes_for self.old.votes.items decision.value)) }
-        ensures table { self.new.table ≡ decision.table }
+        ensures tables { self.new.tables ≡ untried decision.table }
     {
         let counted = mem::replace(&mut self.votes, Vec::new(alloc));
         let Decision {
@@ -115,7 +115,7 @@ impl Parts {
     pub(crate) fn finish(&mut self, alloc: Global, plan: Plan) -> Closing
         requires kept { IsLog self.old }
         requires room { vec_len self.old.past.ended < vec_capacity self.old.past.ended }
-        requires plan { IsPlanIn (state_in self.old) self.old.table plan }
+        requires plan { IsPlanIn (state_in self.old) plan }
         ensures answer { result ≡ (closed (state_in self.old)).1 }
         ensures parts { parts_of self.new
             ≡ moved (parts_of self.old) (closed (state_in self.old)).0 }

@@ -26,7 +26,7 @@ impl Parts {
             (parts_of self.new ≡ moved (parts_of self.old)
             (after_endorsed (state_in self.old) change.now)) }
         ensures err { OnErr result (parts_of self.new ≡ parts_of self.old) }
-        ensures table { self.new.table ≡ self.old.table }
+        ensures tables { self.new.tables ≡ self.old.tables }
     {
         let seen = endorsements(alloc, change)?;
         self.reserve(alloc, seen.len(), 0)?;
@@ -56,7 +56,7 @@ impl Parts {
             (learned self.old.directory announced.now) }
         ensures ok { OnOk result (parts_of self.new ≡ learning (parts_of self.old) announced.now) }
         ensures err { OnErr result (parts_of self.new ≡ parts_of self.old) }
-        ensures table { self.new.table ≡ self.old.table }
+        ensures tables { self.new.tables ≡ self.old.tables }
     {
         self.reserve(alloc, 1, 0)?;
         let learned = self.directory.learn(alloc, announced)?;
@@ -93,7 +93,7 @@ impl Parts {
             (log_party (state_in self.old).me) next.now) }
         ensures ok { OnOk result (parts_of self.new ≡ rolling (parts_of self.old) next.now) }
         ensures err { OnErr result (parts_of self.new ≡ parts_of self.old) }
-        ensures table { self.new.table ≡ self.old.table }
+        ensures tables { self.new.tables ≡ self.old.tables }
     {
         let party = Role::LogServer.party(self.number);
         let mut directory = self.directory.copy(alloc)?;

@@ -35,7 +35,6 @@ mod signing;
 mod skipping;
 mod statements;
 mod stating;
-mod tables;
 mod voting;
 
 pub use confirming::{confirm_statement, newest_digest};
@@ -44,4 +43,3 @@ pub use finishing::own_vote;
 pub use foreseeing::Foreseen;
 pub use log::EpochLog;
 pub use past::Record;
-pub use tables::apply_one;

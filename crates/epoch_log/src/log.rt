@@ -8,9 +8,11 @@ ghost use Rattle.ar_statement.specs.declared.fault.BookFault.TheVariants as book
 ghost use Rattle.key_roll.specs.declared.fault.RollFault.TheVariants as roll_fault;
 ghost use Rattle.party_keys.specs.Learning.{learned};
 ghost use Rattle.party_keys.specs.declared.fault.LearnFault.TheVariants as learn_fault;
+ghost use Rattle.domain_table.specs.Applying.{apply};
 ghost use Rattle.domain_table.specs.Sound.{IsSound};
 ghost use Rattle.epoch_log.specs.Answers.{confirmed, proposed, stated, voted};
 ghost use Rattle.epoch_log.specs.Calls.{AreEndorsers, IsProposed, IsTurn, MayState, after_ballot, after_confirm, after_decide, after_endorsed, after_propose, after_skip, after_state, after_status_seen, after_vote, fresh, is_turn, learning, own_value, rolling, IsOpenTo, CanDecide, CanSkip};
+ghost use Rattle.epoch_log.specs.Ending.{own_table};
 ghost use Rattle.epoch_log.specs.Foreseeing.{IsForeseen};
 ghost use Rattle.epoch_log.specs.Log.{moved, record_of};
 ghost use Rattle.epoch_log.specs.Right.{SawEndorsements};
@@ -120,7 +122,14 @@ impl EpochLog {
     pub fn table(&self) -> &Table
         ensures { result.now ≡ table_of self.now.state }
     {
-        &self.parts.table
+        &self.parts.tables.base
+    }
+
+    /// The table to which the changes of the log's own vote of the current epoch lead, if it has voted.
+    pub fn tried(&self) -> Option<&Table>
+        ensures { option_map (λ t. t.now) result ≡ own_table self.now.state }
+    {
+        self.parts.tables.tried.as_ref()
     }
 
     /// The keys that the log knows, under which signatures are verified.
@@ -151,6 +160,8 @@ impl EpochLog {
     /// Proposes, in the log's turn, to go by these changes from the table with the root `base` to the one with `root`, and
     /// votes for that; the own vote is seen and counted at once, and the epoch may end with it.
     ///
+    /// The table to which the changes lead is handed in, and kept until the epoch ends.
+    ///
     /// It gives the leaf of the proposal, and is `Spent` exactly where there are not leaves for the proposal and the vote.
     /// `foresee_propose` tells beforehand whether the epoch would end.
     pub fn propose(
@@ -159,10 +170,13 @@ impl EpochLog {
         base: [u8; 32],
         changes: Vec<Change>,
         root: [u8; 32],
+        tried: Table,
     ) -> Result<(RollDue, Closing), BookFault>
         requires turn { IsTurn self.old.state.council self.old.state.me (epoch_of self.old.state) }
         requires open { IsOpenTo self.old.state
             (record { base = base; root = root }) changes.items }
+        requires tried { apply (table_of self.old.state)
+            (epoch_of self.old.state) changes.items ≡ Some tried }
         requires endorsed { All (SawEndorsements self.old.state.past.seen) changes.items }
         ensures answer { GivesOrWants book_fault.Memory (λ r.
             r) result (proposed self.old.state
@@ -173,10 +187,12 @@ impl EpochLog {
             (record { base = base; root = root }) changes.items).0) }
         ensures err { OnErr result (self.new ≡ self.old) }
     {
-        self.parts.propose(alloc, Value { base, root }, changes)
+        self.parts
+            .propose(alloc, Value { base, root }, changes, tried)
     }
 
-    /// Votes for another log's proposal, which is seen with the endorsements of its changes.
+    /// Votes for another log's proposal, which is seen with the endorsements of its changes. The table to which they lead is
+    /// handed in, and kept until the epoch ends.
     ///
     /// It gives the leaf of the vote, and is `Spent` exactly where there is none.
     pub fn vote(
@@ -186,9 +202,12 @@ impl EpochLog {
         base: [u8; 32],
         changes: Vec<Change>,
         root: [u8; 32],
+        tried: Table,
     ) -> Result<RollDue, BookFault>
         requires open { IsOpenTo self.old.state
             (record { base = base; root = root }) changes.items }
+        requires tried { apply (table_of self.old.state)
+            (epoch_of self.old.state) changes.items ≡ Some tried }
         requires proposal { IsProposed self.old.state proposer changes.items }
         ensures answer { GivesOrWants book_fault.Memory (λ due.
             due) result (voted self.old.state (record { base = base; root = root })) }
@@ -199,7 +218,7 @@ impl EpochLog {
         ensures err { OnErr result (self.new ≡ self.old) }
     {
         self.parts
-            .vote(alloc, proposer, Value { base, root }, changes)
+            .vote(alloc, proposer, Value { base, root }, changes, tried)
     }
 
     /// Sees a log's ballot of the current epoch, and counts it unless its ballot for this value is counted; the epoch may end
@@ -254,23 +273,27 @@ impl EpochLog {
         self.parts.status_seen(alloc, log, value, signature)
     }
 
-    /// Ends the epoch as decided, as another log tells with the votes of a quorum. The last epoch that a statement can name
-    /// does not end. The only error is want of memory.
+    /// Ends the epoch as decided, as another log tells with the votes of a quorum: the next begins in the table to which the
+    /// changes lead, which is handed in. The last epoch that a statement can name does not end. The only error is want of
+    /// memory.
     pub fn decide(
         &mut self,
         alloc: Global,
         changes: Vec<Change>,
         root: [u8; 32],
+        table: Table,
         votes: Vec<(u16, Vec<u8>)>,
     ) -> Result<(), AllocError>
-        requires { CanDecide self.old.state changes.items root (votes_in votes.items) }
+        requires can { CanDecide self.old.state changes.items root (votes_in votes.items) }
+        requires table { apply (table_of self.old.state)
+            (epoch_of self.old.state) changes.items ≡ Some table }
         ensures ok { OnOk result
             (self.new ≡ moved self.old
             (after_decide self.old.state (to_root self.old.state root) changes.items
             (votes_in votes.items))) }
         ensures err { OnErr result (self.new ≡ self.old) }
     {
-        self.parts.decide(alloc, changes, root, votes)
+        self.parts.decide(alloc, changes, root, table, votes)
     }
 
     /// Ends the epoch as skipped, as another log tells with statuses that exclude each root. The last epoch that a statement

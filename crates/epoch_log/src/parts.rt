@@ -3,7 +3,7 @@ ghost use Rattle.std.specs.Prelude.{◌≡◌, ◌<◌, OnOk};
 ghost use Rattle.ar_council.specs.Council.{council_of};
 ghost use Rattle.domain_table.specs.Tables.{no_table};
 ghost use Rattle.epoch_log.specs.Calls.{fresh};
-ghost use Rattle.epoch_log.specs.Log.{HasRoomFor, IsLog, parts_of, state_in};
+ghost use Rattle.epoch_log.specs.Log.{HasRoomFor, IsLog, parts_of, state_in, untried};
 ghost use Rattle.epoch_log.specs.State.{epoch_of};
 
 use crate::{Newest, Record};
@@ -24,6 +24,14 @@ pub(crate) type CountedVote = Counted<Value>;
 /// A status that is counted.
 pub(crate) type CountedStatus = Counted<Option<Value>>;
 
+/// The table in which the current epoch begins, and the one to which the changes of the log's own vote lead from there. That
+/// is kept from the vote until the epoch ends, so that a decision for these changes need not try them once more.
+#[derive(Drop)]
+pub(crate) struct Tables {
+    pub(crate) base: Table,
+    pub(crate) tried: Option<Table>,
+}
+
 /// What a log holds. Where it stands by that is `state_in`, and what it keeps is `IsLog`.
 #[derive(Drop)]
 pub(crate) struct Parts {
@@ -35,8 +43,7 @@ pub(crate) struct Parts {
     /// The statuses that are counted in the current epoch, logs ascending.
     pub(crate) statuses: Vec<CountedStatus>,
     pub(crate) newest: Option<Newest>,
-    /// The table in which the current epoch begins.
-    pub(crate) table: Table,
+    pub(crate) tables: Tables,
 }
 
 /// What a log holds that has done nothing yet.
@@ -46,7 +53,7 @@ fn nothing_yet(alloc: Global, number: u16, directory: Directory, leaves: u32) ->
       state = fresh number (council_of directory) leaves;
       keys = directory;
     } }
-    ensures table { result.table ≡ no_table }
+    ensures tables { result.tables ≡ untried no_table }
 {
     Parts {
         number,
@@ -62,7 +69,10 @@ fn nothing_yet(alloc: Global, number: u16, directory: Directory, leaves: u32) ->
         votes: Vec::new(alloc),
         statuses: Vec::new(alloc),
         newest: None,
-        table: Table::new(alloc),
+        tables: Tables {
+            base: Table::new(alloc),
+            tried: None,
+        },
     }
 }
 
@@ -85,7 +95,7 @@ impl Parts {
         signed: usize,
     ) -> Result<(), AllocError>
         ensures same { parts_of self.new ≡ parts_of self.old }
-        ensures table { self.new.table ≡ self.old.table }
+        ensures tables { self.new.tables ≡ self.old.tables }
         ensures room { OnOk result (HasRoomFor seen signed self.new) }
     {
         self.past.reserve(alloc, seen, signed)?;

@@ -1,5 +1,5 @@
 //! The log's own proposal.
-ghost use Rattle.std.specs.Prelude.{◌≡◌, None, Ok, Err, Some, All, IfErr, IfOk, IsOk, IsSome, OnOk, OnErr};
+ghost use Rattle.std.specs.Prelude.{◌≡◌, None, Ok, Err, Some, All, IfErr, IfOk, IsOk, OnOk, OnErr};
 ghost use Rattle.ar_base.specs.Gives.{GivesOrWants};
 ghost use Rattle.ar_council.specs.Room.{HasRoom};
 ghost use Rattle.ar_statement.specs.Claims.{text_of};
@@ -10,7 +10,7 @@ ghost use Rattle.epoch_log.specs.Calls.{IsTurn, MayVote, after_propose, own_vote
 ghost use Rattle.epoch_log.specs.Log.{IsLog, moved, parts_of, state_in};
 ghost use Rattle.epoch_log.specs.Plans.{IsPlan};
 ghost use Rattle.epoch_log.specs.Right.{SawEndorsements};
-ghost use Rattle.epoch_log.specs.State.{ballots_of, epoch_of, reports_of};
+ghost use Rattle.epoch_log.specs.State.{ballots_of, epoch_of, reports_of, table_of};
 ghost use Rattle.epoch_log.specs.Taking.{CanSignProposal, SignsProposal};
 ghost use Rattle.epoch_log.specs.Told.{value_of};
 
@@ -24,6 +24,7 @@ use ar_base::Items;
 use ar_cert::Change;
 use ar_council::{propose_statement, vote_statement};
 use ar_statement::value_told;
+use domain_table::Table;
 use key_roll::{BookFault, RollDue, forgo};
 use std::alloc::{AllocError, Global};
 use vote_quorum::Value;
@@ -51,14 +52,12 @@ impl Parts {
         leaves_for(&self.past.signed, &proposal, &vote)
     }
 
-    /// How the epoch is to end where this vote is the log's own, and is counted.
-    fn plan_with_own(&self, alloc: Global, vote: &Voted) -> Result<Plan, AllocError>
-        requires kept { IsLog self.now }
-        requires applies { IsSome (apply self.now.table
-            (epoch_of (state_in self.now)) vote.now.changes) }
+    /// How the epoch is to end where this vote is the log's own, by this table, and is counted.
+    fn plan_with_own(&self, alloc: Global, vote: &Voted, tried: &Table) -> Result<Plan, AllocError>
+        requires { IsLog self.now }
         ensures { IfOk result
-            (IsPlan (state_in self.now).council (epoch_of (state_in self.now)) self.now.table
-            (Some vote.now)
+            (IsPlan (state_in self.now).council (epoch_of (state_in self.now))
+            (Some vote.now) (Some tried.now)
             (ballots_of (with_vote (state_in self.now).votes
             ((state_in self.now).me, value_of vote.now, None)))
             (reports_of (state_in self.now).statuses)) }
@@ -70,17 +69,18 @@ impl Parts {
             alloc,
             &self.directory,
             self.epoch(),
-            &self.table,
             Some(vote),
+            Some(tried),
             &ballots,
             reports,
         )
     }
 
-    /// Signs the proposal and then the own vote, and tells of the vote. There is room for them, and leaves.
-    fn put_proposal(&mut self, alloc: Global, vote: Voted) -> RollDue
+    /// Signs the proposal and then the own vote, and tells of the vote and of the table that was tried for it. There is room
+    /// for them, and leaves.
+    fn put_proposal(&mut self, alloc: Global, vote: Voted, tried: Table) -> RollDue
         requires { CanSignProposal self.old vote }
-        ensures { SignsProposal self.old self.new vote result }
+        ensures { SignsProposal self.old self.new vote tried result }
     {
         let value = vote.value();
         let proposal = propose_statement(self.number, vote.epoch, &value);
@@ -88,19 +88,22 @@ impl Parts {
         let due = sign(alloc, &mut self.past.signed, &proposal);
         forgo(sign(alloc, &mut self.past.signed, &statement));
         self.past.voted.push_reserved(vote);
+        self.tables.tried = Some(tried);
         due
     }
 
     /// The same, which keeps what is kept.
-    fn take_proposal(&mut self, alloc: Global, vote: Voted) -> RollDue
+    fn take_proposal(&mut self, alloc: Global, vote: Voted, tried: Table) -> RollDue
         requires kept { IsLog self.old }
         requires may { MayVote (state_in self.old) (value_of vote) vote.changes }
+        requires tried { apply (table_of (state_in self.old))
+            (epoch_of (state_in self.old)) vote.changes ≡ Some tried }
         requires endorsed { All (SawEndorsements (state_in self.old).past.seen) vote.changes }
         requires can { CanSignProposal self.old vote }
-        ensures signed { SignsProposal self.old self.new vote result }
+        ensures signed { SignsProposal self.old self.new vote tried result }
         ensures kept { IsLog self.new }
     {
-        self.put_proposal(alloc, vote)
+        self.put_proposal(alloc, vote, tried)
     }
 
     /// Signs, sees and counts as `propose` does, once the statements have their leaves.
@@ -109,11 +112,14 @@ impl Parts {
         alloc: Global,
         value: Value,
         changes: Vec<Change>,
+        tried: Table,
     ) -> Result<(RollDue, Closing), AllocError>
         requires kept { IsLog self.old }
         requires turn { IsTurn (state_in self.old).council (state_in self.old).me
             (epoch_of (state_in self.old)) }
         requires may { MayVote (state_in self.old) value changes.items }
+        requires tried { apply (table_of (state_in self.old))
+            (epoch_of (state_in self.old)) changes.items ≡ Some tried }
         requires endorsed { All (SawEndorsements (state_in self.old).past.seen) changes.items }
         requires leaves { HasRoom (state_in self.old).past.signed
             (proposal_texts (state_in self.old) value) }
@@ -133,9 +139,9 @@ impl Parts {
             changes: Items::from_vec(changes),
             root,
         };
-        let plan = self.plan_with_own(alloc, &vote)?;
+        let plan = self.plan_with_own(alloc, &vote, &tried)?;
         self.reserve(alloc, 1, 2)?;
-        let due = self.take_proposal(alloc, vote);
+        let due = self.take_proposal(alloc, vote, tried);
         self.take_ballot(number, value, None);
         Ok((due, self.finish(alloc, plan)))
     }
@@ -146,11 +152,14 @@ impl Parts {
         alloc: Global,
         value: Value,
         changes: Vec<Change>,
+        tried: Table,
     ) -> Result<(RollDue, Closing), BookFault>
         requires kept { IsLog self.old }
         requires turn { IsTurn (state_in self.old).council (state_in self.old).me
             (epoch_of (state_in self.old)) }
         requires open { IsOpenTo (state_in self.old) value changes.items }
+        requires tried { apply (table_of (state_in self.old))
+            (epoch_of (state_in self.old)) changes.items ≡ Some tried }
         requires endorsed { All (SawEndorsements (state_in self.old).past.seen) changes.items }
         ensures answer { GivesOrWants book_fault.Memory (λ r.
             r) result (proposed (state_in self.old) value changes.items) }
@@ -163,7 +172,7 @@ impl Parts {
         value_told(&value);
         changes_told(&changes);
         self.proposal_leaves(&value)?;
-        match self.propose_with(alloc, value, changes) {
+        match self.propose_with(alloc, value, changes, tried) {
             Ok(answer) => Ok(answer),
             Err(_) => Err(BookFault::Memory),
         }

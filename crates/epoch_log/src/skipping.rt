@@ -7,7 +7,7 @@ ghost use Rattle.ar_statement.specs.Claims.{log_party};
 ghost use Rattle.epoch_log.specs.Calls.{after_skip, statuses_seen, CanSkip};
 ghost use Rattle.epoch_log.specs.State.{reports_of};
 ghost use Rattle.epoch_log.specs.Log.{IsLog, moved, parts_of, state_in};
-ghost use Rattle.epoch_log.specs.Telling.{statuses_in};
+ghost use Rattle.epoch_log.specs.Telling.{statuses_in, tables_if};
 
 use crate::parts::Parts;
 use ar_council::{see_each, seen_text, status_statement};
@@ -75,7 +75,10 @@ impl Parts {
             (parts_of self.new ≡ moved (parts_of self.old)
             (after_skip (state_in self.old) (statuses_in statuses.now))) }
         ensures err { OnErr result (parts_of self.new ≡ parts_of self.old) }
-        ensures table { self.new.table ≡ self.old.table }
+        ensures tables { OnOk result
+            (self.new.tables
+            ≡ tables_if (state_in self.old) self.old.tables self.old.tables.base) }
+        ensures same { OnErr result (self.new.tables ≡ self.old.tables) }
     {
         let epoch = self.epoch();
         let seen = texts(alloc, epoch, statuses)?;

@@ -32,7 +32,7 @@ impl Parts {
         ensures { IfOk result (λ plan.
             (signature : Option (List ℕ))
             → IsPlanIn (with_report
-            (state_in self.now) log value.now signature) self.now.table plan) }
+            (state_in self.now) log value.now signature) plan) }
     {
         let ballots = ballots(alloc, &self.votes)?;
         let reports = reports_with(alloc, &self.statuses, log, value)?;

@@ -1,13 +1,15 @@
 //! Votes for the proposals of other logs.
-ghost use Rattle.std.specs.Prelude.{◌≡◌, ◌<◌, [], ◌∷◌, flat_map, IfOk, OnOk, OnErr};
+ghost use Rattle.std.specs.Prelude.{◌≡◌, ◌<◌, [], ◌∷◌, flat_map, IfOk, OnOk, OnErr, Some};
 ghost use Rattle.ar_base.specs.Gives.{GivesOrWants};
 ghost use Rattle.ar_council.specs.Room.{HasRoom};
 ghost use Rattle.party_keys.specs.Seen.{seen_of};
 ghost use Rattle.ar_statement.specs.Claims.{log_party, propose};
+ghost use Rattle.domain_table.specs.Applying.{apply};
 ghost use Rattle.ar_statement.specs.declared.fault.BookFault.TheVariants as book_fault;
 ghost use Rattle.epoch_log.specs.Answers.{voted};
 ghost use Rattle.epoch_log.specs.Calls.{IsProposed, after_vote, endorsements_of, own_vote_text, IsOpenTo};
-ghost use Rattle.epoch_log.specs.Log.{IsLog, moved, parts_of, state_in};
+ghost use Rattle.epoch_log.specs.Log.{IsLog, having_tried, moved, parts_of, state_in};
+ghost use Rattle.epoch_log.specs.State.{epoch_of, table_of};
 
 use crate::Voted;
 use crate::parts::Parts;
@@ -18,6 +20,7 @@ use ar_base::Items;
 use ar_cert::Change;
 use ar_council::{propose_statement, see_each, seen_text, vote_statement};
 use ar_statement::{Role, SeenText, value_told};
+use domain_table::Table;
 use key_roll::{BookFault, RollDue};
 use std::alloc::{AllocError, Global};
 use vote_quorum::Value;
@@ -49,6 +52,7 @@ impl Parts {
         proposer: u16,
         value: Value,
         changes: Vec<Change>,
+        tried: Table,
     ) -> Result<RollDue, BookFault>
         requires { IsLog self.old }
         ensures answer { GivesOrWants book_fault.Memory (λ due.
@@ -57,7 +61,8 @@ impl Parts {
             (parts_of self.new ≡ moved (parts_of self.old)
             (after_vote (state_in self.old) proposer value changes.items)) }
         ensures err { OnErr result (parts_of self.new ≡ parts_of self.old) }
-        ensures table { self.new.table ≡ self.old.table }
+        ensures tables { OnOk result (self.new.tables ≡ having_tried self.old.tables tried) }
+        ensures same { OnErr result (self.new.tables ≡ self.old.tables) }
         ensures leaf { OnOk result
             (HasRoom (state_in self.old).past.signed
             (own_vote_text (state_in self.old) value ∷ [])) }
@@ -75,6 +80,7 @@ impl Parts {
             changes: Items::from_vec(changes),
             root: value.root,
         });
+        self.tables.tried = Some(tried);
         Ok(due)
     }
 
@@ -85,9 +91,12 @@ impl Parts {
         proposer: u16,
         value: Value,
         changes: Vec<Change>,
+        tried: Table,
     ) -> Result<RollDue, BookFault>
         requires kept { IsLog self.old }
         requires open { IsOpenTo (state_in self.old) value changes.items }
+        requires tried { apply (table_of (state_in self.old))
+            (epoch_of (state_in self.old)) changes.items ≡ Some tried }
         requires proposal { IsProposed (state_in self.old) proposer changes.items }
         ensures answer { GivesOrWants book_fault.Memory (λ due.
             due) result (voted (state_in self.old) value) }
@@ -99,7 +108,7 @@ impl Parts {
     {
         value_told(&value);
         changes_told(&changes);
-        match self.cast(alloc, proposer, value, changes) {
+        match self.cast(alloc, proposer, value, changes, tried) {
             Ok(due) => Ok(due),
             Err(fault) => Err(fault),
         }

@@ -11,14 +11,15 @@ use Rattle.log_core.specs.Balloted.{ballot_row}
 use Rattle.log_core.specs.Confirming.{confirm_row}
 use Rattle.log_core.specs.Decided.{decision_row}
 use Rattle.log_core.specs.Learning.{roll_note_row}
-use Rattle.log_core.specs.Passing.{passing_row}
+use Rattle.log_core.specs.Passing.{passing_judged, passing_row}
 use Rattle.log_core.specs.Proposed.{proposed_row}
-use Rattle.log_core.specs.Proposing.{proposing_row}
+use Rattle.log_core.specs.Proposing.{proposing_row, turn_judged}
 use Rattle.log_core.specs.Rolling.{rolling_row}
 use Rattle.log_core.specs.Skipped.{skip_row}
 use Rattle.log_core.specs.State.{LogAnswer, CoreState, Input, passes, proposes, rolls, takes}
 use Rattle.log_core.specs.Stated.{status_row}
 use Rattle.log_core.specs.Submit.{submit_row}
+use Rattle.log_sending.specs.Checks.{Check}
 use Rattle.log_sending.specs.declared.refusal.LogRefusal.TheVariants as refusals
 
 -- the row of a message beside those of changes, proposals, ballots and statuses: how an epoch ended, a request to confirm,
@@ -60,6 +61,14 @@ IsReadable (takes bytes) = IsOk (message_in bytes)
 IsReadable proposes = Unit {0}
 IsReadable passes = Unit {0}
 IsReadable (rolls key) = Unit {0}
+
+-- what stands in the way of an order to propose or to pass, as far as that is known without any memory: whose turn it is, what the
+-- log voted and stated, and, to pass, whether a leaf is left
+abbrev pub order_judged : CoreState → Input → Check
+order_judged s (takes bytes) = Ok tt
+order_judged s proposes = turn_judged s
+order_judged s passes = passing_judged s
+order_judged s (rolls key) = Ok tt
 
 -- an input as a program has it: bytes are bytes, and a key is one that can be read
 abbrev pub IsLogInput : Input → Type 0

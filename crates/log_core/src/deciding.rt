@@ -1,9 +1,11 @@
 //! The row of Decision: the log ends its epoch as decided.
 
-ghost use Rattle.std.specs.Prelude.{◌≡◌, All, IfOk, if◌then◌else◌};
+ghost use Rattle.std.specs.Prelude.{◌≡◌, All, IfOk, Some, if◌then◌else◌};
 ghost use Rattle.ar_base.specs.Gives.{GivesUnless};
 ghost use Rattle.ar_cert.specs.Changes.{IsChange};
 ghost use Rattle.ar_message.specs.Lists.{AreChanges, AreVotes};
+ghost use Rattle.domain_table.specs.Applying.{apply};
+ghost use Rattle.epoch_log.specs.State.{epoch_of, table_of};
 ghost use Rattle.epoch_log.specs.Telling.{votes_in};
 ghost use Rattle.ar_base.specs.FirstFailing.{first_error};
 ghost use Rattle.log_sending.specs.Closings.{still_wanted};
@@ -18,6 +20,7 @@ use ar_base::Items;
 use ar_cert::Change;
 use ar_message::{Unsigned, Vote};
 use ar_statement::value_told;
+use domain_table::Table;
 use epoch_log::EpochLog;
 use log_sending::{Signers, enough, in_epoch, keep_wanted, leads};
 use std::alloc::{AllocError, Global};
@@ -69,7 +72,7 @@ impl LogCore {
         self.have_signed(front, changes)
     }
 
-    /// The checks of a decision, in their order.
+    /// The checks of a decision, in their order, and the table to which its changes lead.
     fn check_decision(
         &self,
         alloc: Global,
@@ -77,9 +80,9 @@ impl LogCore {
         value: &Value,
         changes: &[Change],
         votes: &[Vote],
-    ) -> Result<(), LogRefusal>
+    ) -> Result<Table, LogRefusal>
         requires { All IsChange changes.now }
-        ensures { GivesUnless refusals.Memory (λ unit. unit) result
+        ensures checked { GivesUnless refusals.Memory (λ _. tt) result
             (first_error (decision_checks self.now
             (record {
               epoch = epoch;
@@ -87,12 +90,15 @@ impl LogCore {
               changes = changes.now;
               votes = votes.now;
             }))) }
+        ensures table { IfOk result (λ table. apply (table_of self.now.log)
+            (epoch_of self.now.log) changes.now ≡ Some table) }
     {
         self.told();
         self.have_signed_decision(alloc, epoch, value, changes, votes)?;
         in_epoch(&self.log, epoch)?;
-        leads(alloc, &self.log, value, changes)?;
-        enough(self.log.directory(), votes.len())
+        let table = leads(alloc, &self.log, value, changes)?;
+        enough(self.log.directory(), votes.len())?;
+        Ok(table)
     }
 
     /// Ends the epoch as decided, as another log tells with the votes of a quorum; of the queue is kept what is still
@@ -116,13 +122,13 @@ impl LogCore {
             })) }
     {
         value_told(&value);
-        match self.check_decision(alloc, epoch, &value, &changes, votes.as_slice()) {
-            Ok(()) => (),
+        let table = match self.check_decision(alloc, epoch, &value, &changes, votes.as_slice()) {
+            Ok(table) => table,
             Err(refusal) => return Err(refusal),
-        }
+        };
         let votes = plain_votes(alloc, votes)?;
         let decided = ended_epoch(&self.log, Some(value.root));
-        self.log.decide(alloc, changes, value.root, votes)?;
+        self.log.decide(alloc, changes, value.root, table, votes)?;
         keep_if(decided.is_some(), &self.log, &mut self.queue);
         Ok(Unsigned::ended(alloc, decided))
     }

@@ -1,11 +1,11 @@
-ghost use Rattle.std.specs.Prelude.{◌≡◌, ◌≤◌, ◌∷◌, [], length, Err, IfOk, OnOk, OnErr};
+ghost use Rattle.std.specs.Prelude.{◌≡◌, ◌≤◌, ◌∷◌, [], length, Err, IfErr, IfOk, OnOk, OnErr};
 ghost use Rattle.ar_council.specs.Council.{council_of};
 ghost use Rattle.epoch_log.specs.Calls.{fresh};
 ghost use Rattle.key_roll.specs.Ring.{ring_signature_len};
 ghost use Rattle.lms_tree.specs.LmsKind.{leaves_of};
 ghost use Rattle.log_core.specs.Inputs.{input_of};
 ghost use Rattle.log_core.specs.Keyed.{AreBehind, IsOwn, IsPlain, SendsBy};
-ghost use Rattle.log_core.specs.Row.{IsLogInput, IsReadable, row};
+ghost use Rattle.log_core.specs.Row.{IsLogInput, IsReadable, order_judged, row};
 ghost use Rattle.log_core.specs.State.{most_sent};
 ghost use Rattle.log_sending.specs.declared.refusal.LogRefusal.TheVariants as refusals;
 
@@ -71,6 +71,8 @@ fn answer_plain(log: &mut Log, alloc: Global, input: &LogInput) -> Result<Sent, 
     ensures row { SendsBy log.old.ring.keys result log.old.core log.new.core
         (row log.old.core (input_of input.now)) }
     ensures memory { result ≡ Err refusals.Memory → IsReadable (input_of input.now) }
+    ensures refused { IfErr (order_judged log.old.core (input_of input.now)) (λ why.
+        result ≡ Err why) }
     ensures few { IfOk result (λ sent. length sent.messages ≤ most_sent) }
     ensures ring { log.new.ring ≡ log.old.ring }
 {
@@ -83,7 +85,7 @@ fn answer_plain(log: &mut Log, alloc: Global, input: &LogInput) -> Result<Sent, 
 /// What a log sends for what it is asked, signed, or why it refuses.
 ///
 /// It is the step of its core, with the signatures in the places that it leaves blank; `Memory` may stand in its place,
-/// but not in that of `Form`. To go on to a key is what `roll` does: the key is that of the ring's next one.
+/// but not in that of `Form`, nor of why it may not propose or pass now. To go on to a key is what `roll` does: the key is that of the ring's next one.
 pub fn answer(log: &mut Log, alloc: Global, input: &LogInput) -> Result<Sent, LogRefusal>
     requires { IsOwn log.old.ring.keys (input_of input.now) }
     // The answer, signed, and where the log stands then.
@@ -91,6 +93,9 @@ pub fn answer(log: &mut Log, alloc: Global, input: &LogInput) -> Result<Sent, Lo
         (row log.old.core (input_of input.now)) }
     // When memory may be wanting.
     ensures memory { result ≡ Err refusals.Memory → IsReadable (input_of input.now) }
+    // What stands in the way of an order to propose or to pass is told whatever memory there is.
+    ensures refused { IfErr (order_judged log.old.core (input_of input.now)) (λ why.
+        result ≡ Err why) }
     // How many messages it sends at most.
     ensures few { IfOk result (λ sent. length sent.messages ≤ most_sent) }
     // Which keys it has.

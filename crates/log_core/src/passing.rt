@@ -1,6 +1,6 @@
 //! The row of the order to pass: the log states what it did in the epoch.
 
-ghost use Rattle.std.specs.Prelude.{◌≡◌, ◌++◌, IfOk, OnOk};
+ghost use Rattle.std.specs.Prelude.{◌≡◌, ◌++◌, Err, IfErr, IfOk, OnOk};
 ghost use Rattle.ar_statement.specs.Claims.{claim_of, text_of};
 ghost use Rattle.epoch_log.specs.Calls.{after_state, own_status_text};
 ghost use Rattle.log_sending.specs.Closings.{closing_drafts};
@@ -90,7 +90,8 @@ impl LogCore {
 
     /// States what the log did in the epoch. Where it counts the statuses itself, the epoch may end with its own.
     pub(crate) fn pass(&mut self, alloc: Global) -> Result<Unsigned, LogRefusal>
-        ensures { IsStep result self.old self.new (passing_row self.old) }
+        ensures row { IsStep result self.old self.new (passing_row self.old) }
+        ensures refused { IfErr (passing_judged self.old) (λ why. result ≡ Err why) }
     {
         match self.judge_pass() {
             Ok(()) => {}

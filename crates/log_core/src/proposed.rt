@@ -1,9 +1,11 @@
 //! The row of Propose: the log votes for another log's proposal.
 
-ghost use Rattle.std.specs.Prelude.{◌≡◌, All, IfOk};
+ghost use Rattle.std.specs.Prelude.{◌≡◌, All, IfOk, Some};
 ghost use Rattle.ar_base.specs.Gives.{GivesUnless};
 ghost use Rattle.ar_cert.specs.Changes.{IsChange};
 ghost use Rattle.ar_message.specs.Lists.{AreChanges};
+ghost use Rattle.domain_table.specs.Applying.{apply};
+ghost use Rattle.epoch_log.specs.State.{epoch_of, table_of};
 ghost use Rattle.ar_base.specs.FirstFailing.{first_error};
 ghost use Rattle.log_core.specs.Proposed.{ballot_draft, proposal_signers, proposed_checks, proposed_judged, proposed_row, voting_checks};
 ghost use Rattle.log_sending.specs.Sending.{none_composed, with_draft};
@@ -17,6 +19,7 @@ use ar_cert::Change;
 use ar_council::{propose_statement, vote_statement};
 use ar_message::{Address, Message, Signature, Unsigned};
 use ar_statement::{Role, value_told};
+use domain_table::Table;
 use key_roll::forgo;
 use log_sending::{
     DraftMessages, Ready, Signers, book_refusal, in_epoch, in_turn, leads, leaf_left, not_stated,
@@ -52,20 +55,28 @@ impl LogCore {
         self.have_signed(front, changes)
     }
 
-    /// That the log has done nothing in the epoch, that it may vote for this value, and that it has a leaf for the vote.
-    fn may_vote(&self, alloc: Global, value: &Value, changes: &[Change]) -> Result<(), LogRefusal>
+    /// That the log has done nothing in the epoch, that it may vote for this value, and that it has a leaf for the vote. It
+    /// gives the table to which the changes lead.
+    fn may_vote(
+        &self,
+        alloc: Global,
+        value: &Value,
+        changes: &[Change],
+    ) -> Result<Table, LogRefusal>
         requires { All IsChange changes.now }
-        ensures { GivesUnless refusals.Memory (λ unit.
-            unit) result (first_error (voting_checks self.now.log value.now changes.now)) }
+        ensures checked { GivesUnless refusals.Memory (λ _.
+            tt) result (first_error (voting_checks self.now.log value.now changes.now)) }
+        ensures table { IfOk result (λ table. apply (table_of self.now.log)
+            (epoch_of self.now.log) changes.now ≡ Some table) }
     {
         not_voted(&self.log)?;
         not_stated(&self.log)?;
-        leads(alloc, &self.log, value, changes)?;
+        let table = leads(alloc, &self.log, value, changes)?;
         let statement = vote_statement(self.log.number(), self.log.epoch(), value);
-        leaf_left(&self.log.record().signed, &statement)
+        leaf_left(&self.log.record().signed, &statement).and(Ok(table))
     }
 
-    /// The checks of a proposal, in their order.
+    /// The checks of a proposal, in their order, and the table to which its changes lead.
     fn check_proposal(
         &self,
         alloc: Global,
@@ -74,9 +85,9 @@ impl LogCore {
         value: &Value,
         changes: &[Change],
         signature: &[u8],
-    ) -> Result<(), LogRefusal>
+    ) -> Result<Table, LogRefusal>
         requires { All IsChange changes.now }
-        ensures { GivesUnless refusals.Memory (λ unit. unit) result
+        ensures checked { GivesUnless refusals.Memory (λ _. tt) result
             (first_error (proposed_checks self.now
             (record {
               log = log;
@@ -85,6 +96,8 @@ impl LogCore {
               changes = changes.now;
               signature = signature.now;
             }))) }
+        ensures table { IfOk result (λ table. apply (table_of self.now.log)
+            (epoch_of self.now.log) changes.now ≡ Some table) }
     {
         self.told();
         self.have_signed_proposal(alloc, log, epoch, value, changes, signature)?;
@@ -121,7 +134,7 @@ impl LogCore {
         drafts.ready(alloc)
     }
 
-    /// What is sent for a proposal, where no check refuses it.
+    /// What is sent for a proposal, where no check refuses it, and the table to which its changes lead.
     #[tactic(auto, unfolding(crate::specs::Proposed::proposed_judged))]
     fn judge_proposal(
         &self,
@@ -131,9 +144,9 @@ impl LogCore {
         value: &Value,
         changes: &[Change],
         signature: &[u8],
-    ) -> Result<Ready<'static>, LogRefusal>
+    ) -> Result<(Ready<'static>, Table), LogRefusal>
         requires { All IsChange changes.now }
-        ensures { GivesUnless refusals.Memory (λ ready. ready) result
+        ensures judged { GivesUnless refusals.Memory (λ made. made.0) result
             (proposed_judged self.now (record {
               log = log;
               epoch = epoch;
@@ -141,9 +154,12 @@ impl LogCore {
               changes = changes.now;
               signature = signature.now;
             })) }
+        ensures table { IfOk result (λ made. apply (table_of self.now.log)
+            (epoch_of self.now.log) changes.now ≡ Some made.1) }
     {
-        self.check_proposal(alloc, log, epoch, value, changes, signature)?;
-        Ok(self.ballot_ready(alloc, value)?)
+        let table = self.check_proposal(alloc, log, epoch, value, changes, signature)?;
+        let ready = self.ballot_ready(alloc, value)?;
+        Ok((ready, table))
     }
 
     /// Votes for another log's proposal; the ballot goes to the log whose turn it is.
@@ -167,11 +183,15 @@ impl LogCore {
             })) }
     {
         value_told(&value);
-        let ready = match self.judge_proposal(alloc, log, epoch, &value, &changes, signature) {
-            Ok(ready) => ready,
+        let made = match self.judge_proposal(alloc, log, epoch, &value, &changes, signature) {
+            Ok(made) => made,
             Err(refusal) => return Err(refusal),
         };
-        match self.log.vote(alloc, log, value.base, changes, value.root) {
+        let (ready, table) = made;
+        match self
+            .log
+            .vote(alloc, log, value.base, changes, value.root, table)
+        {
             Ok(due) => {
                 forgo(due);
                 Ok(ready.seal(&self.log, None))

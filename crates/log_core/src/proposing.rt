@@ -1,13 +1,15 @@
 //! The row of the order to propose: the log proposes what it walked over, and counts its own vote at once.
 
-ghost use Rattle.std.specs.Prelude.{◌≡◌, ◌∷◌, ◌<◌, ◌^◌, Ok, IfOk, OnOk};
+ghost use Rattle.std.specs.Prelude.{◌≡◌, ◌∷◌, ◌<◌, ◌^◌, Ok, Err, Some, IfOk, IfErr, OnOk};
 ghost use Rattle.ar_base.specs.Gives.{GivesUnless};
 ghost use Rattle.ar_message.specs.Lists.{AreChanges};
 ghost use Rattle.ar_message.specs.declared.address.Address.TheVariants.{Logs};
 ghost use Rattle.ar_message.specs.declared.message.Message.TheVariants.{Propose};
 ghost use Rattle.ar_message.specs.Filling.{zeros};
 ghost use Rattle.ar_statement.specs.Claims.{propose, text_of};
+ghost use Rattle.domain_table.specs.Applying.{apply};
 ghost use Rattle.epoch_log.specs.Calls.{after_propose, proposal_texts};
+ghost use Rattle.epoch_log.specs.State.{epoch_of, table_of};
 ghost use Rattle.log_sending.specs.Checks.{leaves_left};
 ghost use Rattle.log_sending.specs.Closings.{closing_drafts};
 ghost use Rattle.log_core.specs.Proposing.{proposal, proposal_draft, proposed_value, proposing_judged, proposing_row, turn_judged};
@@ -86,6 +88,8 @@ impl LogCore {
     fn walk(&self, alloc: Global) -> Result<Walked, AllocError>
         ensures changes { IfOk result (λ w. w.changes.items ≡ proposal self.now) }
         ensures value { IfOk result (λ w. w.value ≡ proposed_value self.now) }
+        ensures table { IfOk result (λ w. apply (table_of self.now.log)
+            (epoch_of self.now.log) w.changes.items ≡ Some w.table) }
     {
         self.log.told();
         walk(alloc, self.log.epoch(), self.log.table(), &self.queue)
@@ -121,8 +125,9 @@ impl LogCore {
         requires turn { turn_judged self.now ≡ Ok tt }
         requires value { walked.value ≡ proposed_value self.now }
         requires changes { walked.changes.items ≡ proposal self.now }
-        ensures { GivesUnless refusals.Memory (λ w.
+        ensures judged { GivesUnless refusals.Memory (λ w.
             (w.value, w.changes.items)) result (proposing_judged self.now) }
+        ensures same { IfOk result (λ w. w ≡ walked) }
     {
         match self.judge_leaves(&walked.value) {
             Ok(()) => Ok(walked),
@@ -132,8 +137,11 @@ impl LogCore {
 
     /// The checks of the order to propose, in their order, and what the log proposes.
     fn judge_order(&self, alloc: Global) -> Result<Walked, LogRefusal>
-        ensures { GivesUnless refusals.Memory (λ w.
+        ensures judged { GivesUnless refusals.Memory (λ w.
             (w.value, w.changes.items)) result (proposing_judged self.now) }
+        ensures table { IfOk result (λ w. apply (table_of self.now.log)
+            (epoch_of self.now.log) w.changes.items ≡ Some w.table) }
+        ensures refused { IfErr (turn_judged self.now) (λ why. result ≡ Err why) }
     {
         match self.judge_turn() {
             Ok(()) => {}
@@ -182,6 +190,8 @@ impl LogCore {
         ready: Ready<'static>,
     ) -> Result<Unsigned, LogRefusal>
         requires judged { proposing_judged self.old ≡ Ok (walked.value, walked.changes.items) }
+        requires table { apply (table_of self.old.log)
+            (epoch_of self.old.log) walked.changes.items ≡ Some walked.table }
         requires ready { ready ≡ with_drafts none_composed
             (proposal_draft self.old walked.value walked.changes.items
             ∷ closing_drafts (after_propose self.old.log walked.value walked.changes.items).1
@@ -190,8 +200,15 @@ impl LogCore {
         ensures { IsStep result self.old self.new (proposing_row self.old) }
     {
         let epoch = self.log.epoch();
-        let Walked { changes, value } = walked;
-        match self.log.propose(alloc, value.base, changes, value.root) {
+        let Walked {
+            changes,
+            value,
+            table,
+        } = walked;
+        match self
+            .log
+            .propose(alloc, value.base, changes, value.root, table)
+        {
             Ok((due, closing)) => {
                 forgo(due);
                 Ok(close(&self.log, &mut self.queue, ready, epoch, closing))
@@ -205,7 +222,9 @@ impl LogCore {
 
     /// Composes and makes the proposal of what the log walked over.
     fn propose_walked(&mut self, alloc: Global, walked: Walked) -> Result<Unsigned, LogRefusal>
-        requires { proposing_judged self.old ≡ Ok (walked.value, walked.changes.items) }
+        requires judged { proposing_judged self.old ≡ Ok (walked.value, walked.changes.items) }
+        requires table { apply (table_of self.old.log)
+            (epoch_of self.old.log) walked.changes.items ≡ Some walked.table }
         ensures { IsStep result self.old self.new (proposing_row self.old) }
     {
         match self.proposing_drafts(alloc, &walked.value, &walked.changes) {
@@ -216,7 +235,8 @@ impl LogCore {
 
     /// Proposes, in the log's turn, the changes of its queue that a walk takes. The epoch may end with its own vote.
     pub(crate) fn propose(&mut self, alloc: Global) -> Result<Unsigned, LogRefusal>
-        ensures { IsStep result self.old self.new (proposing_row self.old) }
+        ensures row { IsStep result self.old self.new (proposing_row self.old) }
+        ensures refused { IfErr (turn_judged self.old) (λ why. result ≡ Err why) }
     {
         match self.judge_order(alloc) {
             Ok(walked) => self.propose_walked(alloc, walked),

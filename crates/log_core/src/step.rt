@@ -1,10 +1,10 @@
 //! A step of a log: what it is asked goes to its row.
 
-ghost use Rattle.std.specs.Prelude.{◌≡◌, Err, IsOk};
+ghost use Rattle.std.specs.Prelude.{◌≡◌, Err, IfErr, IsOk};
 ghost use Rattle.ar_base.specs.Gives.{GivesOrWants, with_error};
 ghost use Rattle.ar_message.specs.Messages.{message_in};
 ghost use Rattle.log_core.specs.Inputs.{input_of};
-ghost use Rattle.log_core.specs.Row.{IsReadable, message_row, other_row, read_row, row};
+ghost use Rattle.log_core.specs.Row.{IsReadable, message_row, order_judged, other_row, read_row, row};
 ghost use Rattle.log_core.specs.Steps.{IsStep};
 ghost use Rattle.log_sending.specs.declared.refusal.LogRefusal.TheVariants as refusals;
 
@@ -140,13 +140,16 @@ impl LogCore {
 
     /// What the log sends for what it is asked, with zero bytes where a signature of its own is due, or why it refuses.
     ///
-    /// The answer is that of `specs/Row.antt`; `Memory` may stand in its place, but not in that of `Form`. All memory is taken
-    /// before the first change, and after a refusal the log is as it was.
+    /// The answer is that of `specs/Row.antt`; `Memory` may stand in its place, but not in that of `Form`, nor of why the log may
+    /// not propose or pass now. All memory is taken before the first change, and after a refusal the log is as it was.
     #[tactic(auto, unfolding(crate::specs::Row::row))]
     pub fn step(&mut self, alloc: Global, input: &LogInput) -> Result<Unsigned, LogRefusal>
         ensures row { IsStep result self.old self.new (row self.old (input_of input.now)) }
         // When memory may be wanting.
         ensures memory { result ≡ Err refusals.Memory → IsReadable (input_of input.now) }
+        // What stands in the way of an order to propose or to pass is told whatever memory there is.
+        ensures refused { IfErr (order_judged self.old (input_of input.now)) (λ why.
+            result ≡ Err why) }
     {
         match input {
             LogInput::Take(bytes) => self.take(alloc, bytes),

@@ -14,8 +14,8 @@ use Rattle.log_core.proofs.Short.{row-short}
 use Rattle.log_core.specs.Row.{row}
 use Rattle.log_core.specs.State.{LogAnswer, CoreState, Input, LogStep, passes, proposes, rolls, takes}
 use Rattle.log_journal.specs.Inputs.{IsShortInput, IsWhole, input_text, mark}
-use Rattle.log_sending.specs.declared.refusal.LogRefusal.{LogRefusal}
-use Rattle.log_sending.specs.declared.refusal.LogRefusal.TheVariants.{Memory}
+use Rattle.log_core.below.log_sending.specs.declared.refusal.LogRefusal.{LogRefusal}
+use Rattle.log_core.below.log_sending.specs.declared.refusal.LogRefusal.TheVariants.{Memory}
 
 -- an input that is taken is short enough for a record
 pub short_input : (s : CoreState) (input : Input) (reply : LogStep) → row s input ≡ Ok reply → IsShortInput input

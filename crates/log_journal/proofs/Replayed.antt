@@ -12,8 +12,8 @@ use Rattle.log_core.specs.Rolling.{rolling_row}
 use Rattle.log_core.specs.Row.{row}
 use Rattle.log_core.specs.State.{LogAnswer, CoreState, Input, LogStep, passes, proposes, rolls, takes}
 use Rattle.log_journal.specs.Steps.{LogStanding, TakesInput}
-use Rattle.log_sending.specs.declared.refusal.LogRefusal.{LogRefusal}
-use Rattle.log_sending.specs.declared.refusal.LogRefusal.TheVariants.{Memory}
+use Rattle.log_core.below.log_sending.specs.declared.refusal.LogRefusal.{LogRefusal}
+use Rattle.log_core.below.log_sending.specs.declared.refusal.LogRefusal.TheVariants.{Memory}
 
 same-ok : (a b : CoreState × Sent) → ◌≡◌ {A = Result (CoreState × Sent) LogRefusal} (Ok a) (Ok b) → a ≡ b
 same-ok a b e = cc

@@ -22,8 +22,8 @@ use Rattle.log_journal.specs.Steps.{LogStanding, TakesInput}
 use Rattle.log_journal.specs.Steps as steps
 use Rattle.log_keeper.specs.Keeping as keeping
 use Rattle.log_keeper.specs.Keeping.{Steps}
-use Rattle.log_sending.specs.declared.refusal.LogRefusal.{LogRefusal}
-use Rattle.log_sending.specs.declared.refusal.LogRefusal.TheVariants.{Memory}
+use Rattle.log_core.below.log_sending.specs.declared.refusal.LogRefusal.{LogRefusal}
+use Rattle.log_core.below.log_sending.specs.declared.refusal.LogRefusal.TheVariants.{Memory}
 
 -- an answer to an input takes its text
 pub answered : (old new : LogStanding) (input : Input) (sent : Sent) → IsWhole input → IsOwn old.keys input

@@ -7,7 +7,7 @@ use Rattle.log_core.specs.Row.{row}
 use Rattle.log_core.specs.State.{CoreState, Input, passes, proposes, rolls, takes}
 use Rattle.log_journal.specs.Steps.{LogStanding}
 use Rattle.log_keeper.specs.Keeping as keeping
-use Rattle.log_sending.specs.declared.refusal.LogRefusal.{LogRefusal}
+use Rattle.log_core.below.log_sending.specs.declared.refusal.LogRefusal.{LogRefusal}
 
 abbrev standing : CoreState → List KeyParts → LogStanding
 standing core keys = record { core = core; keys = keys }

@@ -11,8 +11,8 @@ use Rattle.log_journal.specs.Inputs.{input_in, input_text}
 use Rattle.log_journal.specs.Steps.{LogStanding}
 use Rattle.log_keeper.specs.declared.order.LogOrder.{LogOrder}
 use Rattle.log_keeper.specs.declared.order.LogOrder.TheVariants as orders
-use Rattle.log_sending.specs.declared.refusal.LogRefusal.{LogRefusal}
-use Rattle.log_sending.specs.declared.refusal.LogRefusal.TheVariants.{Memory}
+use Rattle.log_core.below.log_sending.specs.declared.refusal.LogRefusal.{LogRefusal}
+use Rattle.log_core.below.log_sending.specs.declared.refusal.LogRefusal.TheVariants.{Memory}
 
 -- By an input it sends this, and becomes this: it may be asked so, its row answers, and what it sends is signed with the keys that it
 -- has then, with its next one where it rolls.

@@ -22,7 +22,7 @@ use Rattle.log_restart.specs.Inputs.{record_cost, records_cost}
 use Rattle.log_restart.specs.Running.{FailedAt, Fails, Took, TookAll}
 use Rattle.log_restart.proofs.Costs.{staged_cost}
 use Rattle.log_restart.proofs.Replaying.{rest_replays}
-use Rattle.log_sending.specs.declared.refusal.LogRefusal.{LogRefusal}
+use Rattle.log_core.below.log_sending.specs.declared.refusal.LogRefusal.{LogRefusal}
 
 -- ---- what it has to take
 

@@ -6,7 +6,7 @@ ghost use Rattle.log_journal.specs.Steps.{LogStanding, standing_of, takes};
 ghost use Rattle.log_journal.specs.declared.refusal.KeptRefusal.TheVariants as refusals;
 ghost use Rattle.log_restart.specs.Inputs.{text_of, texts_of};
 ghost use Rattle.log_restart.specs.Running.{FailedAt, Fails, Took, TookAll};
-ghost use Rattle.log_sending.specs.declared.refusal.LogRefusal.{LogRefusal};
+ghost use Rattle.log_core.below.log_sending.specs.declared.refusal.LogRefusal.{LogRefusal};
 
 use log_core::LogInput;
 use log_journal::{Disk, KeptLog, KeptRefusal, input_told};

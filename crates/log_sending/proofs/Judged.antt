@@ -1,6 +1,6 @@
 -- A list of changes that is judged is one that is applied.
 use Rattle.std.proofs.Common.{◌≡◌, ℕ, suc, ◌+◌, List, [], ◌∷◌, take, refl, sym, ap, ◌∙◌, subst, arith, Some}
-use Rattle.std.specs.Prelude.{Result, Ok, Err, option_and_then, bytes_eq, slice_get}
+use Rattle.std.specs.Prelude.{Result, Ok, Err, option_and_then, bytes_eq, slice_get, unwrap_or}
 use Rattle.std.specs.Result.{result_ok}
 use Rattle.std.proofs.lemmas.Slice.Eq.{bytes_eq-Decides}
 use Rattle.cert_policy.specs.declared.manner.Manner.{Manner}
@@ -10,7 +10,9 @@ use Rattle.domain_table.specs.Applying.{after_answer, apply, apply_each, judge_r
 use Rattle.domain_table.specs.Tables.{Table}
 use Rattle.domain_table.specs.Tree.{root_of}
 use Rattle.log_sending.specs.Checks.{all_taken, same_root}
+use Rattle.log_sending.specs.Leading.{table_in}
 use Rattle.log_sending.specs.Judged.{TableJudgement, behind_one, judged, judged_from}
+use Rattle.log_sending.specs.declared.refusal.LogRefusal.{LogRefusal}
 use Rattle.log_sending.specs.declared.refusal.LogRefusal.TheVariants as refusals
 use Rattle.log_sending.proofs.Checked.{holds}
 
@@ -31,6 +33,21 @@ judged-each (change ∷ changes) index table epoch =
 
 pub judged-applies : (table : Table) (epoch : ℕ) (changes : List Change) → result_ok (judged table epoch changes) ≡ apply table epoch changes
 judged-applies table epoch changes = judged-each changes 0 (ripen table epoch) epoch
+
+-- the table that a judgement gives is the one to which the changes lead
+pub judged-table : (table after : Table) (epoch : ℕ) (changes : List Change) → table_in (judged table epoch changes) ≡ Ok after → apply table epoch changes ≡ Some after
+judged-table table after epoch changes is = sym (judged-applies table epoch changes) ∙ by (judged table epoch changes) is
+  where
+    by : (j : TableJudgement) → table_in j ≡ Ok after → result_ok j ≡ Some after
+    by (Ok found) same = ap result_ok same
+    by (Err refused) same = absurd cc
+
+pub table-judged : (table after : Table) (epoch : ℕ) (changes : List Change) → apply table epoch changes ≡ Some after → table_in (judged table epoch changes) ≡ Ok after
+table-judged table after epoch changes is = by (judged table epoch changes) (judged-applies table epoch changes ∙ is)
+  where
+    by : (j : TableJudgement) → result_ok j ≡ Some after → table_in j ≡ Ok after
+    by (Ok found) same = ap (λ o. let r : Result Table LogRefusal = Ok (unwrap_or o after) in r) same
+    by (Err refused) same = absurd cc
 
 -- what is refused is refused by the table behind the changes before it
 abbrev Refuses : Table → ℕ → List Change → ℕ → ChangeRefusal → Type 0

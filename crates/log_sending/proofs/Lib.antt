@@ -9,5 +9,6 @@ pub mod Sealing
 pub mod Sendable
 pub mod SignerLaws
 pub mod Taken
+pub mod Tried
 pub mod Walks
 pub mod ZeroBytes

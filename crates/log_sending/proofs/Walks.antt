@@ -83,6 +83,18 @@ over-answer w change (Err refused) refusal sound is bad = stays w change sound (
 pub over-refused : (w : Walker) (change : Change) (refusal : ChangeRefusal) → IsSound w.table → Err refusal ≡ answer_of (judge w.table w.epoch change) → IsStepOver change w w
 over-refused w change refusal sound is = over-answer w change (judge w.table w.epoch change) refusal sound refl is
 
+-- the same of a walk that stands so, where applying the change left the table as it was
+pub over-refused-by : (w : Walker) (table : Table) (change : Change) (refusal : ChangeRefusal) → IsSound w.table → table ≡ w.table → judge w.table w.epoch change ≡ Err refusal
+    → IsStepOver change w (record { epoch = w.epoch; table = table; taken = w.taken; many = w.many; left = w.left })
+over-refused-by w table change refusal sound same is =
+    subst (λ (t : Table). IsStepOver change w (record { epoch = w.epoch; table = t; taken = w.taken; many = w.many; left = w.left })) (sym same)
+    (over-refused w change refusal sound (sym (ap answer_of is)))
+
+-- an answer that is not refused
+pub accepted : (answer : Result Manner ChangeRefusal) → Ok tt ≡ answer_of answer → IsOk answer
+accepted (Ok manner) is = refl
+accepted (Err refusal) is = absurd cc
+
 manner-in : (answer : Result Manner ChangeRefusal) → IsOk answer → (manner : Manner) × (answer ≡ Ok manner)
 manner-in (Ok manner) ok = (manner, refl)
 manner-in (Err refusal) ok = absurd cc
@@ -106,6 +118,15 @@ taken-alone : (t after : Table) (e : ℕ) (change : Change) (manner : Manner) �
 unfolding apply_each
 taken-alone t after e change manner is behind =
     ap (λ o. unwrap_or o after) (behind ∙ ap (λ answer. option_and_then (λ u. apply_each u e []) (after_answer (ripen t e) e change answer)) is)
+
+-- what leads to a table was taken
+taken-ok : (t after : Table) (e : ℕ) (change : Change) → Some after ≡ apply t e (change ∷ []) → IsOk (judge t e change)
+unfolding apply_each
+taken-ok t after e change behind = by (judge t e change) behind
+  where
+    by : (answer : Result Manner ChangeRefusal) → Some after ≡ option_and_then (λ u. apply_each u e []) (after_answer (ripen t e) e change answer) → IsOk answer
+    by (Ok manner) is = refl
+    by (Err refusal) is = absurd cc
 
 sound-ripe : (t : Table) (e : ℕ) → e < 2 ^ 64 → IsSound t → IsSound (ripen t e)
 unfolding apply_each
@@ -146,13 +167,14 @@ over-taken w after change len low sound is-change size some short ok epochs behi
           ∙ sym (one_by_one w.table e change (left_of after queue) sound) ∙ ap (apply w.table e) (sym (rest queue));
     }
 
-pub over-taken-ok : (w after : Walker) (change : Change) (len : ℕ) (r : Result (Unit {0}) AllocError) → w.epoch < 2 ^ 64 → IsSound w.table → IsChange change → len ≡ length (change_text change)
-    → 0 < w.many → len ≤ w.left → IsOk (judge w.table w.epoch change)
-    → OnOk r (after.epoch ≡ w.epoch) → OnOk r (Some after.table ≡ apply w.table w.epoch (change ∷ [])) → OnOk r (after.taken.items ≡ w.taken.items ++ change ∷ [])
+-- the table behind a change that it took is the one to which the change alone leads
+pub over-taken-ok : (w after : Walker) (taken : Table) (change : Change) (len : ℕ) (r : Result (Unit {0}) AllocError) → w.epoch < 2 ^ 64 → IsSound w.table → IsChange change → len ≡ length (change_text change)
+    → 0 < w.many → len ≤ w.left → Some taken ≡ apply w.table w.epoch (change ∷ [])
+    → OnOk r (after.epoch ≡ w.epoch) → OnOk r (after.table ≡ taken) → OnOk r (after.taken.items ≡ w.taken.items ++ change ∷ [])
     → OnOk r (after.many + 1 ≡ w.many) → OnOk r (after.left + len ≡ w.left) → OnOk r (IsStepOver change w after)
-over-taken-ok w after change len (Ok u) low sound is-change size some short ok epochs behind took fewer less =
-    over-taken w after change len low sound is-change size some short ok epochs behind took fewer less
-over-taken-ok w after change len (Err error) low sound is-change size some short ok epochs behind took fewer less = tt
+over-taken-ok w after taken change len (Ok u) low sound is-change size some short behind epochs table took fewer less =
+    over-taken w after change len low sound is-change size some short (taken-ok w.table taken w.epoch change behind) epochs (ap (λ t. Some t) table ∙ behind) took fewer less
+over-taken-ok w after taken change len (Err error) low sound is-change size some short behind epochs table took fewer less = tt
 
 -- ---- the whole walk
 

@@ -6,7 +6,6 @@ use Rattle.ar_cert.specs.Changes.{Change}
 use Rattle.cert_policy.specs.declared.manner.Manner.{Manner}
 use Rattle.domain_table.specs.Applying.{taking_change}
 use Rattle.domain_table.specs.Tables.{Table}
-use Rattle.domain_table.specs.Tree.{root_of}
 use Rattle.domain_table.specs.declared.refusal.ChangeRefusal.{ChangeRefusal}
 use Rattle.vote_quorum.specs.declared.value.Value.{Value}
 use Rattle.epoch_log.specs.State.{LogState, epoch_of, table_of}
@@ -22,10 +21,6 @@ table_behind answer index table epoch change = result_map_both (taking_change ta
 -- the table behind changes that are judged so, or the refusal of the first that is refused
 abbrev pub table_in : TableJudgement → Result Table LogRefusal
 table_in = with_error bad_change
-
--- the root of that table, or the same refusal
-abbrev pub root_in : TableJudgement → Result (List ℕ) LogRefusal
-root_in = result_map_both root_of bad_change
 
 -- the value is for the log's base, the table accepts each change behind those before it, and they lead to the root
 abbrev pub leading_checks : LogState → Value → List Change → List Check

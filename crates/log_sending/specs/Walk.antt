@@ -1,5 +1,5 @@
 -- What a log proposes: a walk over its queue, from the front, on the table that is ripe in the epoch.
-use Rattle.std.specs.Prelude.{◌≡◌, ℕ, ◌-◌, ◌==◌, nat_le, if◌then◌else◌, List, [], ◌∷◌, ◌++◌, length, Result, Ok, Err, unwrap_or}
+use Rattle.std.specs.Prelude.{◌≡◌, ℕ, ◌-◌, ◌==◌, nat_le, if◌then◌else◌, List, [], ◌∷◌, ◌++◌, length, Result, Ok, Err, Some, unwrap_or}
 use Rattle.std.specs.List.{sum_by}
 use Rattle.cert_policy.specs.declared.manner.Manner.{Manner}
 use Rattle.ar_cert.specs.Changes.{Change, change_text}
@@ -56,8 +56,9 @@ pub record IsStepOver (change : Change) (before after : Walker) : Type 0 where
   pub takes : (queue : List Change) → after.taken.items ++ left_of after queue ≡ before.taken.items ++ left_of before (change ∷ queue)
   pub leads : (queue : List Change) → apply after.table after.epoch (left_of after queue) ≡ apply before.table before.epoch (left_of before (change ∷ queue))
 
--- these changes are taken of a queue, and the value goes from the root of the table to that of the table behind them
+-- these changes are taken of a queue, and the value goes from the root of the table to that of the table to which they lead
 pub record IsWalked (epoch : ℕ) (table : Table) (queue : List Change) (w : Walked) : Type 0 where
   pub changes : w.changes.items ≡ walk epoch (ripen table epoch) most_changes most_change_bytes queue
   pub base : w.value.base ≡ root_of table
   pub root : w.value.root ≡ root_of (unwrap_or (apply table epoch w.changes.items) table)
+  pub leads : apply table epoch w.changes.items ≡ Some w.table

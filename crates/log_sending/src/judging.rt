@@ -1,20 +1,23 @@
 //! What is checked of a proposal and of a decision: where their changes lead.
 
-ghost use Rattle.std.specs.Prelude.{◌+◌, ◌^◌, ◌≤◌, All, length};
+ghost use Rattle.std.specs.Prelude.{◌≡◌, ◌+◌, ◌^◌, ◌≤◌, All, IfOk, IfSome, Some, length};
+ghost use Rattle.std.specs.Option.{option_map};
 ghost use Rattle.ar_base.specs.Gives.{GivesUnless};
 ghost use Rattle.ar_cert.specs.Changes.{IsChange};
-ghost use Rattle.domain_table.specs.Applying.{judge, ripen};
+ghost use Rattle.domain_table.specs.Applying.{apply, judge, ripen};
 ghost use Rattle.domain_table.specs.Sound.{IsSound};
 ghost use Rattle.ar_base.specs.FirstFailing.{first_error};
+ghost use Rattle.epoch_log.specs.State.{epoch_of, table_of};
 ghost use Rattle.log_sending.specs.Judged.{judged, judged_from};
-ghost use Rattle.log_sending.specs.Leading.{leading_checks, root_in, table_behind, table_in};
+ghost use Rattle.log_sending.specs.Leading.{leading_checks, table_behind, table_in};
 ghost use Rattle.log_sending.specs.declared.refusal.LogRefusal.TheVariants as refusals;
 
 use crate::LogRefusal;
 use crate::checks::same_base;
+use crate::queued::are_same;
 use ar_cert::Change;
 use domain_table::{ApplyFault, Table};
-use epoch_log::EpochLog;
+use epoch_log::{EpochLog, own_vote};
 use std::alloc::Global;
 use vote_quorum::Value;
 
@@ -60,41 +63,74 @@ fn take_each(
     }
 }
 
-/// The root of the table behind the changes, each judged on the table that those before it leave.
-fn root_behind(
+/// The table behind the changes, each judged on the table that those before it leave.
+fn try_all(
     alloc: Global,
     table: &Table,
     epoch: u64,
     changes: &[Change],
-) -> Result<[u8; 32], LogRefusal>
+) -> Result<Table, LogRefusal>
     requires sound { IsSound table.now }
     requires are { All IsChange changes.now }
-    ensures { GivesUnless refusals.Memory (λ root.
-        root) result (root_in (judged table.now epoch changes.now)) }
+    ensures { GivesUnless refusals.Memory (λ after.
+        after) result (table_in (judged table.now epoch changes.now)) }
 {
     let mut after = table.copy(alloc)?;
     take_each(alloc, epoch, &mut after, 0, changes)?;
     after.ripen(alloc, epoch)?;
-    Ok(after.root())
+    Ok(after)
+}
+
+/// The table that the log tried for its own vote of the epoch, where these are the changes of the vote.
+fn tried_for<'a>(log: &'a EpochLog, changes: &[Change]) -> Option<&'a Table>
+    requires { All IsChange changes.now }
+    ensures { IfSome (option_map (λ t. t.now) result) (λ table. apply (table_of log.now.state)
+        (epoch_of log.now.state) changes.now ≡ Some table) }
+{
+    log.told();
+    let Some(vote) = own_vote(&log.record().voted, log.epoch()) else {
+        return None;
+    };
+    if are_same(vote.changes.as_slice(), changes) {
+        log.tried()
+    } else {
+        None
+    }
+}
+
+/// The table behind the changes: a copy of the one that the log tried for its own vote, where they are those of the vote.
+fn table_for(alloc: Global, log: &EpochLog, changes: &[Change]) -> Result<Table, LogRefusal>
+    requires { All IsChange changes.now }
+    ensures { GivesUnless refusals.Memory (λ after. after) result
+        (table_in (judged (table_of log.now.state) (epoch_of log.now.state) changes.now)) }
+{
+    log.told();
+    match tried_for(log, changes) {
+        Some(tried) => Ok(tried.copy(alloc)?),
+        None => try_all(alloc, log.table(), log.epoch(), changes),
+    }
 }
 
 /// That a value is for the log's base, that the log's table accepts each change behind those before it, and that they
-/// lead to the value's root.
+/// lead to the value's root. It gives the table to which they lead. Where they are the changes of the log's own vote, it
+/// verifies and hashes nothing anew.
 pub fn leads(
     alloc: Global,
     log: &EpochLog,
     value: &Value,
     changes: &[Change],
-) -> Result<(), LogRefusal>
+) -> Result<Table, LogRefusal>
     requires { All IsChange changes.now }
-    ensures { GivesUnless refusals.Memory (λ unit.
-        unit) result (first_error (leading_checks log.now.state value.now changes.now)) }
+    ensures checked { GivesUnless refusals.Memory (λ _.
+        tt) result (first_error (leading_checks log.now.state value.now changes.now)) }
+    ensures table { IfOk result (λ table. apply (table_of log.now.state)
+        (epoch_of log.now.state) changes.now ≡ Some table) }
 {
     same_base(log, &value.base)?;
-    log.told();
-    let root = root_behind(alloc, log.table(), log.epoch(), changes)?;
+    let table = table_for(alloc, log, changes)?;
+    let root = table.root();
     if root == value.root {
-        Ok(())
+        Ok(table)
     } else {
         Err(LogRefusal::WrongRoot(root))
     }

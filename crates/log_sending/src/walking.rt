@@ -1,15 +1,14 @@
 //! The walk over the queue: which changes a log proposes, and to which root they lead.
 
-ghost use Rattle.std.specs.Prelude.{◌≡◌, ◌+◌, ◌^◌, ◌<◌, ◌≤◌, ◌++◌, ◌∷◌, [], IfOk, IsOk, OnOk, Some};
-ghost use Rattle.ar_cert.specs.Changes.{IsChange};
-ghost use Rattle.domain_table.specs.Applying.{apply, judge, ripen};
+ghost use Rattle.std.specs.Prelude.{◌≡◌, ◌+◌, ◌^◌, ◌<◌, ◌≤◌, ◌++◌, ◌∷◌, [], length, IfOk, OnOk, Some};
+ghost use Rattle.ar_cert.specs.Changes.{IsChange, change_text};
+ghost use Rattle.domain_table.specs.Applying.{apply, ripen};
 ghost use Rattle.domain_table.specs.Sound.{IsSound};
 ghost use Rattle.log_sending.specs.Walk.{IsStepOver, IsWalked, left_of};
 
 use ar_cert::Change;
 use ar_message::MOST_CHANGES;
-use domain_table::Table;
-use epoch_log::apply_one;
+use domain_table::{ApplyFault, Table};
 use std::alloc::{AllocError, Global};
 use vote_quorum::Value;
 
@@ -28,49 +27,61 @@ pub(crate) struct Walker {
     left: usize,
 }
 
-/// What a walk took, and from which root to which it leads.
+/// What a walk took, from which root to which it leads, and the table with that root.
 #[derive(Drop)]
 pub struct Walked {
     pub changes: Vec<Change>,
     pub value: Value,
+    pub table: Table,
 }
 
 impl Walker {
-    /// Takes a change that is accepted, and whose text of so many bytes is not too long.
-    fn take(&mut self, alloc: Global, change: &Change, len: usize) -> Result<(), AllocError>
-        requires judged { IsOk (judge self.old.table self.old.epoch change.now) }
+    /// Tells of a change that the table took, whose text has so many bytes.
+    fn put(&mut self, alloc: Global, change: &Change, len: usize) -> Result<(), AllocError>
         requires many { 0 < self.old.many }
         requires len { len ≤ self.old.left }
         ensures low { self.old.epoch < 2 ^ 64 }
         ensures epoch { OnOk result (self.new.epoch ≡ self.old.epoch) }
-        ensures table { OnOk result
-            (Some self.new.table ≡ apply self.old.table self.old.epoch (change.now ∷ [])) }
+        ensures table { OnOk result (self.new.table ≡ self.old.table) }
         ensures taken { OnOk result (self.new.taken.items ≡ self.old.taken.items ++ change.now
             ∷ []) }
         ensures many { OnOk result (self.new.many + 1 ≡ self.old.many) }
         ensures left { OnOk result (self.new.left + len ≡ self.old.left) }
     {
-        apply_one(alloc, self.epoch, &mut self.table, change)?;
+        let _epoch = self.epoch;
         self.taken.push(change.copy(alloc)?)?;
         self.many -= 1;
         self.left -= len;
         Ok(())
     }
 
-    /// Takes a change that is accepted, or ends the walk where its text is too long.
-    fn take_if_short(&mut self, alloc: Global, change: &Change) -> Result<(), AllocError>
-        requires judged { IsOk (judge self.old.table self.old.epoch change.now) }
-        requires many { 0 < self.old.many }
+    /// Takes a change whose text of so many bytes is not too long, unless the table refuses it.
+    fn take(&mut self, alloc: Global, change: &Change, len: usize) -> Result<(), AllocError>
         requires sound { IsSound self.old.table }
         requires is_change { IsChange change.now }
+        requires many { 0 < self.old.many }
+        requires len { len ≡ length (change_text change.now) }
+        requires short { len ≤ self.old.left }
         ensures { OnOk result (IsStepOver change.now self.old self.new) }
     {
-        let len = change.text_len();
-        if len > self.left {
-            self.many = 0;
-            return Ok(());
+        match self.table.apply(alloc, self.epoch, change.copy(alloc)?) {
+            Ok(()) => self.put(alloc, change, len),
+            Err((_, ApplyFault::Change(_))) => Ok(()),
+            Err((_, ApplyFault::Memory)) => Err(AllocError),
         }
-        self.take(alloc, change, len)
+    }
+
+    /// Ends the walk in front of a change whose text is too long, unless the table refuses the change.
+    fn stop_before(&mut self, change: &Change)
+        requires sound { IsSound self.old.table }
+        requires many { 0 < self.old.many }
+        requires long { self.old.left < length (change_text change.now) }
+        ensures { IsStepOver change.now self.old self.new }
+    {
+        match self.table.judge(self.epoch, change) {
+            Ok(()) => self.many = 0,
+            Err(_) => {}
+        }
     }
 
     /// Goes over the next change: it is taken, or passed over, or ends the walk.
@@ -82,10 +93,12 @@ impl Walker {
         if self.many == 0 {
             return Ok(());
         }
-        match self.table.judge(self.epoch, change) {
-            Ok(()) => self.take_if_short(alloc, change),
-            Err(_) => Ok(()),
+        let len = change.text_len();
+        if len > self.left {
+            self.stop_before(change);
+            return Ok(());
         }
+        self.take(alloc, change, len)
     }
 
     /// Goes over the rest of the queue.
@@ -133,5 +146,6 @@ pub fn walk(
     Ok(Walked {
         changes: walker.taken,
         value,
+        table: walker.table,
     })
 }

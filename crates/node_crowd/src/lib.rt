@@ -9,7 +9,7 @@
 //! `specs/Bringing.antt` says which errands are a worker's, `specs/Stalls.antt` what one stall did, `specs/Working.antt` what a
 //! row and what all rows did, and what is taken of a node that is closed.
 //!
-//! Its tests: `thread_tests`, module `node_crowd_tests`.
+//! Its tests: `arpki_crowd`, module `node_crowd_tests`.
 #![tactic(auto)]
 
 mod booth;

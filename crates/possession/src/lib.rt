@@ -6,7 +6,7 @@
 //!
 //! In `specs/`, `Answering` says what a server signs, and `Connections` what a client makes of it.
 //!
-//! Its tests: `thread_tests`, module `possession_tests`, and `examples/serve`.
+//! Its tests: `arpki_crowd`, module `possession_tests`, and `examples/serve`.
 #![tactic(auto)]
 
 pub use connection::{Connection, connect};

@@ -8,10 +8,10 @@ use Rattle.ar_council.specs.Council.{council_of}
 use Rattle.ar_message.specs.Messages.{message_in}
 use Rattle.ar_message.specs.declared.sent.Sent.{Sent}
 use Rattle.ar_message.specs.declared.unsigned.Unsigned.{Unsigned}
-use Rattle.ar_nodes.specs.Acting.{authority_does, authority_turned}
-use Rattle.ar_nodes.specs.Authorities.{authority_reply, node_behind}
-use Rattle.ar_nodes.specs.Authorities as nodes
-use Rattle.ar_nodes.specs.Parties.{AuthorityNode, CheckParts, next_of}
+use Rattle.run_safety.specs.ar_nodes.Acting.{authority_does, authority_turned}
+use Rattle.run_safety.specs.ar_nodes.Authorities.{authority_reply, node_behind}
+use Rattle.run_safety.specs.ar_nodes.Authorities as nodes
+use Rattle.run_safety.specs.ar_nodes.Parties.{AuthorityNode, CheckParts, next_of}
 use Rattle.ar_statement.specs.Claims.{authority_party}
 use Rattle.authority_core.proofs.Standing.{rolling-stays, row-stays}
 use Rattle.authority_core.specs.RollRows.{roll_row}

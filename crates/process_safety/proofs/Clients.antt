@@ -11,8 +11,8 @@ use Rattle.ar_council.specs.Council.{council_of}
 use Rattle.ar_message.specs.Messages.{message_in}
 use Rattle.ar_safety.specs.Held.{AcceptedBytes, IsAccepting, asked_by, verdict_on}
 use Rattle.ar_statement.specs.declared.text.SeenText.{SeenText}
-use Rattle.ar_world.specs.Judging.{accepted_with}
-use Rattle.ar_world.specs.Learning.{knows_by, rolls_by, rolls_with}
+use Rattle.run_safety.specs.ar_world.Judging.{accepted_with}
+use Rattle.run_safety.specs.ar_world.Learning.{knows_by, rolls_by, rolls_with}
 use Rattle.client_rule.proofs.Claiming.{roll-claims}
 use Rattle.client_rule.proofs.Learning.{still_absent, still_accepted}
 use Rattle.client_rule.specs.Notes.{note_of}

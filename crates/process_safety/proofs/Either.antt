@@ -9,7 +9,7 @@ use Rattle.log_core.specs.State.{CoreState}
 use Rattle.log_journal.specs.Steps.{LogStanding}
 use Rattle.log_journal.specs.Steps as log_journal
 use Rattle.log_keeper.specs.Keeping as log_keeping
-use Rattle.log_sending.specs.declared.refusal.LogRefusal.{LogRefusal}
+use Rattle.log_core.below.log_sending.specs.declared.refusal.LogRefusal.{LogRefusal}
 use Rattle.process_safety.proofs.Logs.{keeper-steps}
 
 -- one text

@@ -6,9 +6,9 @@ use Rattle.ar_base.proofs.Prefixes.{begins_itself}
 use Rattle.ar_base.specs.Bytes.{AreBytes}
 use Rattle.ar_council.specs.Council.{council_of}
 use Rattle.ar_message.specs.declared.sent.Sent.{Sent}
-use Rattle.ar_nodes.specs.Acting.{log_does}
-use Rattle.ar_nodes.specs.Parties.{LogNode, next_of}
-use Rattle.ar_nodes.specs.declared.event.LogEvent.TheVariants as events
+use Rattle.run_safety.specs.ar_nodes.Acting.{log_does}
+use Rattle.run_safety.specs.ar_nodes.Parties.{LogNode, next_of}
+use Rattle.run_safety.specs.ar_nodes.declared.event.LogEvent.TheVariants as events
 use Rattle.ar_statement.specs.Claims.{log_party}
 use Rattle.key_roll.specs.Ring.{IsNext, next_key}
 use Rattle.kept_party.specs.Taking.{Becomes}

@@ -8,8 +8,8 @@ use Rattle.ar_safety.specs.Held.{AcceptedBytes, Held, honest_records, verdict_on
 use Rattle.ar_statement.specs.Claims.{authority_party, has_party, log_party}
 use Rattle.ar_statement.specs.declared.party.Party.{Party}
 use Rattle.ar_statement.specs.declared.text.SeenText.{SeenText}
-use Rattle.ar_world.specs.Judging.{accepted_with}
-use Rattle.ar_world.specs.Learning.{knows_by, rolls_by}
+use Rattle.run_safety.specs.ar_world.Judging.{accepted_with}
+use Rattle.run_safety.specs.ar_world.Learning.{knows_by, rolls_by}
 use Rattle.authority_keeper.specs.Keeping as authority_keeping
 use Rattle.authority_keeper.specs.Keeping.{AuthorityStanding}
 use Rattle.client_rule.specs.Notes.{note_of}

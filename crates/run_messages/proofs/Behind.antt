@@ -4,9 +4,9 @@ use Rattle.std.specs.Prelude.{slice_get, slice_index_or}
 use Rattle.std.specs.Option.{option_map}
 use Rattle.std.proofs.lemmas.List.{map-append}
 use Rattle.lms_tree.specs.declared.public_key.LmsPublic.{LmsPublic}
-use Rattle.ar_nodes.specs.Pool.{Pooled, numbered}
+use Rattle.script_play.specs.ar_nodes.Pool.{Pooled, numbered}
 use Rattle.ar_run.specs.Answers.{bytes_of}
-use Rattle.ar_world.specs.declared.cause.Cause.{Cause}
+use Rattle.script_play.specs.ar_world.declared.cause.Cause.{Cause}
 use Rattle.script_play.specs.Played.{run_status}
 use Rattle.run_messages.specs.Telling.{IsScriptStatus, first_line, first_lines, line_at, message_lines}
 

@@ -1,7 +1,7 @@
 -- A script that is played.
 use Rattle.std.proofs.Common.{◌≡◌, ℕ, List, ap, ◌∙◌, Result, Ok, Err, IfOk}
 use Rattle.std.specs.declared.alloc.AllocError.{AllocError}
-use Rattle.ar_nodes.specs.Parties.{CheckParts}
+use Rattle.script_play.specs.ar_nodes.Parties.{CheckParts}
 use Rattle.ar_run.specs.Answers.{Answer}
 use Rattle.script_play.specs.Played.{Plays, run_with}
 use Rattle.script_play.specs.Playing.{Played}

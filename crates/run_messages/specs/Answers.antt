@@ -1,10 +1,10 @@
 -- What the program `arpki_messages` answers to words and an input, and what a run of it takes of its source and writes to its sink.
 use Rattle.std.specs.Prelude.{ℕ, ◌≡◌, Bool, true, false, nat_lt, MatchBool, List, [], ◌∷◌, codes, length, Option}
 use Rattle.ar_io.specs.Wrote.{Appended, AppendedFront}
-use Rattle.ar_nodes.specs.Parties.{CheckParts}
+use Rattle.script_play.specs.ar_nodes.Parties.{CheckParts}
 use Rattle.ar_run.specs.Answers.{Answer, one_line, written_of}
 use Rattle.ar_run.specs.Runs.{TakesAll, most_read_bytes}
-use Rattle.ar_world.specs.Run.{Saying, run}
+use Rattle.script_play.specs.ar_world.Run.{Saying, run}
 use Rattle.arpki_ask.specs.Answers.{refused_line, too_long}
 use Rattle.run_messages.specs.Telling.{told_of}
 use Rattle.script_play.specs.Playing.{played_of}

@@ -5,11 +5,11 @@ use Rattle.std.specs.Fmt.{decimal}
 use Rattle.hex.specs.Hex.{encode_lower}
 use Rattle.lms_tree.specs.PublicKey.{key_text}
 use Rattle.lms_tree.specs.declared.public_key.LmsPublic.{LmsPublic}
-use Rattle.ar_nodes.specs.Pool.{Pooled}
+use Rattle.script_play.specs.ar_nodes.Pool.{Pooled}
 use Rattle.ar_run.specs.Answers.{Answer}
-use Rattle.ar_world.specs.Founding.{is_peopled}
-use Rattle.ar_world.specs.Run.{refused_lines}
-use Rattle.ar_world.specs.State.{World}
+use Rattle.script_play.specs.ar_world.Founding.{is_peopled}
+use Rattle.script_play.specs.ar_world.Run.{refused_lines}
+use Rattle.script_play.specs.ar_world.State.{World}
 use Rattle.party_keys.specs.Directory.{Directory}
 use Rattle.script_play.specs.Played.{run_status}
 use Rattle.script_play.specs.Playing.{Played}

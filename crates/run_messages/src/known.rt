@@ -7,9 +7,9 @@ ghost use Rattle.run_messages.specs.Telling.{authorities_line, directory_lines, 
 
 use crate::lines::{key_line, put_line};
 use ar_statement::{Party, Role};
-use ar_world::World;
 use owner_check::OwnerCheck;
 use party_keys::Directory;
+use script_play::World;
 use std::alloc::{AllocError, Global};
 
 /// Puts the line of a party's first key behind the others. The only error is want of memory.

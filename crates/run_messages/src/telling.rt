@@ -2,16 +2,15 @@
 
 ghost use Rattle.std.specs.Prelude.{◌≡◌, ◌++◌, IfOk, OnOk, map};
 ghost use Rattle.ar_run.specs.Answers.{bytes_of};
-ghost use Rattle.ar_world.specs.Records.{bytes_at};
-ghost use Rattle.ar_world.specs.Run.{refused_lines};
+ghost use Rattle.script_play.specs.ar_world.Records.{bytes_at};
+ghost use Rattle.script_play.specs.ar_world.Run.{refused_lines};
 ghost use Rattle.run_messages.specs.Telling.{IsScriptStatus, line_at, message_lines, told_of};
 
 use crate::known::put_known;
 use crate::lines::{message_line, put_line};
 use ar_run::Answer;
-use ar_world::{Cause, World};
 use owner_check::OwnerCheck;
-use script_play::{Played, refusal_line};
+use script_play::{Cause, Played, World, refusal_line};
 use std::alloc::{AllocError, Global};
 
 /// Puts the line of the message with this number behind the others, where there is one. The only error is want of memory.

@@ -7,18 +7,18 @@ use Rattle.std.proofs.lemmas.List.{length-map}
 use Rattle.std.proofs.lemmas.Option.{same_Some, slice_get_within}
 use Rattle.ar_base.specs.Prefixes.{BeginsWith}
 use Rattle.ar_claims.specs.Claimed.{claimed_in_bytes}
-use Rattle.ar_nodes.specs.Finding.{honest_in}
-use Rattle.ar_nodes.specs.Parties.{AuthorityNode, CheckParts, LogNode}
+use Rattle.run_safety.specs.ar_nodes.Finding.{honest_in}
+use Rattle.run_safety.specs.ar_nodes.Parties.{AuthorityNode, CheckParts, LogNode}
 use Rattle.ar_safety.specs.Held.{records_of}
 use Rattle.ar_safety.specs.Records.{IsHonest, signed_by}
 use Rattle.ar_statement.specs.Claims.{authority_party, log_party, party}
 use Rattle.ar_statement.specs.declared.party.Party.{Party}
 use Rattle.ar_statement.specs.declared.party.Role.{Role}
 use Rattle.ar_statement.specs.declared.party.Role.TheVariants as role
-use Rattle.ar_world.specs.Finding.{authority_at, log_at}
-use Rattle.ar_world.specs.Records.{held_of}
-use Rattle.ar_world.specs.Run.{Saying, run}
-use Rattle.ar_world.specs.State.{World}
+use Rattle.run_safety.specs.ar_world.Finding.{authority_at, log_at}
+use Rattle.run_safety.specs.ar_world.Records.{held_of}
+use Rattle.run_safety.specs.ar_world.Run.{Saying, run}
+use Rattle.run_safety.specs.ar_world.State.{World}
 use Rattle.key_roll.specs.Book.{texts_of}
 use Rattle.lms_tree.specs.Key.{public_of}
 use Rattle.lms_tree.specs.declared.public_key.LmsPublic.{LmsPublic}

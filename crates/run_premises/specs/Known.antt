@@ -1,7 +1,7 @@
 -- How many keys of honest parties clients know, of a world of a run.
 use Rattle.std.specs.Prelude.{◌≡◌, ◌≤◌, length, Some}
 use Rattle.ar_statement.specs.declared.party.Party.{Party}
-use Rattle.ar_world.specs.State.{World}
+use Rattle.run_safety.specs.ar_world.State.{World}
 use Rattle.party_keys.specs.Directory.{keys_of}
 use Rattle.run_safety.specs.Own.{PartyParts}
 use Rattle.run_safety.specs.Unforged.{parts_of}

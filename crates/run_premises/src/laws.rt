@@ -1,15 +1,15 @@
 //! Laws on the definitions of `specs/`: each is the contract of a function with an empty body.
 ghost use Rattle.std.specs.Prelude.{◌≡◌, ℕ, List, IsTrue, Contains, false, true};
 ghost use Rattle.std.specs.List.{list_all};
-ghost use Rattle.ar_nodes.specs.Parties.{CheckParts};
+ghost use Rattle.run_safety.specs.ar_nodes.Parties.{CheckParts};
 ghost use Rattle.ar_base.specs.Apart.{Apart, none_collide};
 ghost use Rattle.ar_safety.specs.Hashed.{hashed};
 ghost use Rattle.ar_safety.specs.Held.{Held, records_of};
 ghost use Rattle.ar_safety.specs.Records.{Records, signed_by};
 ghost use Rattle.ar_safety.specs.Theorem.{NoCollision};
 ghost use Rattle.ar_statement.specs.Claims.{has_party};
-ghost use Rattle.ar_world.specs.Records.{held_of};
-ghost use Rattle.ar_world.specs.Run.{Saying, run};
+ghost use Rattle.run_safety.specs.ar_world.Records.{held_of};
+ghost use Rattle.run_safety.specs.ar_world.Run.{Saying, run};
 ghost use Rattle.hashed_strings.specs.Index.{Collide};
 ghost use Rattle.party_keys.specs.Signatures.{IsVerified};
 ghost use Rattle.party_keys.specs.Signers.{Claimed};

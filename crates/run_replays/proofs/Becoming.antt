@@ -2,14 +2,14 @@
 use Rattle.std.proofs.Common.{◌≡◌, ◌∙◌, ◌-◌, List, [], ◌∷◌, ◌++◌, length, refl, sym, ap, subst, arith, Some, length-append}
 use Rattle.std.specs.Prelude.{slice_get}
 use Rattle.std.proofs.lemmas.Option.{same_Some}
-use Rattle.ar_nodes.specs.Pool.{Pooled}
-use Rattle.ar_nodes.specs.declared.event.LogEvent.{LogEvent}
-use Rattle.ar_nodes.specs.declared.event.LogEvent.TheVariants as events
+use Rattle.run_safety.specs.ar_nodes.Pool.{Pooled}
+use Rattle.run_safety.specs.ar_nodes.declared.event.LogEvent.{LogEvent}
+use Rattle.run_safety.specs.ar_nodes.declared.event.LogEvent.TheVariants as events
 use Rattle.key_roll.specs.Ring.{IsOfNext, next_key}
 use Rattle.lms_tree.specs.Key.{public_of}
 use Rattle.lms_tree.specs.KeyParts.{KeyParts}
 use Rattle.lms_tree.specs.declared.public_key.LmsPublic.{LmsPublic}
-use Rattle.log_core.specs.State.{Input, passes, proposes, rolls, takes}
+use Rattle.run_safety.specs.log_core.State.{Input, passes, proposes, rolls, takes}
 use Rattle.log_journal.specs.Determined.{one_step}
 use Rattle.log_journal.specs.Steps.{LogStanding, TakesInput}
 use Rattle.run_replays.specs.Inputs.{input_of_event, inputs_from, newest_after, newest_behind}

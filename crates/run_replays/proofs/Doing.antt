@@ -2,18 +2,18 @@
 use Rattle.std.proofs.Common.{◌≡◌, ◌∙◌, ◌⊎◌, inl, inr, List, [], ◌∷◌, ◌++◌, refl, sym, ap, subst, Some, Ok, Err}
 use Rattle.std.specs.Option.{option_map}
 use Rattle.std.proofs.lemmas.Option.{same_Some}
-use Rattle.ar_nodes.proofs.Nodes.{next_is}
-use Rattle.ar_nodes.specs.Acting.{log_does}
-use Rattle.ar_nodes.specs.Parties.{LogNode, next_of}
-use Rattle.ar_nodes.specs.Pool.{Pooled, numbered}
-use Rattle.ar_nodes.specs.declared.event.LogEvent.{LogEvent}
-use Rattle.ar_nodes.specs.declared.event.LogEvent.TheVariants as events
+use Rattle.run_safety.proofs.ar_nodes.Nodes.{next_is}
+use Rattle.run_safety.specs.ar_nodes.Acting.{log_does}
+use Rattle.run_safety.specs.ar_nodes.Parties.{LogNode, next_of}
+use Rattle.run_safety.specs.ar_nodes.Pool.{Pooled, numbered}
+use Rattle.run_safety.specs.ar_nodes.declared.event.LogEvent.{LogEvent}
+use Rattle.run_safety.specs.ar_nodes.declared.event.LogEvent.TheVariants as events
 use Rattle.key_roll.specs.Ring.{IsNext, next_key}
 use Rattle.lms_tree.specs.Key.{public_of}
 use Rattle.lms_tree.specs.KeyParts.{KeyParts}
-use Rattle.log_core.specs.Keyed.{AreBehind, IsPlain}
-use Rattle.log_core.specs.Row.{row}
-use Rattle.log_core.specs.State.{LogAnswer, Input, passes, proposes, rolls, takes}
+use Rattle.run_safety.specs.log_core.Keyed.{AreBehind, IsPlain}
+use Rattle.run_safety.specs.log_core.Row.{row}
+use Rattle.run_safety.specs.log_core.State.{LogAnswer, Input, passes, proposes, rolls, takes}
 use Rattle.log_journal.proofs.Replayed.{plain_own}
 use Rattle.log_journal.specs.Steps.{TakesInput}
 use Rattle.run_replays.specs.Inputs.{input_of_event}

@@ -5,3 +5,4 @@ pub mod Made
 pub mod Notes
 pub mod Runs
 pub mod Texts
+pub use Rattle.run_safety.proofs as run_safety

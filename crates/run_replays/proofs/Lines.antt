@@ -4,44 +4,44 @@ use Rattle.std.specs.Prelude.{nat_le, nat_lt}
 use Rattle.ar_base.proofs.Shown.{if-chained, needed}
 use Rattle.ar_base.specs.Chaining.{need}
 use Rattle.ar_cert.specs.Certificate.{Certificate, digest_of}
-use Rattle.ar_founding.specs.FirstKeys.{key_for}
-use Rattle.ar_founding.specs.Founding.{fresh_log, genesis_of}
+use Rattle.run_safety.specs.ar_founding.FirstKeys.{key_for}
+use Rattle.run_safety.specs.ar_founding.Founding.{fresh_log, genesis_of}
 use Rattle.ar_message.specs.declared.sent.Sent.{Sent}
-use Rattle.ar_nodes.specs.Acting.{bytes_of, log_delivered, log_obeyed, log_rolled}
-use Rattle.ar_nodes.specs.Finding.{named}
-use Rattle.ar_nodes.specs.Parties.{Forger, LogNode, next_of}
-use Rattle.ar_nodes.specs.Pool.{Pooled, numbered}
-use Rattle.ar_nodes.specs.declared.event.LogEvent.{LogEvent}
-use Rattle.ar_nodes.specs.declared.event.LogEvent.TheVariants as events
-use Rattle.ar_nodes.specs.declared.fault.WorldFault.TheVariants.{Absent}
+use Rattle.run_safety.specs.ar_nodes.Acting.{bytes_of, log_delivered, log_obeyed, log_rolled}
+use Rattle.run_safety.specs.ar_nodes.Finding.{named}
+use Rattle.run_safety.specs.ar_nodes.Parties.{Forger, LogNode, next_of}
+use Rattle.run_safety.specs.ar_nodes.Pool.{Pooled, numbered}
+use Rattle.run_safety.specs.ar_nodes.declared.event.LogEvent.{LogEvent}
+use Rattle.run_safety.specs.ar_nodes.declared.event.LogEvent.TheVariants as events
+use Rattle.run_safety.specs.ar_nodes.declared.fault.WorldFault.TheVariants.{Absent}
 use Rattle.ar_statement.specs.declared.party.Party.{Party}
 use Rattle.ar_statement.specs.declared.party.Role.{Role}
 use Rattle.ar_statement.specs.declared.party.Role.TheVariants as role
-use Rattle.ar_world.proofs.Deliveries.{can-take}
-use Rattle.ar_world.proofs.OwnerReplies.{attached-by-alone}
-use Rattle.ar_world.specs.Asking.{ask_line}
-use Rattle.ar_world.specs.Delivering.{Taker, a_log, an_authority, an_owner, can_deliver, deliver_line, delivery, taker_at, taker_in}
+use Rattle.run_safety.proofs.ar_world.Deliveries.{can-take}
+use Rattle.run_safety.proofs.ar_world.OwnerReplies.{attached-by-alone}
+use Rattle.run_safety.specs.ar_world.Asking.{ask_line}
+use Rattle.run_safety.specs.ar_world.Delivering.{Taker, a_log, an_authority, an_owner, can_deliver, deliver_line, delivery, taker_at, taker_in}
 use Rattle.cert_drafts.specs.Certificates.{first_certificate, next_certificate}
 use Rattle.cert_drafts.specs.Policies.{policy_of}
-use Rattle.ar_world.specs.Drafting.{draft_begun, draft_if, draft_room, register_line, revoke_line, update_line}
-use Rattle.ar_world.specs.Finding.{Effect, authority_at, checking_at, draft_at, existing, forger_at, known_asks, log_at, message_at, owner_at, room, with_owner}
-use Rattle.ar_world.specs.Forging.{composed_in, inject_line, receiver_in, sign_line, signing_if}
-use Rattle.ar_world.specs.Founding.{authorities_line, dishonest_line, honest_key, keys_line, logs_line, place_of, turned}
-use Rattle.ar_world.specs.Judging.{judge_line, judged_number}
-use Rattle.ar_world.specs.Learning.{learn_line}
-use Rattle.ar_world.specs.Ordering.{log_order, roll_of}
-use Rattle.ar_world.specs.Owning.{check_line, owner_line, retire_line}
-use Rattle.ar_world.specs.State.{Drafted, World}
-use Rattle.ar_world.specs.Step.{event_effect, leads_to, setup_effect}
-use Rattle.ar_world.specs.Submitting.{handed, handover_line, object_line, submit_line}
-use Rattle.ar_world.specs.declared.phase.Phase.{Phase}
-use Rattle.ar_world.specs.declared.phase.Phase.TheVariants as phase
+use Rattle.run_safety.specs.ar_world.Drafting.{draft_begun, draft_if, draft_room, register_line, revoke_line, update_line}
+use Rattle.run_safety.specs.ar_world.Finding.{Effect, authority_at, checking_at, draft_at, existing, forger_at, known_asks, log_at, message_at, owner_at, room, with_owner}
+use Rattle.run_safety.specs.ar_world.Forging.{composed_in, inject_line, receiver_in, sign_line, signing_if}
+use Rattle.run_safety.specs.ar_world.Founding.{authorities_line, dishonest_line, honest_key, keys_line, logs_line, place_of, turned}
+use Rattle.run_safety.specs.ar_world.Judging.{judge_line, judged_number}
+use Rattle.run_safety.specs.ar_world.Learning.{learn_line}
+use Rattle.run_safety.specs.ar_world.Ordering.{log_order, roll_of}
+use Rattle.run_safety.specs.ar_world.Owning.{check_line, owner_line, retire_line}
+use Rattle.run_safety.specs.ar_world.State.{Drafted, World}
+use Rattle.run_safety.specs.ar_world.Step.{event_effect, leads_to, setup_effect}
+use Rattle.run_safety.specs.ar_world.Submitting.{handed, handover_line, object_line, submit_line}
+use Rattle.run_safety.specs.ar_world.declared.phase.Phase.{Phase}
+use Rattle.run_safety.specs.ar_world.declared.phase.Phase.TheVariants as phase
 use Rattle.lm_ots.specs.OtsKind.{type_of_number}
 use Rattle.lms_tree.specs.Key.{public_of, type_to_make}
 use Rattle.lms_tree.specs.KeyParts.{KeyParts}
 use Rattle.lms_tree.specs.LmsKind.{leaves_of}
-use Rattle.log_core.specs.Keyed.{IsPlain}
-use Rattle.log_core.specs.State as log_state
+use Rattle.run_safety.specs.log_core.Keyed.{IsPlain}
+use Rattle.run_safety.specs.log_core.State as log_state
 use Rattle.owner_check.specs.Answers.{Told, forgotten, learnt}
 use Rattle.owner_check.specs.declared.answer.Outcome.{Outcome}
 use Rattle.owner_core.specs.Rows.{OwnerAnswer, begin_row, handover_row}
@@ -60,7 +60,7 @@ use Rattle.run_replays.proofs.Doing.{IsThere, answered-does, rolled-does}
 use Rattle.run_replays.proofs.Notes.{Notes, put-notes, quiet-notes, without-notes}
 use Rattle.run_replays.specs.Inputs.{input_of_event}
 use Rattle.run_safety.proofs.Founded.{made-there}
-use Rattle.ar_world.proofs.Sends.{log-takes}
+use Rattle.run_safety.proofs.ar_world.Sends.{log-takes}
 
 -- ---- owners and drafts
 

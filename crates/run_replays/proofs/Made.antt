@@ -2,17 +2,17 @@
 use Rattle.std.proofs.Common.{◌≡◌, ◌∙◌, inl, inr, ℕ, zero, suc, List, [], ◌∷◌, ◌++◌, refl, sym, ap, subst, Some}
 use Rattle.std.specs.Prelude.{map, slice_get}
 use Rattle.std.proofs.lemmas.Option.{same_Some}
-use Rattle.ar_founding.specs.FirstKeys.{Setup, key_for}
-use Rattle.ar_founding.specs.Founding.{fresh_log}
-use Rattle.ar_nodes.specs.Acting.{bytes_of}
-use Rattle.ar_nodes.specs.Parties.{LogNode}
-use Rattle.ar_nodes.specs.Pool.{Pooled, numbered}
-use Rattle.ar_nodes.specs.declared.event.LogEvent.{LogEvent}
-use Rattle.ar_nodes.specs.declared.event.LogEvent.TheVariants as events
+use Rattle.run_safety.specs.ar_founding.FirstKeys.{Setup, key_for}
+use Rattle.run_safety.specs.ar_founding.Founding.{fresh_log}
+use Rattle.run_safety.specs.ar_nodes.Acting.{bytes_of}
+use Rattle.run_safety.specs.ar_nodes.Parties.{LogNode}
+use Rattle.run_safety.specs.ar_nodes.Pool.{Pooled, numbered}
+use Rattle.run_safety.specs.ar_nodes.declared.event.LogEvent.{LogEvent}
+use Rattle.run_safety.specs.ar_nodes.declared.event.LogEvent.TheVariants as events
 use Rattle.ar_statement.specs.declared.party.Role.TheVariants.{LogServer}
-use Rattle.ar_world.specs.Printed.{as_it_came}
+use Rattle.run_safety.specs.ar_world.Printed.{as_it_came}
 use Rattle.lms_tree.specs.KeyParts.{KeyParts}
-use Rattle.log_core.specs.State.{Input, takes}
+use Rattle.run_safety.specs.log_core.State.{Input, takes}
 use Rattle.log_journal.specs.Steps.{LogStanding, new_standing}
 use Rattle.party_keys.specs.Directory.{Directory}
 use Rattle.run_replays.specs.Inputs.{input_of_event, inputs_from, newest_after, newest_behind}

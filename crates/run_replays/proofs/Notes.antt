@@ -3,11 +3,11 @@ use Rattle.std.proofs.Common.{◌≡◌, ◌≢◌, ◌∙◌, ◌⊎◌, inl, i
 use Rattle.std.specs.Prelude.{slice_set}
 use Rattle.std.proofs.lemmas.Bool.Decides.{eqb_tells}
 use Rattle.std.proofs.lemmas.Option.{same_Some}
-use Rattle.ar_nodes.proofs.Spots.{honest-below, put-beside, put-there}
-use Rattle.ar_nodes.specs.Finding.{honest_in}
-use Rattle.ar_nodes.specs.Parties.{LogNode}
-use Rattle.ar_world.specs.Finding.{log_at}
-use Rattle.ar_world.specs.State.{World}
+use Rattle.run_safety.proofs.ar_nodes.Spots.{honest-below, put-beside, put-there}
+use Rattle.run_safety.specs.ar_nodes.Finding.{honest_in}
+use Rattle.run_safety.specs.ar_nodes.Parties.{LogNode}
+use Rattle.run_safety.specs.ar_world.Finding.{log_at}
+use Rattle.run_safety.specs.ar_world.State.{World}
 use Rattle.run_replays.proofs.Doing.{DoesOrNot}
 
 -- a log was there before, and did so

@@ -3,22 +3,22 @@ use Rattle.std.proofs.Common.{◌≡◌, ◌∙◌, inl, inr, ℕ, zero, suc, �
 use Rattle.std.specs.Prelude.{nat_le}
 use Rattle.std.proofs.lemmas.Result.{IfOk-weaker}
 use Rattle.ar_lines.specs.Lines.{lines_of}
-use Rattle.ar_nodes.specs.Finding.{honest_in}
-use Rattle.ar_nodes.specs.Parties.{CheckParts, LogNode}
-use Rattle.ar_nodes.specs.Pool.{Pooled}
+use Rattle.run_safety.specs.ar_nodes.Finding.{honest_in}
+use Rattle.run_safety.specs.ar_nodes.Parties.{CheckParts, LogNode}
+use Rattle.run_safety.specs.ar_nodes.Pool.{Pooled}
 use Rattle.ar_statement.specs.declared.party.Party.{Party}
-use Rattle.ar_world.proofs.Lines.{delivery-tells}
-use Rattle.ar_world.proofs.Runs.{HoldsOfSteps, deliver-goes, line-goes, step-holds, step-tells}
-use Rattle.ar_world.specs.Delivering.{Taker, deliver_line, delivery, next_due, taker_at}
-use Rattle.ar_world.specs.Finding.{Effect, log_at, message_at}
-use Rattle.ar_world.specs.Founding.{may_come, place_of}
-use Rattle.ar_world.specs.Printed.{TellsMoved}
-use Rattle.ar_world.specs.Records.{HasParties}
-use Rattle.ar_world.specs.Run.{Course, Progress, Saying, at_line, delivering, flushed, line_taken, progress_of, run, run_from, then_if}
-use Rattle.ar_world.specs.State.{Moved, World, first_world}
-use Rattle.ar_world.specs.Step.{event_effect, leads_to, setup_effect, step}
-use Rattle.ar_world.specs.declared.phase.Phase.{Phase}
-use Rattle.ar_world.specs.declared.phase.Phase.TheVariants as phase
+use Rattle.run_safety.proofs.ar_world.Lines.{delivery-tells}
+use Rattle.run_safety.proofs.ar_world.Runs.{HoldsOfSteps, deliver-goes, line-goes, step-holds, step-tells}
+use Rattle.run_safety.specs.ar_world.Delivering.{Taker, deliver_line, delivery, next_due, taker_at}
+use Rattle.run_safety.specs.ar_world.Finding.{Effect, log_at, message_at}
+use Rattle.run_safety.specs.ar_world.Founding.{may_come, place_of}
+use Rattle.run_safety.specs.ar_world.Printed.{TellsMoved}
+use Rattle.run_safety.specs.ar_world.Records.{HasParties}
+use Rattle.run_safety.specs.ar_world.Run.{Course, Progress, Saying, at_line, delivering, flushed, line_taken, progress_of, run, run_from, then_if}
+use Rattle.run_safety.specs.ar_world.State.{Moved, World, first_world}
+use Rattle.run_safety.specs.ar_world.Step.{event_effect, leads_to, setup_effect, step}
+use Rattle.run_safety.specs.ar_world.declared.phase.Phase.{Phase}
+use Rattle.run_safety.specs.ar_world.declared.phase.Phase.TheVariants as phase
 use Rattle.owner_check.specs.declared.answer.Outcome.{Outcome}
 use Rattle.script_text.specs.declared.line.EventLine.TheVariants as event
 use Rattle.script_text.specs.declared.line.Line.{Line}

@@ -4,13 +4,13 @@ use Rattle.std.specs.Prelude.{map}
 use Rattle.std.specs.List.{AllByRecursion}
 use Rattle.std.proofs.lemmas.List.Elements.{All-from_recursion, recursion_from_All}
 use Rattle.std.proofs.lemmas.Option.{same_Some}
-use Rattle.ar_nodes.specs.Pool.{Pooled}
-use Rattle.ar_nodes.specs.declared.event.LogEvent.{LogEvent}
-use Rattle.ar_nodes.specs.declared.event.LogEvent.TheVariants as events
+use Rattle.run_safety.specs.ar_nodes.Pool.{Pooled}
+use Rattle.run_safety.specs.ar_nodes.declared.event.LogEvent.{LogEvent}
+use Rattle.run_safety.specs.ar_nodes.declared.event.LogEvent.TheVariants as events
 use Rattle.kept_journal.specs.Replays.{ReachesBy}
 use Rattle.key_roll.specs.Ring.{next_key}
 use Rattle.lms_tree.specs.KeyParts.{KeyParts}
-use Rattle.log_core.specs.State.{Input}
+use Rattle.run_safety.specs.log_core.State.{Input}
 use Rattle.log_journal.proofs.Spelled.{says_it}
 use Rattle.log_journal.specs.Inputs.{IsWhole, input_text}
 use Rattle.log_journal.specs.Steps.{LogStanding, TakesInput, takes}

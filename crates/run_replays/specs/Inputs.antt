@@ -1,17 +1,17 @@
 -- What an honest log of a world was asked, by what it did: the inputs that it did not refuse, in order.
 use Rattle.std.specs.Prelude.{ℕ, List, [], ◌∷◌}
-use Rattle.ar_founding.specs.FirstKeys.{key_for}
-use Rattle.ar_nodes.specs.Acting.{bytes_of}
-use Rattle.ar_nodes.specs.Parties.{LogNode}
-use Rattle.ar_nodes.specs.Pool.{Pooled, numbered}
-use Rattle.ar_nodes.specs.declared.event.LogEvent.{LogEvent}
-use Rattle.ar_nodes.specs.declared.event.LogEvent.TheVariants as events
+use Rattle.run_safety.specs.ar_founding.FirstKeys.{key_for}
+use Rattle.run_safety.specs.ar_nodes.Acting.{bytes_of}
+use Rattle.run_safety.specs.ar_nodes.Parties.{LogNode}
+use Rattle.run_safety.specs.ar_nodes.Pool.{Pooled, numbered}
+use Rattle.run_safety.specs.ar_nodes.declared.event.LogEvent.{LogEvent}
+use Rattle.run_safety.specs.ar_nodes.declared.event.LogEvent.TheVariants as events
 use Rattle.ar_statement.specs.declared.party.Role.TheVariants.{LogServer}
-use Rattle.ar_world.specs.State.{World}
+use Rattle.run_safety.specs.ar_world.State.{World}
 use Rattle.key_roll.specs.Ring.{next_key}
 use Rattle.lms_tree.specs.Key.{public_of}
 use Rattle.lms_tree.specs.KeyParts.{KeyParts}
-use Rattle.log_core.specs.State.{Input, passes, proposes, rolls, takes}
+use Rattle.run_safety.specs.log_core.State.{Input, passes, proposes, rolls, takes}
 
 -- What a log with this newest key was asked where this happened: to take the message of the pool with this number, of no bytes
 -- where there is none; to propose; to state what it did in the epoch; or to go on to its next key.

@@ -1,13 +1,13 @@
 -- That a log is what its inputs make of a new one.
 use Rattle.std.specs.Prelude.{◌≡◌, ℕ, ◌-◌, List, [], ◌∷◌, length, map, slice_get, Some}
-use Rattle.ar_nodes.specs.Parties.{LogNode}
-use Rattle.ar_nodes.specs.Pool.{Pooled}
-use Rattle.ar_nodes.specs.declared.event.LogEvent.{LogEvent}
-use Rattle.ar_world.specs.Records.{HasParties}
-use Rattle.ar_world.specs.State.{World}
+use Rattle.run_safety.specs.ar_nodes.Parties.{LogNode}
+use Rattle.run_safety.specs.ar_nodes.Pool.{Pooled}
+use Rattle.run_safety.specs.ar_nodes.declared.event.LogEvent.{LogEvent}
+use Rattle.run_safety.specs.ar_world.Records.{HasParties}
+use Rattle.run_safety.specs.ar_world.State.{World}
 use Rattle.kept_journal.specs.Replays.{ReachesBy}
 use Rattle.lms_tree.specs.KeyParts.{KeyParts}
-use Rattle.log_core.specs.State.{Input}
+use Rattle.run_safety.specs.log_core.State.{Input}
 use Rattle.log_journal.specs.Inputs.{input_text}
 use Rattle.log_journal.specs.Steps.{LogStanding, TakesInput, new_standing, takes}
 use Rattle.run_replays.specs.Inputs.{first_key_of, input_of_event, inputs_from, inputs_of, newest_after, newest_behind}

@@ -1,15 +1,15 @@
 //! Laws on a run's honest logs and their inputs, over the definitions alone: each is the contract of a function that does nothing.
 
 ghost use Rattle.std.specs.Prelude.{◌≡◌, ◌++◌, ◌∷◌, [], ℕ, All, List, Some, map};
-ghost use Rattle.ar_nodes.specs.Parties.{CheckParts, LogNode};
-ghost use Rattle.ar_nodes.specs.Pool.{Pooled};
-ghost use Rattle.ar_nodes.specs.declared.event.LogEvent.{LogEvent};
-ghost use Rattle.ar_world.specs.Finding.{log_at};
-ghost use Rattle.ar_world.specs.Run.{Saying, run};
-ghost use Rattle.ar_world.specs.State.{World};
+ghost use Rattle.run_safety.specs.ar_nodes.Parties.{CheckParts, LogNode};
+ghost use Rattle.run_safety.specs.ar_nodes.Pool.{Pooled};
+ghost use Rattle.run_safety.specs.ar_nodes.declared.event.LogEvent.{LogEvent};
+ghost use Rattle.run_safety.specs.ar_world.Finding.{log_at};
+ghost use Rattle.run_safety.specs.ar_world.Run.{Saying, run};
+ghost use Rattle.run_safety.specs.ar_world.State.{World};
 ghost use Rattle.kept_journal.specs.Replays.{ReachesBy};
 ghost use Rattle.lms_tree.specs.KeyParts.{KeyParts};
-ghost use Rattle.log_core.specs.State.{Input};
+ghost use Rattle.run_safety.specs.log_core.State.{Input};
 ghost use Rattle.log_journal.specs.Inputs.{IsWhole, input_text};
 ghost use Rattle.log_journal.specs.Steps.{LogStanding, TakesInput, takes};
 ghost use Rattle.lms_tree.specs.Key.{public_of};

@@ -5,21 +5,21 @@ use Rattle.std.specs.declared.alloc.AllocError.{AllocError}
 use Rattle.std.proofs.lemmas.Bool.Decides.{nat_tests}
 use Rattle.std.proofs.lemmas.List.{length-map}
 use Rattle.std.proofs.lemmas.Option.{same_Some}
-use Rattle.ar_nodes.specs.Parties.{LogNode}
-use Rattle.ar_nodes.specs.declared.event.LogEvent.{LogEvent}
-use Rattle.ar_nodes.specs.declared.fault.WorldFault.TheVariants.{Absent, Limit}
+use Rattle.script_play.specs.ar_nodes.Parties.{LogNode}
+use Rattle.script_play.specs.ar_nodes.declared.event.LogEvent.{LogEvent}
+use Rattle.script_play.specs.ar_nodes.declared.fault.WorldFault.TheVariants.{Absent, Limit}
 use Rattle.ar_run.specs.Answers.{Answer}
-use Rattle.ar_world.specs.Finding.{log_at}
-use Rattle.ar_world.specs.Records.{HasParties, taken_at}
-use Rattle.ar_world.specs.State.{World}
-use Rattle.ar_world.specs.declared.cause.Cause.{Cause}
-use Rattle.ar_world.specs.declared.cause.Cause.TheVariants.{Untaken}
+use Rattle.script_play.specs.ar_world.Finding.{log_at}
+use Rattle.script_play.specs.ar_world.Records.{HasParties, taken_at}
+use Rattle.script_play.specs.ar_world.State.{World}
+use Rattle.script_play.specs.ar_world.declared.cause.Cause.{Cause}
+use Rattle.script_play.specs.ar_world.declared.cause.Cause.TheVariants.{Untaken}
 use Rattle.kept_journal.specs.Replays.{ReachesBy}
 use Rattle.key_roll.specs.Book.{RollBook}
 use Rattle.lms_tree.specs.KeyParts.{KeyParts}
 use Rattle.log_core.specs.Inputs.{input_of}
 use Rattle.log_core.specs.declared.step.LogInput.{LogInput}
-use Rattle.log_journal.specs.Steps.{LogStanding, takes}
+use Rattle.run_replays.specs.log_journal.Steps.{LogStanding, takes}
 use Rattle.log_restart.specs.Inputs.{most_input_bytes, text_of, texts_of, total_len}
 use Rattle.log_restart.specs.Restarted.{AreRestarted, recovered_of, told_of}
 use Rattle.log_restart.specs.declared.disks.Disks.{Disks}

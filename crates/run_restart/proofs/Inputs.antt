@@ -4,11 +4,11 @@ use Rattle.std.specs.Prelude.{slice_get}
 use Rattle.std.proofs.lemmas.List.{take_more}
 use Rattle.std.proofs.lemmas.Option.{same_Some}
 use Rattle.std.proofs.lemmas.Simd.{map-map}
-use Rattle.ar_nodes.specs.Parties.{LogNode}
-use Rattle.ar_nodes.specs.Pool.{Pooled}
-use Rattle.ar_nodes.specs.declared.event.LogEvent.{LogEvent}
-use Rattle.ar_nodes.specs.declared.event.LogEvent.TheVariants as events
-use Rattle.ar_world.specs.State.{World}
+use Rattle.script_play.specs.ar_nodes.Parties.{LogNode}
+use Rattle.script_play.specs.ar_nodes.Pool.{Pooled}
+use Rattle.script_play.specs.ar_nodes.declared.event.LogEvent.{LogEvent}
+use Rattle.script_play.specs.ar_nodes.declared.event.LogEvent.TheVariants as events
+use Rattle.script_play.specs.ar_world.State.{World}
 use Rattle.key_roll.specs.Ring.{IsNext, next_key}
 use Rattle.lms_tree.specs.Key.{public_of}
 use Rattle.lms_tree.specs.KeyParts.{KeyParts}
@@ -16,11 +16,11 @@ use Rattle.lms_tree.specs.declared.public_key.LmsPublic.{LmsPublic}
 use Rattle.log_core.specs.Inputs.{input_of}
 use Rattle.log_core.specs.State.{Input}
 use Rattle.log_core.specs.declared.step.LogInput.{LogInput}
-use Rattle.log_journal.specs.Inputs.{input_text}
+use Rattle.run_replays.specs.log_journal.Inputs.{input_text}
 use Rattle.log_restart.specs.Inputs.{texts_of}
 use Rattle.run_replays.specs.Inputs.{first_key_of, inputs_from, inputs_of, newest_after, newest_behind}
 use Rattle.run_replays.specs.Replayed.{IsNewestKey}
-use Rattle.run_safety.proofs.PartySteps.{get-last}
+use Rattle.run_replays.proofs.run_safety.PartySteps.{get-last}
 use Rattle.run_restart.specs.Asking.{asked_from, asked_of, input_in}
 use Rattle.run_restart.specs.declared.asking.Asked.{Asked}
 

@@ -4,16 +4,16 @@ use Rattle.std.specs.Prelude.{MatchOption}
 use Rattle.std.specs.declared.alloc.AllocError.{AllocError}
 use Rattle.std.proofs.lemmas.Bool.Decides.{nat_tests}
 use Rattle.ar_io.specs.Wrote.{Appended, AppendedFront}
-use Rattle.ar_nodes.specs.Parties.{CheckParts}
+use Rattle.script_play.specs.ar_nodes.Parties.{CheckParts}
 use Rattle.ar_run.specs.Answers.{Answer, written_of}
 use Rattle.ar_run.specs.Runs.{TakesAll, most_read_bytes}
-use Rattle.ar_world.specs.Run.{Saying, run}
+use Rattle.script_play.specs.ar_world.Run.{Saying, run}
 use Rattle.arpki_ask.specs.Answers.{refused_line, too_long, unless_long}
 use Rattle.log_restart.specs.Restarted.{AreRestarted}
 use Rattle.log_restart.specs.declared.disks.Disks.{Disks}
 use Rattle.owner_check.specs.declared.answer.Outcome.TheVariants.{Failed}
 use Rattle.run_replays.proofs.Runs.{ended-replayed}
-use Rattle.run_safety.proofs.Safe.{safe-run}
+use Rattle.run_replays.proofs.run_safety.Safe.{safe-run}
 use Rattle.script_play.specs.Played.{Plays, run_with}
 use Rattle.script_play.specs.Playing.{Played}
 use Rattle.run_restart.specs.Answers.{AreLeft, RestartFront, RestartWhole, line_behind, restart_answer, restarted, telling_played}

@@ -4,22 +4,22 @@ use Rattle.std.specs.Fmt.{decimal}
 use Rattle.hex.specs.Hex.{encode_lower}
 use Rattle.ar_io.specs.Wrote.{Appended, AppendedFront}
 use Rattle.ar_lines.specs.Lines.{lines_of}
-use Rattle.ar_nodes.specs.Parties.{CheckParts, LogNode}
-use Rattle.ar_nodes.specs.declared.fault.WorldFault.TheVariants.{Absent, Limit}
+use Rattle.script_play.specs.ar_nodes.Parties.{CheckParts, LogNode}
+use Rattle.script_play.specs.ar_nodes.declared.fault.WorldFault.TheVariants.{Absent, Limit}
 use Rattle.ar_run.specs.Answers.{Answer, written_of}
 use Rattle.ar_run.specs.Runs.{TakesAll, most_read_bytes}
-use Rattle.ar_world.specs.Finding.{log_at}
-use Rattle.ar_world.specs.Run.{Run, Saying, refused_text, run}
-use Rattle.ar_world.specs.State.{World}
-use Rattle.ar_world.specs.declared.cause.Cause.{Cause}
-use Rattle.ar_world.specs.declared.cause.Cause.TheVariants.{Untaken}
+use Rattle.script_play.specs.ar_world.Finding.{log_at}
+use Rattle.script_play.specs.ar_world.Run.{Run, Saying, refused_text, run}
+use Rattle.script_play.specs.ar_world.State.{World}
+use Rattle.script_play.specs.ar_world.declared.cause.Cause.{Cause}
+use Rattle.script_play.specs.ar_world.declared.cause.Cause.TheVariants.{Untaken}
 use Rattle.arpki_ask.specs.Answers.{unless_long}
 use Rattle.key_roll.specs.Book.{RollBook}
 use Rattle.log_restart.specs.Inputs.{most_input_bytes, total_len}
 use Rattle.log_restart.specs.Restarted.{AreRestarted, recovered_of, told_of}
 use Rattle.log_restart.specs.declared.disks.Disks.{Disks}
 use Rattle.log_restart.specs.declared.told.RestartReport.{RestartReport}
-use Rattle.run_safety.specs.Headline.{IsSafeRun}
+use Rattle.run_replays.specs.run_safety.Headline.{IsSafeRun}
 use Rattle.run_restart.specs.Asking.{texts_in, texts_of_log}
 use Rattle.run_restart.specs.declared.command.Restart.{Restart}
 

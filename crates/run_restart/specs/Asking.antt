@@ -1,18 +1,18 @@
 -- What `restart` is asked, and what a log of a run was asked, which is to be asked again.
 use Rattle.std.specs.Prelude.{ℕ, List, [], ◌∷◌, map, Option, None, Some, option_and_then, option_map}
 use Rattle.ar_lines.specs.Forms.{number_in}
-use Rattle.ar_nodes.specs.Acting.{bytes_of}
-use Rattle.ar_nodes.specs.Parties.{LogNode}
-use Rattle.ar_nodes.specs.Pool.{Pooled, numbered}
-use Rattle.ar_nodes.specs.declared.event.LogEvent.{LogEvent}
-use Rattle.ar_nodes.specs.declared.event.LogEvent.TheVariants as events
-use Rattle.ar_world.specs.Finding.{log_at}
-use Rattle.ar_world.specs.State.{World}
+use Rattle.script_play.specs.ar_nodes.Acting.{bytes_of}
+use Rattle.script_play.specs.ar_nodes.Parties.{LogNode}
+use Rattle.script_play.specs.ar_nodes.Pool.{Pooled, numbered}
+use Rattle.script_play.specs.ar_nodes.declared.event.LogEvent.{LogEvent}
+use Rattle.script_play.specs.ar_nodes.declared.event.LogEvent.TheVariants as events
+use Rattle.script_play.specs.ar_world.Finding.{log_at}
+use Rattle.script_play.specs.ar_world.State.{World}
 use Rattle.key_roll.specs.Ring.{next_key}
 use Rattle.lms_tree.specs.Key.{public_of}
 use Rattle.lms_tree.specs.KeyParts.{KeyParts}
 use Rattle.log_core.specs.State as core
-use Rattle.log_journal.specs.Inputs.{input_text}
+use Rattle.run_replays.specs.log_journal.Inputs.{input_text}
 use Rattle.run_replays.specs.Inputs.{inputs_of, newest_behind}
 use Rattle.run_restart.specs.declared.asking.Asked.{Asked}
 use Rattle.run_restart.specs.declared.asking.Asked.TheVariants as asked

@@ -1,11 +1,11 @@
 -- What comes of a restart: the answer, and the two disks where there are two runs.
 use Rattle.std.specs.Prelude.{◌≡◌, ℕ, List, MatchOption, Option, Some}
-use Rattle.ar_nodes.specs.Parties.{CheckParts, LogNode}
-use Rattle.ar_nodes.specs.declared.event.LogEvent.{LogEvent}
+use Rattle.script_play.specs.ar_nodes.Parties.{CheckParts, LogNode}
+use Rattle.script_play.specs.ar_nodes.declared.event.LogEvent.{LogEvent}
 use Rattle.ar_run.specs.Answers.{Answer}
-use Rattle.ar_world.specs.Finding.{log_at}
-use Rattle.ar_world.specs.Run.{Saying, run}
-use Rattle.ar_world.specs.State.{World}
+use Rattle.script_play.specs.ar_world.Finding.{log_at}
+use Rattle.script_play.specs.ar_world.Run.{Saying, run}
+use Rattle.script_play.specs.ar_world.State.{World}
 use Rattle.log_restart.specs.Restarted.{AreRestarted}
 use Rattle.log_restart.specs.declared.disks.Disks.{Disks}
 use Rattle.run_replays.specs.Replayed.{IsReplayed}

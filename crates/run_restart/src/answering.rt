@@ -1,7 +1,7 @@
 //! The answer to an input.
 
 ghost use Rattle.std.specs.Prelude.{ℕ, List, IfOk};
-ghost use Rattle.ar_nodes.specs.Parties.{checks_told};
+ghost use Rattle.script_play.specs.ar_nodes.Parties.{checks_told};
 ghost use Rattle.ar_run.specs.Runs.{IsInput};
 ghost use Rattle.run_restart.specs.Answers.{telling_played};
 ghost use Rattle.run_restart.specs.Asking.{texts_in};

@@ -1,8 +1,8 @@
 //! What a log of a world was asked, to be asked again.
 
 ghost use Rattle.std.specs.Prelude.{◌≡◌, map, IfOk};
-ghost use Rattle.ar_nodes.specs.Acting.{bytes_of};
-ghost use Rattle.ar_nodes.specs.Pool.{numbered};
+ghost use Rattle.script_play.specs.ar_nodes.Acting.{bytes_of};
+ghost use Rattle.script_play.specs.ar_nodes.Pool.{numbered};
 ghost use Rattle.key_roll.specs.Ring.{next_key};
 ghost use Rattle.lms_tree.specs.Key.{public_of};
 ghost use Rattle.lms_tree.specs.KeyParts.{KeyParts};
@@ -11,12 +11,11 @@ ghost use Rattle.run_replays.specs.Inputs.{newest_behind};
 ghost use Rattle.run_replays.specs.Replayed.{IsNewestKey};
 ghost use Rattle.run_restart.specs.Asking.{asked_from, asked_of, input_in};
 
-use ar_nodes::LogEvent;
-use ar_world::World;
 use key_roll::KeyRing;
 use lms_tree::LmsPublic;
 use log_core::LogInput;
 use owner_check::OwnerCheck;
+use script_play::{LogEvent, World};
 use std::alloc::{AllocError, Global};
 
 /// What a log was asked, with the keys to which it went on.

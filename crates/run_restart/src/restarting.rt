@@ -1,10 +1,10 @@
 //! A log of a world restarts.
 
 ghost use Rattle.std.specs.Prelude.{◌≡◌, ◌≤◌, ◌∷◌, [], length, IfOk};
-ghost use Rattle.ar_world.specs.Finding.{log_at};
-ghost use Rattle.ar_world.specs.Records.{HasParties};
+ghost use Rattle.script_play.specs.ar_world.Finding.{log_at};
+ghost use Rattle.script_play.specs.ar_world.Records.{HasParties};
 ghost use Rattle.kept_journal.specs.Replays.{ReachesBy};
-ghost use Rattle.log_journal.specs.Steps.{LogStanding, takes};
+ghost use Rattle.run_replays.specs.log_journal.Steps.{LogStanding, takes};
 ghost use Rattle.log_restart.specs.Inputs.{most_input_bytes, texts_of, total_len};
 ghost use Rattle.log_restart.specs.Restarted.{AreRestarted, recovered_of, told_of};
 ghost use Rattle.run_replays.specs.Inputs.{first_key_of};
@@ -18,13 +18,12 @@ use crate::asking::{all_asked, inputs_of};
 use crate::ended::Ended;
 use crate::telling::{refuse_by, tell};
 use ar_founding::make_key;
-use ar_nodes::{LogEvent, WorldFault};
 use ar_statement::Role;
-use ar_world::World;
 use key_roll::KeyRing;
 use log_core::LogInput;
 use log_restart::{Beginning, Disks, RestartReport, restart, total_len};
 use owner_check::OwnerCheck;
+use script_play::{LogEvent, World, WorldFault};
 use std::alloc::{AllocError, Global};
 
 /// What the log with this number began with. It takes as long as a key does. The only error is want of memory.

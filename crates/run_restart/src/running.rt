@@ -3,7 +3,7 @@
 ghost use Rattle.std.specs.Prelude.{◌≡◌, ◌≢◌, ◌+◌, ◌<◌, ◌≤◌, Err, IfOk, MatchOption};
 ghost use Rattle.ar_base.specs.Faults.{HasRisen};
 ghost use Rattle.ar_io.specs.Wrote.{Unchanged};
-ghost use Rattle.ar_nodes.specs.Parties.{checks_told};
+ghost use Rattle.script_play.specs.ar_nodes.Parties.{checks_told};
 ghost use Rattle.ar_run.specs.Runs.{TakesAtMost, most_read_bytes};
 ghost use Rattle.run_restart.specs.Answers.{RestartFront, RestartWhole};
 

@@ -1,17 +1,15 @@
 //! The lines that are written.
 
 ghost use Rattle.std.specs.Prelude.{◌≡◌, ◌<◌, ◌∷◌, [], None, Some, IfOk};
-ghost use Rattle.ar_world.specs.declared.cause.Cause.TheVariants.{Untaken};
+ghost use Rattle.script_play.specs.ar_world.declared.cause.Cause.TheVariants.{Untaken};
 ghost use Rattle.run_restart.specs.Answers.{refusing, restart_line};
 
 use crate::Restart;
 use crate::ended::Ended;
-use ar_nodes::WorldFault;
 use ar_run::Answer;
 use ar_text::{Part, append};
-use ar_world::Cause;
 use log_restart::{Disks, RestartReport};
-use script_play::refusal_line;
+use script_play::{Cause, WorldFault, refusal_line};
 use std::alloc::{AllocError, Global};
 
 /// `restart L<log> after <calls> recovered <many> of <inputs> signed <statements> <digest>`. The only error is want of memory.

@@ -18,12 +18,12 @@ use Rattle.ar_message.specs.declared.message.Confirming.{Confirming}
 use Rattle.ar_message.specs.declared.message.Message.{Message}
 use Rattle.ar_message.specs.declared.message.Message.TheVariants.{HalfConfirmed}
 use Rattle.ar_message.specs.declared.unsigned.Unsigned.{Unsigned}
-use Rattle.ar_nodes.proofs.Bytes.{bytes_stay}
-use Rattle.ar_nodes.specs.Acting.{authority_delivered, authority_does, bytes_of, noted_in, pool_behind}
-use Rattle.ar_nodes.specs.Authorities.{authority_reply, node_behind}
-use Rattle.ar_nodes.specs.Parties.{AuthorityNode, CheckParts}
-use Rattle.ar_nodes.specs.Pool.{Pooled, in_bytes, numbered, pooled_from}
-use Rattle.ar_nodes.specs.declared.fault.WorldFault.TheVariants.{Order}
+use Rattle.ar_world.proofs.ar_nodes.Bytes.{bytes_stay}
+use Rattle.ar_world.specs.ar_nodes.Acting.{authority_delivered, authority_does, bytes_of, noted_in, pool_behind}
+use Rattle.ar_world.specs.ar_nodes.Authorities.{authority_reply, node_behind}
+use Rattle.ar_world.specs.ar_nodes.Parties.{AuthorityNode, CheckParts}
+use Rattle.ar_world.specs.ar_nodes.Pool.{Pooled, in_bytes, numbered, pooled_from}
+use Rattle.ar_world.specs.ar_nodes.declared.fault.WorldFault.TheVariants.{Order}
 use Rattle.ar_safety.proofs.Rows.{row-absent, row-accepted, row-letter}
 use Rattle.ar_safety.specs.Accepting.{IsWithRing, confirmer_of}
 use Rattle.ar_statement.specs.Claims.{authority_party}

@@ -8,22 +8,22 @@ use Rattle.ar_base.specs.Chaining.{◌>>=◌, need}
 use Rattle.ar_base.proofs.Shown.{if-chained}
 use Rattle.ar_statement.specs.declared.party.Party.{Party}
 use Rattle.ar_world.specs.Delivering.{can_deliver, deliver_line, delivery, due_from, due_or, due_to, next_due, taker_at}
-use Rattle.ar_nodes.specs.Pool.{delivered_to}
+use Rattle.ar_world.specs.ar_nodes.Pool.{delivered_to}
 use Rattle.ar_world.specs.Finding.{Effect, has_room, message_at, room}
-use Rattle.ar_nodes.specs.Pool.{most_pool_bytes, most_messages}
+use Rattle.ar_world.specs.ar_nodes.Pool.{most_pool_bytes, most_messages}
 use Rattle.ar_world.specs.Founding.{led_to, may_come}
-use Rattle.ar_nodes.specs.Pool.{Pooled, bytes_in, numbered, set_numbered}
+use Rattle.ar_world.specs.ar_nodes.Pool.{Pooled, bytes_in, numbered, set_numbered}
 use Rattle.ar_world.specs.Run.{Progress, delivering, flushed, most_deliveries, progress_of, taken, then_on}
 use Rattle.ar_world.specs.State.{World, silent}
 use Rattle.ar_world.specs.Step.{event_effect}
-use Rattle.ar_nodes.specs.declared.fault.WorldFault.TheVariants.{Limit, Order}
+use Rattle.ar_world.specs.ar_nodes.declared.fault.WorldFault.TheVariants.{Limit, Order}
 use Rattle.ar_world.specs.declared.phase.Phase.TheVariants.{Running}
 use Rattle.owner_check.specs.declared.answer.Outcome.{Outcome}
 use Rattle.script_text.specs.declared.line.EventLine.TheVariants as event
 use Rattle.script_text.specs.declared.line.Line.TheVariants as line
 use Rattle.run_safety.specs.Flushes.{LeavesNothingDue}
 use Rattle.run_safety.proofs.Chains.{need-holds}
-use Rattle.ar_nodes.proofs.Noted.{noted-is}
+use Rattle.ar_world.proofs.ar_nodes.Noted.{noted-is}
 use Rattle.ar_world.proofs.Sends.{Sends, delivery-sends, noted, noted-takers}
 use Rattle.ar_world.proofs.Deliveries.{can-take}
 use Rattle.run_safety.proofs.Waiting.{pool-falls, pool-few, waiting-in}

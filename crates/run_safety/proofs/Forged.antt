@@ -12,7 +12,7 @@ use Rattle.ar_claims.specs.Claimed.{claimed_in_bytes}
 use Rattle.ar_claims.specs.Verified.{IsVerifiedIn}
 use Rattle.ar_council.specs.Council.{council_of}
 use Rattle.ar_message.specs.Confirmation.{Confirmation, confirmation_at}
-use Rattle.ar_nodes.specs.Parties.{AuthorityNode, CheckParts, LogNode}
+use Rattle.ar_world.specs.ar_nodes.Parties.{AuthorityNode, CheckParts, LogNode}
 use Rattle.ar_safety.proofs.Held.{own-record}
 use Rattle.ar_safety.specs.Held.{IsAccepting, AcceptedBytes, asked_by, judged_in, record_at, records_of, verdict_on}
 use Rattle.ar_safety.specs.Records.{AreSigned, IsHonest, AcceptedConfirmation, carried, seen_by, signed_by}

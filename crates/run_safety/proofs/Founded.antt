@@ -11,12 +11,12 @@ use Rattle.ar_statement.specs.Claims.{authority_party, is_party, log_party}
 use Rattle.ar_statement.specs.declared.party.Party.{Party}
 use Rattle.ar_statement.specs.declared.party.Role.{Role}
 use Rattle.ar_statement.specs.declared.party.Role.TheVariants as role
-use Rattle.ar_nodes.specs.Finding.{honest_in}
-use Rattle.ar_nodes.specs.Finding.{named}
+use Rattle.ar_world.specs.ar_nodes.Finding.{honest_in}
+use Rattle.ar_world.specs.ar_nodes.Finding.{named}
 use Rattle.ar_world.specs.Founding.{authorities_line, peopled}
-use Rattle.ar_founding.specs.Founding.{fresh_log, fresh_logs, genesis_of, new_authorities, founded_authority}
-use Rattle.ar_founding.specs.FirstKeys.{key_made, keys_made}
-use Rattle.ar_founding.specs.FirstKeys.{Setup, key_for, keys_for}
+use Rattle.ar_world.specs.ar_founding.Founding.{fresh_log, fresh_logs, genesis_of, new_authorities, founded_authority}
+use Rattle.ar_world.specs.ar_founding.FirstKeys.{key_made, keys_made}
+use Rattle.ar_world.specs.ar_founding.FirstKeys.{Setup, key_for, keys_for}
 use Rattle.ar_world.specs.State.{World}
 use Rattle.lms_tree.specs.Key.{public_of}
 use Rattle.lms_tree.specs.KeyParts.{KeyParts}
@@ -26,7 +26,7 @@ use Rattle.party_keys.specs.declared.fault.DirectoryFault.{DirectoryFault}
 use Rattle.party_keys.specs.declared.fault.DirectoryFault.TheVariants.{Authorities, Logs, Quorum}
 use Rattle.run_safety.proofs.Quiet.{marked_in, quiet}
 use Rattle.run_safety.specs.Seats.{AreSeated, IsAuthorityOf, IsLogOf, honest_count}
-use Rattle.ar_nodes.proofs.Spots.{honest-below}
+use Rattle.ar_world.proofs.ar_nodes.Spots.{honest-below}
 use Rattle.run_safety.proofs.Parts.{Bare, Makes, SeatedIn, Stands, part_of, told_by, told_in}
 use Rattle.ar_base.proofs.Shown.{if-chained, needed}
 

@@ -6,10 +6,10 @@ use Rattle.std.proofs.lemmas.Option.{same_Some}
 use Rattle.ar_base.proofs.Prefixes.{begins_itself}
 use Rattle.ar_base.proofs.Shown.{if-chained, needed}
 use Rattle.ar_base.specs.Prefixes.{BeginsWith}
-use Rattle.ar_founding.specs.FirstKeys.{key_for, keys_for}
-use Rattle.ar_founding.specs.Founding.{fresh_log, genesis_of, founded_authority}
-use Rattle.ar_nodes.specs.Finding.{honest_in, named}
-use Rattle.ar_nodes.specs.Parties.{AuthorityNode, LogNode}
+use Rattle.ar_world.specs.ar_founding.FirstKeys.{key_for, keys_for}
+use Rattle.ar_world.specs.ar_founding.Founding.{fresh_log, genesis_of, founded_authority}
+use Rattle.ar_world.specs.ar_nodes.Finding.{honest_in, named}
+use Rattle.ar_world.specs.ar_nodes.Parties.{AuthorityNode, LogNode}
 use Rattle.ar_statement.specs.declared.party.Party.{Party}
 use Rattle.ar_statement.specs.declared.party.Role.{Role}
 use Rattle.ar_statement.specs.declared.party.Role.TheVariants as role

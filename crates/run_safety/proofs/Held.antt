@@ -11,8 +11,8 @@ use Rattle.ar_safety.specs.Held.{AreKept, honest_records, record_at, records_of}
 use Rattle.ar_safety.specs.Records.{IsHonest, IsHonestLog}
 use Rattle.ar_statement.specs.Claims.{authority_party, is_party, log_party}
 use Rattle.ar_statement.specs.declared.party.Party.{Party}
-use Rattle.ar_nodes.specs.Finding.{honest_in}
-use Rattle.ar_nodes.specs.Parties.{AuthorityNode, LogNode}
+use Rattle.ar_world.specs.ar_nodes.Finding.{honest_in}
+use Rattle.ar_world.specs.ar_nodes.Parties.{AuthorityNode, LogNode}
 use Rattle.ar_world.specs.Records.{KeepsRecords, held_of}
 use Rattle.ar_world.specs.State.{World}
 use Rattle.authority_core.specs.Calls.{fresh_authority}

@@ -8,21 +8,21 @@ use Rattle.ar_base.specs.Bytes.{AreBytes}
 use Rattle.ar_base.specs.Chaining.{need}
 use Rattle.ar_base.specs.Gives.{with_error}
 use Rattle.ar_cert.specs.Certificate.{Certificate, digest_of}
-use Rattle.ar_founding.specs.FirstKeys.{Setup, key_for, keys_for}
-use Rattle.ar_founding.specs.Founding.{fresh_log, genesis_of, founded_authority}
+use Rattle.ar_world.specs.ar_founding.FirstKeys.{Setup, key_for, keys_for}
+use Rattle.ar_world.specs.ar_founding.Founding.{fresh_log, genesis_of, founded_authority}
 use Rattle.ar_message.specs.Messages.{message_in}
 use Rattle.ar_message.specs.declared.sent.Sent.{Sent}
-use Rattle.ar_nodes.specs.Acting.{Reply, acted, authority_delivered, authority_rolled, authority_took, authority_turned, bytes_of, log_delivered, log_does, log_obeyed, log_rolled, noted_in, owner_delivered, owner_does, pool_behind}
-use Rattle.ar_nodes.specs.Codes.{owner_code}
-use Rattle.ar_nodes.specs.Finding.{named}
-use Rattle.ar_nodes.specs.Forging.{forged}
-use Rattle.ar_nodes.specs.Owners.{known_key}
-use Rattle.ar_nodes.specs.Parties.{AuthorityNode, CheckParts, Forger, LogNode, next_of}
-use Rattle.ar_nodes.specs.Pool.{Pooled, numbered}
-use Rattle.ar_nodes.specs.Teaching.{retold}
-use Rattle.ar_nodes.specs.declared.event.LogEvent.{LogEvent}
-use Rattle.ar_nodes.specs.declared.event.LogEvent.TheVariants as events
-use Rattle.ar_nodes.specs.declared.fault.WorldFault.TheVariants.{Absent}
+use Rattle.ar_world.specs.ar_nodes.Acting.{Reply, acted, authority_delivered, authority_rolled, authority_took, authority_turned, bytes_of, log_delivered, log_does, log_obeyed, log_rolled, noted_in, owner_delivered, owner_does, pool_behind}
+use Rattle.ar_world.specs.ar_nodes.Codes.{owner_code}
+use Rattle.ar_world.specs.ar_nodes.Finding.{named}
+use Rattle.ar_world.specs.ar_nodes.Forging.{forged}
+use Rattle.ar_world.specs.ar_nodes.Owners.{known_key}
+use Rattle.ar_world.specs.ar_nodes.Parties.{AuthorityNode, CheckParts, Forger, LogNode, next_of}
+use Rattle.ar_world.specs.ar_nodes.Pool.{Pooled, numbered}
+use Rattle.ar_world.specs.ar_nodes.Teaching.{retold}
+use Rattle.ar_world.specs.ar_nodes.declared.event.LogEvent.{LogEvent}
+use Rattle.ar_world.specs.ar_nodes.declared.event.LogEvent.TheVariants as events
+use Rattle.ar_world.specs.ar_nodes.declared.fault.WorldFault.TheVariants.{Absent}
 use Rattle.ar_safety.specs.Held.{AcceptedBytes, verdict_on}
 use Rattle.ar_statement.specs.Claims.{authority_party, client_party, log_party, owner_party}
 use Rattle.ar_statement.specs.declared.party.Party.{Party}
@@ -58,9 +58,9 @@ use Rattle.lm_ots.specs.OtsKind.{type_of_number}
 use Rattle.lms_tree.specs.Key.{public_of, type_to_make}
 use Rattle.lms_tree.specs.KeyParts.{KeyParts}
 use Rattle.lms_tree.specs.LmsKind.{leaves_of}
-use Rattle.log_core.specs.Keyed.{IsPlain}
-use Rattle.log_core.specs.Row.{IsLogInput, row}
-use Rattle.log_core.specs.State as log_state
+use Rattle.ar_world.specs.log_core.Keyed.{IsPlain}
+use Rattle.ar_world.specs.log_core.Row.{IsLogInput, row}
+use Rattle.ar_world.specs.log_core.State as log_state
 use Rattle.owner_check.specs.Answers.{Told, forgotten, learnt}
 use Rattle.owner_check.specs.declared.answer.Outcome.{Outcome}
 use Rattle.owner_core.specs.Rows.{OwnerAnswer, begin_row, handover_row, object_row, step_row, submit_row}

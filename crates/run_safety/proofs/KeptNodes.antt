@@ -5,16 +5,16 @@ use Rattle.std.proofs.lemmas.List.Elements.{All-cons, All-nil}
 use Rattle.std.proofs.lemmas.Nat.{pow_pos}
 use Rattle.ar_base.specs.Bytes.{AreBytes}
 use Rattle.ar_council.specs.Council.{council_of}
-use Rattle.ar_founding.specs.Founding.{fresh_log, founded_authority}
+use Rattle.ar_world.specs.ar_founding.Founding.{fresh_log, founded_authority}
 use Rattle.ar_message.specs.Messages.{message_in}
 use Rattle.ar_message.specs.declared.message.Message.{Message}
 use Rattle.ar_message.specs.declared.unsigned.Unsigned.{Unsigned}
-use Rattle.ar_nodes.proofs.Nodes.{next_is}
-use Rattle.ar_nodes.specs.Acting.{authority_does, authority_took, authority_turned, log_does}
-use Rattle.ar_nodes.specs.Authorities.{authority_reply, node_behind, says_to}
-use Rattle.ar_nodes.specs.Parties.{AuthorityNode, CheckParts, LogNode, next_of}
-use Rattle.ar_nodes.specs.declared.event.LogEvent.{LogEvent}
-use Rattle.ar_nodes.specs.declared.event.LogEvent.TheVariants as events
+use Rattle.ar_world.proofs.ar_nodes.Nodes.{next_is}
+use Rattle.ar_world.specs.ar_nodes.Acting.{authority_does, authority_took, authority_turned, log_does}
+use Rattle.ar_world.specs.ar_nodes.Authorities.{authority_reply, node_behind, says_to}
+use Rattle.ar_world.specs.ar_nodes.Parties.{AuthorityNode, CheckParts, LogNode, next_of}
+use Rattle.ar_world.specs.ar_nodes.declared.event.LogEvent.{LogEvent}
+use Rattle.ar_world.specs.ar_nodes.declared.event.LogEvent.TheVariants as events
 use Rattle.ar_safety.proofs.Rings.{first-known, learnt-known, rolled-known}
 use Rattle.ar_safety.specs.Accepting.{KnowsRing}
 use Rattle.ar_statement.specs.Claims.{authority_party, log_party}
@@ -33,14 +33,14 @@ use Rattle.lms_tree.specs.Key.{public_of}
 use Rattle.lms_tree.specs.KeyParts.{KeyParts}
 use Rattle.lms_tree.specs.LmsKind.{height_of, leaves_of}
 use Rattle.lms_tree.specs.declared.public_key.LmsPublic.{LmsPublic}
-use Rattle.log_core.proofs.KeptEndings.{kept-row}
-use Rattle.log_core.proofs.Keyed as log
-use Rattle.log_core.proofs.Later.{row-adds}
-use Rattle.log_core.proofs.Standing as log_standing
-use Rattle.log_core.specs.Keyed.{IsPlain}
-use Rattle.log_core.specs.Rolling.{rolling_row}
-use Rattle.log_core.specs.Row.{IsLogInput, row}
-use Rattle.log_core.specs.State as log_state
+use Rattle.ar_world.proofs.log_core.KeptEndings.{kept-row}
+use Rattle.ar_world.proofs.log_core.Keyed as log
+use Rattle.ar_world.proofs.log_core.Later.{row-adds}
+use Rattle.ar_world.proofs.log_core.Standing as log_standing
+use Rattle.ar_world.specs.log_core.Keyed.{IsPlain}
+use Rattle.ar_world.specs.log_core.Rolling.{rolling_row}
+use Rattle.ar_world.specs.log_core.Row.{IsLogInput, row}
+use Rattle.ar_world.specs.log_core.State as log_state
 use Rattle.owner_check.specs.declared.answer.Outcome.{Outcome}
 use Rattle.owner_core.proofs.Texts.{signature_fits}
 use Rattle.party_keys.specs.Directory.{Directory, IsDirectory, keys_of}

@@ -4,9 +4,9 @@ use Rattle.std.specs.Prelude.{map}
 use Rattle.std.proofs.lemmas.List.Elements.{All-append, All-map, All-push, All-set}
 use Rattle.ar_base.specs.Bytes.{AreBytes}
 use Rattle.ar_message.specs.Sending.{Letter}
-use Rattle.ar_nodes.proofs.Bytes.{in_bytes-are}
-use Rattle.ar_nodes.specs.Acting.{Reply, bytes_of, delivered_by, noted_in, pool_behind, with_delivered}
-use Rattle.ar_nodes.specs.Pool.{Pooled, numbered, pooled_from, raw}
+use Rattle.ar_world.proofs.ar_nodes.Bytes.{in_bytes-are}
+use Rattle.ar_world.specs.ar_nodes.Acting.{Reply, bytes_of, delivered_by, noted_in, pool_behind, with_delivered}
+use Rattle.ar_world.specs.ar_nodes.Pool.{Pooled, numbered, pooled_from, raw}
 use Rattle.ar_statement.specs.declared.party.Party.{Party}
 use Rattle.key_roll.proofs.Rings.{at-place}
 use Rattle.report_text.specs.declared.happening.Target.{Target}

@@ -5,7 +5,7 @@ use Rattle.std.proofs.lemmas.Result.{IfOk-weaker}
 use Rattle.ar_base.proofs.Prefixes.{begins_itself, begins_on}
 use Rattle.ar_base.specs.Prefixes.{BeginsWith}
 use Rattle.ar_council.proofs.Seeing.{one_party}
-use Rattle.ar_nodes.specs.Parties.{CheckParts}
+use Rattle.ar_world.specs.ar_nodes.Parties.{CheckParts}
 use Rattle.ar_statement.specs.Claims.{is_party, text_of}
 use Rattle.ar_statement.specs.declared.party.Party.{Party}
 use Rattle.ar_world.proofs.Runs.{HoldsOfSteps, run-holds, step-holds}

@@ -7,13 +7,13 @@ use Rattle.std.proofs.lemmas.Option.{same_Some}
 use Rattle.std.proofs.lemmas.Result.{IfOk-weaker}
 use Rattle.ar_base.proofs.Prefixes.{begins_itself, begins_on}
 use Rattle.ar_base.specs.Prefixes.{BeginsWith}
-use Rattle.ar_nodes.specs.Parties.{AuthorityNode, CheckParts, LogNode}
+use Rattle.ar_world.specs.ar_nodes.Parties.{AuthorityNode, CheckParts, LogNode}
 use Rattle.ar_safety.specs.Held.{AcceptedBytes}
 use Rattle.ar_statement.specs.Claims.{party}
 use Rattle.ar_statement.specs.declared.party.Role.{Role}
 use Rattle.ar_statement.specs.declared.party.Role.TheVariants as role
 use Rattle.ar_world.proofs.Runs.{HoldsOfSteps, run-holds, step-holds}
-use Rattle.ar_nodes.specs.Pool.{Pooled}
+use Rattle.ar_world.specs.ar_nodes.Pool.{Pooled}
 use Rattle.ar_statement.specs.declared.party.Party.{Party}
 use Rattle.owner_check.specs.declared.answer.Outcome.{Outcome}
 use Rattle.ar_world.specs.Delivering.{Taker, delivery, taker_at}

@@ -34,3 +34,5 @@ pub mod SentBytes
 pub mod Shown
 pub mod Waiting
 pub mod Written
+pub use Rattle.ar_world.proofs.ar_nodes as ar_nodes
+pub use Rattle.ar_world.proofs as ar_world

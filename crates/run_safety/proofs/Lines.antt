@@ -19,38 +19,38 @@ use Rattle.ar_statement.specs.declared.party.Party.{Party}
 use Rattle.ar_statement.specs.declared.party.Role.{Role}
 use Rattle.ar_statement.specs.declared.party.Role.TheVariants as role
 use Rattle.ar_world.specs.Asking.{ask_line, question}
-use Rattle.ar_nodes.specs.Acting.{owner_does}
-use Rattle.ar_nodes.specs.Codes.{owner_code}
+use Rattle.ar_world.specs.ar_nodes.Acting.{owner_does}
+use Rattle.ar_world.specs.ar_nodes.Codes.{owner_code}
 use Rattle.ar_world.specs.Delivering.{Taker, a_log, an_authority, an_owner, can_deliver, deliver_line, delivery, taker_at, taker_in}
 use Rattle.cert_drafts.specs.Certificates.{first_certificate, next_certificate}
 use Rattle.cert_drafts.specs.Policies.{policy_of}
 use Rattle.ar_world.specs.Drafting.{draft_begun, draft_if, draft_room, drafted, register_line, revoke_line, update_line}
 use Rattle.ar_world.specs.Finding.{authority_at, checking_at, draft_at, existing, forger_at, known_asks, log_at, message_at, owner_at, room, with_owner}
-use Rattle.ar_nodes.specs.Finding.{is_forger, named, set_if, with_check}
+use Rattle.ar_world.specs.ar_nodes.Finding.{is_forger, named, set_if, with_check}
 use Rattle.ar_world.specs.Forging.{composed_in, inject_line, receiver_in, sign_line, signing_if}
-use Rattle.ar_nodes.specs.Forging.{forged}
+use Rattle.ar_world.specs.ar_nodes.Forging.{forged}
 use Rattle.ar_world.specs.Founding.{dishonest_line, honest_key, keys_line, logs_line, turned}
 use Rattle.ar_world.specs.Records.{HasParties}
-use Rattle.ar_founding.specs.FirstKeys.{first_key, key_made, keys_made}
+use Rattle.ar_world.specs.ar_founding.FirstKeys.{first_key, key_made, keys_made}
 use Rattle.lms_tree.specs.LmsKind.{leaves_of}
 use Rattle.ar_world.specs.Judging.{judge_line, judged_number}
 use Rattle.ar_world.specs.Learning.{learn_line}
 use Rattle.client_rule.specs.Notes.{note_of}
-use Rattle.ar_nodes.specs.Parties.{next_of}
+use Rattle.ar_world.specs.ar_nodes.Parties.{next_of}
 use Rattle.ar_world.specs.Ordering.{log_order, roll_line, roll_of}
 use Rattle.ar_world.specs.Owning.{check_line, owner_key, owner_line, retire_line}
-use Rattle.ar_nodes.specs.Owners.{known_key}
-use Rattle.ar_nodes.specs.Teaching.{retold}
-use Rattle.ar_nodes.specs.Parties.{AuthorityNode, CheckParts, Forger, LogNode}
-use Rattle.ar_nodes.specs.Pool.{raw}
+use Rattle.ar_world.specs.ar_nodes.Owners.{known_key}
+use Rattle.ar_world.specs.ar_nodes.Teaching.{retold}
+use Rattle.ar_world.specs.ar_nodes.Parties.{AuthorityNode, CheckParts, Forger, LogNode}
+use Rattle.ar_world.specs.ar_nodes.Pool.{raw}
 use Rattle.ar_world.specs.State.{Drafted, World}
 use Rattle.ar_world.specs.Submitting.{handed, handover_line, object_line, submit_line}
-use Rattle.ar_nodes.specs.declared.event.LogEvent.{LogEvent}
-use Rattle.ar_nodes.specs.declared.fault.WorldFault.TheVariants.{Absent}
+use Rattle.ar_world.specs.ar_nodes.declared.event.LogEvent.{LogEvent}
+use Rattle.ar_world.specs.ar_nodes.declared.fault.WorldFault.TheVariants.{Absent}
 use Rattle.lm_ots.specs.OtsKind.{type_of_number}
 use Rattle.lms_tree.specs.Key.{public_of, type_to_make}
 use Rattle.lms_tree.specs.KeyParts.{KeyParts}
-use Rattle.log_core.specs.State as log_input
+use Rattle.ar_world.specs.log_core.State as log_input
 use Rattle.owner_check.specs.Answers.{Told}
 use Rattle.owner_check.specs.declared.answer.Outcome.{Outcome}
 use Rattle.owner_core.specs.Rows.{OwnerAnswer, begin_row, handover_row, object_row, submit_row}

@@ -21,24 +21,24 @@ use Rattle.key_roll.specs.Book.{texts_of}
 use Rattle.key_roll.specs.Entry.{roll_text, with_roll}
 use Rattle.lms_tree.specs.KeyParts.{KeyParts}
 use Rattle.lms_tree.specs.declared.public_key.LmsPublic.{LmsPublic}
-use Rattle.log_core.proofs.Claiming.{input-sees}
-use Rattle.log_core.proofs.Later.{row-adds}
-use Rattle.log_core.proofs.Passed.{passed}
-use Rattle.log_core.specs.Balloted.{ballot_checks, ballot_reply, ballot_row}
-use Rattle.log_core.specs.Claimed.{IsOwnSigned, claims_of}
-use Rattle.log_core.specs.Confirming.{ConfirmQuestion, confirm_checks, confirm_reply, confirm_row}
-use Rattle.log_core.specs.Decided.{Decision, decision_checks, decision_reply, decision_row}
-use Rattle.log_core.specs.Keyed.{IsPlain}
-use Rattle.log_core.specs.Learning.{is_learned, roll_note_checks, roll_note_reply, roll_note_row}
-use Rattle.log_core.specs.Passing.{passing_checks, passing_reply, passing_row}
-use Rattle.log_core.specs.Proposed.{Proposal, proposed_checks, proposed_reply, proposed_row}
-use Rattle.log_core.specs.Proposing.{proposing_checks, proposing_reply, proposing_row}
-use Rattle.log_core.specs.Rolling.{rolling_checks, rolling_reply, rolling_row}
-use Rattle.log_core.specs.Row.{IsLogInput, message_row, read_row, row}
-use Rattle.log_core.specs.Skipped.{skip_checks, skip_reply, skip_row}
-use Rattle.log_core.specs.State.{CoreState, Input, LogStep, passes, proposes, rolls, takes}
-use Rattle.log_core.specs.Stated.{status_checks, status_reply, status_row}
-use Rattle.log_core.specs.Submit.{queueing, submit_checks, submit_reply, submit_row}
+use Rattle.ar_world.proofs.log_core.Claiming.{input-sees}
+use Rattle.ar_world.proofs.log_core.Later.{row-adds}
+use Rattle.ar_world.proofs.log_core.Passed.{passed}
+use Rattle.ar_world.specs.log_core.Balloted.{ballot_checks, ballot_reply, ballot_row}
+use Rattle.ar_world.specs.log_core.Claimed.{IsOwnSigned, claims_of}
+use Rattle.ar_world.specs.log_core.Confirming.{ConfirmQuestion, confirm_checks, confirm_reply, confirm_row}
+use Rattle.ar_world.specs.log_core.Decided.{Decision, decision_checks, decision_reply, decision_row}
+use Rattle.ar_world.specs.log_core.Keyed.{IsPlain}
+use Rattle.ar_world.specs.log_core.Learning.{is_learned, roll_note_checks, roll_note_reply, roll_note_row}
+use Rattle.ar_world.specs.log_core.Passing.{passing_checks, passing_reply, passing_row}
+use Rattle.ar_world.specs.log_core.Proposed.{Proposal, proposed_checks, proposed_reply, proposed_row}
+use Rattle.ar_world.specs.log_core.Proposing.{proposing_checks, proposing_reply, proposing_row}
+use Rattle.ar_world.specs.log_core.Rolling.{rolling_checks, rolling_reply, rolling_row}
+use Rattle.ar_world.specs.log_core.Row.{IsLogInput, message_row, read_row, row}
+use Rattle.ar_world.specs.log_core.Skipped.{skip_checks, skip_reply, skip_row}
+use Rattle.ar_world.specs.log_core.State.{CoreState, Input, LogStep, passes, proposes, rolls, takes}
+use Rattle.ar_world.specs.log_core.Stated.{status_checks, status_reply, status_row}
+use Rattle.ar_world.specs.log_core.Submit.{queueing, submit_checks, submit_reply, submit_row}
 use Rattle.log_sending.specs.Queued.{is_queued}
 use Rattle.party_keys.specs.Learning.{Announced, after_adopting, after_learning, learned}
 use Rattle.party_keys.specs.Signers.{Claimed}

@@ -9,8 +9,8 @@ use Rattle.ar_base.specs.Prefixes.{BeginsWith}
 use Rattle.ar_claims.specs.Claimed.{claimed_in_bytes}
 use Rattle.ar_claims.specs.Verified.{IsVerifiedIn}
 use Rattle.ar_council.proofs.Seeing.{seen-exactly}
-use Rattle.ar_nodes.specs.Finding.{honest_in}
-use Rattle.ar_nodes.specs.Pool.{raw}
+use Rattle.ar_world.specs.ar_nodes.Finding.{honest_in}
+use Rattle.ar_world.specs.ar_nodes.Pool.{raw}
 use Rattle.ar_statement.specs.Claims.{party}
 use Rattle.ar_statement.specs.declared.text.SeenText.{SeenText}
 use Rattle.ar_world.specs.Learning.{knows_by, rolls_by, rolls_with}
@@ -31,14 +31,14 @@ use Rattle.ar_base.specs.Gives.{with_error}
 use Rattle.ar_cert.specs.Certificate.{Certificate, digest_of}
 use Rattle.ar_message.specs.Messages.{message_in}
 use Rattle.ar_message.specs.declared.sent.Sent.{Sent}
-use Rattle.ar_nodes.specs.Acting.{owner_does}
-use Rattle.ar_nodes.specs.Codes.{owner_code}
-use Rattle.ar_nodes.specs.Finding.{named}
-use Rattle.ar_nodes.specs.Forging.{forged}
-use Rattle.ar_nodes.specs.Parties.{AuthorityNode, Forger, LogNode, next_of}
-use Rattle.ar_nodes.specs.Pool.{Pooled}
-use Rattle.ar_nodes.specs.declared.event.LogEvent.{LogEvent}
-use Rattle.ar_nodes.specs.declared.fault.WorldFault.TheVariants.{Absent}
+use Rattle.ar_world.specs.ar_nodes.Acting.{owner_does}
+use Rattle.ar_world.specs.ar_nodes.Codes.{owner_code}
+use Rattle.ar_world.specs.ar_nodes.Finding.{named}
+use Rattle.ar_world.specs.ar_nodes.Forging.{forged}
+use Rattle.ar_world.specs.ar_nodes.Parties.{AuthorityNode, Forger, LogNode, next_of}
+use Rattle.ar_world.specs.ar_nodes.Pool.{Pooled}
+use Rattle.ar_world.specs.ar_nodes.declared.event.LogEvent.{LogEvent}
+use Rattle.ar_world.specs.ar_nodes.declared.fault.WorldFault.TheVariants.{Absent}
 use Rattle.ar_safety.specs.Held.{AcceptedBytes, verdict_on}
 use Rattle.ar_statement.specs.Claims.{client_party, owner_party}
 use Rattle.ar_statement.specs.declared.party.Party.{Party}
@@ -64,9 +64,9 @@ use Rattle.client_rule.specs.declared.judgement.Judgement.{Judgement}
 use Rattle.lm_ots.specs.OtsKind.{type_of_number}
 use Rattle.lms_tree.specs.Key.{public_of, type_to_make}
 use Rattle.lms_tree.specs.LmsKind.{leaves_of}
-use Rattle.log_core.specs.Keyed.{IsPlain}
-use Rattle.log_core.specs.Row.{IsLogInput}
-use Rattle.log_core.specs.State as log_state
+use Rattle.ar_world.specs.log_core.Keyed.{IsPlain}
+use Rattle.ar_world.specs.log_core.Row.{IsLogInput}
+use Rattle.ar_world.specs.log_core.State as log_state
 use Rattle.owner_check.specs.Answers.{Told, learnt}
 use Rattle.owner_check.specs.declared.answer.Outcome.{Outcome}
 use Rattle.owner_core.specs.Rows.{OwnerAnswer, begin_row, handover_row, object_row, submit_row}
@@ -83,7 +83,7 @@ use Rattle.ar_world.proofs.Deliveries.{can-take}
 use Rattle.ar_world.proofs.Sends.{authority-takes, log-takes}
 use Rattle.run_safety.proofs.Lines.{checking-there}
 use Rattle.std.proofs.Common.{arith}
-use Rattle.ar_nodes.specs.declared.event.LogEvent.TheVariants as events
+use Rattle.ar_world.specs.ar_nodes.declared.event.LogEvent.TheVariants as events
 use Rattle.ar_world.specs.Finding.{Effect}
 use Rattle.ar_world.specs.Step.{event_effect, leads_to, setup_effect}
 use Rattle.ar_world.specs.declared.phase.Phase.{Phase}

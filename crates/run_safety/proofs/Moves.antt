@@ -13,31 +13,31 @@ use Rattle.ar_claims.specs.Claimed.{claimed_in_bytes}
 use Rattle.ar_claims.specs.Verified.{IsVerifiedIn}
 use Rattle.ar_message.specs.Filling.{filled}
 use Rattle.ar_message.specs.declared.unsigned.Unsigned.{Unsigned}
-use Rattle.ar_nodes.specs.Acting.{pool_behind, delivered_by, with_delivered}
-use Rattle.ar_nodes.specs.Authorities.{authority_reply, node_behind, says_to}
-use Rattle.ar_nodes.specs.Codes.{authority_code, log_code}
-use Rattle.ar_nodes.specs.Finding.{honest_in}
-use Rattle.ar_nodes.specs.Pool.{pooled_from}
+use Rattle.ar_world.specs.ar_nodes.Acting.{pool_behind, delivered_by, with_delivered}
+use Rattle.ar_world.specs.ar_nodes.Authorities.{authority_reply, node_behind, says_to}
+use Rattle.ar_world.specs.ar_nodes.Codes.{authority_code, log_code}
+use Rattle.ar_world.specs.ar_nodes.Finding.{honest_in}
+use Rattle.ar_world.specs.ar_nodes.Pool.{pooled_from}
 use Rattle.ar_statement.specs.Claims.{party}
 use Rattle.ar_statement.specs.declared.text.SeenText.{SeenText}
 use Rattle.authority_core.specs.Row.{asked_in}
 use Rattle.authority_core.specs.State as authority_state
-use Rattle.log_core.specs.Claimed.{claims_of}
+use Rattle.ar_world.specs.log_core.Claimed.{claims_of}
 use Rattle.party_keys.specs.Learning.{after_adopting}
 use Rattle.party_keys.specs.Signers.{Claimed}
 use Rattle.run_safety.proofs.AuthoritySteps.{roll-steps, state_parts, took-steps}
 use Rattle.run_safety.proofs.LogSteps.{core_parts, input-teaches, log-steps, rolling-adopts}
 use Rattle.run_safety.proofs.PartySteps.{Adopts, Learns, Steps, get-last, learns-more, still-steps}
-use Rattle.ar_nodes.proofs.Spots.{honest-below, put-beside, put-there}
+use Rattle.ar_world.proofs.ar_nodes.Spots.{honest-below, put-beside, put-there}
 use Rattle.run_safety.specs.Own.{PartyParts}
 use Rattle.run_safety.specs.Unforged.{authority_parts, log_parts, messages_of, parts_in, shown}
 use Rattle.ar_message.specs.Messages.{message_in}
 use Rattle.ar_message.specs.declared.sent.Sent.{Sent}
-use Rattle.ar_nodes.specs.Acting.{Reply, acted, authority_delivered, authority_does, authority_rolled, authority_turned, bytes_of, log_delivered, log_does, log_obeyed, log_rolled, noted_in, owner_delivered, owner_does}
-use Rattle.ar_nodes.specs.Parties.{AuthorityNode, CheckParts, LogNode}
-use Rattle.ar_nodes.specs.Pool.{Pooled, numbered}
-use Rattle.ar_nodes.specs.declared.event.LogEvent.{LogEvent}
-use Rattle.ar_nodes.specs.declared.event.LogEvent.TheVariants as events
+use Rattle.ar_world.specs.ar_nodes.Acting.{Reply, acted, authority_delivered, authority_does, authority_rolled, authority_turned, bytes_of, log_delivered, log_does, log_obeyed, log_rolled, noted_in, owner_delivered, owner_does}
+use Rattle.ar_world.specs.ar_nodes.Parties.{AuthorityNode, CheckParts, LogNode}
+use Rattle.ar_world.specs.ar_nodes.Pool.{Pooled, numbered}
+use Rattle.ar_world.specs.ar_nodes.declared.event.LogEvent.{LogEvent}
+use Rattle.ar_world.specs.ar_nodes.declared.event.LogEvent.TheVariants as events
 use Rattle.ar_safety.specs.Held.{AcceptedBytes}
 use Rattle.ar_statement.specs.Claims.{authority_party, log_party, owner_party}
 use Rattle.ar_statement.specs.declared.party.Party.{Party}
@@ -49,9 +49,9 @@ use Rattle.ar_world.specs.State.{World, with_authority, with_log}
 use Rattle.authority_core.specs.RollRows.{roll_row}
 use Rattle.lms_tree.specs.Key.{public_of}
 use Rattle.lms_tree.specs.KeyParts.{KeyParts}
-use Rattle.log_core.specs.Keyed.{IsPlain}
-use Rattle.log_core.specs.Row.{IsLogInput, row}
-use Rattle.log_core.specs.State as log_state
+use Rattle.ar_world.specs.log_core.Keyed.{IsPlain}
+use Rattle.ar_world.specs.log_core.Row.{IsLogInput, row}
+use Rattle.ar_world.specs.log_core.State as log_state
 use Rattle.owner_check.specs.declared.answer.Outcome.{Outcome}
 use Rattle.owner_core.specs.Rows.{step_row}
 use Rattle.owner_core.specs.State.{Owner}

@@ -9,17 +9,17 @@ use Rattle.ar_message.specs.Messages.{message_in}
 use Rattle.ar_message.specs.declared.sent.Sent.{Sent}
 use Rattle.ar_message.specs.declared.unsigned.Unsigned.{Unsigned}
 use Rattle.ar_statement.specs.declared.party.Party.{Party}
-use Rattle.ar_nodes.specs.Acting.{Reply, acted, authority_delivered, authority_does, authority_rolled, authority_turned, bytes_of, log_delivered, log_does, log_obeyed, log_rolled, noted_in, owner_delivered, owner_does, told_of}
-use Rattle.ar_nodes.specs.Authorities.{authority_reply, node_behind, says_to}
-use Rattle.ar_nodes.specs.Codes.{authority_code, log_code}
+use Rattle.ar_world.specs.ar_nodes.Acting.{Reply, acted, authority_delivered, authority_does, authority_rolled, authority_turned, bytes_of, log_delivered, log_does, log_obeyed, log_rolled, noted_in, owner_delivered, owner_does, told_of}
+use Rattle.ar_world.specs.ar_nodes.Authorities.{authority_reply, node_behind, says_to}
+use Rattle.ar_world.specs.ar_nodes.Codes.{authority_code, log_code}
 use Rattle.ar_world.specs.Finding.{authority_at, log_at}
-use Rattle.ar_nodes.specs.Parties.{AuthorityNode, LogNode}
-use Rattle.ar_nodes.specs.Pool.{Pooled, entries_from, numbered, pooled_from}
-use Rattle.ar_nodes.specs.Sending.{ending_of}
+use Rattle.ar_world.specs.ar_nodes.Parties.{AuthorityNode, LogNode}
+use Rattle.ar_world.specs.ar_nodes.Pool.{Pooled, entries_from, numbered, pooled_from}
+use Rattle.ar_world.specs.ar_nodes.Sending.{ending_of}
 use Rattle.ar_world.specs.Sending.{authority_made, log_made, owner_made, posted}
 use Rattle.ar_world.specs.State.{World, with_authority, with_log}
-use Rattle.ar_nodes.specs.declared.event.LogEvent.{LogEvent}
-use Rattle.ar_nodes.specs.declared.event.LogEvent.TheVariants as events
+use Rattle.ar_world.specs.ar_nodes.declared.event.LogEvent.{LogEvent}
+use Rattle.ar_world.specs.ar_nodes.declared.event.LogEvent.TheVariants as events
 use Rattle.authority_core.proofs.Standing as authority
 use Rattle.authority_core.specs.RollRows.{roll_row}
 use Rattle.authority_core.specs.Row.{asked_in}
@@ -27,9 +27,9 @@ use Rattle.authority_core.specs.State as authority_state
 use Rattle.lms_tree.specs.Key.{public_of}
 use Rattle.lms_tree.specs.KeyParts.{KeyParts}
 use Rattle.lms_tree.specs.declared.public_key.LmsPublic.{LmsPublic}
-use Rattle.log_core.proofs.Standing as log
-use Rattle.log_core.specs.Row.{row}
-use Rattle.log_core.specs.State as log_state
+use Rattle.ar_world.proofs.log_core.Standing as log
+use Rattle.ar_world.specs.log_core.Row.{row}
+use Rattle.ar_world.specs.log_core.State as log_state
 use Rattle.owner_check.specs.declared.answer.Outcome.{Outcome}
 use Rattle.owner_core.specs.Rows.{step_row}
 use Rattle.owner_core.specs.State.{Owner}

@@ -8,7 +8,7 @@ use Rattle.ar_safety.specs.Held.{IsAccepting, AcceptedBytes, verdict_on}
 use Rattle.ar_statement.specs.declared.party.Party.{Party}
 use Rattle.ar_world.specs.Founding.{place_of}
 use Rattle.report_text.specs.Verdicts.{said_of}
-use Rattle.ar_nodes.specs.Parties.{AuthorityNode, LogNode}
+use Rattle.ar_world.specs.ar_nodes.Parties.{AuthorityNode, LogNode}
 use Rattle.ar_world.specs.State.{Moved, World}
 use Rattle.ar_world.specs.declared.phase.Phase.{Phase}
 use Rattle.lms_tree.specs.declared.public_key.LmsPublic.{LmsPublic}

@@ -9,8 +9,8 @@ use Rattle.std.proofs.Math.Bool.{or-false, or-true}
 use Rattle.ar_statement.specs.Claims.{is_party, party}
 use Rattle.ar_statement.specs.declared.party.Party.{Party}
 use Rattle.ar_statement.specs.declared.party.Role.{Role}
-use Rattle.ar_nodes.specs.Finding.{honest_in}
-use Rattle.ar_nodes.proofs.Spots.{honest-below, put-beside, put-there}
+use Rattle.ar_world.specs.ar_nodes.Finding.{honest_in}
+use Rattle.ar_world.proofs.ar_nodes.Spots.{honest-below, put-beside, put-there}
 use Rattle.run_safety.specs.Seats.{AreSeated, honest_count}
 
 -- ---- places of a list

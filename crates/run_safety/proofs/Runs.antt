@@ -7,17 +7,17 @@ use Rattle.std.proofs.lemmas.List.Elements.{All-nil}
 use Rattle.std.proofs.lemmas.Result.{IfOk-weaker}
 use Rattle.ar_safety.specs.Held.{IsAccepting, verdict_on}
 use Rattle.ar_world.specs.Founding.{is_peopled, may_come, place_of}
-use Rattle.ar_nodes.specs.Parties.{CheckParts}
+use Rattle.ar_world.specs.ar_nodes.Parties.{CheckParts}
 use Rattle.ar_world.specs.Records.{held_of}
 use Rattle.ar_world.specs.Run.{Saying, run}
 use Rattle.ar_world.specs.State.{Moved, World, first_world, no_directory}
 use Rattle.ar_world.specs.Step.{event_effect, leads_to, setup_effect, step}
-use Rattle.ar_nodes.specs.declared.event.LogEvent.TheVariants as events
+use Rattle.ar_world.specs.ar_nodes.declared.event.LogEvent.TheVariants as events
 use Rattle.ar_world.specs.declared.phase.Phase.{Phase}
 use Rattle.ar_world.specs.declared.phase.Phase.TheVariants as phase
 use Rattle.ar_world.proofs.FirstParties.{came}
 use Rattle.ar_world.proofs.Runs.{HoldsOfSteps, run-holds, step-holds}
-use Rattle.log_core.specs.State.{passes, proposes}
+use Rattle.ar_world.specs.log_core.State.{passes, proposes}
 use Rattle.owner_check.specs.Answers.{forgotten, learnt}
 use Rattle.owner_check.specs.declared.answer.Outcome.{Outcome}
 use Rattle.report_text.specs.declared.happening.Happening.TheVariants.{Forgot, Taught}

@@ -3,7 +3,7 @@ use Rattle.std.proofs.Common.{ℕ, List, ap, sym, ◌∙◌}
 use Rattle.std.specs.List.{filter_map}
 use Rattle.std.proofs.lemmas.List.Elements.{filter_map-append}
 use Rattle.ar_safety.proofs.Held.{run-safe}
-use Rattle.ar_nodes.specs.Parties.{CheckParts}
+use Rattle.ar_world.specs.ar_nodes.Parties.{CheckParts}
 use Rattle.ar_world.specs.Records.{HasParties, KeepsRecords, held_of}
 use Rattle.ar_world.specs.Run.{Run, Saying, run}
 use Rattle.ar_world.specs.State.{first_world}

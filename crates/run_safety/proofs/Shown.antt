@@ -7,7 +7,7 @@ use Rattle.ar_base.specs.Prefixes.{BeginsWith}
 use Rattle.ar_claims.specs.Claimed.{claimed_in_bytes}
 use Rattle.ar_claims.specs.Verified.{IsVerifiedIn}
 use Rattle.ar_council.proofs.Seeing.{one_party}
-use Rattle.ar_nodes.specs.Parties.{CheckParts}
+use Rattle.ar_world.specs.ar_nodes.Parties.{CheckParts}
 use Rattle.ar_safety.specs.Held.{AcceptedBytes}
 use Rattle.ar_statement.specs.Claims.{is_party, party}
 use Rattle.ar_statement.specs.declared.party.Party.{Party}

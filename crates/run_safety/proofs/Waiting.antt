@@ -11,8 +11,8 @@ use Rattle.ar_statement.specs.Claims.{is_party, log_party}
 use Rattle.ar_statement.specs.declared.party.Party.{Party}
 use Rattle.ar_statement.proofs.Statements.{is_party-self}
 use Rattle.ar_world.specs.Delivering.{addressed, is_sender}
-use Rattle.ar_nodes.specs.Pool.{delivered_to}
-use Rattle.ar_nodes.specs.Pool.{Pooled}
+use Rattle.ar_world.specs.ar_nodes.Pool.{delivered_to}
+use Rattle.ar_world.specs.ar_nodes.Pool.{Pooled}
 use Rattle.report_text.specs.declared.happening.Target.{Target}
 use Rattle.report_text.specs.declared.happening.Target.TheVariants as target
 use Rattle.ar_base.proofs.Shown.{find-true}

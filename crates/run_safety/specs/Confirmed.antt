@@ -5,8 +5,8 @@ use Rattle.ar_message.specs.Messages.{message_in}
 use Rattle.ar_message.specs.declared.message.Confirming.{Confirming}
 use Rattle.ar_message.specs.declared.message.Message.TheVariants.{HalfConfirmed}
 use Rattle.ar_message.specs.declared.unsigned.Unsigned.{Unsigned}
-use Rattle.ar_nodes.specs.Parties.{AuthorityNode}
-use Rattle.ar_nodes.specs.Pool.{Pooled}
+use Rattle.ar_world.specs.ar_nodes.Parties.{AuthorityNode}
+use Rattle.ar_world.specs.ar_nodes.Pool.{Pooled}
 use Rattle.ar_safety.specs.Accepting.{IsInTime, KnowsSigners, confirmer_of}
 use Rattle.ar_world.specs.Finding.{authority_at, message_at}
 use Rattle.ar_world.specs.State.{World}

@@ -1,8 +1,8 @@
 -- What a run keeps of its nodes, its messages and its clients' directory.
 use Rattle.std.specs.Prelude.{◌≡◌, Bool, true, List, All, IfSome, Option}
 use Rattle.ar_base.specs.Bytes.{AreBytes}
-use Rattle.ar_nodes.specs.Parties.{AuthorityNode, LogNode}
-use Rattle.ar_nodes.specs.Pool.{Pooled}
+use Rattle.ar_world.specs.ar_nodes.Parties.{AuthorityNode, LogNode}
+use Rattle.ar_world.specs.ar_nodes.Pool.{Pooled}
 use Rattle.ar_safety.specs.Accepting.{KnowsRing}
 use Rattle.ar_safety.specs.Held.{AcceptedBytes}
 use Rattle.ar_statement.specs.Claims.{authority_party, log_party}
@@ -10,7 +10,7 @@ use Rattle.ar_world.specs.Founding.{is_peopled}
 use Rattle.ar_world.specs.State.{World}
 use Rattle.authority_core.specs.State.{IsAuthority}
 use Rattle.key_roll.specs.Ring.{AreKeysOf, IsRing}
-use Rattle.log_core.specs.Kept.{IsKeptCore}
+use Rattle.ar_world.specs.log_core.Kept.{IsKeptCore}
 use Rattle.party_keys.specs.Directory.{Directory, IsDirectory}
 use Rattle.run_safety.specs.Own.{HasRolls}
 

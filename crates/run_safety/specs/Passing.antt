@@ -1,7 +1,7 @@
 -- The worlds through which a run goes, and its deliveries: those of the lines `deliver`, and those of each `flush`.
 use Rattle.std.specs.Prelude.{◌≡◌, ℕ, ◌+◌, ◌<◌, ◌≤◌, ◌⊎◌, List, ◌∷◌, ◌++◌, length, Some, None, Ok}
 use Rattle.ar_lines.specs.Lines.{lines_of}
-use Rattle.ar_nodes.specs.Parties.{CheckParts}
+use Rattle.ar_world.specs.ar_nodes.Parties.{CheckParts}
 use Rattle.ar_statement.specs.declared.party.Party.{Party}
 use Rattle.ar_world.specs.Delivering.{deliver_line, next_due}
 use Rattle.ar_world.specs.Run.{Progress, Saying, flushed, most_deliveries, most_lines, progress_of, run_from, then_on}

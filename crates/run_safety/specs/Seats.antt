@@ -5,8 +5,8 @@ use Rattle.ar_council.specs.Council.{council_of}
 use Rattle.ar_safety.specs.Held.{IsAccepting, verdict_on}
 use Rattle.ar_statement.specs.Claims.{authority_party, has_party, log_party}
 use Rattle.ar_statement.specs.declared.party.Party.{Party}
-use Rattle.ar_nodes.specs.Finding.{honest_in}
-use Rattle.ar_nodes.specs.Parties.{AuthorityNode, LogNode}
+use Rattle.ar_world.specs.ar_nodes.Finding.{honest_in}
+use Rattle.ar_world.specs.ar_nodes.Parties.{AuthorityNode, LogNode}
 use Rattle.ar_world.specs.Records.{held_of}
 use Rattle.ar_world.specs.State.{World}
 use Rattle.lms_tree.specs.Key.{public_of}

@@ -5,8 +5,8 @@ use Rattle.ar_bytes.specs.Reading.{whole}
 use Rattle.ar_claims.specs.Claimed.{claimed_in_bytes}
 use Rattle.ar_claims.specs.Verified.{IsVerifiedIn}
 use Rattle.ar_message.specs.Confirmation.{Confirmation, confirmation_at}
-use Rattle.ar_nodes.specs.Parties.{AuthorityNode, LogNode}
-use Rattle.ar_nodes.specs.Pool.{Pooled}
+use Rattle.ar_world.specs.ar_nodes.Parties.{AuthorityNode, LogNode}
+use Rattle.ar_world.specs.ar_nodes.Pool.{Pooled}
 use Rattle.ar_safety.specs.Held.{AcceptedBytes}
 use Rattle.ar_safety.specs.Records.{carried}
 use Rattle.ar_statement.specs.declared.party.Party.{Party}

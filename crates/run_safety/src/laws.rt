@@ -12,7 +12,7 @@ ghost use Rattle.ar_message.specs.declared.unsigned.Unsigned.{Unsigned};
 ghost use Rattle.ar_safety.specs.Accepting.{IsWithRing};
 ghost use Rattle.ar_safety.specs.Held.{AreKept, records_of};
 ghost use Rattle.ar_safety.specs.Theorem.{NoForgery};
-ghost use Rattle.ar_nodes.specs.Parties.{AuthorityNode, CheckParts};
+ghost use Rattle.ar_world.specs.ar_nodes.Parties.{AuthorityNode, CheckParts};
 ghost use Rattle.ar_statement.specs.Claims.{authority_party};
 ghost use Rattle.ar_statement.specs.declared.party.Party.{Party};
 ghost use Rattle.ar_statement.specs.declared.text.SeenText.{SeenText};

@@ -8,9 +8,10 @@
 //! keeps, by which the records that the parties of a world hold are those of which the theorem of `ar_safety` speaks.
 //! `specs/Flushes.antt` has what is promised of a `flush`: that it goes to its end; `specs/Passing.antt` the worlds through
 //! which a run goes, and `specs/Confirmed.antt` what an honest authority confirms in one of them. `laws` has all of it, over
-//! the definitions of `ar_world` alone.
+//! the definitions of `ar_world` alone. `specs/Lib.antt` and `proofs/Lib.antt` pass on the definitions and lemmas of worlds to
+//! the crates above.
 //!
-//! It has laws alone, and no tests; `play_tests`, module `records`, shows records of a run.
+//! It has laws alone, and no tests; `arpki`, module `records`, shows records of a run.
 #![tactic(auto)]
 
 pub mod laws;

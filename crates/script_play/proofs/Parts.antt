@@ -9,8 +9,8 @@ use Rattle.ar_world.specs.State.{World}
 use Rattle.ar_world.specs.Step.{StepsBy, StepsBySome}
 use Rattle.ar_world.specs.declared.cause.Cause.{Cause}
 use Rattle.ar_world.specs.declared.cause.Cause.TheVariants.{Untaken}
-use Rattle.ar_nodes.specs.declared.fault.WorldFault.{WorldFault}
-use Rattle.ar_nodes.specs.declared.fault.WorldFault.TheVariants as world_fault
+use Rattle.ar_world.specs.ar_nodes.declared.fault.WorldFault.{WorldFault}
+use Rattle.ar_world.specs.ar_nodes.declared.fault.WorldFault.TheVariants as world_fault
 use Rattle.owner_check.specs.declared.answer.Outcome.{Outcome}
 use Rattle.script_play.specs.Counts.{counted_from}
 use Rattle.script_play.specs.Playing.{PlaysPart, PlaysSome, Stand, WritesUpTo, refused_by, told}

@@ -10,7 +10,7 @@ use Rattle.ar_run.specs.declared.fault.Fault.{Fault}
 use Rattle.owner_check.specs.declared.answer.Outcome.{Outcome}
 use Rattle.owner_check.specs.declared.answer.Outcome.TheVariants.{Failed}
 use Rattle.report_text.specs.Lines.{line_of}
-use Rattle.ar_nodes.specs.Parties.{CheckParts}
+use Rattle.ar_world.specs.ar_nodes.Parties.{CheckParts}
 use Rattle.ar_world.specs.Run.{Progress, Run, Saying, at_line, line_taken, refused_lines, run_from, text_of_run, then_on}
 use Rattle.ar_world.specs.State.{World}
 use Rattle.ar_world.specs.declared.cause.Cause.{Cause}

@@ -2,7 +2,7 @@
 -- made by a choice, as `play` makes one by what checks say that tell nothing of themselves.
 use Rattle.std.specs.Prelude.{◌≡◌, ◌≤◌, ℕ, List, length, Option, Some, None, Result, IfOk}
 use Rattle.ar_io.specs.Wrote.{Appended}
-use Rattle.ar_nodes.specs.Parties.{CheckParts}
+use Rattle.ar_world.specs.ar_nodes.Parties.{CheckParts}
 use Rattle.ar_run.specs.Answers.{Answer}
 use Rattle.ar_run.specs.Answers as answers
 use Rattle.ar_run.specs.Runs.{TakesAll, most_read_bytes}

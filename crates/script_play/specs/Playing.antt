@@ -9,15 +9,15 @@ use Rattle.ar_run.specs.declared.fault.Fault.{Fault}
 use Rattle.ar_run.specs.declared.fault.Fault.TheVariants as fault
 use Rattle.report_text.specs.Lines.{line_of}
 use Rattle.report_text.specs.declared.happening.Happening.{Happening}
-use Rattle.ar_nodes.specs.Parties.{CheckParts}
+use Rattle.ar_world.specs.ar_nodes.Parties.{CheckParts}
 use Rattle.script_text.specs.Rows.{read_of}
 use Rattle.script_text.specs.declared.line.Line.{Line}
 use Rattle.ar_world.specs.Run.{Course, Run, most_lines, refused_lines, text_of_run}
 use Rattle.ar_world.specs.State.{World, first_world}
 use Rattle.ar_world.specs.declared.cause.Cause.{Cause}
 use Rattle.ar_world.specs.declared.cause.Cause.TheVariants.{Untaken}
-use Rattle.ar_nodes.specs.declared.fault.WorldFault.{WorldFault}
-use Rattle.ar_nodes.specs.declared.fault.WorldFault.TheVariants as world_fault
+use Rattle.ar_world.specs.ar_nodes.declared.fault.WorldFault.{WorldFault}
+use Rattle.ar_world.specs.ar_nodes.declared.fault.WorldFault.TheVariants as world_fault
 use Rattle.script_play.specs.Counts.{counted_from, no_counts}
 use Rattle.script_play.specs.declared.counts.Counts.{Counts}
 

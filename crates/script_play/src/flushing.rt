@@ -9,10 +9,9 @@ ghost use Rattle.script_play.specs.Playing.{PlaysSome};
 use crate::stage::Stage;
 use crate::telling::tell_made;
 use ar_io::Sink;
-use ar_nodes::MOST_MESSAGES;
 use ar_run::Fault;
 use ar_statement::Party;
-use ar_world::Cause;
+use ar_world::{Cause, MOST_MESSAGES};
 use owner_check::OwnerCheck;
 use std::alloc::Global;
 

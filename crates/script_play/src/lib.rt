@@ -5,11 +5,15 @@
 //! over any run. A check of owners that tells nothing of itself may say anything: what is played is then the run of some
 //! answers.
 //!
+//! The types and words of a world that stand here in contracts are passed on: `World`, `Cause` and others, and in `specs/Lib.antt`
+//! the definitions of `ar_world` and `ar_nodes`.
+//!
 //! `play` plays a script whole. A `Stage` takes it line by line, for whoever has lines of its own beside those of a world.
 //!
-//! Its tests: `play_tests`, and `examples/`.
+//! Its tests: those of the program `arpki`, and `examples/`.
 #![tactic(auto)]
 
+pub use ar_world::{Cause, LogEvent, World, WorldFault};
 pub use counts::Counts;
 pub use lines::read_line;
 pub use played::Played;

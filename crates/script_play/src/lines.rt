@@ -2,7 +2,7 @@
 
 ghost use Rattle.std.specs.Prelude.{◌≡◌, ℕ, false, Some, Ok, Err};
 ghost use Rattle.ar_lines.specs.declared.refusal.Reason.{Reason};
-ghost use Rattle.ar_nodes.specs.declared.fault.WorldFault.TheVariants.{Order};
+ghost use Rattle.ar_world.specs.ar_nodes.declared.fault.WorldFault.TheVariants.{Order};
 ghost use Rattle.owner_check.specs.declared.answer.Outcome.{Outcome};
 ghost use Rattle.ar_world.specs.Run.{deliveries_behind, line_taken, progress_of, taken, taken_as};
 ghost use Rattle.ar_world.specs.Step.{comes_now, step};

@@ -1,7 +1,7 @@
 //! A script, from its first line to its last.
 
 ghost use Rattle.ar_lines.specs.Lines.{lines_of};
-ghost use Rattle.ar_nodes.specs.Parties.{checks_told};
+ghost use Rattle.ar_world.specs.ar_nodes.Parties.{checks_told};
 ghost use Rattle.ar_world.specs.Run.{run_from};
 ghost use Rattle.script_play.specs.Played.{Plays, run_with};
 ghost use Rattle.script_play.specs.Playing.{PlaysAll, PlaysSome};

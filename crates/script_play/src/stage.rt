@@ -1,7 +1,7 @@
 //! Where a script stands.
 
 ghost use Rattle.std.specs.Prelude.{◌≡◌};
-ghost use Rattle.ar_nodes.specs.Parties.{checks_told};
+ghost use Rattle.ar_world.specs.ar_nodes.Parties.{checks_told};
 ghost use Rattle.script_play.specs.Playing.{begun};
 
 use crate::counts::Counts;

@@ -2,7 +2,7 @@
 
 ghost use Rattle.std.specs.Prelude.{◌≡◌, Err, OnOk};
 ghost use Rattle.report_text.specs.Lines.{line_of};
-ghost use Rattle.ar_nodes.specs.declared.fault.WorldFault.{WorldFault};
+ghost use Rattle.ar_world.specs.ar_nodes.declared.fault.WorldFault.{WorldFault};
 ghost use Rattle.ar_world.specs.Finding.{Effect};
 ghost use Rattle.ar_world.specs.Run.{progress_of};
 ghost use Rattle.ar_world.specs.State.{World as Worlds};

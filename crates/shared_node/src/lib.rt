@@ -11,7 +11,7 @@
 //!
 //! What a core makes of a history of calls, and which histories are legal, is said by `node_core`.
 //!
-//! Its tests: `thread_tests`, module `shared_node_tests`.
+//! Its tests: `arpki_crowd`, module `shared_node_tests`.
 #![tactic(auto)]
 
 pub use answer::{Closed, Place, Served};

@@ -10,7 +10,7 @@
 //! of a world. The laws are those two: what a station replies can be signed, whatever was asked before,
 //! and a delivery in a world is a station's step.
 //!
-//! Its tests: `thread_tests`, module `crowd_run_tests`, in bursts.
+//! Its tests: `arpki_crowd`, module `crowd_run_tests`, in bursts.
 #![tactic(auto)]
 
 mod asking;

@@ -1,7 +1,7 @@
 -- A burst whose deliveries were brought, all or not all of it told; and one for which memory is wanting.
 use Rattle.std.proofs.Common.{◌≡◌, None, Some, Ok, Err, List, subst}
 use Rattle.std.proofs.lemmas.Result.{err_from_is_err_and}
-use Rattle.ar_world.specs.State.{World}
+use Rattle.script_play.specs.ar_world.State.{World}
 use Rattle.burst_run.specs.Bursts.{AreOrders, burst_made}
 use Rattle.burst_run.specs.Stations.{Deliveries}
 use Rattle.report_text.specs.declared.happening.Happening.{Happening}

@@ -1,6 +1,6 @@
 -- One line more is taken, is refused or breaks off; or none is left.
 use Rattle.std.proofs.Common.{◌≡◌, rules, Option, Ok, Err, subst}
-use Rattle.ar_world.specs.declared.cause.Cause.{Cause}
+use Rattle.script_play.specs.ar_world.declared.cause.Cause.{Cause}
 use Rattle.crowd_run.specs.Passing.{LinePasses}
 use Rattle.crowd_run.specs.Scripts.{LineRead, open_behind}
 use Rattle.crowd_run.proofs.LineLemmas.{on_broken, on_line, on_missing, on_refused}

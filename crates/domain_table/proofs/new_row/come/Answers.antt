@@ -1,16 +1,12 @@
-use Rattle.std.proofs.Common.{◌≡◌, ◌++◌, sym, ap, ◌∙◌, take, drop}
+use Rattle.std.proofs.Common.{ap, ◌∙◌}
 use Rattle.std.specs.FinMap.{from_entries}
-use Rattle.std.proofs.lemmas.List.{map-append}
-use Rattle.domain_table.specs.Rows.{data_in, marked, marks_of}
-use Rattle.domain_table.proofs.Places.{join_at}
+use Rattle.domain_table.specs.Rows.{marked, with_marks}
+use Rattle.domain_table.proofs.Coming.{come_in}
 use Rattle.domain_table.proofs.new_row.come.Goals as goal
 
-pub retrie_come-requires-clause-tree : goal.retrie_come-requires-clause-tree
-retrie_come-requires-clause-tree c =
-    let rows = c.args.rows.now.items in
-    let same = c.deref.ensures.value ∙ c.make_place.ensures.same in
-    let front : data_in c.halves.result.0.now ≡ take c.args.i (data_in rows) = c.halves.ensures.front ∙ ap (λ rs. take c.args.i (data_in rs)) same in
-    let back : data_in c.halves.result.1.now ≡ drop c.args.i (data_in rows) = c.halves.ensures.back ∙ ap (λ rs. drop c.args.i (data_in rs)) same in
-    c.requires.tree
-    ∙ ap (λ ms. from_entries (marked ms)) (ap marks_of (join_at (data_in rows) c.args.i) ∙ map-append (λ r. r.marks) (take c.args.i (data_in rows)) (drop c.args.i (data_in rows))
-    ∙ (λ k. marks_of (sym front k) ++ marks_of (sym back k)))
+pub returns-clause-ok : goal.returns-clause-ok
+returns-clause-ok c =
+    come_in c.args.rows.now.entries c.make_place.new.rows.entries c.set_in.new.rows.entries c.retrie_come.new.trie c.in-Ok.parts.0 c.row_with.result c.args.change c.first_marks-marks.result
+    c.requires.are.rise c.requires.absent c.make_place.ensures.same c.set_in.ensures (c.row_with.ensures c.in-Ok.parts.0) c.in-Ok.ensures.name
+    c.first_marks-marks.ensures.key c.first_marks-marks.ensures.value c.first_marks-marks.ensures.pending_key c.first_marks-marks.ensures.pending_value
+    (c.in_default-retrie_come.ensures.ok ∙ ap (λ n. from_entries (marked (with_marks n c.first_marks-marks.result c.make_place.new.rows.entries))) c.as_slice.ensures.value)

@@ -1,7 +1,7 @@
-use Rattle.std.proofs.Common.{◌≡◌, take}
-use Rattle.domain_table.specs.Rows.{data_in}
+use Rattle.std.proofs.Common.{◌≡◌, ◌++◌}
+use Rattle.domain_table.specs.Rows.{rows_in}
 use Rattle.domain_table.proofs.row_copy.copy_rows.Given as goal
 
--- the rows so far
-abbrev pub invariant-loop-row : goal.invariant-loop-row
-invariant-loop-row l = data_in l.copies.items ≡ take l.row-index (data_in l.rows)
+-- the rows so far, and those that are left
+abbrev pub invariant-loop-name : goal.invariant-loop-name
+invariant-loop-name l = rows_in l.copies.entries ++ rows_in l.name-iterator ≡ rows_in l.rows.entries

@@ -7,4 +7,4 @@ use Rattle.domain_table.proofs.rows.judged.Goals as goal
 pub returns : goal.returns
 returns c =
     c.with_room.ensures ∙ ap (with_room c.args.kept) c.judge_rows.ensures
-    ∙ judged_is (data_in c.args.rows.now) c.args.epoch c.args.kept c.args.change.now c.requires.are.rise c.requires.count
+    ∙ judged_is (data_in c.args.rows.now.entries) c.args.epoch c.args.kept c.args.change.now c.requires.are.rise c.requires.count

@@ -1,77 +1,76 @@
-use Rattle.std.proofs.Common.{◌≡◌, ◌<◌, ◌+◌, ◌-◌, ◌++◌, ◌∷◌, [], length, get_or, sym, ap, ◌∙◌, arith, length-append, None, Some}
-use Rattle.std.specs.Option.{option_len}
+use Rattle.std.proofs.Common.{◌+◌, ◌++◌, ◌∷◌, [], sym, ap, ◌∙◌, arith, length-append, None, Some}
 use Rattle.domain_table.specs.Applying.{taking_change, takes_a_place}
-use Rattle.domain_table.specs.Rows.{RowData, data_in, data_of, table_of}
-use Rattle.domain_table.proofs.Places.{get_data, length_data}
-use Rattle.domain_table.proofs.Changed.{taken_full, taken_recovery, taken_objected}
-use Rattle.domain_table.proofs.Taking.{MayTake, may_take, kept_more, waits_kept, waits_at_most}
+use Rattle.domain_table.specs.Rows.{RowData, data_in, table_of}
+use Rattle.domain_table.proofs.ChangedRow.{name_there, waits_there}
+use Rattle.domain_table.proofs.Taking.{MayTake, counted_in, fewer_wait, full_in, kept_in, may_take, objected_in, recovery_in}
 use Rattle.domain_table.proofs.take.take_behind.Goals as goal
 
-pub overflow_sub-result-in-Objected : goal.overflow_sub-result-in-Objected
-overflow_sub-result-in-Objected c =
-    let d : RowData = data_of c.index.result.now in
-    let row : get_or (data_in c.args.rows.now.items) c.args.i d ≡ d = get_data c.args.rows.now.items c.args.i c.index.result.now d c.requires.place ∙ ap data_of (sym c.index.ensures) in
-    waits_kept (data_in c.args.rows.now.items) (data_in c.wait-in-Objected.new.rows.items) c.args.trie.now c.wait-in-Objected.new.trie c.args.i d c.args.kept c.count_waiting-waits.result c.requires.kept
-    (omega (arith, c.requires.place, length_data c.args.rows.now.items)) (c.in_ok-wait-in-Objected.ensures.ok d) (c.count_waiting-waits.ensures ∙ ap (λ r. option_len r.waiting) (sym row))
+pub counted-requires-clause-waiting : goal.counted-requires-clause-waiting
+counted-requires-clause-waiting c =
+    counted_in c.args.rows.now.entries c.args.trie.now c.args.i c.row_at.result.now c.count_waiting-waits.result c.args.counts.kept c.args.counts.waiting c.requires.kept c.requires.place c.row_at.ensures c.count_waiting-waits.ensures
+
+pub counted-requires-clause-kept : goal.counted-requires-clause-kept
+counted-requires-clause-kept c = fewer_wait (data_in c.args.rows.now.entries) c.args.trie.now c.args.counts.kept c.args.counts.waiting c.requires.kept
+
+pub counted-requires-in-Recovery-clause-waiting : goal.counted-requires-in-Recovery-clause-waiting
+counted-requires-in-Recovery-clause-waiting c =
+    counted_in c.args.rows.now.entries c.args.trie.now c.args.i c.row_at.result.now c.count_waiting-waits.result c.args.counts.kept c.args.counts.waiting c.requires.kept c.requires.place c.row_at.ensures c.count_waiting-waits.ensures
+
+pub counted-requires-in-Recovery-clause-kept : goal.counted-requires-in-Recovery-clause-kept
+counted-requires-in-Recovery-clause-kept c = fewer_wait (data_in c.args.rows.now.entries) c.args.trie.now c.args.counts.kept c.args.counts.waiting c.requires.kept
+
+pub counted-requires-in-Objected-clause-waiting : goal.counted-requires-in-Objected-clause-waiting
+counted-requires-in-Objected-clause-waiting c =
+    counted_in c.args.rows.now.entries c.args.trie.now c.args.i c.row_at.result.now c.count_waiting-waits.result c.args.counts.kept c.args.counts.waiting c.requires.kept c.requires.place c.row_at.ensures c.count_waiting-waits.ensures
+
+pub counted-requires-in-Objected-clause-kept : goal.counted-requires-in-Objected-clause-kept
+counted-requires-in-Objected-clause-kept c = fewer_wait (data_in c.args.rows.now.entries) c.args.trie.now c.args.counts.kept c.args.counts.waiting c.requires.kept
 
 pub returns-in_ok-append-in-Full-clause-kept : goal.returns-in_ok-append-in-Full-clause-kept
 returns-in_ok-append-in-Full-clause-kept c =
-    let d : RowData = data_of c.index.result.now in
-    let old = data_in c.args.rows.now.items in
-    let row : get_or old c.args.i d ≡ d = get_data c.args.rows.now.items c.args.i c.index.result.now d c.requires.place ∙ ap data_of (sym c.index.ensures) in
-    let waits : c.count_waiting-waits.result ≡ option_len (get_or old c.args.i d).waiting = c.count_waiting-waits.ensures ∙ ap (λ r. option_len r.waiting) (sym row) in
-    let may : MayTake (table_of old) c.args.change c.args.manner = may_take (table_of old) c.args.change c.args.manner c.requires.judged in
+    let d : RowData = record { name = []; chain = []; waiting = None; marks = c.row_at.result.now.marks } in
+    let may : MayTake (table_of (data_in c.args.rows.now.entries)) c.args.change c.args.manner = may_take (table_of (data_in c.args.rows.now.entries)) c.args.change c.args.manner c.requires.judged in
     let room = may.room (ap takes_a_place c.in-Full.is) in
-    kept_more old (data_in c.append.new.rows.items) c.args.trie.now c.append.new.trie c.args.i d ((get_or old c.args.i d).chain ++ c.args.change ∷ []) None
-    c.args.kept (c.args.kept + 1 - c.count_waiting-waits.result) c.count_waiting-waits.result 1 c.requires.kept
-    (omega (arith, c.requires.place, length_data c.args.rows.now.items)) (c.in_ok-append-in-Full.ensures.ok d) waits
-    (omega (arith, length-append (get_or old c.args.i d).chain (c.args.change ∷ []))) (omega (arith, waits, waits_at_most (get_or old c.args.i d).waiting)) (omega (arith, room, c.requires.kept.count))
+    kept_in c.args.rows.now.entries c.append.new.rows.entries c.args.trie.now c.append.new.trie c.args.i d (λ r. r.chain ++ c.args.change ∷ []) None
+    c.args.counts.kept c.args.counts.waiting c.counted.result.kept c.counted.result.waiting c.count_waiting-waits.result 1 c.requires.kept c.requires.place (c.in_ok-append-in-Full.ensures.ok d)
+    (waits_there c.args.rows.now.entries c.args.i c.row_at.result.now c.count_waiting-waits.result d c.requires.place c.row_at.ensures c.count_waiting-waits.ensures)
+    (λ r. omega (arith, length-append r.chain (c.args.change ∷ []))) c.counted.ensures.kept c.counted.ensures.waiting (omega (arith, room, c.requires.kept.count))
 
 pub returns-in_ok-append-in-Full-clause-ok : goal.returns-in_ok-append-in-Full-clause-ok
 returns-in_ok-append-in-Full-clause-ok c =
-    let d : RowData = data_of c.index.result.now in
-    taken_full (data_in c.args.rows.now.items) (data_in c.append.new.rows.items) c.append.new.trie c.args.i d c.args.epoch c.args.change
-    (omega (arith, c.requires.place, length_data c.args.rows.now.items)) c.requires.kept.are
-    (ap (λ (r : RowData). r.name) (get_data c.args.rows.now.items c.args.i c.index.result.now d c.requires.place) ∙ c.requires.name c.index.result.now)
-    (c.in_ok-append-in-Full.ensures.ok d) ∙ ap (taking_change (table_of (data_in c.args.rows.now.items)) c.args.epoch c.args.change) (sym c.in-Full.is)
+    let d : RowData = record { name = []; chain = []; waiting = None; marks = c.row_at.result.now.marks } in
+    full_in c.args.rows.now.entries c.append.new.rows.entries c.append.new.trie c.args.i d c.args.epoch c.args.change c.requires.place c.requires.kept.are
+    (name_there c.args.rows.now.entries c.args.i c.args.change.cert.name d c.requires.place c.requires.name) (c.in_ok-append-in-Full.ensures.ok d)
+    ∙ ap (taking_change (table_of (data_in c.args.rows.now.entries)) c.args.epoch c.args.change) (sym c.in-Full.is)
 
 pub returns-in_ok-wait-in-Recovery-clause-kept : goal.returns-in_ok-wait-in-Recovery-clause-kept
 returns-in_ok-wait-in-Recovery-clause-kept c =
-    let d : RowData = data_of c.index.result.now in
-    let old = data_in c.args.rows.now.items in
-    let row : get_or old c.args.i d ≡ d = get_data c.args.rows.now.items c.args.i c.index.result.now d c.requires.place ∙ ap data_of (sym c.index.ensures) in
-    let waits : c.count_waiting-waits.result ≡ option_len (get_or old c.args.i d).waiting = c.count_waiting-waits.ensures ∙ ap (λ r. option_len r.waiting) (sym row) in
-    let may : MayTake (table_of old) c.args.change c.args.manner = may_take (table_of old) c.args.change c.args.manner c.requires.judged in
+    let d : RowData = record { name = []; chain = []; waiting = None; marks = c.row_at.result.now.marks } in
+    let may : MayTake (table_of (data_in c.args.rows.now.entries)) c.args.change c.args.manner = may_take (table_of (data_in c.args.rows.now.entries)) c.args.change c.args.manner c.requires.judged in
     let room = may.room (ap takes_a_place c.in-Recovery.is) in
-    kept_more old (data_in c.wait.new.rows.items) c.args.trie.now c.wait.new.trie c.args.i d (get_or old c.args.i d).chain (Some (record { change = c.args.change; since = c.args.epoch }))
-    c.args.kept (c.args.kept + 1 - c.count_waiting-waits.result) c.count_waiting-waits.result 1 c.requires.kept
-    (omega (arith, c.requires.place, length_data c.args.rows.now.items)) (c.in_ok-wait-in-Recovery.ensures.ok d) waits
-    (omega arith) (omega (arith, waits, waits_at_most (get_or old c.args.i d).waiting)) (omega (arith, room, c.requires.kept.count))
+    kept_in c.args.rows.now.entries c.wait.new.rows.entries c.args.trie.now c.wait.new.trie c.args.i d (λ r. r.chain) (Some (record { change = c.args.change; since = c.args.epoch }))
+    c.args.counts.kept c.args.counts.waiting c.counted-in-Recovery.result.kept c.counted-in-Recovery.result.waiting c.count_waiting-waits.result 0 c.requires.kept c.requires.place (c.in_ok-wait-in-Recovery.ensures.ok d)
+    (waits_there c.args.rows.now.entries c.args.i c.row_at.result.now c.count_waiting-waits.result d c.requires.place c.row_at.ensures c.count_waiting-waits.ensures)
+    (λ r. omega arith) c.counted-in-Recovery.ensures.kept c.counted-in-Recovery.ensures.waiting (omega (arith, room, c.requires.kept.count))
 
 pub returns-in_ok-wait-in-Recovery-clause-ok : goal.returns-in_ok-wait-in-Recovery-clause-ok
 returns-in_ok-wait-in-Recovery-clause-ok c =
-    let d : RowData = data_of c.index.result.now in
-    taken_recovery (data_in c.args.rows.now.items) (data_in c.wait.new.rows.items) c.wait.new.trie c.args.i d c.args.epoch c.args.change
-    (omega (arith, c.requires.place, length_data c.args.rows.now.items)) c.requires.kept.are
-    (ap (λ (r : RowData). r.name) (get_data c.args.rows.now.items c.args.i c.index.result.now d c.requires.place) ∙ c.requires.name c.index.result.now)
-    (c.in_ok-wait-in-Recovery.ensures.ok d) ∙ ap (taking_change (table_of (data_in c.args.rows.now.items)) c.args.epoch c.args.change) (sym c.in-Recovery.is)
+    let d : RowData = record { name = []; chain = []; waiting = None; marks = c.row_at.result.now.marks } in
+    recovery_in c.args.rows.now.entries c.wait.new.rows.entries c.wait.new.trie c.args.i d c.args.epoch c.args.change c.requires.place c.requires.kept.are
+    (name_there c.args.rows.now.entries c.args.i c.args.change.cert.name d c.requires.place c.requires.name) (c.in_ok-wait-in-Recovery.ensures.ok d)
+    ∙ ap (taking_change (table_of (data_in c.args.rows.now.entries)) c.args.epoch c.args.change) (sym c.in-Recovery.is)
 
 pub returns-in_ok-wait-in-Objected-clause-kept : goal.returns-in_ok-wait-in-Objected-clause-kept
 returns-in_ok-wait-in-Objected-clause-kept c =
-    let d : RowData = data_of c.index.result.now in
-    let old = data_in c.args.rows.now.items in
-    let within : c.args.i < length old = omega (arith, c.requires.place, length_data c.args.rows.now.items) in
-    let row : get_or old c.args.i d ≡ d = get_data c.args.rows.now.items c.args.i c.index.result.now d c.requires.place ∙ ap data_of (sym c.index.ensures) in
-    let waits : c.count_waiting-waits.result ≡ option_len (get_or old c.args.i d).waiting = c.count_waiting-waits.ensures ∙ ap (λ r. option_len r.waiting) (sym row) in
-    let least = waits_kept old (data_in c.wait-in-Objected.new.rows.items) c.args.trie.now c.wait-in-Objected.new.trie c.args.i d c.args.kept c.count_waiting-waits.result c.requires.kept within (c.in_ok-wait-in-Objected.ensures.ok d) waits in
-    kept_more old (data_in c.wait-in-Objected.new.rows.items) c.args.trie.now c.wait-in-Objected.new.trie c.args.i d (get_or old c.args.i d).chain None
-    c.args.kept (c.args.kept - c.count_waiting-waits.result) c.count_waiting-waits.result 0 c.requires.kept within (c.in_ok-wait-in-Objected.ensures.ok d) waits
-    (omega arith) (omega (arith, least)) (omega (arith, c.requires.kept.most))
+    let d : RowData = record { name = []; chain = []; waiting = None; marks = c.row_at.result.now.marks } in
+    kept_in c.args.rows.now.entries c.wait-in-Objected.new.rows.entries c.args.trie.now c.wait-in-Objected.new.trie c.args.i d (λ r. r.chain) None
+    c.args.counts.kept c.args.counts.waiting c.counted-in-Objected.result.kept c.counted-in-Objected.result.waiting c.count_waiting-waits.result 0 c.requires.kept c.requires.place (c.in_ok-wait-in-Objected.ensures.ok d)
+    (waits_there c.args.rows.now.entries c.args.i c.row_at.result.now c.count_waiting-waits.result d c.requires.place c.row_at.ensures c.count_waiting-waits.ensures)
+    (λ r. omega arith) c.counted-in-Objected.ensures.kept c.counted-in-Objected.ensures.waiting (omega (arith, c.requires.kept.most))
 
 pub returns-in_ok-wait-in-Objected-clause-ok : goal.returns-in_ok-wait-in-Objected-clause-ok
 returns-in_ok-wait-in-Objected-clause-ok c =
-    let d : RowData = data_of c.index.result.now in
-    taken_objected (data_in c.args.rows.now.items) (data_in c.wait-in-Objected.new.rows.items) c.wait-in-Objected.new.trie c.args.i d c.args.epoch c.args.change
-    (omega (arith, c.requires.place, length_data c.args.rows.now.items)) c.requires.kept.are
-    (ap (λ (r : RowData). r.name) (get_data c.args.rows.now.items c.args.i c.index.result.now d c.requires.place) ∙ c.requires.name c.index.result.now)
-    (c.in_ok-wait-in-Objected.ensures.ok d) ∙ ap (taking_change (table_of (data_in c.args.rows.now.items)) c.args.epoch c.args.change) (sym c.in-Objected.is)
+    let d : RowData = record { name = []; chain = []; waiting = None; marks = c.row_at.result.now.marks } in
+    objected_in c.args.rows.now.entries c.wait-in-Objected.new.rows.entries c.wait-in-Objected.new.trie c.args.i d c.args.epoch c.args.change c.requires.place c.requires.kept.are
+    (name_there c.args.rows.now.entries c.args.i c.args.change.cert.name d c.requires.place c.requires.name) (c.in_ok-wait-in-Objected.ensures.ok d)
+    ∙ ap (taking_change (table_of (data_in c.args.rows.now.entries)) c.args.epoch c.args.change) (sym c.in-Objected.is)

@@ -1,14 +1,25 @@
-use Rattle.std.proofs.Common.{◌++◌, ◌∷◌, ap, ◌∙◌}
+use Rattle.std.proofs.Common.{◌++◌, ◌∷◌, ◌∙◌}
 use Rattle.std.specs.FinMap.{find}
 use Rattle.hash_tree.specs.Entries.{key_cmp}
-use Rattle.domain_table.specs.Rows.{data_in, marks_of, marked, with_entry}
+use Rattle.domain_table.specs.Rows.{data_in, greater, lesser, marked, marks_of, with_entry}
 use Rattle.domain_table.proofs.RowLists.{two_refreshed}
+use Rattle.domain_table.proofs.Alone.{name_still, pending_still}
 use Rattle.domain_table.proofs.Retrie.{alike_both}
 use Rattle.domain_table.proofs.tree.retrie_both.Goals as goal
+
+pub name_now-requires-clause-others : goal.name_now-requires-clause-others
+name_now-requires-clause-others c = name_still (marks_of (lesser c.args.name.now (data_in c.args.rows.now.entries))) c.args.old.now c.args.new.now (marks_of (greater c.args.name.now (data_in c.args.rows.now.entries))) c.args.trie.now c.args.apart c.requires.tree c.requires.apart c.requires.key
+
+pub pending_now-requires-clause-others : goal.pending_now-requires-clause-others
+pending_now-requires-clause-others c = λ is. (pending_still (marks_of (lesser c.args.name.now (data_in c.args.rows.now.entries))) c.args.old.now c.args.new.now (marks_of (greater c.args.name.now (data_in c.args.rows.now.entries))) c.args.trie.now c.args.apart c.requires.tree c.requires.apart c.requires.key c.requires.pending_key (c.waits_alone-alone.ensures is)).0
+
+pub pending_now-requires-clause-own : goal.pending_now-requires-clause-own
+pending_now-requires-clause-own c = λ is. (pending_still (marks_of (lesser c.args.name.now (data_in c.args.rows.now.entries))) c.args.old.now c.args.new.now (marks_of (greater c.args.name.now (data_in c.args.rows.now.entries))) c.args.trie.now c.args.apart c.requires.tree c.requires.apart c.requires.key c.requires.pending_key (c.waits_alone-alone.ensures is)).1
 
 pub returns-clause-ok : goal.returns-clause-ok
 returns-clause-ok c =
     c.in_ok-refresh-2.ensures.ok
-    ∙ ap (λ t. with_entry t c.args.new.now.pending_key (find key_cmp c.args.new.now.pending_key (marked ((marks_of (data_in c.args.front.now)) ++ c.args.new.now ∷ (marks_of (data_in c.args.back.now)))))) (c.in_ok-refresh.ensures.ok
-    ∙ ap (λ t. with_entry t c.args.new.now.key (find key_cmp c.args.new.now.key (marked ((marks_of (data_in c.args.front.now)) ++ c.args.new.now ∷ (marks_of (data_in c.args.back.now)))))) (c.in_ok-copy.ensures ∙ c.requires.tree))
-    ∙ two_refreshed (marked ((marks_of (data_in c.args.front.now)) ++ c.args.old.now ∷ (marks_of (data_in c.args.back.now)))) (marked ((marks_of (data_in c.args.front.now)) ++ c.args.new.now ∷ (marks_of (data_in c.args.back.now)))) c.args.new.now.key c.args.new.now.pending_key (alike_both (marks_of (data_in c.args.front.now)) c.args.old.now c.args.new.now (marks_of (data_in c.args.back.now)) c.requires.key c.requires.pending_key)
+    ∙ (λ i. with_entry (c.in_ok-refresh.ensures.ok i) c.args.new.now.pending_key (c.in_ok-pending.ensures i))
+    ∙ (λ i. with_entry (with_entry ((c.in_ok-copy.ensures ∙ c.requires.tree) i) c.args.new.now.key (c.in_ok-own.ensures i)) c.args.new.now.pending_key (find key_cmp c.args.new.now.pending_key (marked ((marks_of (lesser c.args.name.now (data_in c.args.rows.now.entries))) ++ c.args.new.now ∷ (marks_of (greater c.args.name.now (data_in c.args.rows.now.entries)))))))
+    ∙ two_refreshed (marked ((marks_of (lesser c.args.name.now (data_in c.args.rows.now.entries))) ++ c.args.old.now ∷ (marks_of (greater c.args.name.now (data_in c.args.rows.now.entries))))) (marked ((marks_of (lesser c.args.name.now (data_in c.args.rows.now.entries))) ++ c.args.new.now ∷ (marks_of (greater c.args.name.now (data_in c.args.rows.now.entries))))) c.args.new.now.key c.args.new.now.pending_key
+    (alike_both (marks_of (lesser c.args.name.now (data_in c.args.rows.now.entries))) c.args.old.now c.args.new.now (marks_of (greater c.args.name.now (data_in c.args.rows.now.entries))) c.requires.key c.requires.pending_key)

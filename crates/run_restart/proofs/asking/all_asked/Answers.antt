@@ -1,5 +1,5 @@
 -- One thing more.
-use Rattle.ar_nodes.specs.declared.event.LogEvent.TheVariants as events
+use Rattle.script_play.specs.ar_nodes.declared.event.LogEvent.TheVariants as events
 use Rattle.run_restart.proofs.Inputs.{asked-step}
 use Rattle.run_restart.proofs.asking.all_asked.Goals as goal
 

@@ -3,8 +3,8 @@ use Rattle.ar_nodes.specs.Pool.{numbered}
 use Rattle.ar_world.proofs.Deliveries.{delivered_to_owner}
 use Rattle.ar_world.proofs.world.World.deliver_to_owner.Goals as goal
 
-pub returns : goal.returns
-returns g c =
+pub returns-clause-steps : goal.returns-clause-steps
+returns-clause-steps g c =
     let some : is_some (numbered c.self.inside.pool.messages c.args.message) ≡ true = cc in
     let me = c.index_mut-owner.result.now in
     let here : me ≡ get_or c.self.inside.owners.items c.in_ok-place.place me = cc in

@@ -7,7 +7,7 @@ use Rattle.ar_world.proofs.world.World.event_line.Goals as goal
 pub returns-in-Deliver : goal.returns-in-Deliver
 returns-in-Deliver g c =
     deliver-some c.deliver.result c.args.self.now c.deliver.new.self c.args.line.now c.in-Deliver.message c.in-Deliver.party c.in-Deliver.is
-    c.deliver.ensures
+    c.deliver.ensures.steps
 
 pub returns-in-Flush : goal.returns-in-Flush
 returns-in-Flush g c =

@@ -1,5 +1,5 @@
 use Rattle.std.proofs.Common.{sym}
-use Rattle.log_core.specs.Inputs.{input_of}
+use Rattle.ar_nodes.specs.log_core.Inputs.{input_of}
 use Rattle.ar_world.proofs.Orders.{order_obeyed_there}
 use Rattle.ar_world.proofs.world.World.log_order.Goals as goal
 

@@ -1,7 +1,7 @@
 -- The records are those of the world of which the parts are handed on.
 use Rattle.std.proofs.Common.{◌≡◌, ap, subst, sym}
 use Rattle.std.specs.Prelude.{IfOk}
-use Rattle.ar_safety.specs.Held.{Held}
+use Rattle.ar_records.specs.ar_safety.Held.{Held}
 use Rattle.ar_world.specs.Kept.{clients_in}
 use Rattle.ar_world.proofs.Remembered.{held-so}
 use Rattle.ar_world.proofs.world.World.records.Goals as goal

@@ -9,9 +9,8 @@ use Rattle.domain_table.proofs.table.Table.entries.Goals as goal
 
 pub returns : goal.returns
 returns c =
-    IfOk-weaker c.list_entries.result (λ list. list.items ≡ entries (entries_of (marked (marks_of (data_in c.deref.result.now))))) (λ list. list.items ≡ entries (tree_entries c.args.self.now))
+    IfOk-weaker c.list_entries.result (λ list. list.items ≡ entries (entries_of (marked (marks_of (data_in c.self.inside.rows.entries))))) (λ list. list.items ≡ entries (tree_entries c.args.self.now))
     (λ list is. is
-    ∙ ap (λ rs. entries (entries_of (marked (marks_of (data_in rs))))) c.deref.ensures.value
-    ∙ ap entries (sym (tree_rows (data_in c.self.inside.rows.items) c.self.invariant.are))
+    ∙ ap entries (sym (tree_rows (data_in c.self.inside.rows.entries) c.self.invariant.are))
     ∙ ap (λ t. entries (tree_entries t)) c.self.view_is)
     c.list_entries.ensures

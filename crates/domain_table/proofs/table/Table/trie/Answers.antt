@@ -5,4 +5,4 @@ use Rattle.domain_table.proofs.Taking.{kept_tree}
 use Rattle.domain_table.proofs.table.Table.trie.Goals as goal
 
 pub returns : goal.returns
-returns c = kept_tree (data_in c.self.inside.rows.items) c.self.inside.trie c.self.inside.kept c.self.invariant ∙ ap tree_entries c.self.view_is
+returns c = c.trie.ensures ∙ kept_tree (data_in c.self.inside.rows.entries) c.self.inside.trie c.self.inside.kept c.self.inside.waiting c.self.invariant ∙ ap tree_entries c.self.view_is

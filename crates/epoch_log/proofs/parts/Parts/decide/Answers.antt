@@ -1,24 +1,17 @@
-use Rattle.std.proofs.Common.{ap, sym, ◌∙◌, refl, subst}
-use Rattle.std.specs.Prelude.{IsSome}
+use Rattle.std.proofs.Common.{ap, sym, ◌∙◌}
 use Rattle.std.proofs.lemmas.List.Elements.{All-same}
 use Rattle.ar_cert.specs.Changes.{IsChange}
-use Rattle.domain_table.specs.Applying.{apply}
 use Rattle.domain_table.specs.Tree.{root_of}
-use Rattle.epoch_log.specs.Log.{state_in}
-use Rattle.epoch_log.specs.State.{epoch_of}
 use Rattle.epoch_log.specs.Telling.{votes_in}
+use Rattle.epoch_log.specs.declared.parts.Tables.{Tables}
 use Rattle.epoch_log.proofs.Heard.{log-decide}
 use Rattle.epoch_log.proofs.Moved.{log-same}
 use Rattle.epoch_log.proofs.parts.Parts.decide.Goals as goal
 
-pub decide_by-requires-clause-applies : goal.decide_by-requires-clause-applies
-decide_by-requires-clause-applies c =
-    subst IsSome (sym (ap (λ t. apply t (epoch_of (state_in c.args.self.now)) c.args.changes.items) c.requires.kept.table ∙ c.requires.may.reaches.applied)) refl
-
 pub returns-in-Ok-clause-kept : goal.returns-in-Ok-clause-kept
 returns-in-Ok-clause-kept c =
     log-decide c.args.self.now c.decide_by.new.self c.args.changes.items (record { base = c.root.result; root = c.args.root }) (votes_in c.args.votes.items)
-    (c.root.ensures ∙ ap root_of c.requires.kept.table) c.in-Ok.ensures.ok c.in-Ok.ensures.table c.requires.kept c.requires.may
+    c.args.table (c.root.ensures ∙ ap (λ (t : Tables). root_of t.base) c.requires.kept.tables) c.in-Ok.ensures.ok c.in-Ok.ensures.tables c.requires.table c.requires.kept c.requires.may
     (All-same IsChange c.args.changes.items c.deref.result.now (sym c.deref.ensures.value) c.changes_told.ensures) c.value_told.ensures
 
 pub returns-in-Err-clause-kept : goal.returns-in-Err-clause-kept

@@ -7,8 +7,8 @@ use Rattle.epoch_log.proofs.parts.Parts.endorsed.Goals as goal
 
 pub returns-in-Ok-clause-kept : goal.returns-in-Ok-clause-kept
 returns-in-Ok-clause-kept c =
-    log-moved c.args.self.now c.see_endorsements.new.self (after_endorsed (state_in c.args.self.now) c.args.change.now) c.in-Ok.ensures.ok c.see_endorsements.ensures.table
+    log-moved c.args.self.now c.see_endorsements.new.self (after_endorsed (state_in c.args.self.now) c.args.change.now) c.in-Ok.ensures.ok c.see_endorsements.ensures.tables
     c.requires.kept (kept-endorsed (state_in c.args.self.now) c.args.change.now c.requires.kept.kept c.requires.endorsers) refl
 
 pub returns-in-Err-clause-kept : goal.returns-in-Err-clause-kept
-returns-in-Err-clause-kept c = log-same c.args.self.now c.see_endorsements.new.self c.in-Err.ensures.err c.see_endorsements.ensures.table c.requires.kept
+returns-in-Err-clause-kept c = log-same c.args.self.now c.see_endorsements.new.self c.in-Err.ensures.err c.see_endorsements.ensures.tables c.requires.kept

@@ -3,4 +3,4 @@ use Rattle.epoch_log.proofs.Moved.{log-fresh}
 use Rattle.epoch_log.proofs.parts.Parts.new.Goals as goal
 
 pub returns-clause-kept : goal.returns-clause-kept
-returns-clause-kept c = log-fresh c.nothing_yet.result c.args.number c.args.directory c.args.leaves c.nothing_yet.ensures.parts c.nothing_yet.ensures.table (omega arith) c.requires
+returns-clause-kept c = log-fresh c.nothing_yet.result c.args.number c.args.directory c.args.leaves c.nothing_yet.ensures.parts c.nothing_yet.ensures.tables (omega arith) c.requires

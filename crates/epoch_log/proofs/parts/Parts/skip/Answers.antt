@@ -13,5 +13,5 @@ pub returns-in-Ok-clause-kept : goal.returns-in-Ok-clause-kept
 returns-in-Ok-clause-kept c =
     log-skip c.args.self.now c.skip_by.new.self (statuses_in c.args.statuses.items)
     (c.in-Ok.ensures.ok ∙ ap (λ (l : List SignedStatus). moved (parts_of c.args.self.now) (after_skip (state_in c.args.self.now) l)) (ap statuses_in c.deref-2.ensures.value))
-    c.skip_by.ensures.table c.requires.kept c.requires.may
+    c.in-Ok.ensures.tables c.requires.kept c.requires.may
     (subst (λ (l : List SignedStatus). All (λ (s : Status). IfSome s.1 IsValue) (reports_of l)) (ap statuses_in c.deref.ensures.value) c.statuses_told.ensures)

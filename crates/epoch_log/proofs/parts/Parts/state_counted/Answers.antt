@@ -6,6 +6,7 @@ use Rattle.epoch_log.specs.Answers.{beside}
 use Rattle.epoch_log.specs.Calls.{own_status_text, own_value, stating, with_report}
 use Rattle.epoch_log.specs.Ending.{closed}
 use Rattle.epoch_log.specs.Log.{LogParts, moved, parts_of, state_in}
+use Rattle.epoch_log.specs.Plans.{IsPlanIn}
 use Rattle.epoch_log.specs.State.{LogState}
 use Rattle.epoch_log.specs.declared.entries.Closing.{Closing}
 use Rattle.epoch_log.proofs.parts.Parts.state_counted.Goals as goal
@@ -33,3 +34,11 @@ returns-clause-answer c =
 
 pub returns-clause-ok : goal.returns-clause-ok
 returns-clause-ok c = c.finish.ensures.parts ∙ ap (λ (l : LogParts). moved l (closed l.state).0) (counted c)
+
+pub finish-requires-clause-plan : goal.finish-requires-clause-plan
+finish-requires-clause-plan c =
+    subst (λ (s : LogState). IsPlanIn s c.in_ok-plan.plan)
+    (sym (ap (λ (l : LogParts). l.state) (c.take_report.ensures.counted.parts
+    ∙ ap (λ (l : LogParts). moved l (with_report l.state c.args.self.now.number c.own_value-value.result None))
+    (c.take_status-due.ensures.signed.parts ∙ ap (λ (l : LogParts). moved l (stating l.state)) c.in_ok-reserve.ensures.same))))
+    (c.in_ok-plan.ensures None)

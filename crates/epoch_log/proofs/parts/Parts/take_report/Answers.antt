@@ -8,5 +8,5 @@ use Rattle.epoch_log.proofs.parts.Parts.take_report.Goals as goal
 pub returns-clause-kept : goal.returns-clause-kept
 returns-clause-kept c =
     log-moved c.args.self.now c.put_report.new.self (with_report (state_in c.args.self.now) c.args.log c.args.value c.args.signature) c.put_report.ensures.parts
-    c.put_report.ensures.table c.requires.kept
+    c.put_report.ensures.tables c.requires.kept
     (kept-with_report (state_in c.args.self.now) c.args.log c.args.value c.args.signature c.requires.kept.kept c.requires.log c.requires.value) refl

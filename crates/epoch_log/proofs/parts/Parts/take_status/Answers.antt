@@ -7,5 +7,5 @@ use Rattle.epoch_log.proofs.parts.Parts.take_status.Goals as goal
 
 pub returns-clause-kept : goal.returns-clause-kept
 returns-clause-kept c =
-    log-moved c.args.self.now c.put_status.new.self (stating (state_in c.args.self.now)) c.put_status.ensures.parts c.put_status.ensures.table c.requires.kept
+    log-moved c.args.self.now c.put_status.new.self (stating (state_in c.args.self.now)) c.put_status.ensures.parts c.put_status.ensures.tables c.requires.kept
     (kept-stating (state_in c.args.self.now) c.requires.kept.kept c.requires.open c.requires.can.leaf) refl

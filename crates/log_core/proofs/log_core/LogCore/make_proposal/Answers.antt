@@ -1,7 +1,9 @@
-use Rattle.std.proofs.Common.{◌≡◌, ◌∷◌, List, Ok, subst, sym}
+use Rattle.std.proofs.Common.{◌≡◌, ◌∷◌, List, Ok, Some, subst, sym}
 use Rattle.ar_cert.specs.Changes.{Change}
 use Rattle.vote_quorum.specs.declared.value.Value.{Value}
+use Rattle.domain_table.specs.Applying.{apply}
 use Rattle.epoch_log.specs.Calls.{after_propose}
+use Rattle.epoch_log.specs.State.{epoch_of, table_of}
 use Rattle.log_sending.specs.Closings.{closing_drafts}
 use Rattle.log_core.specs.Proposing.{proposal_draft, proposing_judged, proposing_row}
 use Rattle.log_sending.specs.Sending.{none_composed, with_drafts}
@@ -23,6 +25,10 @@ propose-requires-clause-open c =
     let judged : proposing_judged was ≡ Ok (c.args.walked.value, c.args.walked.changes.items) =
     subst (λ (s : CoreState). proposing_judged s ≡ Ok (c.args.walked.value, c.args.walked.changes.items)) (sym c.self.view_is) c.requires.judged in
     (may-propose was c.args.walked.value c.args.walked.changes.items c.self.invariant judged).opens
+
+pub propose-requires-clause-tried : goal.propose-requires-clause-tried
+propose-requires-clause-tried c =
+    subst (λ (s : CoreState). apply (table_of s.log) (epoch_of s.log) c.args.walked.changes.items ≡ Some c.args.walked.table) (sym c.self.view_is) c.requires.table
 
 pub propose-requires-clause-endorsed : goal.propose-requires-clause-endorsed
 propose-requires-clause-endorsed c =

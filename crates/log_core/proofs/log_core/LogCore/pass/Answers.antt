@@ -10,8 +10,8 @@ use Rattle.log_core.proofs.KeptRows.{kept-passing}
 use Rattle.log_core.proofs.log_core.LogCore.pass.Goals as goal
 use Rattle.log_core.proofs.Replies.{core-of, made}
 
-pub returns-in-Err : goal.returns-in-Err
-returns-in-Err c = passing-refused c.args.self.now c.in-Err.refusal (inr (sym c.in-Err.ensures))
+pub returns-in-Err-clause-row : goal.returns-in-Err-clause-row
+returns-in-Err-clause-row c = passing-refused c.args.self.now c.in-Err.refusal (inr (sym c.in-Err.ensures))
 
 pub state-requires : goal.state-requires
 state-requires c =
@@ -28,8 +28,8 @@ invariant_of-self c =
     judged ready (stated-closing was.log c.in-Ok-state.due c.in-Ok-state.closing c.in-Ok-state.ensures.answer) c.in-Ok-state.ensures.ok c.epoch-epoch.ensures c.close.ensures.queue c.close.ensures.sent in
     kept-passing was (record { unsigned = c.close.result; after = core-of was c.state.new.self c.close.new.queue.items }) c.self.invariant step
 
-pub returns-in-Ok-state : goal.returns-in-Ok-state
-returns-in-Ok-state c =
+pub returns-in-Ok-state-clause-row : goal.returns-in-Ok-state-clause-row
+returns-in-Ok-state-clause-row c =
     let was : CoreState = record { log = c.self.inside.log.state; keys = c.self.inside.log.keys; queue = c.self.inside.queue.items; signature_len = c.self.inside.signature_len } in
     let judged = subst (λ (s : CoreState). passing_judged s ≡ Ok tt) (sym c.self.view_is) (sym c.in-Ok.ensures) in
     let ready = subst (λ (s : CoreState). c.in_ok-ready.ready

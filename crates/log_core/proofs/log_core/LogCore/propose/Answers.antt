@@ -1,5 +1,5 @@
 use Rattle.log_core.proofs.Proposals.{propose-refused}
 use Rattle.log_core.proofs.log_core.LogCore.propose.Goals as goal
 
-pub returns-in-Err : goal.returns-in-Err
-returns-in-Err c = propose-refused c.args.self.now c.in-Err.refusal c.in-Err.ensures
+pub returns-in-Err-clause-row : goal.returns-in-Err-clause-row
+returns-in-Err-clause-row c = propose-refused c.args.self.now c.in-Err.refusal c.in-Err.ensures.judged

@@ -1,6 +1,6 @@
 -- A line that may not come now is refused by the world, and so by the stage.
 use Rattle.std.proofs.Common.{◌∙◌, ap}
-use Rattle.ar_nodes.specs.declared.fault.WorldFault.TheVariants.{Order}
+use Rattle.ar_world.specs.ar_nodes.declared.fault.WorldFault.TheVariants.{Order}
 use Rattle.ar_world.specs.Step.{comes_now}
 use Rattle.script_play.specs.Playing.{Stand}
 use Rattle.script_play.proofs.stage.Stage.take_alone.Goals as goal

@@ -1,0 +1,9 @@
+pub mod Asked
+pub mod Crashed
+pub mod Cuts
+pub mod Fronts
+pub mod Opened
+pub mod Served
+pub mod Stopped
+pub mod Taken
+pub mod Turned

@@ -1,0 +1,6 @@
+pub mod Asks
+pub mod Lessons
+pub mod Letters
+pub mod Messages
+pub mod OneText
+pub mod Refusals

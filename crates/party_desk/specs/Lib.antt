@@ -1,0 +1,4 @@
+pub mod Asking
+pub mod Owners
+pub mod Telling
+pub mod Written

@@ -1,0 +1,196 @@
+//! Lines that are written of replies. The one error of each call is want of memory.
+
+ghost use Rattle.std.specs.Prelude.{◌++◌, codes};
+ghost use Rattle.std.specs.Fmt.{decimal};
+ghost use Rattle.std.specs.List.{flat_map};
+ghost use Rattle.ar_lines.specs.Refusals.{reason_text};
+ghost use Rattle.hex.specs.Hex.{encode_lower};
+ghost use Rattle.report_text.specs.Lines.{line_of};
+ghost use Rattle.party_desk.specs.Telling.{Puts, address_text, unread_text, ended_line, handed_line, letter_line, unread_line, sent_lines, step_told};
+
+use crate::unread::Cause;
+use ar_lines::{Reason, letter_of};
+use ar_message::{Address, Outgoing, Sent};
+use ar_statement::Party;
+use ar_text::{Part, append};
+use report_text::{Code, Happening, What, print};
+use std::alloc::{AllocError, Global};
+
+/// Puts some bytes behind the others.
+fn put(alloc: Global, out: &mut Vec<u8>, bytes: &[u8]) -> Result<(), AllocError>
+    ensures { Puts bytes.now out.old out.new result }
+{
+    append(alloc, out, &[Part::Bytes(bytes)])
+}
+
+/// Puts the hex of some bytes behind the others, a space before it and the end of the line behind it.
+fn put_hex(alloc: Global, out: &mut Vec<u8>, bytes: &[u8]) -> Result<(), AllocError>
+    ensures { Puts (codes " " ++ (encode_lower bytes.now ++ codes "\n")) out.old out.new result }
+{
+    let digits = hex::encode(alloc, bytes)?;
+    append(
+        alloc,
+        out,
+        &[
+            Part::Bytes(b" "),
+            Part::Bytes(digits.as_bytes()),
+            Part::Bytes(b"\n"),
+        ],
+    )
+}
+
+/// Puts the line of a happening behind the others.
+pub(crate) fn put_line(
+    alloc: Global,
+    out: &mut Vec<u8>,
+    happening: &Happening,
+) -> Result<(), AllocError>
+    ensures { Puts (line_of happening.now) out.old out.new result }
+{
+    print(alloc, happening, out)
+}
+
+// ---- what is sent
+
+/// Puts to whom a message goes behind the others.
+fn put_address(alloc: Global, out: &mut Vec<u8>, to: Address) -> Result<(), AllocError>
+    ensures { Puts (address_text to) out.old out.new result }
+{
+    match to {
+        Address::Logs => put(alloc, out, b"logs"),
+        Address::One(party) => {
+            let letter = [letter_of(party.role)];
+            let number = u64::from(party.number);
+            append(alloc, out, &[Part::Bytes(&letter), Part::Number(number)])
+        }
+    }
+}
+
+/// Puts the line of a message that is sent behind the others: `send <party> <hex>`.
+fn put_outgoing(alloc: Global, out: &mut Vec<u8>, outgoing: &Outgoing) -> Result<(), AllocError>
+    ensures { Puts (letter_line outgoing.now) out.old out.new result }
+{
+    put(alloc, out, b"send ")?;
+    put_address(alloc, out, outgoing.to())?;
+    put_hex(alloc, out, outgoing.bytes())
+}
+
+/// Puts the lines of these messages behind the others.
+fn put_each(alloc: Global, out: &mut Vec<u8>, messages: &[Outgoing]) -> Result<(), AllocError>
+    ensures { Puts (flat_map letter_line messages.now) out.old out.new result }
+{
+    for outgoing in messages {
+        put_outgoing(alloc, out, outgoing)?;
+    }
+    Ok(())
+}
+
+/// Puts the lines of what is sent behind the others.
+pub(crate) fn put_messages(alloc: Global, out: &mut Vec<u8>, sent: &Sent) -> Result<(), AllocError>
+    ensures { Puts (sent_lines sent.now) out.old out.new result }
+{
+    put_each(alloc, out, sent.messages.as_slice())
+}
+
+/// Puts the line of a handover behind the others: `handed <digest> <hex>`.
+pub(crate) fn put_handed(
+    alloc: Global,
+    out: &mut Vec<u8>,
+    digest: &[u8; 32],
+    signature: &[u8],
+) -> Result<(), AllocError>
+    ensures { Puts (handed_line digest.now signature.now) out.old out.new result }
+{
+    append(alloc, out, &[Part::Bytes(b"handed "), Part::Digest(digest)])?;
+    put_hex(alloc, out, signature)
+}
+
+// ---- what is told of a step
+
+/// Puts the line of a step behind the others: `None` where it succeeds.
+pub(crate) fn put_step(
+    alloc: Global,
+    out: &mut Vec<u8>,
+    party: Party,
+    what: What,
+    refused: Option<Code>,
+) -> Result<(), AllocError>
+    ensures { Puts (step_told party what refused) out.old out.new result }
+{
+    let step = Happening::Step {
+        party,
+        what,
+        refused,
+    };
+    put_line(alloc, out, &step)
+}
+
+/// Puts the line of the epoch that ended at the log with this number behind the others, where one did.
+pub(crate) fn put_ended(
+    alloc: Global,
+    out: &mut Vec<u8>,
+    log: u16,
+    sent: &Sent,
+) -> Result<(), AllocError>
+    ensures { Puts (ended_line log sent.now.ended) out.old out.new result }
+{
+    match sent.ended {
+        Some((epoch, root)) => put_line(alloc, out, &Happening::Ended { log, epoch, root }),
+        None => Ok(()),
+    }
+}
+
+// ---- lines that are refused
+
+/// Puts a reason behind the others.
+fn put_reason(alloc: Global, out: &mut Vec<u8>, reason: Reason) -> Result<(), AllocError>
+    ensures { Puts (reason_text reason) out.old out.new result }
+{
+    match reason {
+        Reason::Limit => put(alloc, out, b"limit"),
+        Reason::Text => put(alloc, out, b"text"),
+        Reason::Word => put(alloc, out, b"word"),
+        Reason::Words => put(alloc, out, b"words"),
+        Reason::Field(word) => put_numbered(alloc, out, b"field ", word as u64),
+    }
+}
+
+/// Puts a text and a number behind the others.
+fn put_numbered(
+    alloc: Global,
+    out: &mut Vec<u8>,
+    text: &[u8],
+    number: u64,
+) -> Result<(), AllocError>
+    ensures { Puts (text.now ++ decimal number) out.old out.new result }
+{
+    append(alloc, out, &[Part::Bytes(text), Part::Number(number)])
+}
+
+/// Puts why a line is refused behind the others.
+fn put_cause(alloc: Global, out: &mut Vec<u8>, cause: Cause) -> Result<(), AllocError>
+    ensures { Puts (unread_text cause) out.old out.new result }
+{
+    match cause {
+        Cause::Form(reason) => put_reason(alloc, out, reason),
+        Cause::Order => put(alloc, out, b"order"),
+        Cause::None(word) => put_numbered(alloc, out, b"none ", word as u64),
+        Cause::Limit => put(alloc, out, b"limit"),
+    }
+}
+
+/// Puts the line that tells why the line with this number is refused behind the others: `line <n>: <reason>`.
+/// The one error is want of memory.
+pub fn put_line_refused(
+    alloc: Global,
+    out: &mut Vec<u8>,
+    number: u64,
+    cause: Cause,
+) -> Result<(), AllocError>
+    ensures { Puts (unread_line number cause) out.old out.new result }
+{
+    put_numbered(alloc, out, b"line ", number)?;
+    put(alloc, out, b": ")?;
+    put_cause(alloc, out, cause)?;
+    put(alloc, out, b"\n")
+}
