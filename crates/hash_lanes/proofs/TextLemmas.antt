@@ -6,7 +6,7 @@ use Rattle.std.proofs.lemmas.Nat.{or_shifted, be_bytes_4, from_be_bytes-to_be_by
 use Rattle.sha2.specs.Sha256.{compress, digest_bytes, hash_after, initial_hash_256, padded_message, padding, sha256, word_at}
 use Rattle.hash_lanes.specs.Lanes.{lane_of, step_text, value_in, values_in}
 use Rattle.hash_lanes.specs.Words.{BeginsWith, HasWords}
-use Rattle.hash_lanes.proofs.LaneLemmas.{each_of_five, each_of_four, each_of_sixteen, slice_index-lane_of}
+use Rattle.hash_lanes.proofs.LaneLemmas.{each_of_four, each_of_sixteen, slice_index-lane_of}
 
 -- the low three bytes of a word and the high byte of the next
 pub joined_words : (first next : ℕ) → next < 2 ^ 32
@@ -176,7 +176,7 @@ digest_bytes-take h value (suc n) room small each =
     ∙ ap (λ m. take m value) (sym next)
 
 -- the value of a lane whose words are those of a list
-value_in_words : (vs : List (List ℕ)) (lane : ℕ) (value : List ℕ) → length value ≡ 32 → ((k : ℕ) → slice_index value k < 256)
+pub value_in_words : (vs : List (List ℕ)) (lane : ℕ) (value : List ℕ) → length value ≡ 32 → ((k : ℕ) → slice_index value k < 256)
     → ((k : ℕ) → k < 8 → slice_index (slice_index_or vs k []) lane ≡ word_at value (4 * k)) → value_in vs lane ≡ value
 value_in_words vs lane value long small each =
     digest_bytes-take (lane_of vs lane) value 8 (omega arith) small (λ k below. slice_index-lane_of vs lane k ∙ each k below)
@@ -217,18 +217,20 @@ pub put_here : (vs : List (List ℕ)) (lane : ℕ) (value : List ℕ) → lane <
 unfolding values_in
 put_here vs lane value = each_of_four (λ n. slice_index_or (slice_set (values_in vs) n value) n [] ≡ value) refl refl refl refl lane
 
--- the five words with which a block begins
+-- a block begins with the words of I and the number of the leaf
 pub text_begins : (id : List ℕ) (leaf chain step : ℕ) (value : List ℕ) (w0 w1 w2 w3 : ℕ) → length id ≡ 16 → leaf < 2 ^ 32 → length value ≡ 32
     → w0 ≡ word_at id 0 → w1 ≡ word_at id 4 → w2 ≡ word_at id 8 → w3 ≡ word_at id 12
-    → BeginsWith (padded_message (step_text id leaf chain step value)) (w0 ∷ w1 ∷ w2 ∷ w3 ∷ leaf ∷ [])
+    → BeginsWith (padded_message (step_text id leaf chain step value)) (w0 ∷ w1 ∷ w2 ∷ w3 ∷ []) leaf
 text_begins id leaf chain step value w0 w1 w2 w3 sixteen small thirty_two e0 e1 e2 e3 =
     let rest = behind_id leaf chain step value in
     let front = word_at_front id rest in
-    let words = w0 ∷ w1 ∷ w2 ∷ w3 ∷ leaf ∷ [] in
-    let begins : BeginsWith (id ++ rest) words = each_of_five (λ k. word_at (id ++ rest) (4 * k) ≡ slice_index words k)
-    (front 0 (omega arith) ∙ sym e0)
-    (front 4 (omega arith) ∙ sym e1)
-    (front 8 (omega arith) ∙ sym e2)
-    (front 12 (omega arith) ∙ sym e3)
-    (word_at_behind id rest 16 0 sixteen ∙ from_be_bytes-to_be_bytes_4 leaf small) in
-    subst (λ b. BeginsWith b words) (sym (padded-step_text id leaf chain step value sixteen thirty_two)) begins
+    let words = w0 ∷ w1 ∷ w2 ∷ w3 ∷ [] in
+    let begins : BeginsWith (id ++ rest) words leaf = record {
+      id_words = each_of_four (λ k. word_at (id ++ rest) (4 * k) ≡ slice_index words k)
+          (front 0 (omega arith) ∙ sym e0)
+          (front 4 (omega arith) ∙ sym e1)
+          (front 8 (omega arith) ∙ sym e2)
+          (front 12 (omega arith) ∙ sym e3);
+      leaf_word = word_at_behind id rest 16 0 sixteen ∙ from_be_bytes-to_be_bytes_4 leaf small;
+    } in
+    subst (λ b. BeginsWith b words leaf) (sym (padded-step_text id leaf chain step value sixteen thirty_two)) begins

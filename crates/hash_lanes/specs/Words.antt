@@ -12,11 +12,13 @@ pub record HasWords (words block : List ℕ) : Type 0 where
 abbrev pub AreFrom : List ℕ → List ℕ → ℕ → ℕ → Type 0
 AreFrom words all from count = (k : ℕ) → k < count → slice_index words k ≡ slice_index all (from + k)
 
--- the first five words of a block
-abbrev pub BeginsWith : List ℕ → List ℕ → Type 0
-BeginsWith block words = (k : ℕ) → k < 5 → word_at block (4 * k) ≡ slice_index words k
+-- the first five words of a block: the four of I, and the number of a leaf
+pub record BeginsWith (block id : List ℕ) (leaf : ℕ) : Type 0 where
+  pub id_words : (k : ℕ) → k < 4 → word_at block (4 * k) ≡ slice_index id k
+  pub leaf_word : word_at block 16 ≡ leaf
 
--- in each lane the working variables are those after the first five rounds of each block that begins with these words
-abbrev pub AreAfterFive : List (List ℕ) → List ℕ → Type 0
-AreAfterFive vectors words = (b : List ℕ) (i : ℕ) → i < 4 → BeginsWith b words
+-- in each lane the working variables are those after the first five rounds of each block that begins with the words of I
+-- and the lane's leaf
+abbrev pub AreAfterFive : List (List ℕ) → List ℕ → List ℕ → Type 0
+AreAfterFive vectors id leaves = (b : List ℕ) (i : ℕ) → i < 4 → BeginsWith b id (slice_index leaves i)
     → lane_of vectors i ≡ rounds initial_hash_256 (schedule b 48) 5

@@ -1,7 +1,7 @@
 // The compression of one block in each lane (FIPS 180-4, section 6.2.2), from the initial hash value: a message of one
 // block needs no other.
 
-ghost use Rattle.std.specs.Prelude.{◌≡◌, ℕ, ◌<◌, List};
+ghost use Rattle.std.specs.Prelude.{◌≡◌, ℕ, ◌<◌, List, slice_index};
 ghost use Rattle.sha2.specs.Sha256.{add_state, compress, initial_hash_256, rounds, schedule};
 ghost use Rattle.hash_lanes.specs.Lanes.{lane_of};
 ghost use Rattle.hash_lanes.specs.Words.{BeginsWith, HasWords};
@@ -29,18 +29,18 @@ fn initial() -> [u32x4; 8]
     ]
 }
 
-/// The working variables after the first five rounds, whose words are the same in all lanes.
+/// The working variables after the first five rounds, of the words of I, which are the same in all lanes, and of each lane's leaf.
 #[inline(never)]
-pub(crate) fn first_rounds(words: &[u32; 5]) -> [u32x4; 8]
-    ensures { (b : List ℕ) (i : ℕ) → i < 4 → BeginsWith b words.now
+pub(crate) fn first_rounds(id: &[u32; 4], leaves: &[u32; 4]) -> [u32x4; 8]
+    ensures { (b : List ℕ) (i : ℕ) → i < 4 → BeginsWith b id.now (slice_index leaves.now i)
         → lane_of result i ≡ rounds initial_hash_256 (schedule b 48) 5 }
 {
     let in_lanes = [
-        u32x4::splat(words[0]),
-        u32x4::splat(words[1]),
-        u32x4::splat(words[2]),
-        u32x4::splat(words[3]),
-        u32x4::splat(words[4]),
+        u32x4::splat(id[0]),
+        u32x4::splat(id[1]),
+        u32x4::splat(id[2]),
+        u32x4::splat(id[3]),
+        u32x4::from_array(*leaves),
     ];
     five_rounds::<0>(&in_lanes, initial())
 }

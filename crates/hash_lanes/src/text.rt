@@ -77,18 +77,17 @@ fn ahead(chain: u16, step: u8) -> u32
     (u32::from(chain) << 16) | (u32::from(step) << 8)
 }
 
-/// The words with which the blocks of all steps of a leaf begin.
+/// The words of I, with which the blocks of all steps begin; behind them stands the number of the leaf.
 #[inline(always)]
-pub(crate) fn front_words(id: &[u8; 16], leaf: u32) -> [u32; 5]
-    ensures { (chain step : ℕ) (value : List ℕ) → length value ≡ 32
-        → BeginsWith (padded_message (step_text id.now leaf chain step value)) result }
+pub(crate) fn id_words(id: &[u8; 16]) -> [u32; 4]
+    ensures { (leaf chain step : ℕ) (value : List ℕ) → leaf < 2 ^ 32 → length value ≡ 32
+        → BeginsWith (padded_message (step_text id.now leaf chain step value)) result leaf }
 {
     [
         word_of(id, 0),
         word_of(id, 1),
         word_of(id, 2),
         word_of(id, 3),
-        leaf,
     ]
 }
 
@@ -96,13 +95,13 @@ pub(crate) fn front_words(id: &[u8; 16], leaf: u32) -> [u32; 5]
 #[inline(always)]
 pub(crate) fn text_words(
     id: &[u8; 16],
-    leaf: u32,
+    leaves: &[u32; 4],
     chains: &[u16; 4],
     steps: &[u8; 4],
     values: &[u32x4; 8],
 ) -> [u32x4; 16]
-    ensures { (i : ℕ) → i < 4 → HasWords (lane_of result i) (padded_message (step_text id.now leaf
-        (slice_index chains.now i) (slice_index steps.now i) (value_in values.now i))) }
+    ensures { (i : ℕ) → i < 4 → HasWords (lane_of result i) (padded_message (step_text id.now
+        (slice_index leaves.now i) (slice_index chains.now i) (slice_index steps.now i) (value_in values.now i))) }
 {
     let [v0, v1, v2, v3, v4, v5, v6, v7] = *values;
     [
@@ -110,7 +109,7 @@ pub(crate) fn text_words(
         u32x4::splat(word_of(id, 1)),
         u32x4::splat(word_of(id, 2)),
         u32x4::splat(word_of(id, 3)),
-        u32x4::splat(leaf),
+        u32x4::from_array(*leaves),
         numbers(chains, steps, v0),
         behind_one_byte(v0, v1),
         behind_one_byte(v1, v2),
@@ -125,7 +124,24 @@ pub(crate) fn text_words(
     ]
 }
 
-/// The vectors with the words of `value` in one lane.
+/// The vectors with the words of `value` in each lane.
+#[inline(always)]
+pub(crate) fn with_value_in_all(value: &[u8; 32]) -> [u32x4; 8]
+    ensures { values_in result ≡ value.now ∷ value.now ∷ value.now ∷ value.now ∷ [] }
+{
+    [
+        u32x4::splat(word_of(value, 0)),
+        u32x4::splat(word_of(value, 1)),
+        u32x4::splat(word_of(value, 2)),
+        u32x4::splat(word_of(value, 3)),
+        u32x4::splat(word_of(value, 4)),
+        u32x4::splat(word_of(value, 5)),
+        u32x4::splat(word_of(value, 6)),
+        u32x4::splat(word_of(value, 7)),
+    ]
+}
+
+/// The vectors with the words of `value` in one lane, and the others as they are.
 #[inline(always)]
 pub(crate) fn with_value(vectors: &[u32x4; 8], lane: usize, value: &[u8; 32]) -> [u32x4; 8]
     requires { lane < 4 }

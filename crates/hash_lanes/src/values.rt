@@ -1,4 +1,4 @@
-ghost use Rattle.std.specs.Prelude.{◌≡◌, ℕ, ◌<◌, List, [], true, false, slice_index, slice_index_or, slice_set};
+ghost use Rattle.std.specs.Prelude.{◌≡◌, ℕ, ◌<◌, List, [], ◌∷◌, true, false, slice_index, slice_index_or, slice_set};
 ghost use Rattle.sha2.specs.Sha256.{sha256};
 ghost use Rattle.hash_lanes.specs.Lanes.{step_text, values_in, vectors_of};
 
@@ -6,7 +6,7 @@ use crate::compression::compressed;
 use crate::front::Front;
 use crate::lanes::{chosen, words_in};
 use crate::row::{Row, rows, vectors};
-use crate::text::{bytes_of, front_words, text_words, with_value};
+use crate::text::{bytes_of, id_words, text_words, with_value, with_value_in_all};
 use std::marker::Model;
 use std::simd::u32x4;
 
@@ -60,16 +60,23 @@ impl FourValues {
         self.words = rows(&with_value(&vectors(&self.words), lane, value));
     }
 
-    /// A step in each lane (RFC 8554, section 4.3): the value becomes the hash of I, the number of the leaf, the number
-    /// of the lane's chain, the number of the lane's step, and the value.
+    /// Puts one value into all lanes.
+    pub fn put_all(&mut self, value: &[u8; 32])
+        ensures { self.new ≡ value.now ∷ value.now ∷ value.now ∷ value.now ∷ [] }
+    {
+        self.words = rows(&with_value_in_all(value));
+    }
+
+    /// A step in each lane (RFC 8554, section 4.3): the value becomes the hash of I, the number of the lane's leaf, that of
+    /// its chain, that of its step, and the value.
     ///
     /// With step 255 and the seed as the value it gives the beginning of the chain (appendix A).
-    pub fn step(&mut self, id: &[u8; 16], leaf: u32, chains: &[u16; 4], steps: &[u8; 4])
-        ensures { (i : ℕ) → i < 4 → slice_index_or self.new i [] ≡ sha256 (step_text id.now leaf
-            (slice_index chains.now i) (slice_index steps.now i) (slice_index_or self.old i [])) }
+    pub fn step(&mut self, id: &[u8; 16], leaves: &[u32; 4], chains: &[u16; 4], steps: &[u8; 4])
+        ensures { (i : ℕ) → i < 4 → slice_index_or self.new i [] ≡ sha256 (step_text id.now
+            (slice_index leaves.now i) (slice_index chains.now i) (slice_index steps.now i) (slice_index_or self.old i [])) }
     {
-        let after_five = self.front.after_five(&front_words(id, leaf));
-        let words = text_words(id, leaf, chains, steps, &vectors(&self.words));
+        let after_five = self.front.after_five(&id_words(id), leaves);
+        let words = text_words(id, leaves, chains, steps, &vectors(&self.words));
         self.words = rows(&compressed(&words, after_five));
     }
 
@@ -79,19 +86,19 @@ impl FourValues {
     pub fn step_where(
         &mut self,
         id: &[u8; 16],
-        leaf: u32,
+        leaves: &[u32; 4],
         chains: &[u16; 4],
         steps: &[u8; 4],
         moves: &[bool; 4],
     )
         ensures moved { (i : ℕ) → i < 4 → slice_index_or moves.now i false ≡ true
-            → slice_index_or self.new i [] ≡ sha256 (step_text id.now leaf
-            (slice_index chains.now i) (slice_index steps.now i) (slice_index_or self.old i [])) }
+            → slice_index_or self.new i [] ≡ sha256 (step_text id.now
+            (slice_index leaves.now i) (slice_index chains.now i) (slice_index steps.now i) (slice_index_or self.old i [])) }
         ensures left { (i : ℕ) → i < 4 → slice_index_or moves.now i false ≡ false
             → slice_index_or self.new i [] ≡ slice_index_or self.old i [] }
     {
         let before = vectors(&self.words);
-        self.step(id, leaf, chains, steps);
+        self.step(id, leaves, chains, steps);
         self.words = rows(&chosen(moves, &vectors(&self.words), &before));
     }
 }

@@ -1,6 +1,6 @@
 -- One-time private keys, their public keys and their signatures (RFC 8554, sections 4.2, 4.3 and 4.5
 -- and appendix A).
-use Rattle.std.specs.Prelude.{ℕ, ◌-◌, ◌^◌, List, ◌∷◌, ◌++◌}
+use Rattle.std.specs.Prelude.{ℕ, ◌+◌, ◌-◌, ◌^◌, List, ◌∷◌, ◌++◌}
 use Rattle.std.specs.List.{flat_map, range_with_len}
 use Rattle.std.specs.Int.{w32, to_be_bytes}
 use Rattle.sha2.specs.Sha256.{sha256}
@@ -24,6 +24,10 @@ value_after secret n i = chain secret.id secret.leaf i 0 n (secret_element secre
 unfoldable pub public_key_of : OtsSecret → List ℕ
 public_key_of secret =
     key_of_ends secret.id secret.leaf secret.kind (value_after secret (2 ^ width_of secret.kind - 1))
+
+-- the private key of the leaf that lies so many further on in the same tree
+abbrev pub secret_behind : OtsSecret → ℕ → OtsSecret
+secret_behind secret k = record secret { leaf = secret.leaf + k }
 
 -- word k of ChaCha20 with the key H(0x43 || SEED), in the stream of the leaf
 unfoldable pub randomizer_word : List ℕ → ℕ → ℕ → ℕ

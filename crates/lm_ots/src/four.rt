@@ -124,7 +124,7 @@ impl Four {
             self.next[3] < self.ends[3],
         ];
         self.values
-            .step_where(id, leaf, &self.numbers, &self.next, &moves);
+            .step_where(id, &[leaf; 4], &self.numbers, &self.next, &moves);
         self.next = [
             next_of(self.next[0], self.ends[0]),
             next_of(self.next[1], self.ends[1]),

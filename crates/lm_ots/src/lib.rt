@@ -4,13 +4,15 @@
 //! cut into digits, `Chain` the chains, `Candidate` the public key that a signature leads to, and
 //! `Signing` the keys and signatures that a seed gives. `laws` says that the two fit.
 //!
-//! The chains of a leaf do not wait for each other, so four of them go side by side (`walk`), in the lanes of
-//! `hash_lanes`; `Ways` says where a chain leads that is on its way.
+//! Chains do not wait for each other, so four of them go side by side, in the lanes of `hash_lanes`: those of one leaf
+//! (`walk`; `Ways` says where a chain leads that is on its way), or, where a tree is made, the same chain of four leaves
+//! (`four_leaves`), which leaves no lane over.
 //!
 //! Its tests: `base_tests`, module `lm_ots_tests`.
 #![tactic(auto)]
 
 pub use candidate::ots_candidate;
+pub use four_leaves::four_ots_publics;
 pub use hashing::domain_hasher;
 pub use ots_type::OtsType;
 pub use secret::OtsSecret;
@@ -21,6 +23,7 @@ mod chain;
 mod chains;
 mod digits;
 mod four;
+mod four_leaves;
 mod hashing;
 pub mod laws;
 mod ots_type;

@@ -10,8 +10,8 @@ use crate::{OtsSecret, OtsType};
 use hash_lanes::FourValues;
 use sha2::Digest;
 
-// The number that stands for a step where a chain's beginning is made (RFC 8554, appendix A).
-const SECRET_STEP: u8 = 0xff;
+/// The number that stands for a step where a chain's beginning is made (RFC 8554, appendix A).
+pub(crate) const SECRET_STEP: u8 = 0xff;
 
 /// Puts the beginnings of the chains of a private key, as the seed gives them (RFC 8554, appendix A).
 pub(crate) fn put_beginnings(secret: &OtsSecret, values: &mut [[u8; 32]; ROOM])
@@ -34,7 +34,7 @@ fn four_beginnings(secret: &OtsSecret, group: usize) -> FourValues
     let mut four = FourValues::new(&[secret.seed; 4]);
     four.step(
         &secret.id,
-        secret.leaf,
+        &[secret.leaf; 4],
         &[first, first + 1, first + 2, first + 3],
         &[SECRET_STEP; 4],
     );

@@ -1,5 +1,5 @@
 -- Where nodes stand in a tree: at depth d they have the numbers from 2 ^ d to 2 ^ (d + 1) - 1.
-use Rattle.std.proofs.Common.{◌≡◌, ◌∙◌, ap, refl, inl, inr, arith, ℕ, zero, suc, ◌+◌, ◌-◌, ◌*◌, ◌%◌, ◌^◌, ◌<◌, ◌≤◌, cond, eq-eqb}
+use Rattle.std.proofs.Common.{◌≡◌, ◌∙◌, ap, refl, inl, inr, arith, ℕ, zero, suc, ◌+◌, ◌-◌, ◌*◌, ◌/◌, ◌%◌, ◌^◌, ◌<◌, ◌≤◌, cond, eq-eqb}
 use Rattle.std.proofs.lemmas.Bool.{cases_lt}
 use Rattle.std.proofs.lemmas.Bool.Decides.{nat_tests}
 use Rattle.std.proofs.lemmas.Nat.{pow-add}
@@ -23,6 +23,14 @@ pow-height_of-le H10 = omega arith
 pow-height_of-le H15 = omega arith
 pow-height_of-le H20 = omega arith
 pow-height_of-le H25 = omega arith
+
+-- its leaves are a multiple of four
+pub leaves-by-four : (lms : LmsType) → 4 * (2 ^ height_of lms / 4) ≡ 2 ^ height_of lms
+leaves-by-four H5 = refl
+leaves-by-four H10 = refl
+leaves-by-four H15 = refl
+leaves-by-four H20 = refl
+leaves-by-four H25 = refl
 
 -- a power of two is no more than a later one
 pub pow-le : (d k : ℕ) → 2 ^ d ≤ 2 ^ (d + k)

@@ -1,4 +1,4 @@
-use Rattle.std.proofs.Common.{◌∙◌, ◌++◌, [], ap, slice_index, slice_index_or, w32}
+use Rattle.std.proofs.Common.{◌∙◌, ◌++◌, [], ap, refl, slice_index, slice_index_or, w32}
 use Rattle.std.specs.Int.{to_be_bytes}
 use Rattle.sha2.specs.Sha256.{word_at}
 use Rattle.hash_lanes.proofs.LaneLemmas.{splat_lane}
@@ -7,12 +7,12 @@ use Rattle.hash_lanes.proofs.text.text_words.Goals as goal
 
 pub returns : goal.returns
 returns c i below =
-    text_has_words _ c.args.leaf _ _ c.args.values.now i _ _ _ _ _ _ _ _ _ _ _ _ _ _ _ _ c.told-id c.ranges.leaf.fits
+    text_has_words _ (slice_index c.args.leaves.now i) _ _ c.args.values.now i _ _ _ _ _ _ _ _ _ _ _ _ _ _ _ _ c.told-id (c.fits-leaves i)
     (splat_lane _ i below ∙ c.word_of.ensures)
     (splat_lane _ i below ∙ c.word_of-2.ensures)
     (splat_lane _ i below ∙ c.word_of-3.ensures)
     (splat_lane _ i below ∙ c.word_of-4.ensures)
-    (splat_lane _ i below)
+    refl
     (c.numbers.ensures i below)
     (c.behind_one_byte.ensures i below)
     (c.behind_one_byte-2.ensures i below)

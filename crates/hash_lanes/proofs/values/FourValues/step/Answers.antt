@@ -7,9 +7,10 @@ use Rattle.hash_lanes.proofs.values.FourValues.step.Goals as goal
 pub returns : goal.returns
 returns c i below =
     let vs = c.vectors.result in
-    let text = step_text c.args.id.now c.args.leaf (slice_index c.args.chains.now i) (slice_index c.args.steps.now i) in
+    let leaf = slice_index c.args.leaves.now i in
+    let text = step_text c.args.id.now leaf (slice_index c.args.chains.now i) (slice_index c.args.steps.now i) in
     let block = padded_message (text (value_in vs i)) in
-    let begins = c.front_words.ensures (slice_index c.args.chains.now i) (slice_index c.args.steps.now i) (value_in vs i) (length-value_in vs i) in
+    let begins = c.id_words.ensures leaf (slice_index c.args.chains.now i) (slice_index c.args.steps.now i) (value_in vs i) (c.fits-leaves i) (length-value_in vs i) in
     ap (λ ws. slice_index_or (values_in ws) i []) c.rows-self-inside.ensures
     ∙ value_at c.compressed.result i below
     ∙ ap (λ h. digest_bytes h 8) (c.compressed.ensures block i below (c.text_words-words.ensures i below) (c.after_five-after_five.ensures block i below begins))

@@ -1,7 +1,0 @@
-use Rattle.hash_lanes.proofs.TextLemmas.{text_begins}
-use Rattle.hash_lanes.proofs.text.front_words.Goals as goal
-
-pub returns : goal.returns
-returns c = λ chain step value thirty_two.
-    text_begins c.args.id.now c.args.leaf chain step value _ _ _ _ c.told-id c.ranges.leaf.fits thirty_two
-    c.word_of.ensures c.word_of-2.ensures c.word_of-3.ensures c.word_of-4.ensures
