@@ -83,8 +83,9 @@ change-own one =
 
 -- ---- texts
 
-same-text : (one other : Change) → IsChange one → IsChange other → bytes_eq (change_text one) (change_text other) ≡ true → one ≡ other
-same-text one other is-one is-other same =
+-- changes with one text are one
+pub same_text : (one other : Change) → IsChange one → IsChange other → bytes_eq (change_text one) (change_text other) ≡ true → one ≡ other
+same_text one other is-one is-other same =
     (one_text change_at one other (change_text one) (change_text other) [] [] (change_again one is-one) (change_again other is-other)
     (ap (λ t. t ++ []) ((bytes_eq-Decides (change_text one) (change_text other)).0 same))).0
 
@@ -97,5 +98,5 @@ same_change one other is-one is-other = by (is_same_change one other) (bytes_eq 
         are ∙ sym ((bytes_eq-Decides (change_text one) (change_text other)).1 (ap change_text (same-parts one other is-one is-other are)))
     by false false are is = are ∙ sym is
     by false true are is =
-        let own : is_same_change one other ≡ true = ap (λ (c : Change). is_same_change one c) (sym (same-text one other is-one is-other is)) ∙ change-own one in
+        let own : is_same_change one other ≡ true = ap (λ (c : Change). is_same_change one c) (sym (same_text one other is-one is-other is)) ∙ change-own one in
         own ∙ sym is

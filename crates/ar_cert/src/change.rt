@@ -2,6 +2,8 @@ ghost use Rattle.std.specs.Prelude.{◌≡◌, ◌++◌, OnOk, OnErr, IfOk};
 
 use crate::Cert;
 use ar_base::Items;
+use lms_tree::LmsPublic;
+use std::alloc::Global;
 use std::marker::Model;
 
 /// The most endorsements of a change.
@@ -27,6 +29,13 @@ impl Model for Endorsement {
     ghost invariant = { λ e. IsSignature e.signature };
 }
 
+/// What was found of a handover: whether it is valid under this key.
+#[derive(Clone, Copy, Debug)]
+pub(crate) struct HandedOver {
+    pub(crate) key: LmsPublic,
+    pub(crate) valid: bool,
+}
+
 /// A certificate with what vouches for it.
 #[derive(Debug, Drop)]
 pub struct Change {
@@ -39,13 +48,19 @@ pub struct Change {
     /// The signature by which the key of the certificate before objects to this one, at most 65,535
     /// bytes. With it there are no endorsements and no handover.
     pub objection: Option<Items<u8>>,
+    // What was found when the handover was verified last. No clause sees it.
+    pub(crate) handed: Option<HandedOver>,
 }
 
-// Clauses see the four fields.
+// Clauses see the first four fields. What was found of the handover is what is true of it.
 impl Model for Change {
-    ghost use Rattle.std.specs.Prelude.{◌≤◌, length, IfSome};
+    ghost use Rattle.std.specs.Prelude.{◌≡◌, ◌≤◌, length, IfSome};
     ghost use Rattle.ar_bytes.specs.Ascending.{Ascend};
+    ghost use Rattle.ar_cert.specs.Certificate.{digest_of};
     ghost use Rattle.ar_cert.specs.Changes.{Change, IsSignature, IsEndorsement, StandsAlone};
+    ghost use Rattle.ar_cert.specs.Judging.{is_signed};
+    ghost use Rattle.ar_statement.specs.Claims.{text_of};
+    ghost use Rattle.ar_statement.specs.Claims as claims;
 
     ghost Value = { Change };
 
@@ -59,11 +74,28 @@ impl Model for Change {
     ghost invariant = { λ c. (length c.endorsements ≤ 8)
         × Ascend (λ v. v.authority) IsEndorsement 0 c.endorsements
         × IfSome c.handover IsSignature × IfSome c.objection IsSignature
-        × IfSome c.objection (λ _. StandsAlone c.endorsements c.handover) };
+        × IfSome c.objection (λ _. StandsAlone c.endorsements c.handover)
+        × IfSome c.handed (λ h.
+        is_signed h.key (text_of (claims.handover (digest_of c.cert))) c.handover ≡ h.valid) };
 }
 
 impl Change {
+    ghost use Rattle.std.specs.Prelude.{◌≡◌, [], None};
     ghost use Rattle.ar_cert.specs.Changes.{IsChange};
+
+    /// A certificate for which nothing vouches. It takes no memory.
+    pub fn bare(alloc: Global, cert: Cert) -> Change
+        ensures { result
+            ≡ record { cert = cert; endorsements = []; handover = None; objection = None } }
+    {
+        Change {
+            cert,
+            endorsements: Items::new(alloc),
+            handover: None,
+            objection: None,
+            handed: None,
+        }
+    }
 
     /// That each field is in its range, and that an objection stands alone.
     pub fn told(&self)

@@ -195,6 +195,7 @@ impl<'a> ChangeView<'a> {
             endorsements: Items::from_vec(endorsements),
             handover,
             objection,
+            handed: None,
         })
     }
 }

@@ -102,6 +102,7 @@ impl Change {
             endorsements: Items::from_vec(endorsements),
             handover,
             objection,
+            handed: self.handed,
         })
     }
 }

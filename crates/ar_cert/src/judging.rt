@@ -1,4 +1,4 @@
-ghost use Rattle.std.specs.Prelude.{◌≡◌, ◌≤◌, ◌↔◌, ◌&&◌, ◌∷◌, [], length, map, take, Some, None, IsTrue};
+ghost use Rattle.std.specs.Prelude.{◌≡◌, ◌≤◌, ◌↔◌, ◌&&◌, ◌∷◌, [], length, map, take, Some, None, IfSome, IsTrue};
 ghost use Rattle.std.specs.Option.{option_map};
 ghost use Rattle.ar_base.specs.FirstFailing.{first_failing};
 ghost use Rattle.ar_statement.specs.Claims.{claim_of, text_of};
@@ -7,10 +7,11 @@ ghost use Rattle.cert_policy.specs.Clauses.{follow_answer, in_manner, update_ans
 ghost use Rattle.cert_policy.specs.Terms.{cert_terms};
 ghost use Rattle.cert_policy.specs.declared.manner.Manner.TheVariants.{Objected};
 ghost use Rattle.cert_policy.specs.declared.refusal.PolicyRefusal.TheVariants.{NotPending, Objection};
+ghost use Rattle.ar_cert.specs.Certificate.{digest_of};
 ghost use Rattle.ar_cert.specs.Judging.{cert_terms_of, endorsers_of, is_handed_over, is_pending, is_signed, change_judgement, update_judgement, with_fourth_failed, EachFollows, IsAccepted, IsChain};
 
 use crate::cert::Cert;
-use crate::change::{Change, Endorsement};
+use crate::change::{Change, Endorsement, HandedOver};
 use ar_base::Items;
 use ar_statement::{Statement, Text};
 use cert_policy::{Facts, Manner, PolicyRefusal, follows, meets_common, registrable, update};
@@ -39,16 +40,37 @@ fn is_signed(key: &LmsPublic, statement: &Statement, signature: &Option<Items<u8
     valid(key, text.as_bytes(), signature.as_slice()) == Verdict::Valid
 }
 
-/// Whether the old policy asks for a handover and there is one under this key. The signature is verified
-/// only where it is asked for.
-fn hands_over(old: &Facts, new: &Facts, key: &LmsPublic, handover: &Option<Items<u8>>) -> bool
-    ensures { result ≡ (cert_terms old.now).policy.keyed && is_signed key.now
-        (text_of (claims.handover (cert_terms new.now).digest)) handover.now }
+/// Whether both are one key.
+fn is_same_key(one: &LmsPublic, other: &LmsPublic) -> bool
+    ensures { IsTrue result → one.now ≡ other.now }
 {
+    *one == *other
+}
+
+/// Whether the key hands over to the change's certificate, which has this digest. What was found under this key is not
+/// verified again.
+fn is_handed_by(key: &LmsPublic, digest: &[u8; 32], change: &Change) -> bool
+    requires { digest.now ≡ digest_of change.now.cert }
+    ensures { result
+        ≡ is_signed key.now (text_of (claims.handover digest.now)) change.now.handover }
+{
+    if let Some(valid) = change.found_under(key) {
+        return valid;
+    }
     let statement = Statement::Handover {
-        certificate: new.digest,
+        certificate: *digest,
     };
-    old.policy.keyed && is_signed(key, &statement, handover)
+    is_signed(key, &statement, &change.handover)
+}
+
+/// Whether the old policy asks for a handover and the change has one under this key. The signature is verified
+/// only where it is asked for.
+fn hands_over(old: &Facts, new: &Facts, key: &LmsPublic, change: &Change) -> bool
+    requires { (cert_terms new.now).digest ≡ digest_of change.now.cert }
+    ensures { result ≡ (cert_terms old.now).policy.keyed && is_signed key.now
+        (text_of (claims.handover (cert_terms new.now).digest)) change.now.handover }
+{
+    old.policy.keyed && is_handed_by(key, &new.digest, change)
 }
 
 /// Whether the key objects to the certificate with this digest, and that is what is pending; or else the least
@@ -78,25 +100,26 @@ fn judge_objection(
     }
 }
 
-/// How a change without an objection is taken, with this handover under the key. The signature is verified only where each
+/// How a change without an objection is taken, with its handover under the key. The signature is verified only where each
 /// clause holds that every update has to meet.
 fn judge_plain(
     old: &Facts,
     new: &Facts,
     endorsers: &[u16],
     key: &LmsPublic,
-    handover: &Option<Items<u8>>,
+    change: &Change,
     pending: bool,
 ) -> Result<Manner, PolicyRefusal>
+    requires { (cert_terms new.now).digest ≡ digest_of change.now.cert }
     ensures { result ≡ update_answer (cert_terms old.now) (cert_terms new.now) endorsers.now
         ((cert_terms old.now).policy.keyed && is_signed key.now
-        (text_of (claims.handover (cert_terms new.now).digest)) handover.now) pending }
+        (text_of (claims.handover (cert_terms new.now).digest)) change.now.handover) pending }
 {
     match meets_common(old, new, endorsers) {
         Ok(()) => {}
         Err(refusal) => return Err(refusal),
     }
-    let handover = hands_over(old, new, key, handover);
+    let handover = hands_over(old, new, key, change);
     update(old, new, endorsers, handover, pending)
 }
 
@@ -121,13 +144,12 @@ pub fn judge_update(
     }
     let numbers = authorities(change.endorsements.as_slice());
     let endorsers = &numbers[..change.endorsements.len()];
-    let handover = &change.handover;
     judge_plain(
         &before,
         &after,
         endorsers,
         &old.subject,
-        handover,
+        change,
         pending.is_some(),
     )
 }
@@ -140,7 +162,7 @@ fn judge_follow(old: &Cert, change: &Change, endorsers: &[u16]) -> Result<(), Po
 {
     let before = old.facts();
     let after = change.cert.facts();
-    let handover = hands_over(&before, &after, &old.subject, &change.handover);
+    let handover = hands_over(&before, &after, &old.subject, change);
     follows(&before, &after, endorsers, handover)
 }
 
@@ -216,4 +238,80 @@ pub fn chain_ok(chain: &[Change]) -> bool
         return false;
     };
     is_first(first) && each_follows(chain)
+}
+
+impl Change {
+    /// What was found of the handover under this key.
+    fn found_under(&self, key: &LmsPublic) -> Option<bool>
+        ensures { IfSome result (λ valid. is_signed key.now
+            (text_of (claims.handover (digest_of self.now.cert))) self.now.handover ≡ valid) }
+    {
+        let Some(handed) = self.handed else {
+            return None;
+        };
+        if is_same_key(&handed.key, key) {
+            Some(handed.valid)
+        } else {
+            None
+        }
+    }
+
+    /// The verdict on the handover under the key of the certificate before, which has these terms, where its policy asks for
+    /// a handover and each clause holds that every update has to meet.
+    fn verdict_behind(&self, before: &Facts, key: &LmsPublic) -> Option<bool>
+        ensures { IfSome result (λ valid. is_signed key.now
+            (text_of (claims.handover (digest_of self.now.cert))) self.now.handover ≡ valid) }
+    {
+        if self.objection.is_some() || !before.policy.keyed {
+            return None;
+        }
+        let after = self.cert.facts();
+        let numbers = authorities(self.endorsements.as_slice());
+        let endorsers = &numbers[..self.endorsements.len()];
+        match meets_common(before, &after, endorsers) {
+            Ok(()) => Some(is_handed_by(key, &after.digest, self)),
+            Err(_) => None,
+        }
+    }
+
+    /// Verifies the handover behind this certificate, where the policy rule would, and keeps what it finds: where the
+    /// change, or a copy of it, is judged behind the same key, nothing is verified again. It takes no memory.
+    pub fn verify_handover(&mut self, old: &Cert)
+        ensures { self.new ≡ self.old }
+    {
+        if let Some(valid) = self.verdict_behind(&old.facts(), &old.subject) {
+            self.handed = Some(HandedOver {
+                key: old.subject,
+                valid,
+            });
+        }
+    }
+
+    /// What was found of the handover of an equal change.
+    fn found_by(&self, other: &Change) -> Option<HandedOver>
+        ensures { IfSome result (λ handed. is_signed handed.key
+            (text_of (claims.handover (digest_of self.now.cert))) self.now.handover
+            ≡ handed.valid) }
+    {
+        self.told();
+        other.told();
+        if self.is_same(other) {
+            other.handed
+        } else {
+            None
+        }
+    }
+
+    /// Keeps what was found of an equal change's handover. It tells whether there was such. It takes no memory.
+    pub fn recall(&mut self, other: &Change) -> bool
+        ensures { self.new ≡ self.old }
+    {
+        match self.found_by(other) {
+            Some(handed) => {
+                self.handed = Some(handed);
+                true
+            }
+            None => false,
+        }
+    }
 }

@@ -1,4 +1,4 @@
-ghost use Rattle.std.specs.Prelude.{◌≡◌, ◌++◌, ◌∷◌, [], IfOk, OnErr, OnOk, Some, None, if◌then◌else◌, is_some, length};
+ghost use Rattle.std.specs.Prelude.{◌≡◌, ◌++◌, ◌∷◌, [], IfErr, IfOk, OnErr, OnOk, Some, None, if◌then◌else◌, is_some, length};
 ghost use Rattle.std.specs.Option.{option_map};
 ghost use Rattle.ar_base.specs.Gives.{StepsUnless};
 ghost use Rattle.client_rule.specs.Rule.{judgement};
@@ -10,7 +10,6 @@ ghost use Rattle.client_memory.specs.declared.answers.Pinned.TheVariants as pinn
 use crate::links::{followed, linked};
 use crate::pin::{Pin, extend, has_room, newest_of, pin_of, strike};
 use crate::{AddFault, Pinned};
-use ar_base::Items;
 use ar_cert::{Cert, CertView, Change};
 use ar_names::{Name, NameView};
 use client_rule::{Judgement, judge};
@@ -70,12 +69,8 @@ fn ends_in(
 fn first_change(alloc: Global, certificate: &CertView) -> Result<Change, AllocError>
     ensures { IfOk result (λ change. change ≡ first_change certificate.now) }
 {
-    Ok(Change {
-        cert: certificate.to_cert(alloc)?,
-        endorsements: Items::new(alloc),
-        handover: None,
-        objection: None,
-    })
+    let cert = certificate.to_cert(alloc)?;
+    Ok(Change::bare(alloc, cert))
 }
 
 /// Whether there is a change, and each next one follows the one before it by the policy rule.
@@ -272,8 +267,10 @@ impl PinBook {
     /// The changes are judged by the policy rule alone, each behind the one before it: what vouched for them was verified
     /// when they were pinned, and for the rest they are the caller's word. An error changes nothing.
     pub fn add(&mut self, _alloc: Global, name: Name, chain: Vec<Change>) -> Result<(), AddFault>
-        ensures { StepsUnless add_fault.Memory (λ book u. book) result self.old self.new
+        ensures answer { StepsUnless add_fault.Memory (λ book u. book) result self.old self.new
             (added self.old name chain.items) }
+        // What stands in the way is told whatever memory there is.
+        ensures refused { IfErr (added self.old name chain.items) (λ why. result ≡ Err why) }
     {
         if self.chain(name.text()).is_some() {
             return Err(AddFault::Pinned);

@@ -96,7 +96,7 @@ impl LogCore {
         self.told();
         self.have_signed_decision(alloc, epoch, value, changes, votes)?;
         in_epoch(&self.log, epoch)?;
-        let table = leads(alloc, &self.log, value, changes)?;
+        let table = leads(alloc, &self.log, &self.queue, value, changes)?;
         enough(self.log.directory(), votes.len())?;
         Ok(table)
     }

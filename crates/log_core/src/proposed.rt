@@ -1,6 +1,6 @@
 //! The row of Propose: the log votes for another log's proposal.
 
-ghost use Rattle.std.specs.Prelude.{◌≡◌, All, IfOk, Some};
+ghost use Rattle.std.specs.Prelude.{◌≡◌, ◌∷◌, [], All, IfOk, Some};
 ghost use Rattle.ar_base.specs.Gives.{GivesUnless};
 ghost use Rattle.ar_cert.specs.Changes.{IsChange};
 ghost use Rattle.ar_message.specs.Lists.{AreChanges};
@@ -8,6 +8,7 @@ ghost use Rattle.domain_table.specs.Applying.{apply};
 ghost use Rattle.epoch_log.specs.State.{epoch_of, table_of};
 ghost use Rattle.ar_base.specs.FirstFailing.{first_error};
 ghost use Rattle.log_core.specs.Proposed.{ballot_draft, proposal_signers, proposed_checks, proposed_judged, proposed_row, voting_checks};
+ghost use Rattle.log_sending.specs.Checks.{not_stated, not_voted};
 ghost use Rattle.log_sending.specs.Sending.{none_composed, with_draft};
 ghost use Rattle.log_sending.specs.Signers.{signers};
 ghost use Rattle.log_core.specs.Steps.{IsStep};
@@ -55,6 +56,15 @@ impl LogCore {
         self.have_signed(front, changes)
     }
 
+    /// That the log has neither voted in the epoch nor told its status.
+    fn has_done_nothing(&self) -> Result<(), LogRefusal>
+        ensures { result ≡ first_error (not_voted self.now.log ∷ not_stated self.now.log ∷ []) }
+    {
+        self.told();
+        not_voted(&self.log)?;
+        not_stated(&self.log)
+    }
+
     /// That the log has done nothing in the epoch, that it may vote for this value, and that it has a leaf for the vote. It
     /// gives the table to which the changes lead.
     fn may_vote(
@@ -69,9 +79,8 @@ impl LogCore {
         ensures table { IfOk result (λ table. apply (table_of self.now.log)
             (epoch_of self.now.log) changes.now ≡ Some table) }
     {
-        not_voted(&self.log)?;
-        not_stated(&self.log)?;
-        let table = leads(alloc, &self.log, value, changes)?;
+        self.has_done_nothing()?;
+        let table = leads(alloc, &self.log, &self.queue, value, changes)?;
         let statement = vote_statement(self.log.number(), self.log.epoch(), value);
         leaf_left(&self.log.record().signed, &statement).and(Ok(table))
     }

@@ -57,13 +57,26 @@ fn has_place(queue: &[Change]) -> Result<(), LogRefusal>
 }
 
 impl LogCore {
-    /// The checks of a Submit, in their order; and then whether an equal change is queued.
+    /// Verifies the handover behind the newest certificate of the change's name, if the log has one, and keeps in the change
+    /// what it finds. It takes no memory.
+    fn find_handover(&self, change: &mut Change)
+        ensures { change.new ≡ change.old }
+    {
+        if let Some(old) = self.log.table().newest(change.cert.name.text()) {
+            change.verify_handover(old);
+        }
+    }
+
+    /// The checks of a Submit, in their order; and then whether an equal change is queued. What is found of its handover is
+    /// kept in the change, behind the check of its endorsements, so that no one else has the log verify it.
     #[tactic(auto, unfolding(crate::specs::Submit::submit_judged))]
-    fn judge_submit(&self, alloc: Global, change: &Change) -> Result<bool, LogRefusal>
-        ensures { GivesUnless refusals.Memory (λ queued.
-            queued) result (submit_judged self.now change.now) }
+    fn judge_submit(&self, alloc: Global, change: &mut Change) -> Result<bool, LogRefusal>
+        ensures judged { GivesUnless refusals.Memory (λ queued.
+            queued) result (submit_judged self.now change.old) }
+        ensures same { change.new ≡ change.old }
     {
         check_endorsements(alloc, self.log.directory(), change)?;
+        self.find_handover(change);
         taken_alone(self.log.table().judge(self.log.epoch(), change))?;
         let queued = is_queued(&self.queue, change);
         if !queued {
@@ -89,7 +102,8 @@ impl LogCore {
     pub(crate) fn submit(&mut self, alloc: Global, change: Change) -> Result<Unsigned, LogRefusal>
         ensures { IsStep result self.old self.new (submit_row self.old change) }
     {
-        let queued = match self.judge_submit(alloc, &change) {
+        let mut change = change;
+        let queued = match self.judge_submit(alloc, &mut change) {
             Ok(queued) => queued,
             Err(refusal) => return Err(refusal),
         };

@@ -14,18 +14,20 @@ ghost use Rattle.log_sending.specs.declared.refusal.LogRefusal.TheVariants as re
 
 use crate::LogRefusal;
 use crate::checks::same_base;
-use crate::queued::are_same;
+use crate::queued::{are_same, recall_queued};
 use ar_cert::Change;
 use domain_table::{ApplyFault, Table};
 use epoch_log::{EpochLog, own_vote};
 use std::alloc::Global;
 use vote_quorum::Value;
 
-/// Takes a copy of the change with this index, unless the table refuses it.
+/// Takes a copy of the change with this index, unless the table refuses it. What was found of the handover of an equal
+/// change that is queued is not verified again.
 fn take_one(
     alloc: Global,
     epoch: u64,
     table: &mut Table,
+    queue: &[Change],
     index: usize,
     change: &Change,
 ) -> Result<(), LogRefusal>
@@ -33,7 +35,9 @@ fn take_one(
         (table_behind (judge table.old epoch change.now) index
         (ripen table.old epoch) epoch change.now) }
 {
-    match table.apply(alloc, epoch, change.copy(alloc)?) {
+    let mut copied = change.copy(alloc)?;
+    recall_queued(queue, &mut copied);
+    match table.apply(alloc, epoch, copied) {
         Ok(()) => Ok(()),
         Err((_, ApplyFault::Change(refusal))) => Err(LogRefusal::BadChange(index, refusal)),
         Err((_, ApplyFault::Memory)) => Err(LogRefusal::Memory),
@@ -45,6 +49,7 @@ fn take_each(
     alloc: Global,
     epoch: u64,
     table: &mut Table,
+    queue: &[Change],
     index: usize,
     changes: &[Change],
 ) -> Result<(), LogRefusal>
@@ -56,8 +61,8 @@ fn take_each(
 {
     match changes {
         [] => Ok(()),
-        [change, rest @ ..] => match take_one(alloc, epoch, table, index, change) {
-            Ok(()) => take_each(alloc, epoch, table, index + 1, rest),
+        [change, rest @ ..] => match take_one(alloc, epoch, table, queue, index, change) {
+            Ok(()) => take_each(alloc, epoch, table, queue, index + 1, rest),
             Err(refusal) => Err(refusal),
         },
     }
@@ -68,6 +73,7 @@ fn try_all(
     alloc: Global,
     table: &Table,
     epoch: u64,
+    queue: &[Change],
     changes: &[Change],
 ) -> Result<Table, LogRefusal>
     requires sound { IsSound table.now }
@@ -76,7 +82,7 @@ fn try_all(
         after) result (table_in (judged table.now epoch changes.now)) }
 {
     let mut after = table.copy(alloc)?;
-    take_each(alloc, epoch, &mut after, 0, changes)?;
+    take_each(alloc, epoch, &mut after, queue, 0, changes)?;
     after.ripen(alloc, epoch)?;
     Ok(after)
 }
@@ -99,7 +105,12 @@ fn tried_for<'a>(log: &'a EpochLog, changes: &[Change]) -> Option<&'a Table>
 }
 
 /// The table behind the changes: a copy of the one that the log tried for its own vote, where they are those of the vote.
-fn table_for(alloc: Global, log: &EpochLog, changes: &[Change]) -> Result<Table, LogRefusal>
+fn table_for(
+    alloc: Global,
+    log: &EpochLog,
+    queue: &[Change],
+    changes: &[Change],
+) -> Result<Table, LogRefusal>
     requires { All IsChange changes.now }
     ensures { GivesUnless refusals.Memory (λ after. after) result
         (table_in (judged (table_of log.now.state) (epoch_of log.now.state) changes.now)) }
@@ -107,16 +118,17 @@ fn table_for(alloc: Global, log: &EpochLog, changes: &[Change]) -> Result<Table,
     log.told();
     match tried_for(log, changes) {
         Some(tried) => Ok(tried.copy(alloc)?),
-        None => try_all(alloc, log.table(), log.epoch(), changes),
+        None => try_all(alloc, log.table(), log.epoch(), queue, changes),
     }
 }
 
 /// That a value is for the log's base, that the log's table accepts each change behind those before it, and that they
 /// lead to the value's root. It gives the table to which they lead. Where they are the changes of the log's own vote, it
-/// verifies and hashes nothing anew.
+/// verifies and hashes nothing anew; and nowhere a handover that an equal change of the queue was verified with, behind the same key.
 pub fn leads(
     alloc: Global,
     log: &EpochLog,
+    queue: &[Change],
     value: &Value,
     changes: &[Change],
 ) -> Result<Table, LogRefusal>
@@ -127,7 +139,7 @@ pub fn leads(
         (epoch_of log.now.state) changes.now ≡ Some table) }
 {
     same_base(log, &value.base)?;
-    let table = table_for(alloc, log, changes)?;
+    let table = table_for(alloc, log, queue, changes)?;
     let root = table.root();
     if root == value.root {
         Ok(table)

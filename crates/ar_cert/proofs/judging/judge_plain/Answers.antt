@@ -10,5 +10,5 @@ pub returns-in-Err : goal.returns-in-Err
 returns-in-Err c =
     let old : CertTerms = cert_terms c.args.old.now in
     let new : CertTerms = cert_terms c.args.new.now in
-    sym (common_refuses old new c.args.endorsers.now (old.policy.keyed && is_signed c.args.key.now (text_of (claims.handover new.digest)) c.args.handover.now)
+    sym (common_refuses old new c.args.endorsers.now (old.policy.keyed && is_signed c.args.key.now (text_of (claims.handover new.digest)) c.args.change.now.handover)
     c.args.pending c.in-Err.refusal (sym c.in-Err.ensures))
