@@ -1,1 +1,2 @@
+pub mod FirstOwn
 pub mod LaterKeys

@@ -11,6 +11,7 @@ use Rattle.ar_statement.specs.Claims.{party}
 use Rattle.ar_statement.specs.declared.party.Role.{Role}
 use Rattle.ar_statement.specs.declared.party.Role.TheVariants.{Owner}
 use Rattle.arpki_ask.specs.Inquiries.{directory_at}
+use Rattle.arpki_ask.specs.Written.{key_line}
 use Rattle.lms_tree.specs.Key.{public_of}
 use Rattle.lms_tree.specs.KeyParts.{KeyParts}
 use Rattle.party_keys.specs.Directory.{Directory}
@@ -44,6 +45,12 @@ abbrev pub key_taken : Role → ℕ → List ℕ → Result KeyParts NotOpened
 key_taken role number text = do
   said ← ok_or (secret_said text) why.NoSecret
   Ok (key_for (setup_for role said) role number)
+
+-- the line of that key in a directory, without its newline
+abbrev pub key_line_taken : Role → ℕ → List ℕ → Result (List ℕ) NotOpened
+key_line_taken role number text = do
+  key ← key_taken role number text
+  Ok (key_line (public_of key))
 
 -- What a party is made of, by the texts of its directory and its secret's file: its number, the directory, the key, and the mark of a
 -- journal that belongs to it, to this key and to the text of that directory. The directory has no other first key of it.

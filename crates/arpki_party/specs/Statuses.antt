@@ -1,5 +1,5 @@
 -- The status where a run ends.
-use Rattle.std.specs.Prelude.{ℕ, Result, Ok, Err}
+use Rattle.std.specs.Prelude.{ℕ, Bool, true, false, Result, Ok, Err}
 use Rattle.desk_run.specs.declared.stop.Stop.{Stop}
 use Rattle.desk_run.specs.declared.stop.Stop.TheVariants as stops
 use Rattle.arpki_party.specs.declared.not_opened.NotOpened.{NotOpened}
@@ -23,3 +23,8 @@ end_status (Err stop) = stop_status stop
 abbrev pub refused_status : NotOpened → ℕ
 refused_status why.Memory = 6
 refused_status _ = 3
+
+-- where the line of a key, or the help, was written or was not: 5 where a write failed
+abbrev pub written_status : Bool → ℕ
+written_status true = 0
+written_status false = 5

@@ -1,12 +1,14 @@
 //! A party that is made of its parts, from the file of its journal on.
 
 ghost use Rattle.std.specs.Prelude.{◌≡◌, ◌≢◌, ◌⊎◌, ℕ, List, Err, IfOk, IfErr, OnErr};
+ghost use Rattle.ar_base.specs.Faults.{HasRisen};
 ghost use Rattle.arpki_party.specs.Refused.{IsRefused};
+ghost use Rattle.arpki_party.specs.declared.not_opened.NotOpened.TheVariants.{Text};
 ghost use Rattle.authority_keeper.specs.Keeping as authority;
 ghost use Rattle.desk_run.specs.Answers.{AnswersLine};
 ghost use Rattle.desk_run.specs.Opened.{HasCause, HasRun, LeavesRun};
 ghost use Rattle.kept_disk.specs.Moments.{LeavesOnly};
-ghost use Rattle.kept_journal.specs.Journal.{Stands};
+ghost use Rattle.kept_journal.specs.Journal.{IsAsBefore, Stands};
 ghost use Rattle.lms_tree.specs.KeyParts.{KeyParts};
 ghost use Rattle.log_journal.specs.Steps as log;
 ghost use Rattle.owner_keeper.specs.Keeping as owner;
@@ -18,7 +20,7 @@ use ar_io::{Sink, Source};
 use authority_keeper::AuthorityKeeper;
 use desk_run::{Stop, open_and_answer};
 use kept_disk::Disk;
-use kept_party::KeptParty;
+use kept_party::{KeptParty, OpenFault};
 use log_keeper::LogKeeper;
 use owner_keeper::OwnerKeeper;
 use party_desk::LineParty;
@@ -61,13 +63,15 @@ impl OfParts for OwnerKeeper {
 
 /// Makes a party of these parts, opens it by the journal on a disk, which has their mark, and has it answer the lines of a source
 /// until they end: the party, and why it stopped, where it did.
-pub(crate) fn go_on<D: OfParts, K: Disk + Drop, S: Source, W: Sink>(
+///
+/// Where there is no such party, nothing is read or written, and the disk comes back with the reason.
+pub(crate) fn go_on<D: OfParts, K: Disk, S: Source, W: Sink>(
     alloc: Global,
     parts: Parts,
     disk: K,
     source: &mut S,
     sink: &mut W,
-) -> Result<(KeptParty<D, K>, Result<(), Stop>), NotOpened>
+) -> Result<(KeptParty<D, K>, Result<(), Stop>), (K, NotOpened)>
     // What `open_and_answer` says of a run, of this party, this mark and the file as it was found.
     ensures run { IfOk result (λ run. HasRun D.takes
         (AnswersLine D.asked D.says D.takes D.tells D.refuses D.sent_text D.told_text
@@ -88,15 +92,25 @@ pub(crate) fn go_on<D: OfParts, K: Disk + Drop, S: Source, W: Sink>(
         (record { disk = K.faults disk; source = S.faults source.old; sink = W.faults sink.old })
         (record { disk = K.faults run.0.journal.disk; source = S.faults source.new; sink = W.faults sink.new })
         (S.left source.old) (S.left source.new)) }
-    // Where there is no such party: why, and that nothing was read or written.
-    ensures refused { IfErr result (IsRefused D.takes parts.mark (K.seen disk)
-        (D.at_first parts.number parts.directory parts.key)) }
+    // Where there is no such party: why, that nothing was read or written, and what is left of the file. A call of the disk
+    // failed exactly where that is told.
+    ensures refused { IfErr result (λ e. IsRefused D.takes parts.mark (K.seen disk)
+        (D.at_first parts.number parts.directory parts.key) e.1) }
+    ensures fault { IfErr result (λ e. e.1 ≡ Text OpenFault.DiskFault
+        → HasRisen (K.faults disk) (K.faults e.0)) }
+    ensures kept { IfErr result (λ e. e.1 ≢ Text OpenFault.DiskFault
+        → (K.seen e.0 ≡ K.seen disk) × (K.faults e.0 ≡ K.faults disk)) }
+    ensures any_moment_err { IfErr result (λ e. LeavesOnly K.moment K.left_since disk e.0
+        (IsAsBefore (K.may_leave disk) parts.mark (K.seen disk))) }
     ensures silent { OnErr result ((source.new ≡ source.old) × (sink.new ≡ sink.old)) }
 {
     let mark = parts.mark;
-    let party = D::of(alloc, parts)?;
+    let party = match D::of(alloc, parts) {
+        Ok(party) => party,
+        Err(_) => return Err((disk, NotOpened::Memory)),
+    };
     match open_and_answer(alloc, &mark, party, disk, source, sink) {
         Ok(run) => Ok(run),
-        Err((_disk, fault)) => Err(NotOpened::from(fault)),
+        Err((disk, fault)) => Err((disk, NotOpened::from(fault))),
     }
 }

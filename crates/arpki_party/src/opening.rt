@@ -1,18 +1,25 @@
 //! What a party is made of, and the file of its journal.
 
-ghost use Rattle.std.specs.Prelude.{◌≡◌, ◌⊎◌, ℕ, List, Ok, Err, IfOk, IfErr};
+ghost use Rattle.std.specs.Prelude.{◌≡◌, ◌⊎◌, ◌∷◌, [], ℕ, List, Ok, Err, true, IfOk, IfErr};
 ghost use Rattle.ar_base.specs.Gives.{GivesUnless};
+ghost use Rattle.ar_base.specs.Prefixes.{BeginsWith};
+ghost use Rattle.ar_statement.specs.Claims.{party};
+ghost use Rattle.ar_statement.specs.Ranges.{is_witness};
 ghost use Rattle.arpki_party.specs.FirstKeys.{may_have};
 ghost use Rattle.arpki_party.specs.Made.{IsUnread, parts_taken};
 ghost use Rattle.arpki_party.specs.Marks.{belonging, mark_of};
 ghost use Rattle.arpki_party.specs.Refused.{IsOfFile};
 ghost use Rattle.arpki_party.specs.declared.not_opened.NotOpened.TheVariants.{Memory};
 ghost use Rattle.file_disk.specs.File.{IsJustOpened};
+ghost use Rattle.lms_tree.specs.Key.{public_of};
+ghost use Rattle.party_keys.specs.Directory.{keys_of};
+ghost use Rattle.party_keys.specs.Learning.{is_key};
 ghost use Rattle.sha2.specs.Sha256.{sha256};
 
 use crate::files::{bytes_of, first_directory_in};
 use crate::not_opened::NotOpened;
 use crate::secret::key_in;
+use ar_council::key_told;
 use ar_lines::letter_of;
 use ar_statement::{Party, Role};
 use file_disk::{FileDisk, FileFault};
@@ -62,15 +69,27 @@ fn mark_of(party: Party, key: &LmsPublic, directory: &[u8]) -> [u8; 8]
     ]
 }
 
+/// Whether two keys are one, by their texts.
+fn is_same(one: &LmsPublic, other: &LmsPublic) -> bool
+    ensures text { result ≡ is_key one.now other.now }
+    ensures key { result ≡ true → one.now ≡ other.now }
+{
+    key_told(one);
+    key_told(other);
+    one.bytes() == other.bytes()
+}
+
 /// Whether the party may have this as its first key: a log or an authority where the directory says so; of an owner it says nothing.
 fn may_have(directory: &Directory, party: Party, key: &LmsPublic) -> bool
-    ensures { result ≡ may_have directory.now party key.now }
+    ensures may { result ≡ may_have directory.now party key.now }
+    ensures own { result ≡ true → is_witness party.role ≡ true
+        → BeginsWith (keys_of directory.now party) (key.now ∷ []) }
 {
     if !party.role.is_witness() {
         return true;
     }
     match directory.key(party, 0) {
-        Some(known) => known.bytes() == key.bytes(),
+        Some(known) => is_same(known, key),
         None => false,
     }
 }
@@ -83,8 +102,10 @@ fn parts_in(
     directory: &[u8],
     secret: &[u8],
 ) -> Result<Parts, NotOpened>
-    ensures { GivesUnless Memory (λ parts. parts) result
+    ensures made { GivesUnless Memory (λ parts. parts) result
         (parts_taken role number directory.now secret.now) }
+    ensures own { IfOk result (λ parts. is_witness role ≡ true
+        → keys_of parts.directory (party role number) ≡ public_of parts.key ∷ []) }
 {
     let keys = first_directory_in(alloc, directory)?;
     let key = key_in(alloc, secret, role, number)?;
@@ -111,6 +132,9 @@ pub(crate) fn parts_of(
 ) -> Result<Parts, NotOpened>
     ensures made { IfOk result (λ parts. (directory secret : List ℕ)
         × (parts_taken role number directory secret ≡ Ok parts)) }
+    // A log or an authority begins with its first key: its directory has this one of it, and no other.
+    ensures own { IfOk result (λ parts. is_witness role ≡ true
+        → keys_of parts.directory (party role number) ≡ public_of parts.key ∷ []) }
     ensures refused { IfErr result (λ e. IsUnread e ⊎ ((directory secret : List ℕ)
         × (parts_taken role number directory secret ≡ Err e))) }
 {

@@ -1,8 +1,12 @@
 //! A run of the program: its status.
 
-ghost use Rattle.std.specs.Prelude.{◌≡◌, IfOk, string_bytes};
+ghost use Rattle.std.specs.Prelude.{◌≡◌, ◌⊎◌, ℕ, List, Ok, Err, IfOk, IfErr, string_bytes};
+ghost use Rattle.ar_base.specs.Gives.{GivesUnless};
 ghost use Rattle.arpki_ask.specs.Written.{key_line};
-ghost use Rattle.arpki_party.specs.Statuses.{end_status, refused_status, stop_status};
+ghost use Rattle.arpki_party.specs.Made.{IsUnread, key_line_taken};
+ghost use Rattle.arpki_party.specs.Statuses.{end_status, refused_status, stop_status, written_status};
+ghost use Rattle.arpki_party.specs.Words.{role_of};
+ghost use Rattle.arpki_party.specs.declared.not_opened.NotOpened.TheVariants.{Memory};
 
 use crate::asked::{Asked, PartyKind};
 use crate::files::bytes_of;
@@ -92,7 +96,7 @@ fn answer_lines<D: OfParts>(
         disk,
         &mut source,
         &mut sink,
-    )?;
+    ).map_err(|(_disk, why)| why)?;
     Ok(tell_ended(rt, run.1))
 }
 
@@ -118,21 +122,38 @@ fn key_line(alloc: Global, key: &LmsPublic) -> Result<String, AllocError>
     format!(in alloc; "key {digits}")
 }
 
-/// Writes the line of a party's key in a directory: the status.
-fn write_key(
-    rt: &HostRuntime,
+/// The line of the first key of this party in a directory, without its newline, by the text of its secret's file.
+fn key_line_in(
+    alloc: Global,
+    text: &[u8],
     kind: PartyKind,
     number: u16,
-    secret: &str,
-) -> Result<u8, NotOpened> {
+) -> Result<String, NotOpened>
+    ensures { GivesUnless Memory string_bytes result
+        (key_line_taken (role_of kind) number text.now) }
+{
+    let key = key_in(alloc, text, kind.role(), number)?;
+    Ok(key_line(alloc, &key.public())?)
+}
+
+/// Writes the line of a party's key in a directory: the status.
+fn write_key(rt: &HostRuntime, kind: PartyKind, number: u16, secret: &str) -> Result<u8, NotOpened>
+    // That there is a line, by what was read of the file, and whether it was written.
+    ensures made { IfOk result (λ status. ((text line : List ℕ)
+        × (key_line_taken (role_of kind) number text ≡ Ok line))
+        × ((status ≡ 0) ⊎ (status ≡ 5))) }
+    ensures refused { IfErr result (λ e. IsUnread e ⊎ ((text : List ℕ)
+        × (key_line_taken (role_of kind) number text ≡ Err e))) }
+{
     let text = bytes_of(rt, secret, "of the secret")?;
-    let key = key_in(rt.alloc(), &text, kind.role(), number)?;
-    let line = key_line(rt.alloc(), &key.public())?;
+    let line = key_line_in(rt.alloc(), &text, kind, number)?;
     Ok(tell_written(rt, println!(rt; "{line}").is_ok()))
 }
 
 /// Tells that a write failed, where not all was written: the status.
-fn tell_written(rt: &HostRuntime, is_written: bool) -> u8 {
+fn tell_written(rt: &HostRuntime, is_written: bool) -> u8
+    ensures { result ≡ written_status is_written }
+{
     if is_written {
         0
     } else {

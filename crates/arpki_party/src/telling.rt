@@ -16,7 +16,7 @@ const HELP: [&str; 21] = [
     "The second form writes the line of the party's first key in a directory.",
     "",
     "  role       log, authority or owner",
-    "  number     the party's number in the directory, from 0 (an owner's is its own choice, below 512)",
+    "  number     the party's number in the directory, from 0 (an owner's is below 512, and no other owner's)",
     "  directory  a file of the lines logs, key, authorities, key, as arpki check reads them",
     "  secret     a file of the line 'secret <64 hex>' and, of a log or an authority, 'keys <lms> <ots>';",
     "             nobody but the party's user may read it",

@@ -1,6 +1,6 @@
 -- What an authority answers to a message, by the book of its check.
-use Rattle.std.proofs.Common.{◌≡◌, ◌≢◌, ◌⊎◌, ◌∙◌, ap, refl, subst, sym, arith, inl, inr, ⊎_elim, ℕ, ◌≤◌, List, [], ◌∷◌, length, nat_lt, Bool, true, false, cond, is_none, Option, None, Some, Result, Ok, Err}
-use Rattle.std.specs.Prelude.{IfErr, IfSome, is_some}
+use Rattle.std.proofs.Common.{◌≡◌, ◌≢◌, ◌⊎◌, ◌∙◌, ap, refl, subst, sym, arith, inl, inr, ⊎_elim, ℕ, ◌≤◌, List, [], length, nat_lt, Bool, true, false, cond, is_none, Option, None, Some, Result, Ok, Err}
+use Rattle.std.specs.Prelude.{IfSome, is_some}
 use Rattle.std.specs.Option.{option_map}
 use Rattle.std.proofs.lemmas.Option.{same_Some}
 use Rattle.ar_base.proofs.Places.{not-less}
@@ -10,15 +10,14 @@ use Rattle.ar_message.specs.declared.message.Message.{Message}
 use Rattle.ar_message.specs.declared.message.Message.TheVariants.{EndorseAsk, Endorsed, Submit, Propose, Ballot, StatusNote, Decision, SkipNote, ConfirmAsk, LogConfirmed, HalfConfirmed, Confirmation, RollNote}
 use Rattle.ar_message.specs.declared.sent.Sent.{Sent}
 use Rattle.ar_message.specs.declared.unsigned.Unsigned.{Unsigned}
-use Rattle.authority_core.specs.Checked.{ChecksBy, IsAsTold, TellsAsBefore}
-use Rattle.authority_core.specs.EndorseRow.{SaysAsTold, asked_of, endorse_row, endorsing, outcome_by}
+use Rattle.authority_core.specs.Checked.{IsAsTold, TellsAsBefore}
+use Rattle.authority_core.specs.EndorseRow.{SaysAsTold, asked_of, endorsing, outcome_by}
 use Rattle.authority_core.specs.Keyed.{SendsBy}
 use Rattle.authority_core.specs.Row.{asked_in, message_row, row}
 use Rattle.authority_core.specs.State.{AuthorityAnswer, AuthorityState}
 use Rattle.authority_core.specs.declared.entries.Approved.{Approved}
 use Rattle.authority_core.specs.declared.refusal.AuthorityRefusal.{AuthorityRefusal}
 use Rattle.authority_core.specs.declared.refusal.AuthorityRefusal.TheVariants as refusals
-use Rattle.keyed_core.specs.Signing.{signed_answer}
 use Rattle.lms_tree.specs.KeyParts.{KeyParts}
 use Rattle.owner_check.specs.Answers.{Booked, Told}
 use Rattle.owner_check.specs.Book.{has_pair}

@@ -1,17 +1,18 @@
 -- What a check learns and forgets, and the end of one.
-use Rattle.std.proofs.Common.{◌≡◌, ◌∙◌, ap, refl, subst, sym, ℕ, List, Bool, true, false, is_none, Option, None, Some, Result, Ok, Err}
+use Rattle.std.proofs.Common.{◌≡◌, ◌∙◌, ap, refl, subst, sym, ℕ, List, true, false, is_none, Option, None, Some, Result, Ok, Err}
 use Rattle.std.specs.Prelude.{OnOk, is_some}
 use Rattle.std.specs.Option.{option_map}
 use Rattle.std.proofs.lemmas.Option.{same_Some}
 use Rattle.ar_message.specs.Filling.{nothing}
 use Rattle.ar_message.specs.declared.sent.Sent.{Sent}
-use Rattle.authority_core.specs.Checked.{TellsAsBefore, TellsBy}
+use Rattle.authority_core.specs.Checked.{KeepsAnswers, TellsBy}
 use Rattle.authority_core.specs.State.{AuthorityState}
 use Rattle.lms_tree.specs.KeyParts.{KeyParts}
 use Rattle.owner_check.specs.Answers.{Booked, Told, forgotten, learnt}
+use Rattle.owner_check.specs.declared.answer.CheckAnswer.{CheckAnswer}
 use Rattle.owner_check.specs.declared.pair.Pair.{Pair}
-use Rattle.authority_keeper.proofs.Answered.{clash, told_of}
-use Rattle.authority_keeper.specs.Checks.{book_of}
+use Rattle.authority_keeper.proofs.Answered.{answers_of, clash, told_of}
+use Rattle.authority_keeper.specs.Checks.{HasLetGo, book_of}
 use Rattle.authority_keeper.specs.Inputs.{retires}
 use Rattle.authority_keeper.specs.Keeping.{AuthorityStanding, Steps}
 use Rattle.authority_keeper.specs.Said.{lesson_input, taught}
@@ -35,6 +36,14 @@ taught_so lesson name key None new there same told = clash (sym there)
 taught_so lesson name key (Some old) None there same told = clash same
 taught_so lessons.Learn name key (Some old) (Some new) there same told = (old.book, (refl, ap Some (ap (λ (t : Told). t.book) (same_Some _ _ told))))
 taught_so lessons.Forget name key (Some old) (Some new) there same told = (old.book, (refl, ap Some (ap (λ (t : Told). t.book) (same_Some _ _ told))))
+
+-- a check whose list of answers is as before has let go of them where it had
+pub stays_gone : (old new : Option Booked) → is_none new ≡ is_none old → KeepsAnswers answers_of old new → HasLetGo old → HasLetGo new
+stays_gone None None there kept gone = refl
+stays_gone None (Some new) there kept gone = clash (sym there)
+stays_gone (Some old) None there kept gone = clash there
+stays_gone (Some old) (Some new) there kept gone =
+    ap (λ (l : List CheckAnswer). Some (record new { answers = l })) (kept ∙ ap (λ (c : Booked). c.answers) (same_Some _ _ gone))
 
 -- ---- where the authority stands
 

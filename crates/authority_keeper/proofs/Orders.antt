@@ -3,7 +3,6 @@ use Rattle.std.proofs.Common.{◌≡◌, ◌∙◌, ap, refl, subst, sym, ℕ, L
 use Rattle.std.specs.Prelude.{IfOk, IfSome}
 use Rattle.std.proofs.lemmas.Option.{same_Some}
 use Rattle.ar_message.specs.Filling.{nothing}
-use Rattle.ar_message.specs.Messages.{message_in}
 use Rattle.ar_message.specs.declared.sent.Sent.{Sent}
 use Rattle.ar_names.specs.Names.{IsName}
 use Rattle.authority_core.specs.Keyed.{SendsBy}
@@ -22,7 +21,7 @@ use Rattle.authority_keeper.specs.Inputs.{Input, IsWhole, input_in, input_text, 
 use Rattle.authority_keeper.specs.Keeping.{AuthorityStanding, DoneBy, Sends, Steps, answer_to}
 use Rattle.authority_keeper.specs.Keeping as keeping
 use Rattle.authority_keeper.specs.Said.{lesson_input, taught}
-use Rattle.authority_keeper.specs.declared.refusal.OrderRefusal.{OrderRefusal}
+use Rattle.authority_keeper.specs.declared.refusal.AuthorityOrderRefusal.{AuthorityOrderRefusal}
 use Rattle.authority_keeper.specs.declared.text.Lesson.{Lesson}
 use Rattle.authority_keeper.specs.declared.text.Lesson.TheVariants as lessons
 
@@ -96,13 +95,13 @@ of-text : {A : Type 0} (P : A → Type 0) (text : Option A) (is : A) → text �
 of-text P text is e p = subst (λ o. IfSome o P) (sym e) p
 
 -- what was done has a text, which is taken
-pub done_so : (old new : AuthorityStanding) (input : Input) (words : List ℕ → Type 0) → words (input_text input) → (result : Result (Done Sent) OrderRefusal)
+pub done_so : (old new : AuthorityStanding) (input : Input) (words : List ℕ → Type 0) → words (input_text input) → (result : Result (Done Sent) AuthorityOrderRefusal)
     → IfOk result (λ done. DoneBy old input done new) → IfOk result (λ done. IfSome done.text (λ text. keeping.takes old text done.reply new × words text))
 done_so old new input words spelled (Ok done) by = of-text (λ text. keeping.takes old text done.reply new × words text) done.text (input_text input) by.0 (by.1, spelled)
 done_so old new input words spelled (Err refusal) by = tt
 
 -- so nothing is told without one
-pub not_told : (old new : AuthorityStanding) (input : Input) (X : Done Sent → Type 0) (result : Result (Done Sent) OrderRefusal) → IfOk result (λ done. DoneBy old input done new)
+pub not_told : (old new : AuthorityStanding) (input : Input) (X : Done Sent → Type 0) (result : Result (Done Sent) AuthorityOrderRefusal) → IfOk result (λ done. DoneBy old input done new)
     → IfOk result (λ done. done.text ≡ None → X done)
 not_told old new input X (Ok done) by = λ none. let never : ◌≡◌ {A = Option (List ℕ)} (Some (input_text input)) None = sym by.0 ∙ none in absurd cc
 not_told old new input X (Err refusal) by = tt
@@ -111,7 +110,7 @@ not_told old new input X (Err refusal) by = tt
 abbrev pub RollsTo : AuthorityStanding → Done Sent → AuthorityStanding → Type 0
 RollsTo old done new = (next : KeyParts) × (IsNext old.keys next × DoneBy old (rolls (public_of next)) done new)
 
-pub roll_done : (old new : AuthorityStanding) (result : Result (Done Sent) OrderRefusal) → IfOk result (λ done. RollsTo old done new)
+pub roll_done : (old new : AuthorityStanding) (result : Result (Done Sent) AuthorityOrderRefusal) → IfOk result (λ done. RollsTo old done new)
     → IfOk result (λ done. IfSome done.text (λ text. keeping.takes old text done.reply new
     × ((next : KeyParts) × (IsNext old.keys next × (text ≡ input_text (rolls (public_of next)))))))
 roll_done old new (Ok done) by =
@@ -119,7 +118,7 @@ roll_done old new (Ok done) by =
     (input_text (rolls (public_of by.0))) by.1.1.0 (by.1.1.1, (by.0, (by.1.0, refl)))
 roll_done old new (Err refusal) by = tt
 
-pub roll_not_told : (old new : AuthorityStanding) (X : Done Sent → Type 0) (result : Result (Done Sent) OrderRefusal) → IfOk result (λ done. RollsTo old done new)
+pub roll_not_told : (old new : AuthorityStanding) (X : Done Sent → Type 0) (result : Result (Done Sent) AuthorityOrderRefusal) → IfOk result (λ done. RollsTo old done new)
     → IfOk result (λ done. done.text ≡ None → X done)
 roll_not_told old new X (Ok done) by = λ none. let never : ◌≡◌ {A = Option (List ℕ)} (Some (input_text (rolls (public_of by.0)))) None = sym by.1.1.0 ∙ none in absurd cc
 roll_not_told old new X (Err refusal) by = tt

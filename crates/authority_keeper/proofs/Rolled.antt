@@ -1,5 +1,5 @@
 -- An authority goes on to its next key.
-use Rattle.std.proofs.Common.{◌≡◌, ◌≢◌, ◌⊎◌, ◌∙◌, ap, arith, inl, inr, length-append, refl, subst, sym, ⊎_elim, ℕ, ◌+◌, ◌-◌, List, [], ◌∷◌, ◌++◌, length, Option, Some, Ok, Err}
+use Rattle.std.proofs.Common.{◌≡◌, ◌≢◌, ◌⊎◌, ◌∙◌, ap, arith, inl, inr, length-append, refl, sym, ⊎_elim, ℕ, ◌-◌, List, [], ◌∷◌, ◌++◌, length, Some, Ok, Err}
 use Rattle.std.specs.Prelude.{slice_get}
 use Rattle.ar_message.specs.declared.sent.Sent.{Sent}
 use Rattle.authority_core.specs.Keyed.{SendsBy}
@@ -13,7 +13,7 @@ use Rattle.lms_tree.specs.declared.public_key.LmsPublic.{LmsPublic}
 use Rattle.authority_keeper.proofs.Answered.{not_sent}
 use Rattle.authority_keeper.specs.Inputs.{rolls}
 use Rattle.authority_keeper.specs.Keeping.{AuthorityStanding, RefusesRoll, Steps, Turns}
-use Rattle.authority_keeper.specs.declared.refusal.OrderRefusal.TheVariants as refusals
+use Rattle.authority_keeper.specs.declared.refusal.AuthorityOrderRefusal.TheVariants as refusals
 
 -- ---- keys
 

@@ -1,5 +1,5 @@
 -- The text of an input says it, and is the only one that does.
-use Rattle.std.proofs.Common.{◌≡◌, ◌∙◌, ap, refl, subst, sym, arith, ℕ, suc, ◌≤◌, List, [], ◌∷◌, ◌++◌, length, take, drop, Bool, true, false, cond, eqb, is_none, Option, None, Some}
+use Rattle.std.proofs.Common.{◌≡◌, ◌∙◌, ap, refl, subst, sym, ℕ, suc, ◌≤◌, List, [], ◌∷◌, ◌++◌, length, take, drop, Bool, true, false, cond, eqb, is_none, None, Some}
 use Rattle.std.specs.Option.{option_map}
 use Rattle.std.proofs.lemmas.Bool.{eqb-true}
 use Rattle.std.proofs.lemmas.List.{drop_all, drop_at, take-append-drop, take_at}
@@ -8,7 +8,7 @@ use Rattle.ar_base.proofs.Shown.{mapped}
 use Rattle.ar_base.specs.Bytes.{AreBytes}
 use Rattle.ar_names.specs.Names.{IsName, first_fault_of, is_name, is_open}
 use Rattle.lms_tree.proofs.KeyLemmas.{key_of_text-key_text, key_text-key_of_text}
-use Rattle.lms_tree.specs.PublicKey.{key_of_text, key_text}
+use Rattle.lms_tree.specs.PublicKey.{key_of_text}
 use Rattle.authority_keeper.specs.Inputs.{Input, IsWhole, forgets, input_in, input_of_kind, input_text, key_len, learns, lesson_in, retired_in, retires, rolled_in, rolls, takes}
 
 -- ---- what a text says

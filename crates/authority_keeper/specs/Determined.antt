@@ -10,7 +10,7 @@ use Rattle.lms_tree.specs.KeyParts.{KeyParts}
 use Rattle.owner_check.specs.Book.{with_pair, without_pair}
 use Rattle.owner_check.specs.declared.pair.Pair.{Pair}
 use Rattle.authority_keeper.specs.Inputs.{Input, forgets, learns, retires, rolls, takes}
-use Rattle.authority_keeper.specs.Keeping.{AuthorityStanding, Learns, Sends, Steps, Turns}
+use Rattle.authority_keeper.specs.Keeping.{AuthorityStanding, ChangesBook, Sends, Steps, Turns}
 use Rattle.authority_keeper.specs.Keeping as keeping
 
 abbrev standing : AuthorityState → List KeyParts → Option (List Pair) → AuthorityStanding
@@ -54,9 +54,9 @@ turned old one other key next reply said same a b =
     answered (old.keys ++ key ∷ []) (roll_row old.state (public_of key)) one other reply said a.answer answer
     (a.keys ∙ ap (λ (k : KeyParts). old.keys ++ k ∷ []) same ∙ sym b.keys) (a.book ∙ sym b.book)
 
-learned : (old one other : AuthorityStanding) (after : List Pair → Option (List Pair)) (reply said : Sent) → (a : (book : List Pair) × Learns old book (after book) reply one)
-    → (b : (book : List Pair) × Learns old book (after book) said other) → Same one other reply said
-learned old one other after reply said a b =
+book_changed : (old one other : AuthorityStanding) (after : List Pair → Option (List Pair)) (reply said : Sent) → (a : (book : List Pair) × ChangesBook old book (after book) reply one)
+    → (b : (book : List Pair) × ChangesBook old book (after book) said other) → Same one other reply said
+book_changed old one other after reply said a b =
     let book : a.0 ≡ b.0 = same-book a.0 b.0 (sym a.1.had ∙ b.1.had) in
     (a.1.silent ∙ sym b.1.silent, a.1.is ∙ ap (λ (k : List Pair). record old { book = after k }) book ∙ sym b.1.is)
 
@@ -64,9 +64,9 @@ by : (input : Input) (old one other : AuthorityStanding) (reply said : Sent) →
 by (takes bytes) old one other reply said a b =
     answered old.keys (keeping.answer_to old bytes) one other reply said a.0 b.0 (a.1.0 ∙ sym b.1.0) (a.1.1 ∙ sym b.1.1)
 by (rolls key) old one other reply said a b = turned old one other a.0 b.0 reply said (one-next old.keys a.0 b.0 a.1.1.next b.1.1.next) a.1.1 b.1.1
-by (learns name key) old one other reply said a b = learned old one other (λ book. Some (with_pair book name key)) reply said a b
-by (forgets name key) old one other reply said a b = learned old one other (λ book. Some (without_pair book name key)) reply said a b
-by retires old one other reply said a b = learned old one other (λ book. None) reply said a b
+by (learns name key) old one other reply said a b = book_changed old one other (λ book. Some (with_pair book name key)) reply said a b
+by (forgets name key) old one other reply said a b = book_changed old one other (λ book. Some (without_pair book name key)) reply said a b
+by retires old one other reply said a b = book_changed old one other (λ book. None) reply said a b
 
 pub one_standing : (party one other : AuthorityStanding) (text : List ℕ) (reply said : Sent) → keeping.takes party text reply one → keeping.takes party text said other
     → (reply ≡ said) × (one ≡ other)

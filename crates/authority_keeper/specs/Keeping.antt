@@ -27,8 +27,8 @@ use Rattle.authority_keeper.specs.Checks.{book_of}
 use Rattle.authority_keeper.specs.Inputs.{Input, forgets, input_in, input_text, learns, retires, rolls, takes as takes_message}
 use Rattle.authority_keeper.specs.declared.order.AuthorityOrder.{AuthorityOrder}
 use Rattle.authority_keeper.specs.declared.order.AuthorityOrder.TheVariants as orders
-use Rattle.authority_keeper.specs.declared.refusal.OrderRefusal.{OrderRefusal}
-use Rattle.authority_keeper.specs.declared.refusal.OrderRefusal.TheVariants as refusals
+use Rattle.authority_keeper.specs.declared.refusal.AuthorityOrderRefusal.{AuthorityOrderRefusal}
+use Rattle.authority_keeper.specs.declared.refusal.AuthorityOrderRefusal.TheVariants as refusals
 
 -- where an authority stands, its key of each generation, and the book of its check, until it retires
 pub record AuthorityStanding : Type 0 where
@@ -75,7 +75,7 @@ pub record Turns (old : AuthorityStanding) (key : KeyParts) (sent : Sent) (new :
   pub book : new.book ≡ old.book
 
 -- its book is another one, and nothing is sent
-pub record Learns (old : AuthorityStanding) (book : List Pair) (after : Option (List Pair)) (sent : Sent) (new : AuthorityStanding) : Type 0 where
+pub record ChangesBook (old : AuthorityStanding) (book : List Pair) (after : Option (List Pair)) (sent : Sent) (new : AuthorityStanding) : Type 0 where
   pub had : old.book ≡ Some book
   pub is : new ≡ record old { book = after }
   pub silent : sent ≡ nothing.sent
@@ -85,9 +85,9 @@ abbrev pub Steps : AuthorityStanding → Input → Sent → AuthorityStanding �
 Steps old (takes_message bytes) sent new =
     Sends old.keys (answer_to old bytes) sent new.state × ((new.keys ≡ old.keys) × (new.book ≡ old.book))
 Steps old (rolls key) sent new = (next : KeyParts) × ((key ≡ public_of next) × Turns old next sent new)
-Steps old (learns name key) sent new = (book : List Pair) × Learns old book (Some (with_pair book name key)) sent new
-Steps old (forgets name key) sent new = (book : List Pair) × Learns old book (Some (without_pair book name key)) sent new
-Steps old retires sent new = (book : List Pair) × Learns old book None sent new
+Steps old (learns name key) sent new = (book : List Pair) × ChangesBook old book (Some (with_pair book name key)) sent new
+Steps old (forgets name key) sent new = (book : List Pair) × ChangesBook old book (Some (without_pair book name key)) sent new
+Steps old retires sent new = (book : List Pair) × ChangesBook old book None sent new
 
 -- it takes the input that a text says
 pub record takes (old : AuthorityStanding) (text : List ℕ) (sent : Sent) (new : AuthorityStanding) : Type 0 where
@@ -108,22 +108,22 @@ says party (orders.Forget name key) text = text ≡ input_text (forgets name key
 says party orders.Retire text = text ≡ input_text retires
 
 -- memory is wanting, or this answer refuses so
-abbrev pub RefusesBy : (AuthorityRefusal → Type 0) → OrderRefusal → Type 0
+abbrev pub RefusesBy : (AuthorityRefusal → Type 0) → AuthorityOrderRefusal → Type 0
 RefusesBy refuses (refusals.Authority refusal) = (refusal ≡ Memory) ⊎ refuses refusal
 RefusesBy refuses refusals.Retired = ⊥
 
 -- memory is wanting, or the authority has retired
-abbrev pub RefusesLesson : Option (List Pair) → OrderRefusal → Type 0
+abbrev pub RefusesLesson : Option (List Pair) → AuthorityOrderRefusal → Type 0
 RefusesLesson book (refusals.Authority refusal) = refusal ≡ Memory
 RefusesLesson book refusals.Retired = book ≡ None
 
 -- a roll to its next key is refused so
-abbrev pub RefusesRoll : AuthorityStanding → OrderRefusal → Type 0
+abbrev pub RefusesRoll : AuthorityStanding → AuthorityOrderRefusal → Type 0
 RefusesRoll party refusal =
     RefusesBy (λ r. (next : KeyParts) × (IsNext party.keys next × (roll_row party.state (public_of next) ≡ Err r))) refusal
 
 -- how an order is refused, where an authority stands so
-abbrev pub refuses : AuthorityStanding → AuthorityOrder → OrderRefusal → Type 0
+abbrev pub refuses : AuthorityStanding → AuthorityOrder → AuthorityOrderRefusal → Type 0
 refuses party (orders.Take bytes) refusal = RefusesBy (λ r. answer_to party bytes ≡ Err r) refusal
 refuses party orders.Roll refusal = RefusesRoll party refusal
 refuses party (orders.Learn name key) refusal = RefusesLesson party.book refusal

@@ -1,6 +1,7 @@
 //! An authority does what it is asked, and has the record of that. All memory is taken before the first change.
 
 ghost use Rattle.std.specs.Prelude.{◌≡◌, Err, IfErr, IfOk, OnErr};
+ghost use Rattle.authority_keeper.specs.Checks.{HasLetGo};
 ghost use Rattle.authority_keeper.specs.Inputs.{retires, rolls, takes};
 ghost use Rattle.authority_keeper.specs.Keeping.{DoneBy, RefusesBy, RefusesLesson, RefusesRoll, answer_to, standing_of};
 ghost use Rattle.authority_keeper.specs.Said.{lesson_input};
@@ -8,7 +9,7 @@ ghost use Rattle.key_roll.specs.Ring.{IsNext};
 ghost use Rattle.lms_tree.specs.Key.{public_of};
 ghost use Rattle.lms_tree.specs.KeyParts.{KeyParts};
 
-use crate::OrderRefusal;
+use crate::AuthorityOrderRefusal;
 use crate::steps::{BookedAuthority, answer_by_book, instruct};
 use crate::text::{
     Lesson, record_of_lesson, record_of_message, record_of_retirement, record_of_roll,
@@ -24,12 +25,13 @@ pub(crate) fn ask_to_take(
     alloc: Global,
     authority: &mut BookedAuthority,
     bytes: &[u8],
-) -> Result<Done<Sent>, OrderRefusal>
+) -> Result<Done<Sent>, AuthorityOrderRefusal>
     ensures done { IfOk result (λ done. DoneBy (standing_of authority.old) (takes bytes.now) done
         (standing_of authority.new)) }
     ensures refused { IfErr result (RefusesBy (λ r.
         answer_to (standing_of authority.old) bytes.now ≡ Err r)) }
     ensures err { OnErr result (standing_of authority.new ≡ standing_of authority.old) }
+    ensures gone { HasLetGo authority.old.core.check → HasLetGo authority.new.core.check }
 {
     let text = record_of_message(alloc, bytes)?;
     let reply = answer_by_book(alloc, authority, bytes)?;
@@ -43,12 +45,13 @@ pub(crate) fn ask_to_take(
 pub(crate) fn ask_to_roll(
     alloc: Global,
     authority: &mut BookedAuthority,
-) -> Result<Done<Sent>, OrderRefusal>
+) -> Result<Done<Sent>, AuthorityOrderRefusal>
     ensures done { IfOk result (λ done. (next : KeyParts) × (IsNext authority.old.ring.keys next
         × DoneBy (standing_of authority.old) (rolls (public_of next)) done
         (standing_of authority.new))) }
     ensures refused { IfErr result (RefusesRoll (standing_of authority.old)) }
     ensures err { OnErr result (standing_of authority.new ≡ standing_of authority.old) }
+    ensures gone { HasLetGo authority.old.core.check → HasLetGo authority.new.core.check }
 {
     let key = authority.next_key(alloc)?;
     key_told(&key);
@@ -58,7 +61,7 @@ pub(crate) fn ask_to_roll(
             reply,
             text: Some(text),
         }),
-        Err(refusal) => Err(OrderRefusal::Authority(refusal)),
+        Err(refusal) => Err(AuthorityOrderRefusal::Authority(refusal)),
     }
 }
 
@@ -69,14 +72,15 @@ pub(crate) fn ask_to_instruct(
     lesson: Lesson,
     name: &Name,
     key: &[u8; 56],
-) -> Result<Done<Sent>, OrderRefusal>
+) -> Result<Done<Sent>, AuthorityOrderRefusal>
     ensures done { IfOk result (λ done. DoneBy (standing_of authority.old)
         (lesson_input lesson name.now key.now) done (standing_of authority.new)) }
     ensures refused { IfErr result (RefusesLesson (standing_of authority.old).book) }
     ensures err { OnErr result (standing_of authority.new ≡ standing_of authority.old) }
+    ensures gone { HasLetGo authority.old.core.check → HasLetGo authority.new.core.check }
 {
     if authority.core.retired() {
-        return Err(OrderRefusal::Retired);
+        return Err(AuthorityOrderRefusal::Retired);
     }
     let text = record_of_lesson(alloc, lesson, name, key)?;
     instruct(alloc, authority, lesson, name.text(), key)?;
@@ -90,14 +94,15 @@ pub(crate) fn ask_to_instruct(
 pub(crate) fn ask_to_retire(
     alloc: Global,
     authority: &mut BookedAuthority,
-) -> Result<Done<Sent>, OrderRefusal>
+) -> Result<Done<Sent>, AuthorityOrderRefusal>
     ensures done { IfOk result (λ done. DoneBy (standing_of authority.old) retires done
         (standing_of authority.new)) }
     ensures refused { IfErr result (RefusesLesson (standing_of authority.old).book) }
     ensures err { OnErr result (standing_of authority.new ≡ standing_of authority.old) }
+    ensures gone { HasLetGo authority.old.core.check → HasLetGo authority.new.core.check }
 {
     if authority.core.retired() {
-        return Err(OrderRefusal::Retired);
+        return Err(AuthorityOrderRefusal::Retired);
     }
     let text = record_of_retirement(alloc)?;
     authority.core.retire();

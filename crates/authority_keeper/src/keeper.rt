@@ -9,7 +9,7 @@ use crate::check::ForgetfulCheck;
 use crate::recalling::{instruct_again, retire_again, roll_again, take_again};
 use crate::steps::BookedAuthority;
 use crate::text::{Lesson, Said, read_text};
-use crate::{AuthorityOrder, OrderRefusal};
+use crate::{AuthorityOrder, AuthorityOrderRefusal};
 use ar_message::Sent;
 use authority_core::{AuthorityRecord, new_authority};
 use kept_party::{Done, Keeper, ReplayFault};
@@ -20,19 +20,23 @@ use std::marker::Model;
 
 /// An authority that a journal can keep, with a check by a book.
 ///
-/// Of what its check answered it keeps nothing: however many requests it refuses, it stays as large as it is.
+/// Of what its check answered it keeps nothing: behind each call the list of its answers is empty, whatever was asked. So it stays as
+/// large as it is, however many requests it refuses.
 #[derive(Drop)]
 pub struct AuthorityKeeper {
     authority: BookedAuthority,
 }
 
-// Clauses see where it stands, its keys, and the book of its check.
+// Clauses see where it stands, its keys, and the book of its check. Of answers of the check there are none.
 impl Model for AuthorityKeeper {
+    ghost use Rattle.authority_keeper.specs.Checks.{HasLetGo};
     ghost use Rattle.authority_keeper.specs.Keeping.{AuthorityStanding, standing_of};
 
     ghost Value = { AuthorityStanding };
 
     ghost view = { λ k. standing_of k.authority };
+
+    ghost invariant = { λ k. HasLetGo k.authority.core.check };
 }
 
 impl AuthorityKeeper {
@@ -74,7 +78,7 @@ impl Keeper for AuthorityKeeper {
 
     type Reply = Sent;
 
-    type Refusal = OrderRefusal;
+    type Refusal = AuthorityOrderRefusal;
 
     ghost takes = { takes };
 
@@ -86,7 +90,11 @@ impl Keeper for AuthorityKeeper {
 
     ghost determined = { one_standing };
 
-    fn step(&mut self, alloc: Global, order: &AuthorityOrder) -> Result<Done<Sent>, OrderRefusal> {
+    fn step(
+        &mut self,
+        alloc: Global,
+        order: &AuthorityOrder,
+    ) -> Result<Done<Sent>, AuthorityOrderRefusal> {
         match order {
             AuthorityOrder::Take(bytes) => ask_to_take(
                 alloc,

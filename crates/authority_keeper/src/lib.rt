@@ -5,12 +5,15 @@
 //! check are among them, so what the check answered is known again without a record of its own: an endorsement in a journal is one
 //! to which the book said yes (`specs/Keeping.antt`).
 //!
-//! Its tests: none yet; its laws (`laws`) stand in their place.
+//! `specs/Said.antt` has what the code reads of a text, `specs/Checks.antt` the book of a check, and
+//! `specs/Determined.antt` that there is one thing that an authority sends for a text, and one that it becomes.
+//!
+//! Its tests: `examples/party`, by the program `arpki_party`, and `tools/network`.
 #![tactic(auto)]
 
 pub use keeper::AuthorityKeeper;
 pub use order::AuthorityOrder;
-pub use refusal::OrderRefusal;
+pub use refusal::AuthorityOrderRefusal;
 
 mod asking;
 mod check;

@@ -1,6 +1,7 @@
 //! An authority takes what its journal has of it again. After an error nothing is said of it.
 
 ghost use Rattle.std.specs.Prelude.{◌≡◌, ◌≢◌, false, IfOk, IsErrOf, IsTrue};
+ghost use Rattle.authority_keeper.specs.Checks.{HasLetGo};
 ghost use Rattle.authority_keeper.specs.Inputs.{retires, rolls, takes};
 ghost use Rattle.authority_keeper.specs.Keeping.{AuthorityStanding, Steps, standing_of};
 ghost use Rattle.authority_keeper.specs.Said.{lesson_input};
@@ -34,6 +35,7 @@ pub(crate) fn take_again(
         (standing_of authority.new)) }
     ensures stuck { IsErrOf result ReplayFault.Stuck → (sent : Sent) (later : AuthorityStanding)
         → ¬ Steps (standing_of authority.old) (takes bytes.now) sent later }
+    ensures gone { HasLetGo authority.old.core.check → HasLetGo authority.new.core.check }
 {
     match answer_by_book(alloc, authority, bytes) {
         Ok(sent) => Ok(sent),
@@ -66,6 +68,7 @@ pub(crate) fn roll_again(
         (standing_of authority.new)) }
     ensures stuck { IsErrOf result ReplayFault.Stuck → (sent : Sent) (later : AuthorityStanding)
         → ¬ Steps (standing_of authority.old) (rolls key.now) sent later }
+    ensures gone { HasLetGo authority.old.core.check → HasLetGo authority.new.core.check }
 {
     newest_told(authority);
     match authority.roll(alloc) {
@@ -92,6 +95,7 @@ pub(crate) fn instruct_again(
         (lesson_input lesson name.now key.now) sent (standing_of authority.new)) }
     ensures stuck { IsErrOf result ReplayFault.Stuck → (sent : Sent) (later : AuthorityStanding)
         → ¬ Steps (standing_of authority.old) (lesson_input lesson name.now key.now) sent later }
+    ensures gone { HasLetGo authority.old.core.check → HasLetGo authority.new.core.check }
 {
     if authority.core.retired() {
         return Err(ReplayFault::Stuck);
@@ -109,6 +113,7 @@ pub(crate) fn retire_again(
         (standing_of authority.new)) }
     ensures stuck { IsErrOf result ReplayFault.Stuck → (sent : Sent) (later : AuthorityStanding)
         → ¬ Steps (standing_of authority.old) retires sent later }
+    ensures gone { HasLetGo authority.old.core.check → HasLetGo authority.new.core.check }
 {
     if authority.core.retired() {
         return Err(ReplayFault::Stuck);

@@ -1,6 +1,6 @@
 ghost use Rattle.std.specs.Prelude.{◌≡◌};
 ghost use Rattle.authority_core.specs.declared.refusal.AuthorityRefusal.TheVariants as authority;
-ghost use Rattle.authority_keeper.specs.declared.refusal.OrderRefusal.TheVariants as refusals;
+ghost use Rattle.authority_keeper.specs.declared.refusal.AuthorityOrderRefusal.TheVariants as refusals;
 
 use authority_core::AuthorityRefusal;
 use std::alloc::AllocError;
@@ -8,7 +8,7 @@ use thiserror::Error;
 
 /// Why an authority does not do what it is asked. After each of these it stands as before.
 #[derive(Clone, Copy, Debug, PartialEq, Eq, Error)]
-pub enum OrderRefusal {
+pub enum AuthorityOrderRefusal {
     /// Its row refuses, or memory is wanting.
     #[error("{0}")]
     Authority(AuthorityRefusal),
@@ -17,18 +17,18 @@ pub enum OrderRefusal {
     Retired,
 }
 
-impl From<AuthorityRefusal> for OrderRefusal {
+impl From<AuthorityRefusal> for AuthorityOrderRefusal {
     ghost from_gives = { λ refusal e. e ≡ refusals.Authority refusal };
 
-    fn from(refusal: AuthorityRefusal) -> OrderRefusal {
-        OrderRefusal::Authority(refusal)
+    fn from(refusal: AuthorityRefusal) -> AuthorityOrderRefusal {
+        AuthorityOrderRefusal::Authority(refusal)
     }
 }
 
-impl From<AllocError> for OrderRefusal {
+impl From<AllocError> for AuthorityOrderRefusal {
     ghost from_gives = { λ _ e. e ≡ refusals.Authority authority.Memory };
 
-    fn from(_error: AllocError) -> OrderRefusal {
-        OrderRefusal::Authority(AuthorityRefusal::Memory)
+    fn from(_error: AllocError) -> AuthorityOrderRefusal {
+        AuthorityOrderRefusal::Authority(AuthorityRefusal::Memory)
     }
 }

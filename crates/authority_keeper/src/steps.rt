@@ -3,7 +3,7 @@
 ghost use Rattle.std.specs.Prelude.{◌≡◌, List, true, Some, is_some, OnErr, OnOk};
 ghost use Rattle.std.specs.Option.{option_map};
 ghost use Rattle.authority_core.specs.Keyed.{SendsBy};
-ghost use Rattle.authority_keeper.specs.Checks.{without_answers};
+ghost use Rattle.authority_keeper.specs.Checks.{HasLetGo, without_answers};
 ghost use Rattle.authority_keeper.specs.Keeping.{answer_to, standing_of};
 ghost use Rattle.authority_keeper.specs.Said.{taught};
 ghost use Rattle.owner_check.specs.declared.pair.Pair.{Pair};
@@ -36,8 +36,7 @@ pub(crate) fn answer_by_book(
         authority.new.core.state (answer_to (standing_of authority.old) bytes.now) }
     ensures keys { authority.new.ring.keys ≡ authority.old.ring.keys }
     ensures book { (standing_of authority.new).book ≡ (standing_of authority.old).book }
-    ensures gone { authority.new.core.check
-        ≡ option_map without_answers authority.new.core.check }
+    ensures gone { HasLetGo authority.new.core.check }
 {
     let reply = answer(authority, alloc, bytes);
     let_go(&mut authority.core.check);
@@ -58,6 +57,7 @@ pub(crate) fn instruct(
         × (standing_of authority.new ≡ record (standing_of authority.old)
         { book = Some (taught lesson book name.now key.now) })) }
     ensures err { OnErr result (standing_of authority.new ≡ standing_of authority.old) }
+    ensures gone { HasLetGo authority.old.core.check → HasLetGo authority.new.core.check }
 {
     match lesson {
         Lesson::Learn => authority.core.teach(alloc, name, key),

@@ -3,6 +3,7 @@ pub mod Crashed
 pub mod Cuts
 pub mod Fronts
 pub mod Opened
+pub mod Replayed
 pub mod Served
 pub mod Stopped
 pub mod Taken

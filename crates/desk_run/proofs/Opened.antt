@@ -52,11 +52,11 @@ module _ {P Order Reply : Type 0} (takes : P → List ℕ → Reply → P → Ty
         → Only seen (may_leave opened.journal.disk) → Stands mark (recovered file) seen
         → LeavesOnly moment left_since disk opened.journal.disk (IsAsBefore (may_leave disk) mark file)
         → LeavesOnly moment left_since opened.journal.disk later
-        (λ c. may_leave opened.journal.disk c ⊎ LeavesFront asked says answers opened.party first last opened.journal.mark opened.journal.texts c)
+        (λ c. may_leave opened.journal.disk c ⊎ LeavesFront asked says takes answers opened.party first last opened.journal.mark opened.journal.texts c)
         → LeavesOnly moment left_since disk later (λ c. may_leave disk c ⊎ LeavesRun takes answers asked says mark file new first last c)
     run_left mark file seen new opened again disk later first last input came is only stands early run =
         let P : List ℕ → Type 0 = λ c. may_leave disk c ⊎ LeavesRun takes answers asked says mark file new first last c in
-        let Q : List ℕ → Type 0 = λ c. may_leave opened.journal.disk c ⊎ LeavesFront asked says answers opened.party first last opened.journal.mark opened.journal.texts c in
+        let Q : List ℕ → Type 0 = λ c. may_leave opened.journal.disk c ⊎ LeavesFront asked says takes answers opened.party first last opened.journal.mark opened.journal.texts c in
         let alone : (c : List ℕ) → Stands mark (recovered file) c → P c =
         λ c here. inr (texts_alone mark file new opened.party first last input c came is.replays here) in
         let before : LeavesOnly moment left_since disk opened.journal.disk P =
@@ -67,6 +67,6 @@ module _ {P Order Reply : Type 0} (takes : P → List ℕ → Reply → P → Ty
         (λ front. inr (record {
           opened = opened.party;
           replays = is.replays;
-          front = subst (λ m. LeavesFront asked says answers opened.party first last m (recovered file) c) is.marked
-              (subst (λ ts. LeavesFront asked says answers opened.party first last opened.journal.mark ts c) is.texts front);
+          front = subst (λ m. LeavesFront asked says takes answers opened.party first last m (recovered file) c) is.marked
+              (subst (λ ts. LeavesFront asked says takes answers opened.party first last opened.journal.mark ts c) is.texts front);
         })))

@@ -251,16 +251,16 @@ module _ {P K W : Type 0} (answers : P → ℕ → List ℕ → List ℕ → Kep
     uncut = λ source. absurd (no_source stop is source);
   }
 
-  module _ {Order : Type 0} (asked : P → List ℕ → Wanted Order) (says : P → Order → List ℕ → Type 0) (moment : K → ℕ) (left_since : K → ℕ → List ℕ → Type 0) where
+  module _ {Order Reply : Type 0} (asked : P → List ℕ → Wanted Order) (says : P → Order → List ℕ → Type 0) (takes : P → List ℕ → Reply → P → Type 0) (moment : K → ℕ) (left_since : K → ℕ → List ℕ → Type 0) where
     -- what a crash leaves up to the end of the next
     pub crashed : (mid : WithJournal P K) (disk : K) (last latest : Option (List ℕ)) (after : W) (ahead taken : List ℕ) (number : ℕ) (s : IsServed mid last after ahead number)
         → Consumes last latest taken
-        → LeavesSoFar asked says answers moment left_since may_leave old.party first last old.journal.mark old.journal.texts old.journal.disk mid.journal.disk
-        → LeavesInTurn asked says answers moment left_since may_leave mid.party last latest ahead mid.journal.mark mid.journal.texts mid.journal.disk disk
-        → LeavesSoFar asked says answers moment left_since may_leave old.party first latest old.journal.mark old.journal.texts old.journal.disk disk
+        → LeavesSoFar asked says takes answers moment left_since may_leave old.party first last old.journal.mark old.journal.texts old.journal.disk mid.journal.disk
+        → LeavesInTurn asked says takes answers moment left_since may_leave mid.party last latest ahead mid.journal.mark mid.journal.texts mid.journal.disk disk
+        → LeavesSoFar asked says takes answers moment left_since may_leave old.party first latest old.journal.mark old.journal.texts old.journal.disk disk
     crashed mid disk last latest after ahead taken number s came so_far turn =
-        let InTurn = LeavesInTurn asked says answers moment left_since may_leave mid.party last latest ahead in
-        turn_more asked says answers moment left_since may_leave old.party mid.party first last latest s.input ahead s.written taken old.journal.mark old.journal.texts s.more
+        let InTurn = LeavesInTurn asked says takes answers moment left_since may_leave mid.party last latest ahead in
+        turn_more asked says takes answers moment left_since may_leave old.party mid.party first last latest s.input ahead s.written taken old.journal.mark old.journal.texts s.more
         old.journal.disk mid.journal.disk disk s.front s.came came
         (λ c left. ⊎_elim (λ early. inl early) (λ stands. inr (subst (λ ts. Stands old.journal.mark ts c) s.texts stands)) (s.durable c left))
         so_far

@@ -6,14 +6,18 @@ use Rattle.desk_run.specs.Lines.{CutsAt}
 use Rattle.kept_journal.specs.Journal.{IsBeforeOrAfter, Stands}
 use Rattle.party_desk.specs.Asking.{Wanted}
 
--- what a line asks where the party stands so, and by which text it takes an order
-module _ {P Order : Type 0} (asked : P → List ℕ → Wanted Order) (says : P → Order → List ℕ → Type 0) where
-  -- the line asks something, so it is not too long, and the file stands for these texts, or for them and the text of that
+-- what a line asks where the party stands so, which text an order has, and what the party replies and becomes by a text
+module _ {P Order Reply : Type 0} (asked : P → List ℕ → Wanted Order) (says : P → Order → List ℕ → Type 0) (takes : P → List ℕ → Reply → P → Type 0) where
+  -- the line asks something, so it is not too long, and the party takes it by a text; the file stands for these texts, or for them and
+  -- that one
   pub record LeavesLine (party : P) (line mark : List ℕ) (texts : Kept) (file : List ℕ) : Type 0 where
     pub order : Order
     pub asks : asked_of asked party line ≡ Ok (Some order)
     pub text : List ℕ
     pub its : says party order text
+    pub reply : Reply
+    pub later : P
+    pub taken : takes party text reply later
     pub stands : IsBeforeOrAfter mark texts text file
 
   -- it stands for these texts, or the same of the line that an input begins with

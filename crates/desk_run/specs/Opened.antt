@@ -59,4 +59,4 @@ module _ {P Reply : Type 0} (takes : P → List ℕ → Reply → P → Type 0) 
     pub record LeavesRun (mark file : List ℕ) (new : P) (first last : Option (List ℕ)) (left : List ℕ) : Type 0 where
       pub opened : P
       pub replays : ReachesBy (Becomes takes) new (recovered file) opened
-      pub front : LeavesFront asked says answers opened first last mark (recovered file) left
+      pub front : LeavesFront asked says takes answers opened first last mark (recovered file) left

@@ -90,7 +90,8 @@ fn asked<D: LineParty, K: Disk>(
     ensures any_moment { LeavesOnly K.moment K.left_since kept.old.journal.disk
         kept.new.journal.disk
         (λ c. K.may_leave kept.old.journal.disk c
-        ⊎ ((text : List ℕ) × D.says kept.old.party order.now text
+        ⊎ ((text : List ℕ) × (reply : D.Reply) × D.says kept.old.party order.now text
+        × D.takes kept.old.party text reply kept.new.party
         × IsBeforeOrAfter kept.old.journal.mark kept.old.journal.texts text c)) }
     ensures only { (result ≢ Err Stop.Source) × (result ≢ Err Stop.Sink)
         × (result ≢ Err Stop.Count) }
@@ -142,7 +143,7 @@ fn answer<D: LineParty, K: Disk>(
     ensures any_moment { (line : List ℕ) → Passed lines.now.long lines.now.line line
         → LeavesOnly K.moment K.left_since kept.old.journal.disk kept.new.journal.disk
         (λ c. K.may_leave kept.old.journal.disk c
-        ⊎ LeavesLine D.asked D.says kept.old.party line kept.old.journal.mark
+        ⊎ LeavesLine D.asked D.says D.takes kept.old.party line kept.old.journal.mark
         kept.old.journal.texts c) }
     ensures only { (result ≢ Err Stop.Source) × (result ≢ Err Stop.Sink)
         × (result ≢ Err Stop.Count) }
@@ -238,7 +239,7 @@ fn turn<D: LineParty, K: Disk, S: Source, W: Sink>(
         kept.new.journal.disk
         (λ c. K.may_leave kept.old.journal.disk c ⊎ ((taken : List ℕ)
         × Consumes (S.left source.old) (S.left source.new) taken
-        × LeavesOne D.asked D.says kept.old.party (lines.old.ahead ++ taken)
+        × LeavesOne D.asked D.says D.takes kept.old.party (lines.old.ahead ++ taken)
         kept.old.journal.mark kept.old.journal.texts c)) }
 {
     if !lines.next(source)? {
@@ -295,7 +296,7 @@ pub fn answer_all<D: LineParty, K: Disk, S: Source, W: Sink>(
     // those of a front of the lines, perhaps with that of the next.
     ensures any_moment { LeavesOnly K.moment K.left_since kept.old.journal.disk
         kept.new.journal.disk
-        (λ c. K.may_leave kept.old.journal.disk c ⊎ LeavesFront D.asked D.says
+        (λ c. K.may_leave kept.old.journal.disk c ⊎ LeavesFront D.asked D.says D.takes
         (AnswersLine D.asked D.says D.takes D.tells D.refuses D.sent_text D.told_text
         D.refused_text) kept.old.party (S.left source.old) (S.left source.new)
         kept.old.journal.mark kept.old.journal.texts c) }

@@ -109,11 +109,12 @@ impl<P: Keeper, K: Disk> KeptParty<P, K> {
         ensures goes_on { OnOk result (self.new.journal.stopped ≡ false) }
         ensures durable { OnOk result ((c : List ℕ) → K.may_leave self.new.journal.disk c
             → Stands self.old.journal.mark self.new.journal.texts c) }
-        // A crash at any moment leaves the texts from before, with the new one or without.
+        // A crash at any moment leaves the texts from before, with the new one or without; the party takes that one.
         ensures any_moment { LeavesOnly K.moment K.left_since self.old.journal.disk
             self.new.journal.disk
             (λ c. K.may_leave self.old.journal.disk c
-            ⊎ ((text : List ℕ) × P.says self.old.party order.now text
+            ⊎ ((text : List ℕ) × (reply : P.Reply) × P.says self.old.party order.now text
+            × P.takes self.old.party text reply self.new.party
             × IsBeforeOrAfter self.old.journal.mark self.old.journal.texts text c)) }
         ensures mark { self.new.journal.mark ≡ self.old.journal.mark }
         // When each error comes, and what it leaves.

@@ -5,9 +5,11 @@
 //! such a text again. `KeptParty` is a party with its journal (`kept_journal`) on a disk (`kept_disk`). When it is opened it
 //! gives the reply to the last text of its file too: a process that was killed may not have sent it, and sends it then.
 //!
-//! `specs/Taking.antt` says what texts make of a party, `specs/Lives.antt` what it means that something is kept over many runs.
+//! `specs/Taking.antt` says what texts make of a party, `specs/Recalled.antt` what a text makes of one that remembers
+//! its last reply, `specs/Lives.antt` what it means that something is kept over many runs, and `specs/Parts.antt` what
+//! contracts see of a party with its journal.
 //!
-//! Its tests: `disk_tests`, module `kept_party_tests`.
+//! Its tests: `disk_tests`, module `kept_party_tests`, and `examples/party`.
 #![tactic(auto)]
 
 pub use done::Done;

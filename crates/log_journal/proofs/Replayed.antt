@@ -1,5 +1,5 @@
 -- A step of a program's log, as what a log becomes by an input.
-use Rattle.std.proofs.Common.{◌≡◌, ◌≢◌, ◌⊎◌, List, [], ◌∷◌, ◌++◌, length, ℕ, ◌+◌, ◌-◌, refl, sym, ◌∙◌, ap, arith, length-append, Ok, Err, Some, ⊎_elim, Result}
+use Rattle.std.proofs.Common.{◌≡◌, ◌≢◌, ◌⊎◌, List, [], ◌∷◌, ◌++◌, length, ℕ, ◌-◌, refl, sym, ◌∙◌, ap, arith, length-append, Ok, Err, Some, ⊎_elim, Result}
 use Rattle.std.specs.Prelude.{slice_get}
 use Rattle.ar_message.specs.Filling.{filled}
 use Rattle.ar_message.specs.declared.sent.Sent.{Sent}

@@ -16,6 +16,7 @@ pub use kept_journal::OpenFault;
 pub use kept_log::KeptLog;
 pub use refusal::KeptRefusal;
 
+pub mod again;
 mod input;
 mod kept_log;
 pub mod laws;

@@ -1,17 +1,17 @@
 //! A log takes the inputs of its journal again.
 
-ghost use Rattle.std.specs.Prelude.{◌≡◌, ◌≢◌, false, IsTrue, OnOk, IsErrOf};
-ghost use Rattle.key_roll.specs.Ring.{IsNewest};
+ghost use Rattle.std.specs.Prelude.{OnOk, IsErrOf};
 ghost use Rattle.log_core.specs.Inputs.{input_of};
 ghost use Rattle.log_core.specs.Keyed.{IsPlain};
 ghost use Rattle.log_core.specs.State.{rolls};
 ghost use Rattle.log_journal.specs.Determined.{one_standing};
 ghost use Rattle.log_journal.specs.Steps.{LogStanding, TakesInput, standing_of, takes};
 
+use crate::again::{fault_of, is_newest, newest_told};
 use crate::input::{Said, read_text};
 use kept_journal::{Replay, ReplayFault};
 use lms_tree::LmsPublic;
-use log_core::{Log, LogInput, LogRefusal, answer};
+use log_core::{Log, LogInput, answer};
 use std::alloc::Global;
 use std::marker::Model;
 
@@ -33,16 +33,6 @@ impl Model for Replaying {
     ghost view = { λ r. standing_of r.log };
 }
 
-/// Why a log does not take an input again.
-fn fault_of(refusal: LogRefusal) -> ReplayFault
-    ensures { result ≡ ReplayFault.Stuck → refusal ≢ LogRefusal.Memory }
-{
-    match refusal {
-        LogRefusal::Memory => ReplayFault::Memory,
-        _ => ReplayFault::Stuck,
-    }
-}
-
 /// A log takes an input again that is no roll.
 fn take_again(alloc: Global, log: &mut Log, input: &LogInput) -> Result<(), ReplayFault>
     requires { IsPlain (input_of input.now) }
@@ -55,21 +45,6 @@ fn take_again(alloc: Global, log: &mut Log, input: &LogInput) -> Result<(), Repl
         Ok(_) => Ok(()),
         Err(refusal) => Err(fault_of(refusal)),
     }
-}
-
-/// Is the newest key of a log this one?
-fn is_newest(log: &Log, key: &LmsPublic) -> bool
-    ensures yes { IsTrue result → IsNewest log.now.ring.keys key.now }
-    ensures no { result ≡ false → ¬ IsNewest log.now.ring.keys key.now }
-{
-    log.newest_key() == *key
-}
-
-/// Tells a proof that a log has a newest key. It does nothing.
-fn newest_told(log: &Log)
-    ensures { (key : LmsPublic) × IsNewest log.now.ring.keys key }
-{
-    let _key = log.newest_key();
 }
 
 /// A log goes on to its next key again, which is to be this one.

@@ -6,7 +6,7 @@ use Rattle.std.proofs.lemmas.Option.{same_Some}
 use Rattle.ar_base.proofs.Shown.{mapped}
 use Rattle.ar_base.specs.Bytes.{AreBytes}
 use Rattle.lms_tree.proofs.KeyLemmas.{key_text-key_of_text}
-use Rattle.lms_tree.specs.PublicKey.{key_of_text, key_text}
+use Rattle.lms_tree.specs.PublicKey.{key_of_text}
 use Rattle.log_core.specs.State.{Input, passes, proposes, rolls, takes}
 use Rattle.log_journal.specs.Inputs.{alone, input_in, input_of_kind, input_text}
 

@@ -15,7 +15,7 @@ use log_core::{Log, LogInput, LogRefusal, answer};
 use log_journal::{input_told, record_of_input};
 use std::alloc::Global;
 
-/// DoneBy what it is asked. All memory is taken before the first change.
+/// Does what it is asked. All memory is taken before the first change.
 pub(crate) fn ask(alloc: Global, log: &mut Log, input: &LogInput) -> Result<Done<Sent>, LogRefusal>
     requires { IsOwn log.old.ring.keys (input_of input.now) }
     ensures done { IfOk result (λ done.

@@ -1,7 +1,6 @@
 //! A log takes what its journal has of it again.
 
-ghost use Rattle.std.specs.Prelude.{◌≡◌, ◌≢◌, false, IfOk, IsErrOf, IsTrue};
-ghost use Rattle.key_roll.specs.Ring.{IsNewest};
+ghost use Rattle.std.specs.Prelude.{◌≡◌, IfOk, IsErrOf};
 ghost use Rattle.log_core.specs.Inputs.{input_of};
 ghost use Rattle.log_core.specs.Keyed.{IsPlain};
 ghost use Rattle.log_core.specs.State.{rolls};
@@ -11,18 +10,9 @@ ghost use Rattle.log_keeper.specs.Keeping.{Steps};
 use ar_message::Sent;
 use kept_party::ReplayFault;
 use lms_tree::LmsPublic;
-use log_core::{Log, LogInput, LogRefusal, answer};
+use log_core::{Log, LogInput, answer};
+use log_journal::again::{fault_of, is_newest, newest_told};
 use std::alloc::Global;
-
-/// Why a log does not take an input again.
-fn fault_of(refusal: LogRefusal) -> ReplayFault
-    ensures { result ≡ ReplayFault.Stuck → refusal ≢ LogRefusal.Memory }
-{
-    match refusal {
-        LogRefusal::Memory => ReplayFault::Memory,
-        _ => ReplayFault::Stuck,
-    }
-}
 
 /// Takes an input again that is no roll.
 pub(crate) fn take_again(
@@ -41,21 +31,6 @@ pub(crate) fn take_again(
         Ok(sent) => Ok(sent),
         Err(refusal) => Err(fault_of(refusal)),
     }
-}
-
-/// Is the newest key of a log this one?
-fn is_newest(log: &Log, key: &LmsPublic) -> bool
-    ensures yes { IsTrue result → IsNewest log.now.ring.keys key.now }
-    ensures no { result ≡ false → ¬ IsNewest log.now.ring.keys key.now }
-{
-    log.newest_key() == *key
-}
-
-/// Tells a proof that a log has a newest key. It does nothing.
-fn newest_told(log: &Log)
-    ensures { (key : LmsPublic) × IsNewest log.now.ring.keys key }
-{
-    let _key = log.newest_key();
 }
 
 /// Goes on to its next key again, which is to be this one.

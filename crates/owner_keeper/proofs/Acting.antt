@@ -17,8 +17,8 @@ use Rattle.owner_keeper.specs.Keeping.{Does, OrderAnswer, OwnerStanding, answere
 use Rattle.owner_keeper.specs.Texts.{most_asks, most_handover}
 use Rattle.owner_keeper.specs.declared.order.OwnerOrder.{OwnerOrder}
 use Rattle.owner_keeper.specs.declared.order.OwnerOrder.TheVariants.{Take, Begin, Know, Handover, Attach, Object, Submit}
-use Rattle.owner_keeper.specs.declared.refusal.DraftRefusal.{DraftRefusal}
-use Rattle.owner_keeper.specs.declared.refusal.DraftRefusal.TheVariants as refusals
+use Rattle.owner_keeper.specs.declared.refusal.OwnerOrderRefusal.{OwnerOrderRefusal}
+use Rattle.owner_keeper.specs.declared.refusal.OwnerOrderRefusal.TheVariants as refusals
 use Rattle.owner_keeper.specs.declared.reply.OwnerReply.{OwnerReply}
 use Rattle.owner_keeper.specs.declared.reply.OwnerReply.TheVariants.{Handed, Sends}
 use Rattle.owner_keeper.proofs.Roomless.{attach_over, handing_over, object_over, over, step_over}
@@ -40,13 +40,13 @@ abbrev pub Stands : Owner → List Certificate → OwnerStanding → Type 0
 Stands me certs party = standing_with me certs ≡ party
 
 -- what holds of the owner with its certificates holds of the party
-of-party : (party : OwnerStanding) (me : Owner) (certs : List Certificate) (later : OwnerStanding) (result said : Result OwnerReply DraftRefusal) (order : OwnerOrder) → Stands me certs party
+of-party : (party : OwnerStanding) (me : Owner) (certs : List Certificate) (later : OwnerStanding) (result said : Result OwnerReply OwnerOrderRefusal) (order : OwnerOrder) → Stands me certs party
     → result ≡ said → Does (standing_with me certs) later said (order_row (standing_with me certs) order) → Does party later result (order_row party order)
 of-party party me certs later result said order stands is does =
-    subst (λ (r : Result OwnerReply DraftRefusal). Does party later r (order_row party order)) (sym is)
+    subst (λ (r : Result OwnerReply OwnerOrderRefusal). Does party later r (order_row party order)) (sym is)
     (subst (λ (p : OwnerStanding). Does p later said (order_row p order)) stands does)
 
-pub took : (party : OwnerStanding) (old new : Owner) (certs : List Certificate) (bytes : List ℕ) (step : Result Sent OwnerRefusal) (result : Result OwnerReply DraftRefusal) → Stands old certs party
+pub took : (party : OwnerStanding) (old new : Owner) (certs : List Certificate) (bytes : List ℕ) (step : Result Sent OwnerRefusal) (result : Result OwnerReply OwnerOrderRefusal) → Stands old certs party
     → Answers (λ s. s) old new step (step_row old bytes) → result ≡ result_map_both Sends refusals.Owner step
     → Does party (standing_with new certs) result (order_row party (Take bytes))
 took party old new certs bytes step result stands answer is =
@@ -54,11 +54,11 @@ took party old new certs bytes step result stands answer is =
     (lifted (λ s. s) Sends certs step old new (step_row old bytes) (step_row (roomless old) bytes) (step_over old bytes) answer)
 
 -- what is done with the draft that a number names
-of-draft : (certs : List Certificate) (old : Owner) (draft : ℕ) (cert : Certificate) (order : OwnerOrder) (later : OwnerStanding) (said : Result OwnerReply DraftRefusal)
+of-draft : (certs : List Certificate) (old : Owner) (draft : ℕ) (cert : Certificate) (order : OwnerOrder) (later : OwnerStanding) (said : Result OwnerReply OwnerOrderRefusal)
     (next : Certificate → OrderAnswer) → order_row (standing_with old certs) order ≡ (known_in certs draft >>= next) → known_in certs draft ≡ Ok cert
     → Does (standing_with old certs) later said (next cert) → Does (standing_with old certs) later said (order_row (standing_with old certs) order)
 of-draft certs old draft cert order later said next row there does =
-    subst (Does (standing_with old certs) later said) (sym (row ∙ ap (λ (r : Result Certificate DraftRefusal). r >>= next) there)) does
+    subst (Does (standing_with old certs) later said) (sym (row ∙ ap (λ (r : Result Certificate OwnerOrderRefusal). r >>= next) there)) does
 
 -- the certificate whose digest was found
 known-of : (there : Option Certificate) (digest : List ℕ) → Some digest ≡ option_map digest_of there
@@ -67,7 +67,7 @@ known-of (Some cert) digest e = (cert, (refl, same_Some digest (digest_of cert) 
 known-of None digest e = absurd cc
 
 pub handed : (party : OwnerStanding) (old new : Owner) (certs : List Certificate) (draft : ℕ) (digest : List ℕ) (signed : Result (List ℕ) OwnerRefusal)
-    (result : Result OwnerReply DraftRefusal) → Stands old certs party → Some digest ≡ option_map digest_of (draft_in certs draft)
+    (result : Result OwnerReply OwnerOrderRefusal) → Stands old certs party → Some digest ≡ option_map digest_of (draft_in certs draft)
     → Answers (λ s. s) old new signed (handing_row old digest) → result ≡ result_map_both (Handed digest) refusals.Owner signed
     → Does party (standing_with new certs) result (order_row party (Handover draft))
 handed party old new certs draft digest signed result stands found answer is =
@@ -81,7 +81,7 @@ handed party old new certs draft digest signed result stands found answer is =
     (subst (λ (d : List ℕ). Does (standing_with old certs) later said (answered (Handed d) certs (handing_row (roomless old) d))) k.1.1 does))
 
 pub objected : (party : OwnerStanding) (old new : Owner) (certs : List Certificate) (draft : ℕ) (cert : Certificate) (step : Result Sent OwnerRefusal)
-    (result : Result OwnerReply DraftRefusal) → Stands old certs party → Some cert ≡ draft_in certs draft
+    (result : Result OwnerReply OwnerOrderRefusal) → Stands old certs party → Some cert ≡ draft_in certs draft
     → Answers (λ s. s) old new step (object_row old cert) → result ≡ result_map_both Sends refusals.Owner step
     → Does party (standing_with new certs) result (order_row party (Object draft))
 objected party old new certs draft cert step result stands found answer is =
@@ -99,7 +99,7 @@ none_found certs draft e = by (draft_in certs draft) e
     by (Some cert) e = absurd cc
 
 pub submitted_so : (party : OwnerStanding) (me : Owner) (certs : List Certificate) (draft : ℕ) (digest : List ℕ) (step : Result Sent OwnerRefusal)
-    (result : Result OwnerReply DraftRefusal) → Stands me certs party → Some digest ≡ option_map digest_of (draft_in certs draft)
+    (result : Result OwnerReply OwnerOrderRefusal) → Stands me certs party → Some digest ≡ option_map digest_of (draft_in certs draft)
     → GivesOrWants Memory (λ s. s) step (submit_row me digest) → result ≡ result_map_both Sends refusals.Owner step
     → Does party party result (order_row party (Submit draft))
 submitted_so party me certs draft digest step result stands found answer is =
@@ -110,7 +110,7 @@ submitted_so party me certs draft digest step result stands found answer is =
     let inner : Does at at said (order_row at (Submit draft)) =
     of-draft certs me draft k.0 (Submit draft) at said (λ cert. submitted at (submit_row (roomless me) (digest_of cert))) refl k.1.0
     (subst (λ (d : List ℕ). Does at at said (submitted at (submit_row me d))) k.1.1 does) in
-    subst (λ (r : Result OwnerReply DraftRefusal). Does party party r (order_row party (Submit draft))) (sym is)
+    subst (λ (r : Result OwnerReply OwnerOrderRefusal). Does party party r (order_row party (Submit draft))) (sym is)
     (subst (λ (p : OwnerStanding). Does p p said (order_row p (Submit draft))) stands inner)
   where
     by : (s : Result Sent OwnerRefusal) → GivesOrWants Memory (λ (x : Sent). x) s (submit_row me digest)
@@ -152,7 +152,7 @@ attached_so party old new certs draft digest handover stands found few row =
     let k = known-of (draft_in certs draft) digest found in
     ap (λ (p : OwnerStanding). order_row p (Attach draft handover)) (sym stands)
     ∙ ap (λ (b : Bool). need b refusals.Long >>= λ u. known_in certs draft >>= λ cert. next (digest_of cert)) (le-leb (length handover) most_handover few)
-    ∙ ap (λ (r : Result Certificate DraftRefusal). r >>= λ cert. next (digest_of cert)) k.1.0 ∙ ap next (sym k.1.1)
+    ∙ ap (λ (r : Result Certificate OwnerOrderRefusal). r >>= λ cert. next (digest_of cert)) k.1.0 ∙ ap next (sym k.1.1)
     ∙ ap (answered silent certs) (attach_over old digest handover ∙ ap over row)
 
 -- why it is not attached
@@ -164,16 +164,16 @@ not_attached party old certs draft digest handover why stands found few row =
     let k = known-of (draft_in certs draft) digest found in
     ap (λ (p : OwnerStanding). order_row p (Attach draft handover)) (sym stands)
     ∙ ap (λ (b : Bool). need b refusals.Long >>= λ u. known_in certs draft >>= λ cert. next (digest_of cert)) (le-leb (length handover) most_handover few)
-    ∙ ap (λ (r : Result Certificate DraftRefusal). r >>= λ cert. next (digest_of cert)) k.1.0 ∙ ap next (sym k.1.1)
+    ∙ ap (λ (r : Result Certificate OwnerOrderRefusal). r >>= λ cert. next (digest_of cert)) k.1.0 ∙ ap next (sym k.1.1)
     ∙ ap (answered silent certs) (attach_over old digest handover ∙ ap over row)
 
 -- the handover was attached, or not
 pub attached_or : (party : OwnerStanding) (old new : Owner) (certs : List Certificate) (draft : ℕ) (digest handover : List ℕ) (step : Result (Unit {0}) OwnerRefusal)
-    (result : Result OwnerReply DraftRefusal) → Stands old certs party → Some digest ≡ option_map digest_of (draft_in certs draft) → length handover ≤ most_handover
+    (result : Result OwnerReply OwnerOrderRefusal) → Stands old certs party → Some digest ≡ option_map digest_of (draft_in certs draft) → length handover ≤ most_handover
     → IfOk step (λ u. attach_row old digest handover ≡ Ok (tt, new)) → IfErr step (λ e. (new ≡ old) × (attach_row old digest handover ≡ Err e))
     → result ≡ result_map_both silent refusals.Owner step → Does party (standing_with new certs) result (order_row party (Attach draft handover))
 attached_or party old new certs draft digest handover step result stands found few ok err is =
-    subst (λ (r : Result OwnerReply DraftRefusal). Does party (standing_with new certs) r (order_row party (Attach draft handover))) (sym is) (by step ok err)
+    subst (λ (r : Result OwnerReply OwnerOrderRefusal). Does party (standing_with new certs) r (order_row party (Attach draft handover))) (sym is) (by step ok err)
   where
     by : (s : Result (Unit {0}) OwnerRefusal) → IfOk s (λ u. attach_row old digest handover ≡ Ok (tt, new)) → IfErr s (λ e. (new ≡ old) × (attach_row old digest handover ≡ Err e))
         → Does party (standing_with new certs) (result_map_both silent refusals.Owner s) (order_row party (Attach draft handover))
@@ -191,7 +191,7 @@ pub not_found : (party : OwnerStanding) (me : Owner) (certs : List Certificate) 
 not_found party me certs draft handover stands missing few =
     ap (λ (p : OwnerStanding). order_row p (Attach draft handover)) (sym stands)
     ∙ ap (λ (b : Bool). need b refusals.Long >>= λ u. known_in certs draft >>= λ cert. answered silent certs (attach_row (roomless me) (digest_of cert) handover)) (le-leb (length handover) most_handover few)
-    ∙ ap (λ (r : Result Certificate DraftRefusal). r >>= λ cert. answered silent certs (attach_row (roomless me) (digest_of cert) handover)) (none_found certs draft missing)
+    ∙ ap (λ (r : Result Certificate OwnerOrderRefusal). r >>= λ cert. answered silent certs (attach_row (roomless me) (digest_of cert) handover)) (none_found certs draft missing)
 
 pub knew : (party : OwnerStanding) (me : Owner) (certs later : List Certificate) (cert : Certificate) (reply : OwnerReply) → Stands me certs party → later ≡ certs ++ cert ∷ []
     → reply ≡ silent tt → order_row party (Know cert) ≡ Ok (reply, standing_with me later)

@@ -31,8 +31,8 @@ use Rattle.owner_keeper.specs.Keeping.{Does, OwnerStanding, answered, attached, 
 use Rattle.owner_keeper.specs.Texts.{most_asks, most_handover}
 use Rattle.owner_keeper.specs.declared.order.OwnerOrder.{OwnerOrder}
 use Rattle.owner_keeper.specs.declared.order.OwnerOrder.TheVariants.{Take, Begin, Know, Handover, Attach, Object, Submit}
-use Rattle.owner_keeper.specs.declared.refusal.DraftRefusal.{DraftRefusal}
-use Rattle.owner_keeper.specs.declared.refusal.DraftRefusal.TheVariants as refusals
+use Rattle.owner_keeper.specs.declared.refusal.OwnerOrderRefusal.{OwnerOrderRefusal}
+use Rattle.owner_keeper.specs.declared.refusal.OwnerOrderRefusal.TheVariants as refusals
 use Rattle.owner_keeper.specs.declared.reply.OwnerReply.{OwnerReply}
 use Rattle.owner_keeper.specs.declared.reply.OwnerReply.TheVariants.{Handed, Sends}
 use Rattle.owner_keeper.proofs.Numbered.{done_by, sent_stays}
@@ -150,7 +150,7 @@ authorities_stay party (Submit draft) reply later e =
     ap (λ (p : OwnerStanding). count p.owner) (sent_stays party (submit_row party.owner (digest_of b.0)) reply later b.2)
 
 -- whatever an order came to
-pub authorities_kept : (party later : OwnerStanding) (order : OwnerOrder) (result : Result OwnerReply DraftRefusal) → Does party later result (order_row party order)
+pub authorities_kept : (party later : OwnerStanding) (order : OwnerOrder) (result : Result OwnerReply OwnerOrderRefusal) → Does party later result (order_row party order)
     → length later.owner.directory.authorities ≡ length party.owner.directory.authorities
 authorities_kept party later order (Ok reply) does = authorities_stay party order reply later does
 authorities_kept party later order (Err refusal) does = ap (λ (p : OwnerStanding). count p.owner) does.0

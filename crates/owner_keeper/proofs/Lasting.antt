@@ -1,5 +1,5 @@
 -- Each order leaves an owner its key, and each of its leaves what it served; so do the lives of its file.
-use Rattle.std.proofs.Common.{◌≡◌, ◌∙◌, ℕ, List, [], ◌∷◌, ◌++◌, length, Option, None, Some, Result, Ok, Err, refl, sym, ap, subst}
+use Rattle.std.proofs.Common.{◌≡◌, ◌∙◌, ℕ, List, [], ◌∷◌, ◌++◌, length, Option, None, Some, Result, Ok, Err, refl, sym, subst}
 use Rattle.std.specs.Prelude.{nat_le}
 use Rattle.ar_base.proofs.Prefixes.{begins_itself, begins_on}
 use Rattle.ar_base.proofs.Shown.{bind_ok, ok_is}
@@ -12,7 +12,7 @@ use Rattle.ar_message.specs.Messages.{message_in}
 use Rattle.ar_message.specs.declared.message.Message.{Message}
 use Rattle.ar_message.specs.declared.message.Message.TheVariants.{Ballot, ConfirmAsk, Confirmation, Decision, EndorseAsk, Endorsed, HalfConfirmed, LogConfirmed, Propose, RollNote, SkipNote, StatusNote, Submit as SubmitMessage}
 use Rattle.ar_message.specs.declared.sent.Sent.{Sent}
-use Rattle.ar_statement.specs.Claims.{Claim, authority_party, endorse, handover, object, text_of}
+use Rattle.ar_statement.specs.Claims.{authority_party, endorse, handover, object, text_of}
 use Rattle.ar_statement.specs.declared.fault.BookFault.{BookFault}
 use Rattle.kept_journal.specs.Replays.{ReachesBy}
 use Rattle.kept_party.proofs.Kept.{done_kept, replays_keep}
@@ -34,7 +34,7 @@ use Rattle.owner_keeper.specs.Lasting.{SignsOn}
 use Rattle.owner_keeper.specs.Texts.{most_asks, most_handover}
 use Rattle.owner_keeper.specs.declared.order.OwnerOrder.{OwnerOrder}
 use Rattle.owner_keeper.specs.declared.order.OwnerOrder.TheVariants.{Take, Begin, Know, Handover, Attach, Object, Submit}
-use Rattle.owner_keeper.specs.declared.refusal.DraftRefusal.TheVariants as refusals
+use Rattle.owner_keeper.specs.declared.refusal.OwnerOrderRefusal.TheVariants as refusals
 use Rattle.owner_keeper.specs.declared.reply.OwnerReply.{OwnerReply}
 use Rattle.owner_keeper.specs.declared.reply.OwnerReply.TheVariants.{Handed, Sends}
 use Rattle.owner_keeper.proofs.Numbered.{done_by, sent_stays}

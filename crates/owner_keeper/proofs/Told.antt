@@ -11,7 +11,6 @@ use Rattle.ar_cert.specs.Certificate.{digest_of}
 use Rattle.ar_message.specs.Messages.{longest, message_at, message_in}
 use Rattle.ar_message.specs.declared.message.Message.{Message}
 use Rattle.owner_core.specs.Rows.{attach_row, begin_row, message_row, submit_row}
-use Rattle.owner_core.specs.State.{Owner}
 use Rattle.owner_core.specs.declared.refusal.OwnerRefusal.TheVariants.{Form, Memory}
 use Rattle.kept_journal.specs.declared.fault.ReplayFault.{ReplayFault}
 use Rattle.kept_journal.specs.declared.fault.ReplayFault.TheVariants.{Memory as WantsMemory, Stuck}
@@ -19,8 +18,8 @@ use Rattle.owner_keeper.specs.Keeping.{OrderAnswer, OwnerStanding, answered, kno
 use Rattle.owner_keeper.specs.Texts.{IsWhole, kept_order, kept_text, most_asks, most_handover, text_if}
 use Rattle.owner_keeper.specs.declared.order.OwnerOrder.{OwnerOrder}
 use Rattle.owner_keeper.specs.declared.order.OwnerOrder.TheVariants.{Take, Begin, Know, Handover, Attach, Object, Submit}
-use Rattle.owner_keeper.specs.declared.refusal.DraftRefusal.{DraftRefusal}
-use Rattle.owner_keeper.specs.declared.refusal.DraftRefusal.TheVariants as refusals
+use Rattle.owner_keeper.specs.declared.refusal.OwnerOrderRefusal.{OwnerOrderRefusal}
+use Rattle.owner_keeper.specs.declared.refusal.OwnerOrderRefusal.TheVariants as refusals
 use Rattle.owner_keeper.specs.declared.reply.OwnerReply.{OwnerReply}
 use Rattle.owner_keeper.specs.declared.reply.OwnerReply.TheVariants.{Sends}
 use Rattle.owner_keeper.proofs.Numbered.{sent_stays}
@@ -73,7 +72,7 @@ pub none_taken : (party later : OwnerStanding) (text : List ℕ) (reply : OwnerR
 none_taken party later text reply none taken = let never : Some taken.order ≡ None = sym taken.says ∙ none in absurd cc
 
 -- nor is one whose order is refused
-pub refused_taken : (party later : OwnerStanding) (text : List ℕ) (reply : OwnerReply) (order : OwnerOrder) (refusal : DraftRefusal) → kept_order text ≡ Some order
+pub refused_taken : (party later : OwnerStanding) (text : List ℕ) (reply : OwnerReply) (order : OwnerOrder) (refusal : OwnerOrderRefusal) → kept_order text ≡ Some order
     → (refusal ≡ refusals.Owner Memory) ⊎ (order_row party order ≡ Err refusal) → refusal ≢ refusals.Owner Memory → ¬ takes party text reply later
 refused_taken party later text reply order refusal says how other taken =
     let same : taken.order ≡ order = same-order taken.order order (sym taken.says ∙ says) in

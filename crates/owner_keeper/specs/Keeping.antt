@@ -17,8 +17,8 @@ use Rattle.party_keys.specs.Directory.{Directory}
 use Rattle.owner_keeper.specs.Texts.{kept_order, kept_text, most_asks, most_handover}
 use Rattle.owner_keeper.specs.declared.order.OwnerOrder.{OwnerOrder}
 use Rattle.owner_keeper.specs.declared.order.OwnerOrder.TheVariants.{Take, Begin, Know, Handover, Attach, Object, Submit}
-use Rattle.owner_keeper.specs.declared.refusal.DraftRefusal.{DraftRefusal}
-use Rattle.owner_keeper.specs.declared.refusal.DraftRefusal.TheVariants as refusals
+use Rattle.owner_keeper.specs.declared.refusal.OwnerOrderRefusal.{OwnerOrderRefusal}
+use Rattle.owner_keeper.specs.declared.refusal.OwnerOrderRefusal.TheVariants as refusals
 use Rattle.owner_keeper.specs.declared.reply.OwnerReply.{OwnerReply}
 use Rattle.owner_keeper.specs.declared.reply.OwnerReply.TheVariants.{Handed, Sends}
 
@@ -53,15 +53,15 @@ draft_of party draft = draft_in party.certs draft
 
 -- what an order gives: a reply and where the owner stands behind it, or a refusal
 abbrev pub OrderAnswer : Type 0
-OrderAnswer = Result (OwnerReply × OwnerStanding) DraftRefusal
+OrderAnswer = Result (OwnerReply × OwnerStanding) OwnerOrderRefusal
 
 -- The call answered as the row of its order says, and left the owner behind it. Or it answered the row's refusal, or want of
 -- memory, and left the owner as it was.
-abbrev pub Does : OwnerStanding → OwnerStanding → Result OwnerReply DraftRefusal → OrderAnswer → Type 0
+abbrev pub Does : OwnerStanding → OwnerStanding → Result OwnerReply OwnerOrderRefusal → OrderAnswer → Type 0
 Does old new result row = StepsUnless (refusals.Owner Memory) (λ party reply. (reply, party)) result old new row
 
 -- there is a certificate with this number
-abbrev pub known_in : List Certificate → ℕ → Result Certificate DraftRefusal
+abbrev pub known_in : List Certificate → ℕ → Result Certificate OwnerOrderRefusal
 known_in certs draft = ok_or (draft_in certs draft) refusals.NoCertificate
 
 -- the answer of an owner's row, of one that knows these certificates then
@@ -125,5 +125,5 @@ abbrev pub tells : OwnerStanding → OwnerOrder → OwnerReply → Type 0
 tells party order reply = (kept_text order ≡ None) × (order_row party order ≡ Ok (reply, party))
 
 -- an order is refused so: by its row, or for want of memory
-abbrev pub refuses : OwnerStanding → OwnerOrder → DraftRefusal → Type 0
+abbrev pub refuses : OwnerStanding → OwnerOrder → OwnerOrderRefusal → Type 0
 refuses party order refusal = (refusal ≡ refusals.Owner Memory) ⊎ (order_row party order ≡ Err refusal)

@@ -3,12 +3,12 @@ ghost use Rattle.std.specs.Option.{option_copied};
 ghost use Rattle.lms_tree.specs.Key.{public_of};
 ghost use Rattle.owner_keeper.specs.Determined.{one_standing};
 ghost use Rattle.owner_keeper.specs.Keeping.{OwnerStanding, draft_of, new_standing, refuses, says, takes, tells};
-ghost use Rattle.owner_keeper.specs.declared.refusal.DraftRefusal.TheVariants as refusals;
+ghost use Rattle.owner_keeper.specs.declared.refusal.OwnerOrderRefusal.TheVariants as refusals;
 
 use crate::knowing::Knowing;
 use crate::reading::read_order;
 use crate::text::{order_told, record_of};
-use crate::{DraftRefusal, OwnerOrder, OwnerReply};
+use crate::{OwnerOrder, OwnerOrderRefusal, OwnerReply};
 use ar_cert::Cert;
 use kept_party::{Done, Keeper, ReplayFault};
 use lms_tree::{LmsKey, LmsPublic};
@@ -38,11 +38,11 @@ impl Model for OwnerKeeper {
 }
 
 /// Why an owner does not take a text again.
-fn fault_of(refusal: DraftRefusal) -> ReplayFault
+fn fault_of(refusal: OwnerOrderRefusal) -> ReplayFault
     ensures { result ≡ ReplayFault.Stuck → refusal ≢ refusals.Owner OwnerRefusal.Memory }
 {
     match refusal {
-        DraftRefusal::Owner(OwnerRefusal::Memory) => ReplayFault::Memory,
+        OwnerOrderRefusal::Owner(OwnerRefusal::Memory) => ReplayFault::Memory,
         _ => ReplayFault::Stuck,
     }
 }
@@ -110,7 +110,7 @@ impl Keeper for OwnerKeeper {
 
     type Reply = OwnerReply;
 
-    type Refusal = DraftRefusal;
+    type Refusal = OwnerOrderRefusal;
 
     ghost takes = { takes };
 
@@ -127,7 +127,7 @@ impl Keeper for OwnerKeeper {
         &mut self,
         alloc: Global,
         order: &OwnerOrder,
-    ) -> Result<Done<OwnerReply>, DraftRefusal> {
+    ) -> Result<Done<OwnerReply>, OwnerOrderRefusal> {
         order_told(order);
         let text = record_of(alloc, order)?;
         let reply = match self.knowing.act(alloc, order) {

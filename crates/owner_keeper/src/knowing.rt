@@ -7,11 +7,11 @@ ghost use Rattle.ar_cert.specs.Certificate.{digest_of};
 ghost use Rattle.lms_tree.specs.Signature.{lms_signature_len_of};
 ghost use Rattle.owner_core.specs.Rows.{Answers, attach_row};
 ghost use Rattle.owner_keeper.specs.Keeping.{attached, draft_in, handing_row, silent};
-ghost use Rattle.owner_keeper.specs.declared.refusal.DraftRefusal.TheVariants as refusals;
+ghost use Rattle.owner_keeper.specs.declared.refusal.OwnerOrderRefusal.TheVariants as refusals;
 ghost use Rattle.owner_keeper.specs.declared.reply.OwnerReply.TheVariants as replies;
 
 use crate::text::{MOST_ASKS, MOST_HANDOVER};
-use crate::{DraftRefusal, OwnerOrder, OwnerReply};
+use crate::{OwnerOrder, OwnerOrderRefusal, OwnerReply};
 use ar_base::Items;
 use ar_cert::Cert;
 use ar_message::Sent;
@@ -66,12 +66,12 @@ fn hand(owner: &mut Owner, alloc: Global, digest: &[u8; 32]) -> Result<Items<u8>
 // ---- replies
 
 /// The reply that sends what an owner sent.
-fn sent_reply(sent: Result<Sent, OwnerRefusal>) -> Result<OwnerReply, DraftRefusal>
+fn sent_reply(sent: Result<Sent, OwnerRefusal>) -> Result<OwnerReply, OwnerOrderRefusal>
     ensures { result ≡ result_map_both replies.Sends refusals.Owner sent }
 {
     match sent {
         Ok(sent) => Ok(OwnerReply::Sends(sent)),
-        Err(refusal) => Err(DraftRefusal::Owner(refusal)),
+        Err(refusal) => Err(OwnerOrderRefusal::Owner(refusal)),
     }
 }
 
@@ -79,12 +79,12 @@ fn sent_reply(sent: Result<Sent, OwnerRefusal>) -> Result<OwnerReply, DraftRefus
 fn handed_reply(
     digest: [u8; 32],
     signature: Result<Items<u8>, OwnerRefusal>,
-) -> Result<OwnerReply, DraftRefusal>
+) -> Result<OwnerReply, OwnerOrderRefusal>
     ensures { result ≡ result_map_both (replies.Handed digest) refusals.Owner signature }
 {
     match signature {
         Ok(signature) => Ok(OwnerReply::Handed { digest, signature }),
-        Err(refusal) => Err(DraftRefusal::Owner(refusal)),
+        Err(refusal) => Err(OwnerOrderRefusal::Owner(refusal)),
     }
 }
 
@@ -99,12 +99,12 @@ fn silence(alloc: Global) -> OwnerReply
 fn silent_reply(
     alloc: Global,
     attached: Result<(), OwnerRefusal>,
-) -> Result<OwnerReply, DraftRefusal>
+) -> Result<OwnerReply, OwnerOrderRefusal>
     ensures { result ≡ result_map_both silent refusals.Owner attached }
 {
     match attached {
         Ok(()) => Ok(silence(alloc)),
-        Err(refusal) => Err(DraftRefusal::Owner(refusal)),
+        Err(refusal) => Err(OwnerOrderRefusal::Owner(refusal)),
     }
 }
 
@@ -160,7 +160,7 @@ impl Knowing {
     }
 
     /// Takes a message.
-    fn take(&mut self, alloc: Global, bytes: &[u8]) -> Result<OwnerReply, DraftRefusal>
+    fn take(&mut self, alloc: Global, bytes: &[u8]) -> Result<OwnerReply, OwnerOrderRefusal>
         ensures { Does self.old self.new result (order_row self.old (orders.Take bytes.now)) }
     {
         sent_reply(self.owner.step(alloc, bytes))
@@ -172,12 +172,12 @@ impl Knowing {
         alloc: Global,
         cert: &Cert,
         asks: &[u16],
-    ) -> Result<OwnerReply, DraftRefusal>
+    ) -> Result<OwnerReply, OwnerOrderRefusal>
         ensures { Does self.old self.new result
             (order_row self.old (orders.Begin cert.now asks.now)) }
     {
         if asks.len() > MOST_ASKS {
-            return Err(DraftRefusal::Long);
+            return Err(OwnerOrderRefusal::Long);
         }
         let own = cert.copy(alloc)?;
         let known = cert.copy(alloc)?;
@@ -187,12 +187,12 @@ impl Knowing {
                 self.certs.push_reserved(known);
                 Ok(OwnerReply::Sends(sent))
             }
-            Err(refusal) => Err(DraftRefusal::Owner(refusal)),
+            Err(refusal) => Err(OwnerOrderRefusal::Owner(refusal)),
         }
     }
 
     /// Knows a certificate.
-    fn know(&mut self, alloc: Global, cert: &Cert) -> Result<OwnerReply, DraftRefusal>
+    fn know(&mut self, alloc: Global, cert: &Cert) -> Result<OwnerReply, OwnerOrderRefusal>
         ensures { Does self.old self.new result (order_row self.old (orders.Know cert.now)) }
     {
         let known = cert.copy(alloc)?;
@@ -201,11 +201,11 @@ impl Knowing {
     }
 
     /// Signs the handover to a draft, and puts it to that draft where it is its own.
-    fn hand_over(&mut self, alloc: Global, draft: u64) -> Result<OwnerReply, DraftRefusal>
+    fn hand_over(&mut self, alloc: Global, draft: u64) -> Result<OwnerReply, OwnerOrderRefusal>
         ensures { Does self.old self.new result (order_row self.old (orders.Handover draft)) }
     {
         let Some(digest) = digest_at(&self.certs, draft) else {
-            return Err(DraftRefusal::NoCertificate);
+            return Err(OwnerOrderRefusal::NoCertificate);
         };
         handed_reply(digest, hand(&mut self.owner, alloc, &digest))
     }
@@ -216,36 +216,36 @@ impl Knowing {
         alloc: Global,
         draft: u64,
         handover: &[u8],
-    ) -> Result<OwnerReply, DraftRefusal>
+    ) -> Result<OwnerReply, OwnerOrderRefusal>
         ensures { Does self.old self.new result
             (order_row self.old (orders.Attach draft handover.now)) }
     {
         if handover.len() > MOST_HANDOVER {
-            return Err(DraftRefusal::Long);
+            return Err(OwnerOrderRefusal::Long);
         }
         let Some(digest) = digest_at(&self.certs, draft) else {
-            return Err(DraftRefusal::NoCertificate);
+            return Err(OwnerOrderRefusal::NoCertificate);
         };
         let copied = Vec::from_slice(alloc, handover)?;
         silent_reply(alloc, self.owner.attach(&digest, copied))
     }
 
     /// Objects to a draft.
-    fn object(&mut self, alloc: Global, draft: u64) -> Result<OwnerReply, DraftRefusal>
+    fn object(&mut self, alloc: Global, draft: u64) -> Result<OwnerReply, OwnerOrderRefusal>
         ensures { Does self.old self.new result (order_row self.old (orders.Object draft)) }
     {
         let Some(cert) = cert_of(&self.certs, draft) else {
-            return Err(DraftRefusal::NoCertificate);
+            return Err(OwnerOrderRefusal::NoCertificate);
         };
         sent_reply(self.owner.object(alloc, cert))
     }
 
     /// Sends a draft to all logs.
-    fn submit(&self, alloc: Global, draft: u64) -> Result<OwnerReply, DraftRefusal>
+    fn submit(&self, alloc: Global, draft: u64) -> Result<OwnerReply, OwnerOrderRefusal>
         ensures { Does self.now self.now result (order_row self.now (orders.Submit draft)) }
     {
         let Some(digest) = digest_at(&self.certs, draft) else {
-            return Err(DraftRefusal::NoCertificate);
+            return Err(OwnerOrderRefusal::NoCertificate);
         };
         sent_reply(self.owner.submit(alloc, &digest))
     }
@@ -255,7 +255,7 @@ impl Knowing {
         &mut self,
         alloc: Global,
         order: &OwnerOrder,
-    ) -> Result<OwnerReply, DraftRefusal>
+    ) -> Result<OwnerReply, OwnerOrderRefusal>
         ensures { Does self.old self.new result (order_row self.old order.now) }
     {
         match order {

@@ -5,13 +5,17 @@
 //! and has no text. `specs/Keeping.antt` has the row of each order: the reply with the owner behind it, or why it is refused.
 //! Each leaf of an owner's key signs once, and which statement a leaf signed stands in the journal before the signature leaves.
 //!
-//! Its tests: none yet; its laws (`laws`) stand in their place.
+//! `specs/Lasting.antt` says that an owner signs on, and `specs/Determined.antt` that there is one thing that it
+//! replies to a text, and one that it becomes.
+//!
+//! Its tests: `examples/party`, by the program `arpki_party`, and `tools/network`.
 #![tactic(auto)]
 
 pub use keeper::OwnerKeeper;
 pub use order::OwnerOrder;
-pub use refusal::DraftRefusal;
+pub use refusal::OwnerOrderRefusal;
 pub use reply::OwnerReply;
+pub use text::MOST_HANDOVER;
 
 mod keeper;
 mod knowing;

@@ -9,7 +9,7 @@ pub enum OwnerOrder {
     /// To make a certificate a draft, and to ask authorities for it.
     Begin {
         cert: Cert,
-        /// The numbers of the authorities: at most 8.
+        /// The numbers of the authorities, at most 255; a line of a script names at most 8.
         asks: Items<u16>,
     },
     /// To know a certificate that another owner began.

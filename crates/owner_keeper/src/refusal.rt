@@ -1,6 +1,6 @@
 ghost use Rattle.std.specs.Prelude.{◌≡◌};
 ghost use Rattle.owner_core.specs.declared.refusal.OwnerRefusal.TheVariants as owner;
-ghost use Rattle.owner_keeper.specs.declared.refusal.DraftRefusal.TheVariants as refusals;
+ghost use Rattle.owner_keeper.specs.declared.refusal.OwnerOrderRefusal.TheVariants as refusals;
 
 use owner_core::OwnerRefusal;
 use std::alloc::{AllocError, AllocFailed};
@@ -8,7 +8,7 @@ use thiserror::Error;
 
 /// Why an owner does not do what it is asked. After each of these it is as before.
 #[derive(Clone, Copy, Debug, PartialEq, Eq, Error)]
-pub enum DraftRefusal {
+pub enum OwnerOrderRefusal {
     /// Its row refuses, or memory is wanting.
     #[error("{0}")]
     Owner(OwnerRefusal),
@@ -20,26 +20,26 @@ pub enum DraftRefusal {
     Long,
 }
 
-impl From<OwnerRefusal> for DraftRefusal {
+impl From<OwnerRefusal> for OwnerOrderRefusal {
     ghost from_gives = { λ refusal e. e ≡ refusals.Owner refusal };
 
-    fn from(refusal: OwnerRefusal) -> DraftRefusal {
-        DraftRefusal::Owner(refusal)
+    fn from(refusal: OwnerRefusal) -> OwnerOrderRefusal {
+        OwnerOrderRefusal::Owner(refusal)
     }
 }
 
-impl From<AllocError> for DraftRefusal {
+impl From<AllocError> for OwnerOrderRefusal {
     ghost from_gives = { λ _ e. e ≡ refusals.Owner owner.Memory };
 
-    fn from(_error: AllocError) -> DraftRefusal {
-        DraftRefusal::Owner(OwnerRefusal::Memory)
+    fn from(_error: AllocError) -> OwnerOrderRefusal {
+        OwnerOrderRefusal::Owner(OwnerRefusal::Memory)
     }
 }
 
-impl<T: Drop> From<AllocFailed<T>> for DraftRefusal {
+impl<T: Drop> From<AllocFailed<T>> for OwnerOrderRefusal {
     ghost from_gives = { λ _ e. e ≡ refusals.Owner owner.Memory };
 
-    fn from(_error: AllocFailed<T>) -> DraftRefusal {
-        DraftRefusal::Owner(OwnerRefusal::Memory)
+    fn from(_error: AllocFailed<T>) -> OwnerOrderRefusal {
+        OwnerOrderRefusal::Owner(OwnerRefusal::Memory)
     }
 }

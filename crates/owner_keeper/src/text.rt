@@ -20,7 +20,7 @@ use std::alloc::{AllocError, Global};
 pub(crate) const MOST_ASKS: usize = 255;
 
 /// The most bytes of a handover.
-pub(crate) const MOST_HANDOVER: usize = 65_535;
+pub const MOST_HANDOVER: usize = 65_535;
 
 /// The record of a message; a message that is too long has none.
 fn record_of_message(alloc: Global, bytes: &[u8]) -> Result<Option<KeptText>, AllocError>

@@ -138,7 +138,7 @@ own_words number ws said h =
     own_party : (number : ℕ) (one said : LessonWords) → for_own (authority_party number) (authority_party one.authority) one ≡ Ok said → (said.authority ≡ number) × (one ≡ said)
     own_party number one said h = by (is_party (authority_party one.authority) (authority_party number)) refl h
       where
-        by : (same : Bool) → is_party (authority_party one.authority) (authority_party number) ≡ same → cond same (Ok one) (Err (cause.None 1)) ≡ Ok said → (said.authority ≡ number) × (one ≡ said)
+        by : (same : Bool) → is_party (authority_party one.authority) (authority_party number) ≡ same → cond same (Ok one) (Err (cause.Absent 1)) ≡ Ok said → (said.authority ≡ number) × (one ≡ said)
         by true is e =
             let same : one ≡ said = ok_is one said e in
             (ap (λ (l : LessonWords). l.authority) (sym same) ∙ eqb-true one.authority number is, same)
@@ -155,12 +155,12 @@ wants_some (Err why) order h = absurd cc
 pub own_is : {Order : Type 0} (own named : Party) (one order : Order) → for_own own named one ≡ Ok order → one ≡ order
 own_is own named one order h = by (is_party named own) h
   where
-    by : (same : Bool) → cond same (Ok one) (Err (cause.None 1)) ≡ Ok order → one ≡ order
+    by : (same : Bool) → cond same (Ok one) (Err (cause.Absent 1)) ≡ Ok order → one ≡ order
     by true e = cc
     by false e = absurd cc
 
 -- whether an order is a lesson
-abbrev is_lesson : AuthorityOrder → Bool
+abbrev pub is_lesson : AuthorityOrder → Bool
 is_lesson (orders.Learn name key) = true
 is_lesson (orders.Forget name key) = true
 is_lesson order = false

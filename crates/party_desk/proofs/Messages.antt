@@ -11,7 +11,6 @@ use Rattle.ar_lines.proofs.Respelled.{hex_own}
 use Rattle.ar_lines.proofs.Spelled.{hex_is_word}
 use Rattle.ar_lines.proofs.TextLaws.{words_of-last}
 use Rattle.script_text.specs.Rows.{read_of}
-use Rattle.script_text.specs.declared.line.EventLine.TheVariants as events
 use Rattle.script_text.specs.declared.line.Line.{Line}
 use Rattle.script_text.specs.declared.line.Line.TheVariants as lines
 use Rattle.owner_keeper.specs.Keeping.{OwnerStanding}

@@ -1,5 +1,5 @@
 -- What a line asks of a party that is a process.
-use Rattle.std.specs.Prelude.{◌≡◌, ℕ, ◌==◌, List, [], ◌∷◌, if◌then◌else◌, Option, None, Some, Result, Ok, Err, codes}
+use Rattle.std.specs.Prelude.{◌≡◌, ℕ, List, [], ◌∷◌, if◌then◌else◌, Option, None, Some, Result, Ok, Err, codes}
 use Rattle.std.specs.Str.{bytes_eq}
 use Rattle.std.specs.Result.{result_map_both}
 use Rattle.ar_base.specs.Chaining.{◌>>=◌}
@@ -67,7 +67,7 @@ wanted_by take order (Err why) = Err why
 
 -- an order that names this party, by its first word behind the line's own
 abbrev pub for_own : {Order : Type 0} → Party → Party → Order → Result Order Cause
-for_own own named order = if is_party named own then Ok order else Err (cause.None 1)
+for_own own named order = if is_party named own then Ok order else Err (cause.Absent 1)
 
 -- the fields behind a word that only such parties have
 abbrev pub of_form : {T : Type 0} → Result T Reason → Result T Cause

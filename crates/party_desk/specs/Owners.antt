@@ -1,5 +1,5 @@
 -- What a line asks of an owner that is a process, and what is written of what it replies.
-use Rattle.std.specs.Prelude.{ℕ, ◌-◌, ◌^◌, nat_lt, ◌&&◌, Bool, true, false, List, [], ◌∷◌, length, if◌then◌else◌, Option, None, Some, Result, Ok, Err, codes, option_and_then}
+use Rattle.std.specs.Prelude.{ℕ, ◌-◌, ◌^◌, nat_le, nat_lt, ◌&&◌, Bool, true, false, List, [], ◌∷◌, length, if◌then◌else◌, Option, None, Some, Result, Ok, Err, codes, option_and_then}
 use Rattle.std.specs.List.{list_all}
 use Rattle.std.specs.Str.{bytes_eq}
 use Rattle.std.specs.Option.{ok_or}
@@ -19,10 +19,11 @@ use Rattle.lms_tree.specs.Key.{public_of}
 use Rattle.owner_core.specs.declared.refusal.OwnerRefusal.{OwnerRefusal}
 use Rattle.owner_core.specs.declared.refusal.OwnerRefusal.TheVariants.{Memory}
 use Rattle.owner_keeper.specs.Keeping.{OwnerStanding, draft_of}
+use Rattle.owner_keeper.specs.Texts.{most_handover}
 use Rattle.owner_keeper.specs.declared.order.OwnerOrder.{OwnerOrder}
 use Rattle.owner_keeper.specs.declared.order.OwnerOrder.TheVariants as orders
-use Rattle.owner_keeper.specs.declared.refusal.DraftRefusal.{DraftRefusal}
-use Rattle.owner_keeper.specs.declared.refusal.DraftRefusal.TheVariants as refusals
+use Rattle.owner_keeper.specs.declared.refusal.OwnerOrderRefusal.{OwnerOrderRefusal}
+use Rattle.owner_keeper.specs.declared.refusal.OwnerOrderRefusal.TheVariants as refusals
 use Rattle.owner_keeper.specs.declared.reply.OwnerReply.{OwnerReply}
 use Rattle.owner_keeper.specs.declared.reply.OwnerReply.TheVariants.{Handed, Sends}
 use Rattle.report_text.specs.Lines.{line_of}
@@ -53,7 +54,7 @@ can_be_followed old = need (nat_lt old.serial (2 ^ 64 - 1)) cause.Limit
 
 -- the certificate of the draft that the word with this number names
 abbrev pub named_draft : OwnerStanding → ℕ → ℕ → Result Certificate Cause
-named_draft party draft word = ok_or (draft_of party draft) (cause.None word)
+named_draft party draft word = ok_or (draft_of party draft) (cause.Absent word)
 
 -- an authority with this number is there where there are so many; the number has two bytes
 abbrev pub is_among : ℕ → ℕ → Bool
@@ -61,7 +62,7 @@ is_among count number = nat_lt number 65536 && nat_lt number count
 
 -- the word with this number names authorities alone that are there
 abbrev pub named_asks : OwnerStanding → ℕ → List ℕ → Result (Unit {0}) Cause
-named_asks party word asks = need (list_all (is_among (length party.owner.directory.authorities)) asks) (cause.None word)
+named_asks party word asks = need (list_all (is_among (length party.owner.directory.authorities)) asks) (cause.Absent word)
 
 -- the line names this owner
 abbrev pub names_owner : OwnerStanding → ℕ → Result (Unit {0}) Cause
@@ -73,14 +74,14 @@ names_owner party named = for_own (owner_party party.owner.number) (owner_party 
 abbrev pub order_for_owner : OwnerStanding → EventLine → Result OwnerOrder Cause
 order_for_owner party (events.Register named name words asks) = do
   own ← names_owner party named
-  policy ← ok_or (policy_of words) (cause.None 3)
+  policy ← ok_or (policy_of words) (cause.Absent 3)
   known ← named_asks party 8 asks
   room ← has_room party
   Ok (orders.Begin (first_certificate (public_of party.owner.key) name policy) asks)
 order_for_owner party (events.Update named draft words asks) = do
   own ← names_owner party named
   old ← named_draft party draft 2
-  policy ← ok_or (policy_of words) (cause.None 3)
+  policy ← ok_or (policy_of words) (cause.Absent 3)
   known ← named_asks party 8 asks
   room ← has_room party
   follows ← can_be_followed old
@@ -111,9 +112,9 @@ order_for_owner party event = Err cause.Order
 abbrev pub spelled_certificate : List ℕ → Option Certificate
 spelled_certificate word = option_and_then (λ bytes. result_ok (whole certificate_at bytes)) (bytes_of_hex word)
 
--- the bytes of a handover that a word of hex spells: fewer than 65,536
+-- the bytes of a handover that a word of hex spells: no more than an owner takes
 abbrev pub spelled_handover : List ℕ → Option (List ℕ)
-spelled_handover word = option_filter (λ bytes. nat_lt (length bytes) 65536) (bytes_of_hex word)
+spelled_handover word = option_filter (λ bytes. nat_le (length bytes) most_handover) (bytes_of_hex word)
 
 -- `<hex>`, the field behind `draft`: another owner's certificate
 abbrev pub draft_fields : Fields Certificate
@@ -197,8 +198,8 @@ row_refused party number (Some done) refusal = step_told (owner_party party.owne
 row_refused party number None refusal = unread_line number cause.Limit
 
 -- What is told of a refusal: nothing, where memory was wanting. Where a line was read so, there is the draft, and nothing is too long.
-abbrev pub owner_refused : OwnerStanding → ℕ → OwnerOrder → DraftRefusal → Option (List ℕ)
+abbrev pub owner_refused : OwnerStanding → ℕ → OwnerOrder → OwnerOrderRefusal → Option (List ℕ)
 owner_refused party number order (refusals.Owner Memory) = None
 owner_refused party number order (refusals.Owner refusal) = Some (row_refused party number (owner_what number order) refusal)
-owner_refused party number order refusals.NoCertificate = Some (unread_line number (cause.None (draft_word order)))
+owner_refused party number order refusals.NoCertificate = Some (unread_line number (cause.Absent (draft_word order)))
 owner_refused party number order refusals.Long = Some (unread_line number (cause.Form (Field 2)))

@@ -15,8 +15,8 @@ use Rattle.ar_statement.specs.declared.party.Party.{Party}
 use Rattle.authority_core.specs.declared.refusal.AuthorityRefusal.TheVariants.{Memory}
 use Rattle.authority_keeper.specs.declared.order.AuthorityOrder.{AuthorityOrder}
 use Rattle.authority_keeper.specs.declared.order.AuthorityOrder.TheVariants as authority
-use Rattle.authority_keeper.specs.declared.refusal.OrderRefusal.{OrderRefusal}
-use Rattle.authority_keeper.specs.declared.refusal.OrderRefusal.TheVariants as refusals
+use Rattle.authority_keeper.specs.declared.refusal.AuthorityOrderRefusal.{AuthorityOrderRefusal}
+use Rattle.authority_keeper.specs.declared.refusal.AuthorityOrderRefusal.TheVariants as refusals
 use Rattle.hex.specs.Hex.{encode_lower}
 use Rattle.log_keeper.specs.declared.order.LogOrder.{LogOrder}
 use Rattle.log_keeper.specs.declared.order.LogOrder.TheVariants as log
@@ -70,7 +70,7 @@ step_told party done refused = line_of (Step party done refused)
 abbrev pub unread_text : Cause → List ℕ
 unread_text (cause.Form reason) = reason_text reason
 unread_text cause.Order = codes "order"
-unread_text (cause.None word) = codes "none " ++ decimal word
+unread_text (cause.Absent word) = codes "none " ++ decimal word
 unread_text cause.Limit = codes "limit"
 
 -- `line <n>: <reason>`
@@ -110,8 +110,8 @@ authority_what number (authority.Take bytes) = what.Take number
 authority_what number order = what.Roll
 
 -- what is told of that: nothing, where memory was wanting
-abbrev pub authority_refused : ℕ → ℕ → AuthorityOrder → OrderRefusal → Option (List ℕ)
+abbrev pub authority_refused : ℕ → ℕ → AuthorityOrder → AuthorityOrderRefusal → Option (List ℕ)
 authority_refused me number order (refusals.Authority Memory) = None
 authority_refused me number order (refusals.Authority refusal) =
     Some (step_told (authority_party me) (authority_what number order) (Some (authority_code refusal)))
-authority_refused me number order refusals.Retired = Some (unread_line number (cause.None 1))
+authority_refused me number order refusals.Retired = Some (unread_line number (cause.Absent 1))

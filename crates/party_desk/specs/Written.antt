@@ -1,4 +1,4 @@
--- Letters and lessons as they are written.
+-- Letters, lessons and orders as they are written.
 use Rattle.std.specs.Prelude.{◌≡◌, ◌<◌, ◌^◌, ℕ, List, [], ◌∷◌, length}
 use Rattle.std.specs.List.{join_with_byte}
 use Rattle.hex.specs.Hex.{IsBytes, encode_lower}
@@ -8,6 +8,7 @@ use Rattle.ar_message.specs.declared.address.Address.{Address}
 use Rattle.ar_message.specs.declared.address.Address.TheVariants.{Logs, One}
 use Rattle.ar_names.specs.Names.{IsName}
 use Rattle.ar_statement.specs.Claims.{authority_party}
+use Rattle.ar_statement.specs.declared.party.Party.{Party}
 use Rattle.party_desk.specs.Asking.{LessonWords}
 
 -- to whom a program may send: a party's number has two bytes
@@ -30,3 +31,7 @@ pub record IsLesson (said : LessonWords) : Type 0 where
 -- the line of a lesson, behind this word: `<A> <name> <112 hex>`
 abbrev pub lesson_text : List ℕ → LessonWords → List ℕ
 lesson_text word said = join_with_byte 32 (word ∷ party_word (authority_party said.authority) ∷ said.name ∷ encode_lower said.key ∷ [])
+
+-- the line of an order to a party, behind this word: `<word> <party>`
+abbrev pub order_text : List ℕ → Party → List ℕ
+order_text word party = join_with_byte 32 (word ∷ party_word party ∷ [])

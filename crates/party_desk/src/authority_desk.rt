@@ -19,7 +19,7 @@ use ar_names::Name;
 use ar_nodes::codes::authority_code;
 use ar_statement::{Party, Role};
 use authority_core::AuthorityRefusal;
-use authority_keeper::{AuthorityKeeper, AuthorityOrder, OrderRefusal};
+use authority_keeper::{AuthorityKeeper, AuthorityOrder, AuthorityOrderRefusal};
 use report_text::{Happening, What};
 use script_text::EventLine;
 use std::alloc::{AllocError, Global};
@@ -88,18 +88,18 @@ fn lesson_fields(alloc: Global, behind: Option<&[u8]>) -> Result<(u16, Name, [u8
     Ok((authority, name, key))
 }
 
-/// The fields behind `teach` and `forget` where they name this authority.
+/// The name and the key behind `teach` and `forget` where they name this authority.
 fn own_lesson(
     authority: &AuthorityKeeper,
     alloc: Global,
     behind: Option<&[u8]>,
-) -> Result<(u16, Name, [u8; 56]), Unread>
-    ensures { ReadsAs (λ said. record { authority = said.0; name = said.1; key = said.2 }) result
-        (own_lesson authority.now.state.me (words_behind (option_copied behind.entry))) }
+) -> Result<(Name, [u8; 56]), Unread>
+    ensures { ReadsAs (λ said. record { authority = authority.now.state.me; name = said.0; key = said.1 })
+        result (own_lesson authority.now.state.me (words_behind (option_copied behind.entry))) }
 {
     let (named, name, key) = lesson_fields(alloc, behind)?;
     need_own(who(authority), Role::Authority.party(named))?;
-    Ok((named, name, key))
+    Ok((name, key))
 }
 
 impl LineParty for AuthorityKeeper {
@@ -118,11 +118,11 @@ impl LineParty for AuthorityKeeper {
         }
         let (word, behind) = first_word(line);
         if word == b"teach".as_slice() {
-            let (_, name, key) = own_lesson(self, alloc, behind)?;
+            let (name, key) = own_lesson(self, alloc, behind)?;
             return Ok(Some(AuthorityOrder::Learn { name, key }));
         }
         if word == b"forget".as_slice() {
-            let (_, name, key) = own_lesson(self, alloc, behind)?;
+            let (name, key) = own_lesson(self, alloc, behind)?;
             return Ok(Some(AuthorityOrder::Forget { name, key }));
         }
         plain_order(self, alloc, line)
@@ -155,16 +155,21 @@ impl LineParty for AuthorityKeeper {
         alloc: Global,
         number: u64,
         order: &AuthorityOrder,
-        refusal: &OrderRefusal,
+        refusal: &AuthorityOrderRefusal,
         out: &mut Vec<u8>,
     ) -> Result<(), AllocError> {
         match refusal {
-            OrderRefusal::Authority(AuthorityRefusal::Memory) => Err(AllocError),
-            OrderRefusal::Authority(refusal) => {
+            AuthorityOrderRefusal::Authority(AuthorityRefusal::Memory) => Err(AllocError),
+            AuthorityOrderRefusal::Authority(refusal) => {
                 let code = authority_code(*refusal);
                 put_step(alloc, out, who(self), what_of(number, order), Some(code))
             }
-            OrderRefusal::Retired => put_line_refused(alloc, out, number, Cause::None(1)),
+            AuthorityOrderRefusal::Retired => put_line_refused(
+                alloc,
+                out,
+                number,
+                Cause::Absent(1),
+            ),
         }
     }
 }

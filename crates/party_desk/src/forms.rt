@@ -14,10 +14,8 @@ use ar_cert::{Cert, CertFault};
 use ar_lines::{LineFault, Reason, Word, first_word, party_of};
 use ar_names::Name;
 use ar_statement::Role;
+use owner_keeper::MOST_HANDOVER;
 use std::alloc::{AllocError, Global};
-
-/// The most bytes of a handover.
-const MOST_HANDOVER: usize = 65_535;
 
 // ---- so many words
 

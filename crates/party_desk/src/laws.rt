@@ -4,6 +4,7 @@
 ghost use Rattle.std.specs.Prelude.{◌≡◌, ◌≢◌, ◌∷◌, [], ℕ, List, Some, Ok, codes};
 ghost use Rattle.ar_lines.specs.Lines.{lines_of, words_of};
 ghost use Rattle.ar_message.specs.Sending.{Letter};
+ghost use Rattle.ar_statement.specs.Claims.{authority_party, log_party};
 ghost use Rattle.authority_keeper.specs.Keeping as authority;
 ghost use Rattle.authority_keeper.specs.Keeping.{AuthorityStanding};
 ghost use Rattle.authority_keeper.specs.declared.order.AuthorityOrder.{AuthorityOrder};
@@ -20,10 +21,10 @@ ghost use Rattle.owner_keeper.specs.declared.order.OwnerOrder.TheVariants as own
 ghost use Rattle.party_desk.specs.Asking.{LessonWords, authority_asked, heard_in, log_asked};
 ghost use Rattle.party_desk.specs.Owners.{owner_asked};
 ghost use Rattle.party_desk.specs.Telling.{address_text, letter_line};
-ghost use Rattle.party_desk.specs.Written.{IsLesson, IsLetter, lesson_text};
+ghost use Rattle.party_desk.specs.Written.{IsLesson, IsLetter, lesson_text, order_text};
 ghost use Rattle.party_desk.specs.declared.reading.Heard.TheVariants as heard;
 
-/// Where a party stands so, its journal has one text of what it is asked, and no other.
+/// Where a party stands so, its journal has at most one text of what it is asked.
 pub fn an_order_has_one_text()
     ensures log { (party : LogStanding) (order : LogOrder) (text other : List ℕ)
         → log.says party order text → log.says party order other → text ≡ other }
@@ -76,4 +77,23 @@ pub fn only_written_lessons_are_read()
         → authority_asked number line ≡ Ok (Some (authority_orders.Forget name key))
         → line ≡ lesson_text (codes "forget")
         (record { authority = number; name = name; key = key }) }
+{}
+
+/// No other line has a log propose, say that it passes or go on to its next key, or an authority go on to its next key or retire.
+pub fn only_written_orders_are_read()
+    ensures propose { (number : ℕ) (line : List ℕ)
+        → log_asked number line ≡ Ok (Some log_orders.Propose)
+        → line ≡ order_text (codes "propose") (log_party number) }
+    ensures pass { (number : ℕ) (line : List ℕ)
+        → log_asked number line ≡ Ok (Some log_orders.Pass)
+        → line ≡ order_text (codes "pass") (log_party number) }
+    ensures log_roll { (number : ℕ) (line : List ℕ)
+        → log_asked number line ≡ Ok (Some log_orders.Roll)
+        → line ≡ order_text (codes "roll") (log_party number) }
+    ensures authority_roll { (number : ℕ) (line : List ℕ)
+        → authority_asked number line ≡ Ok (Some authority_orders.Roll)
+        → line ≡ order_text (codes "roll") (authority_party number) }
+    ensures retire { (number : ℕ) (line : List ℕ)
+        → authority_asked number line ≡ Ok (Some authority_orders.Retire)
+        → line ≡ order_text (codes "retire") (authority_party number) }
 {}

@@ -41,7 +41,7 @@ pub(crate) fn draft_named(owner: &OwnerKeeper, draft: u64, word: usize) -> Resul
 {
     match owner.cert(draft) {
         Some(cert) => Ok(cert),
-        None => Err(Cause::None(word)),
+        None => Err(Cause::Absent(word)),
     }
 }
 
@@ -51,10 +51,10 @@ pub(crate) fn need_policy(words: &PolicyWords) -> Result<(), Cause>
     ensures wait { OnOk result (may_wait words.now.wait ≡ true) }
     ensures known { OnOk result (policy_of words.now ≡ Some (terms_of words.now)) }
     ensures err { IfErr result (λ why.
-        ok_or (policy_of words.now) (causes.None 3) ≡ Err why) }
+        ok_or (policy_of words.now) (causes.Absent 3) ≡ Err why) }
 {
     if !are_authorities(words.trusted.as_slice()) || !may_wait(words.wait) {
-        return Err(Cause::None(3));
+        return Err(Cause::Absent(3));
     }
     Ok(())
 }
@@ -77,7 +77,7 @@ pub(crate) fn need_asks(owner: &OwnerKeeper, word: usize, asks: &[u64]) -> Resul
     if are_there(owner.authorities(), asks) {
         Ok(())
     } else {
-        Err(Cause::None(word))
+        Err(Cause::Absent(word))
     }
 }
 

@@ -22,7 +22,7 @@ use ar_cert::Cert;
 use ar_lines::{Reason, first_word, is_text, number_of};
 use ar_nodes::codes::owner_code;
 use owner_core::OwnerRefusal;
-use owner_keeper::{DraftRefusal, OwnerKeeper, OwnerOrder, OwnerReply};
+use owner_keeper::{OwnerKeeper, OwnerOrder, OwnerOrderRefusal, OwnerReply};
 use report_text::{Happening, What};
 use script_text::EventLine;
 use std::alloc::{AllocError, Global};
@@ -267,20 +267,20 @@ impl LineParty for OwnerKeeper {
         alloc: Global,
         number: u64,
         order: &OwnerOrder,
-        refusal: &DraftRefusal,
+        refusal: &OwnerOrderRefusal,
         out: &mut Vec<u8>,
     ) -> Result<(), AllocError> {
         match refusal {
-            DraftRefusal::Owner(OwnerRefusal::Memory) => Err(AllocError),
-            DraftRefusal::Owner(refusal) => {
+            OwnerOrderRefusal::Owner(OwnerRefusal::Memory) => Err(AllocError),
+            OwnerOrderRefusal::Owner(refusal) => {
                 let done = what_of(number, order);
                 put_row_refused(self, alloc, number, done, *refusal, out)
             }
-            DraftRefusal::NoCertificate => {
-                let cause = Cause::None(draft_word(order));
+            OwnerOrderRefusal::NoCertificate => {
+                let cause = Cause::Absent(draft_word(order));
                 put_line_refused(alloc, out, number, cause)
             }
-            DraftRefusal::Long => {
+            OwnerOrderRefusal::Long => {
                 let cause = Cause::Form(Reason::Field(2));
                 put_line_refused(alloc, out, number, cause)
             }

@@ -57,6 +57,6 @@ pub(crate) fn need_own(own: Party, named: Party) -> Result<(), Cause>
     if named == own {
         Ok(())
     } else {
-        Err(Cause::None(1))
+        Err(Cause::Absent(1))
     }
 }

@@ -3,7 +3,7 @@ ghost use Rattle.party_desk.specs.declared.unread.Cause.TheVariants as causes;
 ghost use Rattle.party_desk.specs.declared.unread.Unread.TheVariants as faults;
 
 use ar_lines::Reason;
-use std::alloc::{AllocError, AllocFailed};
+use std::alloc::AllocError;
 use thiserror::Error;
 
 /// Why a party does not take a line. The party is as it was.
@@ -15,7 +15,7 @@ pub enum Cause {
     Order,
     /// The word of this number, from 0, names nothing here: another party, a draft or an authority that there is not, or the check
     /// of an authority that has retired.
-    None(usize),
+    Absent(usize),
     /// The owner knows as many certificates as it can, or the certificate that it goes on from has the greatest serial.
     Limit,
 }
@@ -35,14 +35,6 @@ impl From<AllocError> for Unread {
     ghost from_gives = { λ _ e. e ≡ faults.Memory };
 
     fn from(_error: AllocError) -> Unread {
-        Unread::Memory
-    }
-}
-
-impl<T: Drop> From<AllocFailed<T>> for Unread {
-    ghost from_gives = { λ _ e. e ≡ faults.Memory };
-
-    fn from(_error: AllocFailed<T>) -> Unread {
         Unread::Memory
     }
 }

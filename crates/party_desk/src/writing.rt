@@ -146,13 +146,8 @@ pub(crate) fn put_ended(
 fn put_reason(alloc: Global, out: &mut Vec<u8>, reason: Reason) -> Result<(), AllocError>
     ensures { Puts (reason_text reason) out.old out.new result }
 {
-    match reason {
-        Reason::Limit => put(alloc, out, b"limit"),
-        Reason::Text => put(alloc, out, b"text"),
-        Reason::Word => put(alloc, out, b"word"),
-        Reason::Words => put(alloc, out, b"words"),
-        Reason::Field(word) => put_numbered(alloc, out, b"field ", word as u64),
-    }
+    let text = format!(in alloc; "{reason}")?;
+    put(alloc, out, text.as_bytes())
 }
 
 /// Puts a text and a number behind the others.
@@ -174,7 +169,7 @@ fn put_cause(alloc: Global, out: &mut Vec<u8>, cause: Cause) -> Result<(), Alloc
     match cause {
         Cause::Form(reason) => put_reason(alloc, out, reason),
         Cause::Order => put(alloc, out, b"order"),
-        Cause::None(word) => put_numbered(alloc, out, b"none ", word as u64),
+        Cause::Absent(word) => put_numbered(alloc, out, b"none ", word as u64),
         Cause::Limit => put(alloc, out, b"limit"),
     }
 }

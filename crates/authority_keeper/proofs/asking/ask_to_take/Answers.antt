@@ -1,7 +1,6 @@
 use Rattle.std.proofs.Common.{◌≡◌, is_none}
 use Rattle.ar_message.specs.Messages.{message_in}
 use Rattle.authority_core.specs.Row.{asked_in}
-use Rattle.authority_keeper.specs.Checks.{book_of}
 use Rattle.authority_keeper.specs.Inputs.{input_text, takes}
 use Rattle.authority_keeper.specs.Keeping.{Sends, answer_to, says_to, standing_of}
 use Rattle.authority_keeper.proofs.Answered.{reply_of, short}

@@ -1,4 +1,4 @@
-use Rattle.std.proofs.Common.{rules, ◌≡◌, sym, subst}
+use Rattle.std.proofs.Common.{rules, ◌≡◌, subst}
 use Rattle.ar_message.specs.Messages.{message_in}
 use Rattle.authority_core.specs.Keyed.{SendsBy}
 use Rattle.authority_core.specs.State.{AuthorityState}

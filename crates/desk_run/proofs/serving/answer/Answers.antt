@@ -45,10 +45,10 @@ returns-in-Ok-Some-clause-any_moment g c line passed =
     ap (λ q. g.D.LineParty.asked q line) (sym c.party.ensures) ∙ ap (g.D.LineParty.asked c.party.result.now) same ∙ c.in-Ok-Some.ensures ∙ ap Ok c.in-Ok-Some.field-0-is in
     let short = asks_short g.D.LineParty.asked old.party line p.1 ∙ asks in
     weaker g.K.Disk.moment g.K.Disk.left_since old.journal.disk c.asked.new.kept.journal.disk
-    (λ f. g.K.Disk.may_leave old.journal.disk f ⊎ ((text : List ℕ) × g.D.Keeper.says old.party order text × IsBeforeOrAfter old.journal.mark old.journal.texts text f))
-    (λ f. g.K.Disk.may_leave old.journal.disk f ⊎ LeavesLine g.D.LineParty.asked g.D.Keeper.says old.party line old.journal.mark old.journal.texts f)
+    (λ f. g.K.Disk.may_leave old.journal.disk f ⊎ ((text : List ℕ) × (reply : _) × g.D.Keeper.says old.party order text × g.D.Keeper.takes old.party text reply c.asked.new.kept.party × IsBeforeOrAfter old.journal.mark old.journal.texts text f))
+    (λ f. g.K.Disk.may_leave old.journal.disk f ⊎ LeavesLine g.D.LineParty.asked g.D.Keeper.says g.D.Keeper.takes old.party line old.journal.mark old.journal.texts f)
     c.asked.ensures.any_moment
-    (λ f. ⊎_elim (λ left. inl left) (λ t. inr (record { order = order; asks = short; text = t.0; its = t.1; stands = t.2 })))
+    (λ f. ⊎_elim (λ left. inl left) (λ t. inr (record { order = order; asks = short; text = t.0; its = t.2; reply = t.1; later = c.asked.new.kept.party; taken = t.3; stands = t.4 })))
 
 pub returns-in-Err-Memory-clause-not_done : goal.returns-in-Err-Memory-clause-not_done
 returns-in-Err-Memory-clause-not_done g c line passed =

@@ -43,7 +43,7 @@ loop-number-init g c =
       served = begun (AnswersLine g.D.LineParty.asked g.D.Keeper.says g.D.Keeper.takes g.D.Keeper.tells g.D.Keeper.refuses g.D.LineParty.sent_text g.D.LineParty.told_text g.D.LineParty.refused_text) g.W.Sink.wrote g.K.Disk.held g.K.Disk.may_leave c.args.kept.now (g.S.Source.left c.args.source.now) c.args.sink.now
           (opening_text (sent_again g.D.LineParty.sent_text c.args.again) c.args.kept.now.journal.count)
           c.write.new.sink c.in_ok-lines.lines.ahead c.in_ok-lines.ensures sent;
-      crashed = no_turn g.D.LineParty.asked g.D.Keeper.says (AnswersLine g.D.LineParty.asked g.D.Keeper.says g.D.Keeper.takes g.D.Keeper.tells g.D.Keeper.refuses g.D.LineParty.sent_text g.D.LineParty.told_text g.D.LineParty.refused_text) g.K.Disk.moment g.K.Disk.left_since g.K.Disk.may_leave
+      crashed = no_turn g.D.LineParty.asked g.D.Keeper.says g.D.Keeper.takes (AnswersLine g.D.LineParty.asked g.D.Keeper.says g.D.Keeper.takes g.D.Keeper.tells g.D.Keeper.refuses g.D.LineParty.sent_text g.D.LineParty.told_text g.D.LineParty.refused_text) g.K.Disk.moment g.K.Disk.left_since g.K.Disk.may_leave
           c.args.kept.now.party (g.S.Source.left c.args.source.now) (g.S.Source.left c.args.source.now) c.args.kept.now.journal.mark c.args.kept.now.journal.texts c.args.kept.now.journal.disk
           (g.met.K.Disk.only_now c.args.kept.now.journal.disk);
       source = refl;
@@ -64,7 +64,7 @@ returns-in_err-turn-clause-any_moment g c =
     let t = c.in_err-turn.ensures.stopped in
     crashed (AnswersLine g.D.LineParty.asked g.D.Keeper.says g.D.Keeper.takes g.D.Keeper.tells g.D.Keeper.refuses g.D.LineParty.sent_text g.D.LineParty.told_text g.D.LineParty.refused_text) g.W.Sink.wrote g.K.Disk.held g.K.Disk.may_leave c.args.kept.now (g.S.Source.left c.args.source.now) c.args.sink.now
     (opening_text (sent_again g.D.LineParty.sent_text c.args.again) c.args.kept.now.journal.count)
-    g.D.LineParty.asked g.D.Keeper.says g.K.Disk.moment g.K.Disk.left_since c.loop-number.kept c.turn.new.kept.journal.disk (g.S.Source.left c.loop-number.source) (g.S.Source.left c.turn.new.source)
+    g.D.LineParty.asked g.D.Keeper.says g.D.Keeper.takes g.K.Disk.moment g.K.Disk.left_since c.loop-number.kept c.turn.new.kept.journal.disk (g.S.Source.left c.loop-number.source) (g.S.Source.left c.turn.new.source)
     c.loop-number.sink c.loop-number.lines.ahead t.taken c.loop-number.number c.loop-number.invariant.served t.came c.loop-number.invariant.crashed c.turn.ensures.any_moment
 
 pub returns-then-not-branch-clause-answered : goal.returns-then-not-branch-clause-answered
@@ -81,7 +81,7 @@ returns-then-not-branch-clause-any_moment g c =
     let t = c.in_ok-turn.ensures.ended none in
     crashed (AnswersLine g.D.LineParty.asked g.D.Keeper.says g.D.Keeper.takes g.D.Keeper.tells g.D.Keeper.refuses g.D.LineParty.sent_text g.D.LineParty.told_text g.D.LineParty.refused_text) g.W.Sink.wrote g.K.Disk.held g.K.Disk.may_leave c.args.kept.now (g.S.Source.left c.args.source.now) c.args.sink.now
     (opening_text (sent_again g.D.LineParty.sent_text c.args.again) c.args.kept.now.journal.count)
-    g.D.LineParty.asked g.D.Keeper.says g.K.Disk.moment g.K.Disk.left_since c.loop-number.kept c.turn.new.kept.journal.disk (g.S.Source.left c.loop-number.source) (g.S.Source.left c.turn.new.source)
+    g.D.LineParty.asked g.D.Keeper.says g.D.Keeper.takes g.K.Disk.moment g.K.Disk.left_since c.loop-number.kept c.turn.new.kept.journal.disk (g.S.Source.left c.loop-number.source) (g.S.Source.left c.turn.new.source)
     c.loop-number.sink c.loop-number.lines.ahead t.taken c.loop-number.number c.loop-number.invariant.served t.came c.loop-number.invariant.crashed c.turn.ensures.any_moment
 
 pub loop-number-preserved : goal.loop-number-preserved
@@ -94,7 +94,7 @@ loop-number-preserved g c =
           c.loop-number.invariant.served t c.turn.ensures.mark c.in_ok-turn.ensures.goes_on c.in_ok-turn.ensures.durable;
       crashed = crashed (AnswersLine g.D.LineParty.asked g.D.Keeper.says g.D.Keeper.takes g.D.Keeper.tells g.D.Keeper.refuses g.D.LineParty.sent_text g.D.LineParty.told_text g.D.LineParty.refused_text) g.W.Sink.wrote g.K.Disk.held g.K.Disk.may_leave c.args.kept.now (g.S.Source.left c.args.source.now) c.args.sink.now
           (opening_text (sent_again g.D.LineParty.sent_text c.args.again) c.args.kept.now.journal.count)
-          g.D.LineParty.asked g.D.Keeper.says g.K.Disk.moment g.K.Disk.left_since c.loop-number.kept c.turn.new.kept.journal.disk (g.S.Source.left c.loop-number.source) (g.S.Source.left c.turn.new.source)
+          g.D.LineParty.asked g.D.Keeper.says g.D.Keeper.takes g.K.Disk.moment g.K.Disk.left_since c.loop-number.kept c.turn.new.kept.journal.disk (g.S.Source.left c.loop-number.source) (g.S.Source.left c.turn.new.source)
           c.loop-number.sink c.loop-number.lines.ahead t.taken c.loop-number.number c.loop-number.invariant.served t.came c.loop-number.invariant.crashed c.turn.ensures.any_moment;
       source = c.in_ok-turn.ensures.source_uncounted (λ is. absurd cc) ∙ c.loop-number.invariant.source;
       sink = c.in_ok-turn.ensures.sink_uncounted (λ is. absurd cc) ∙ c.loop-number.invariant.sink;

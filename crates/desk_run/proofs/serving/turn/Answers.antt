@@ -32,7 +32,7 @@ returns-in_err-text-clause-any_moment g c =
     let more : c.in_ok-next.field-0 ≡ true = search rules in
     let came = subst (λ b. Comes b (c.args.lines.now.ahead ++ t.0) c.next.new.self (g.S.Source.left c.next.new.source)) more t.2 in
     let line = came.0 in
-    in_turn g.D.LineParty.asked g.D.Keeper.says (AnswersLine g.D.LineParty.asked g.D.Keeper.says g.D.Keeper.takes g.D.Keeper.tells g.D.Keeper.refuses g.D.LineParty.sent_text g.D.LineParty.told_text g.D.LineParty.refused_text) g.K.Disk.moment g.K.Disk.left_since g.K.Disk.may_leave
+    in_turn g.D.LineParty.asked g.D.Keeper.says g.D.Keeper.takes (AnswersLine g.D.LineParty.asked g.D.Keeper.says g.D.Keeper.takes g.D.Keeper.tells g.D.Keeper.refuses g.D.LineParty.sent_text g.D.LineParty.told_text g.D.LineParty.refused_text) g.K.Disk.moment g.K.Disk.left_since g.K.Disk.may_leave
     c.args.kept.now.party (g.S.Source.left c.args.source.now) (g.S.Source.left c.next.new.source) c.args.lines.now.ahead t.0 line c.next.new.self.ahead
     c.args.kept.now.journal.mark c.args.kept.now.journal.texts c.args.kept.now.journal.disk c.answer.new.kept.journal.disk t.1 came.1.0
     (c.answer.ensures.any_moment line came.1.1)
@@ -55,7 +55,7 @@ returns-in_err-write-clause-any_moment g c =
     let more : c.in_ok-next.field-0 ≡ true = search rules in
     let came = subst (λ b. Comes b (c.args.lines.now.ahead ++ t.0) c.next.new.self (g.S.Source.left c.next.new.source)) more t.2 in
     let line = came.0 in
-    in_turn g.D.LineParty.asked g.D.Keeper.says (AnswersLine g.D.LineParty.asked g.D.Keeper.says g.D.Keeper.takes g.D.Keeper.tells g.D.Keeper.refuses g.D.LineParty.sent_text g.D.LineParty.told_text g.D.LineParty.refused_text) g.K.Disk.moment g.K.Disk.left_since g.K.Disk.may_leave
+    in_turn g.D.LineParty.asked g.D.Keeper.says g.D.Keeper.takes (AnswersLine g.D.LineParty.asked g.D.Keeper.says g.D.Keeper.takes g.D.Keeper.tells g.D.Keeper.refuses g.D.LineParty.sent_text g.D.LineParty.told_text g.D.LineParty.refused_text) g.K.Disk.moment g.K.Disk.left_since g.K.Disk.may_leave
     c.args.kept.now.party (g.S.Source.left c.args.source.now) (g.S.Source.left c.next.new.source) c.args.lines.now.ahead t.0 line c.next.new.self.ahead
     c.args.kept.now.journal.mark c.args.kept.now.journal.texts c.args.kept.now.journal.disk c.answer.new.kept.journal.disk t.1 came.1.0
     (c.answer.ensures.any_moment line came.1.1)
@@ -66,7 +66,7 @@ returns-clause-any_moment g c =
     let more : c.in_ok-next.field-0 ≡ true = search rules in
     let came = subst (λ b. Comes b (c.args.lines.now.ahead ++ t.0) c.next.new.self (g.S.Source.left c.next.new.source)) more t.2 in
     let line = came.0 in
-    in_turn g.D.LineParty.asked g.D.Keeper.says (AnswersLine g.D.LineParty.asked g.D.Keeper.says g.D.Keeper.takes g.D.Keeper.tells g.D.Keeper.refuses g.D.LineParty.sent_text g.D.LineParty.told_text g.D.LineParty.refused_text) g.K.Disk.moment g.K.Disk.left_since g.K.Disk.may_leave
+    in_turn g.D.LineParty.asked g.D.Keeper.says g.D.Keeper.takes (AnswersLine g.D.LineParty.asked g.D.Keeper.says g.D.Keeper.takes g.D.Keeper.tells g.D.Keeper.refuses g.D.LineParty.sent_text g.D.LineParty.told_text g.D.LineParty.refused_text) g.K.Disk.moment g.K.Disk.left_since g.K.Disk.may_leave
     c.args.kept.now.party (g.S.Source.left c.args.source.now) (g.S.Source.left c.next.new.source) c.args.lines.now.ahead t.0 line c.next.new.self.ahead
     c.args.kept.now.journal.mark c.args.kept.now.journal.texts c.args.kept.now.journal.disk c.answer.new.kept.journal.disk t.1 came.1.0
     (c.answer.ensures.any_moment line came.1.1)

@@ -7,7 +7,7 @@ use Rattle.log_journal.proofs.replaying.roll_again.Goals as goal
 pub returns-clause-stuck : goal.returns-clause-stuck
 returns-clause-stuck c stuck =
     let is : c.fault_of.result ≡ faults.Stuck = search rules in
-    roll_refused (standing_of c.args.log.now) c.args.key.now c.in-Err.refusal (λ next is. (c.in-Err.ensures.row next is).1) (c.fault_of.ensures is)
+    roll_refused (standing_of c.args.log.now) c.args.key.now c.in-Err.refusal (λ next is. (c.in-Err.ensures.row next is).1) (c.fault_of.ensures.memory is)
 
 pub returns-then-is_newest-clause-taken : goal.returns-then-is_newest-clause-taken
 returns-then-is_newest-clause-taken c =

@@ -26,7 +26,7 @@ returns-else-is_newest-clause-number c =
 pub returns-in-Err-clause-stuck : goal.returns-in-Err-clause-stuck
 returns-in-Err-clause-stuck c stuck =
     let is : c.fault_of.result ≡ faults.Stuck = search rules in
-    roll_not_taken (standing_of c.args.log.now) c.args.key.now c.in-Err.refusal (λ next at. (c.in-Err.ensures.row next at).1) (c.fault_of.ensures is)
+    roll_not_taken (standing_of c.args.log.now) c.args.key.now c.in-Err.refusal (λ next at. (c.in-Err.ensures.row next at).1) (c.fault_of.ensures.memory is)
 
 pub returns-in-Err-clause-number : goal.returns-in-Err-clause-number
 returns-in-Err-clause-number c =

@@ -3,7 +3,7 @@ use Rattle.owner_core.specs.Rows.{begin_row}
 use Rattle.owner_core.specs.State.{Owner}
 use Rattle.ar_cert.specs.Certificate.{Certificate}
 use Rattle.owner_keeper.specs.Keeping.{standing_with}
-use Rattle.owner_keeper.specs.declared.refusal.DraftRefusal.TheVariants as refusals
+use Rattle.owner_keeper.specs.declared.refusal.OwnerOrderRefusal.TheVariants as refusals
 use Rattle.owner_keeper.proofs.Acting.{begin_wants, begun, too_many}
 use Rattle.owner_keeper.proofs.knowing.Knowing.begin.Goals as goal
 
