@@ -87,11 +87,6 @@ def dropped(chains):
     return LANES * max(lanes) - sum(lanes)
 
 
-def dropped_to_make(lms, ots):
-    """Of a key, whose chains begin side by side too."""
-    return 2 ** HEIGHTS[lms] * (-CHAINS[ots] % LANES + dropped([2 ** WIDTHS[ots] - 1] * CHAINS[ots]))
-
-
 def dropped_to_sign(key, message, signature):
     _, ots = types_of(key)
     return -CHAINS[ots] % LANES + dropped(signed_digits(ots, key, message, signature))

@@ -22,19 +22,18 @@ What is counted (`Needs`):
 Beside them, under a word and a role, how many signatures the parties of each role made and verified, for tools/scale.
 
 And under `above` and a word of ABOVE what is not needed, but known to run (docs/PERFORMANCE.md, "Scripts"): lanes that are
-dropped where keys are made, and of signatures; a handover of a queued change that is verified once more where the change
-is tried; the own vote that a log signs once more into each confirmation, where it had the turn to propose; and the nodes
+dropped, of signatures (where keys are made none is); the own vote that a log signs once more into each confirmation, where it had the turn to propose; and the nodes
 that are hashed once more where an epoch's entries are set one by one.
 """
 import collections
 import functools
 import struct
 
-from hash_needs import (CHAINS, ENTRY, HEIGHTS, NODE, WIDTHS, blocks, dropped_to_make, dropped_to_sign,
-                        dropped_to_verify, needed_to_make, needed_to_sign, needed_to_verify, sha256, signed_digits)
+from hash_needs import (CHAINS, ENTRY, HEIGHTS, NODE, WIDTHS, blocks, dropped_to_sign, dropped_to_verify,
+                        needed_to_make, needed_to_sign, needed_to_verify, sha256, signed_digits)
 
 WANTS = ("keys", "signed", "verified", "trees", "certificates", "printed")
-ABOVE = ("lanes of keys", "lanes of signatures", "handovers", "own votes", "nodes")
+ABOVE = ("lanes of signatures", "own votes", "nodes")
 LOG, AUTHORITY, OWNER, CLIENT = 1, 2, 3, 4
 LETTERS = {LOG: "L", AUTHORITY: "A", OWNER: "D", CLIENT: "C"}
 LOGS = "logs"
@@ -137,7 +136,6 @@ class Signer:
         self.key = Key(seed, lms, ots)
         self.book, self.judged = {}, set()
         self.needs["keys"] += blocks(1 + 32 + 1 + 2) + needed_to_make(lms, ots) + blocks(56)
-        self.needs["above", "lanes of keys"] += dropped_to_make(lms, ots)
         world.say("party", word(party), sha256(self.key.public).hex())
 
     def sign(self, text):
@@ -402,11 +400,6 @@ class Log(Signer):
         for change in changes:
             steps += steps_to(change.certificate.entry[0], keys)
             keys.add(change.certificate.entry[0])
-            old = self.table.newest.get(change.certificate.name)
-            if old is not None and old.keyed:
-                signed = old.owner.key.public, handover(change.certificate.digest), change.handover
-                self.needs["above", "handovers"] += needed_to_verify(*signed)
-                self.needs["above", "lanes of signatures"] += dropped_to_verify(*signed)
         self.needs["above", "nodes"] += (steps - nodes) * NODE
 
     def propose(self):

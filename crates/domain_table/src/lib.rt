@@ -9,9 +9,9 @@
 //! A `Table` keeps a row for each name, in a map that finds it by hash and in which none moves, and the tree of their
 //! entries: `specs/Rows.antt` says which table rows are, and what the tree has of them. A row is found and a change
 //! judged among them (`rows`); a row comes in (`new_row`) or changes (`change_row`), and the tree follows (`tree`),
-//! which knows how many entries it has (`counted_trie`); `take` does so by the manner in which a change is judged;
-//! `ripe_rows` appends what is ripe; `listed` has rows in the order of their names, where two entries may have one key,
-//! and `listing` the entries by their keys; `row_copy` copies rows, and changes for the crates above.
+//! which knows how many entries it has at least (`counted_trie`); `take` does so by the manner in which a change is
+//! judged; `ripe_rows` appends what is ripe; `listed` has rows in the order of their names, where two entries may have
+//! one key, and `listing` the entries by their keys; `row_copy` copies rows, and changes for the crates above.
 //!
 //! Its tests: `worked_examples`, module `domain_table_tests`, and `examples/play`.
 #![tactic(auto)]

@@ -40,7 +40,7 @@ impl Model for FileDisk {
 
 impl FileDisk {
     /// Opens the file at this path, or makes an empty one, and syncs it with its folder. Until it is dropped, or its process
-    /// ends, nobody else opens the file as a `FileDisk`.
+    /// ends, nobody else opens the file as a `FileDisk`: it is locked, which a test shows and no clause says.
     pub fn open(rt: &HostRuntime, path: &str) -> Result<FileDisk, FileFault>
         ensures { IfOk result IsJustOpened }
     {

@@ -1,7 +1,8 @@
 //! A core that many threads share, with one history of all calls.
 //!
 //! The core lies in the one slot of a table, with the list of the calls that it answered. A thread
-//! asks with a seat: under the lock it takes the core out, lets it make a step, and counts the call.
+//! asks with a seat: it takes the core out, lets it make a step, and counts the call. (That it does so under
+//! the node's lock, so that others wait and do not look again and again, no clause says.)
 //! What a seat has seen is a beginning of the history, and at every moment each call of the history is
 //! an own call of one seat (`specs/Rule.antt`). So the calls of all threads stand in one legal
 //! history, each once, in the order that each had seen.
