@@ -233,14 +233,3 @@ def fields_of(data):
     fields = READERS[kind](reader)
     reader.ends()
     return fields
-
-
-def names_in(fields):
-    """The names that stand in fields."""
-    found = set()
-    for what, value in fields:
-        if isinstance(value, list):
-            found |= names_in(value)
-        elif what == "name":
-            found.add(value)
-    return found

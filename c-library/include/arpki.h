@@ -3,8 +3,8 @@
  *
  * A client trusts the keys of logs and authorities (struct arpki_keys). It is given a confirmation: a message in which
  * one log and two authorities say which certificate a name has, or that it has none. arpki_judge tells what the client
- * makes of it. arpki_connect also tells whether a server has the key of that certificate. arpki_follow also holds it
- * against what the client pinned of the name before. arpki_learn takes the next key of a party that went on to one, and
+ * makes of it. arpki_staple and arpki_connect also tell whether a server has the key of that certificate. arpki_follow also
+ * holds it against what the client pinned of the name before. arpki_learn takes the next key of a party that went on to one, and
  * arpki_verify judges one signature (LMS, RFC 8554).
  *
  * What a caller does once: fill in an arpki_keys with the keys that it ships. For each confirmation: fill in an
@@ -66,6 +66,7 @@ enum {
     ARPKI_KEY_SIZE = 56,       /* a public key */
     ARPKI_DIGEST_SIZE = 32,    /* a digest of SHA-256 */
     ARPKI_CHALLENGE_SIZE = 32, /* a challenge */
+    ARPKI_CHANNEL_SIZE = 32,   /* the digest of a TLS key */
     ARPKI_FIRST_SIZE = 412     /* the field for the first bytes of a pin */
 };
 
@@ -75,9 +76,9 @@ enum {
     ARPKI_AUTHORITY = 2
 };
 
-/* The outcomes of arpki_judge, arpki_connect and arpki_follow. */
+/* The outcomes of arpki_judge, arpki_staple, arpki_connect and arpki_follow. */
 enum {
-    /* The certificate is the name's. Of arpki_connect: and the server has its key. Of arpki_follow: and it is the newest
+    /* The certificate is the name's. Of arpki_staple and arpki_connect: and the server has its key. Of arpki_follow: and it is the newest
      * that is pinned, or the links lead to it from there, or the name was not pinned; `keep` says which. */
     ARPKI_ACCEPTED = 0,
     /* The name has no certificate. No key is the name's. */
@@ -88,7 +89,7 @@ enum {
     ARPKI_NO_MEMORY = 3,
     /* The keys are none that a client can trust together. `check` says what is wrong (ARPKI_KEYS_...). */
     ARPKI_BAD_KEYS = 4,
-    /* Of arpki_connect: the confirmation is accepted, and the server's response to the challenge is not valid. `check` is
+    /* Of arpki_staple and arpki_connect: the confirmation is accepted, and the staple or the response is not valid. `check` is
      * the number of the first condition of a signature that fails, 1 to 5, as for arpki_verify. */
     ARPKI_NO_POSSESSION = 5,
 
@@ -291,14 +292,34 @@ ARPKI_CHECKED uint32_t arpki_judge(const arpki_keys *keys, const arpki_question 
 /* Judges a server that claims to serve a name: the confirmation as arpki_judge does, and then the server's response to a
  * challenge, as a signature by the subject key of the certificate that is accepted.
  *
- * Reads what arpki_judge reads; the 32 bytes of `challenge`, which the caller drew at random for this connection alone;
- * and response_len bytes of `response`, the server's. Writes `answer`, and returns its outcome: ARPKI_ACCEPTED (the
- * connection is open), ARPKI_NO_POSSESSION, or one of the others of arpki_judge.
+ * Reads what arpki_judge reads; the 32 bytes of `challenge`; and response_len bytes of `response`, the server's. Writes
+ * `answer`, and returns its outcome: ARPKI_ACCEPTED (the connection is open), ARPKI_NO_POSSESSION, or one of the others of
+ * arpki_judge.
+ *
+ * The challenge is of this connection alone, and both ends make it themselves: SHA-256 of the byte 0x21, of 32 bytes that the
+ * client drew at random, which it sends, and of 32 bytes that the TLS connection exports (RFC 8446, section 7.5, label
+ * `EXPORTER-arpki-possession`, the random bytes as context). A server that signed any 32 bytes which it is sent would sign for a
+ * man in the middle what he needs. Where one answer is to serve all visitors, call arpki_staple.
  */
 ARPKI_CHECKED uint32_t arpki_connect(const arpki_keys *keys, const arpki_question *question,
                                      const uint8_t challenge[ARPKI_CHALLENGE_SIZE],
                                      const uint8_t *response, size_t response_len,
                                      arpki_answer *answer);
+
+/* Judges a confirmation of a name as arpki_judge does, and then the server's staple: a signature, by the subject key of the
+ * certificate that is accepted, of the challenge that belongs to the confirmation's epoch and to a TLS key. This is what a client
+ * of a web server calls: one staple serves all visitors of an epoch, and who has another TLS key has no staple for it.
+ *
+ * Reads what arpki_judge reads; the 32 bytes of `channel`, which are SHA-256 of the SubjectPublicKeyInfo (DER) of the TLS key that
+ * the server of this very connection has shown, as the client saw it, and never as the server told it; and staple_len bytes of
+ * `staple`, the server's. Writes `answer`, and returns its outcome: ARPKI_ACCEPTED (the connection is open),
+ * ARPKI_NO_POSSESSION (the staple is of another epoch, TLS key, certificate or signer, or is none), or one of the others of
+ * arpki_judge. How old a staple may be is how old the confirmation beside it may be.
+ */
+ARPKI_CHECKED uint32_t arpki_staple(const arpki_keys *keys, const arpki_question *question,
+                                    const uint8_t channel[ARPKI_CHANNEL_SIZE],
+                                    const uint8_t *staple, size_t staple_len,
+                                    arpki_answer *answer);
 
 /* Judges a confirmation of a name as arpki_judge does, and then holds the certificate against what is pinned of the name:
  * where it is another one than the newest that is pinned, the links have to lead to it from there.

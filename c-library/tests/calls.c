@@ -118,6 +118,13 @@ static uint32_t connect_in(uint64_t now, const uint8_t *response, size_t respons
     return arpki_connect(&keys, &asked, challenge, response, response_len, answer);
 }
 
+static uint32_t staple_in(uint64_t now, const uint8_t *staple, size_t staple_len, arpki_answer *answer)
+{
+    arpki_question asked = asked_in(&question, now);
+    uint8_t channel[ARPKI_CHANNEL_SIZE] = {1};
+    return arpki_staple(&keys, &asked, channel, staple, staple_len, answer);
+}
+
 static uint32_t follow_in(uint64_t now, const uint8_t *pin, size_t pin_len, const uint8_t *links, size_t links_len,
                           arpki_followed *followed)
 {
@@ -158,6 +165,10 @@ static void servers_are_judged(void)
     expect(connect_in(9, question.confirmation + 196, 1292, &answer) == ARPKI_NO_POSSESSION && is_alone(&answer, 5, 5),
            "a response by another key");
     expect(connect_in(4, note, 0, &answer) == ARPKI_REFUSED && is_alone(&answer, 2, ARPKI_CHECK_FUTURE), "a later epoch");
+    expect(staple_in(9, note, 0, &answer) == ARPKI_NO_POSSESSION && is_alone(&answer, 5, 1), "a staple without bytes");
+    expect(staple_in(9, question.confirmation + 196, 1292, &answer) == ARPKI_NO_POSSESSION && is_alone(&answer, 5, 5),
+           "a log's signature as a staple");
+    expect(staple_in(4, note, 0, &answer) == ARPKI_REFUSED && is_alone(&answer, 2, ARPKI_CHECK_FUTURE), "a staple in a later epoch");
 }
 
 /* Whether nothing is to be kept, and the answer is this outcome with a number and nothing else. */
@@ -316,6 +327,14 @@ static uint32_t call_connect(void)
     return outcome == ARPKI_NO_MEMORY && !is_alone(&answer, 3, 0) ? 99 : outcome;
 }
 
+static uint32_t call_staple(void)
+{
+    arpki_answer answer;
+    memset(&answer, 0x5a, sizeof answer);
+    uint32_t outcome = staple_in(9, note, 0, &answer);
+    return outcome == ARPKI_NO_MEMORY && !is_alone(&answer, 3, 0) ? 99 : outcome;
+}
+
 /* The name is pinned. */
 static uint32_t call_follow(void)
 {
@@ -469,6 +488,7 @@ static void stacks_are_enough(void)
     stack_is_enough(call_judge, ARPKI_ACCEPTED, "arpki_judge");
     stack_is_enough(call_with_entries, ARPKI_ACCEPTED, "arpki_judge behind 5,000 entries");
     stack_is_enough(call_connect, ARPKI_NO_POSSESSION, "arpki_connect");
+    stack_is_enough(call_staple, ARPKI_NO_POSSESSION, "arpki_staple");
     stack_is_enough(call_follow, ARPKI_ACCEPTED, "arpki_follow");
     stack_is_enough(call_follow_links, ARPKI_BAD_UPDATE, "arpki_follow with 63 links");
     stack_is_below(320 * 1024, call_follow_longest, ARPKI_NO_LINKS, "arpki_follow with a pin of 4,096 changes");
@@ -551,6 +571,7 @@ int main(int argc, char **argv)
     notes_are_learnt();
     each_allocation_fails(call_judge, ARPKI_ACCEPTED, "arpki_judge without memory");
     each_allocation_fails(call_connect, ARPKI_NO_POSSESSION, "arpki_connect without memory");
+    each_allocation_fails(call_staple, ARPKI_NO_POSSESSION, "arpki_staple without memory");
     each_allocation_fails(call_follow, ARPKI_ACCEPTED, "arpki_follow without memory");
     each_allocation_fails(call_follow_links, ARPKI_BAD_UPDATE, "arpki_follow with 63 links without memory");
     each_allocation_fails(call_learn, ARPKI_LEARNT, "arpki_learn without memory");

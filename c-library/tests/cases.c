@@ -1,4 +1,5 @@
-/* Answers inputs of `arpki sig`, `arpki check` and `arpki follow` through the library, as these commands do.
+/* Answers inputs of `arpki sig`, `arpki check` and `arpki follow` through the library, as these commands do, and inputs of
+ * `check` with a line `channel` and a line `staple` behind them, which no command reads: `open ..` or `nopossession <k>`.
  *
  * Each word of the command line is COMMAND:FILE. For each it writes what the command answers to the file's bytes, and then
  * a line `=`. It expects inputs that the commands answer (status 0 or 1), and says `malformed` of what it cannot read. What is
@@ -115,11 +116,12 @@ static int learn(const char *hex, arpki_keys *keys, arpki_entry *entries)
     return outcome == ARPKI_LEARNT || outcome == ARPKI_KNOWN;
 }
 
-static void print_answer(const char *name, const arpki_answer *answer)
+/* The word is what is said of a certificate that is accepted. */
+static void print_answer(const char *word, const char *name, const arpki_answer *answer)
 {
     switch (answer->outcome) {
     case ARPKI_ACCEPTED:
-        printf("accepted %s serial %" PRIu64 " epoch %" PRIu64 " root ", name, answer->serial, answer->epoch);
+        printf("%s %s serial %" PRIu64 " epoch %" PRIu64 " root ", word, name, answer->serial, answer->epoch);
         print_hex(answer->root, sizeof answer->root);
         printf(" certificate ");
         print_hex(answer->certificate, sizeof answer->certificate);
@@ -132,6 +134,9 @@ static void print_answer(const char *name, const arpki_answer *answer)
         break;
     case ARPKI_REFUSED:
         printf("refused %" PRIu32 "\n", answer->check);
+        break;
+    case ARPKI_NO_POSSESSION:
+        printf("nopossession %" PRIu32 "\n", answer->check);
         break;
     default:
         printf("outcome %" PRIu32 " %" PRIu32 "\n", answer->outcome, answer->check);
@@ -210,10 +215,41 @@ static int judge(FILE *file, char *line, const arpki_keys *keys)
         memset(&answer, 0x5a, sizeof answer);
         uint32_t outcome = arpki_judge(keys, &asked.question, &answer);
         if (outcome == answer.outcome)
-            print_answer(asked.name, &answer);
+            print_answer("accepted", asked.name, &answer);
         else
             puts("another outcome");
     }
+    free_question(&asked);
+    return read;
+}
+
+/* ---- staples */
+
+/* A line of a word and hex. */
+static int read_hex(FILE *file, char *line, const char *word, struct bytes *bytes)
+{
+    const char *field = behind(next_line(file, line), word);
+    return field && unhex(field, bytes);
+}
+
+/* A question, a channel and a staple behind the directory. */
+static int judge_staple(FILE *file, char *line, const arpki_keys *keys)
+{
+    struct asked asked;
+    struct bytes channel = {NULL, 0}, staple = {NULL, 0};
+    arpki_answer answer;
+    int read = read_question(file, line, &asked) && read_hex(file, line, "channel", &channel)
+               && channel.len == ARPKI_CHANNEL_SIZE && read_hex(file, line, "staple", &staple);
+    if (read) {
+        memset(&answer, 0x5a, sizeof answer);
+        uint32_t outcome = arpki_staple(keys, &asked.question, channel.at, staple.at, staple.len, &answer);
+        if (outcome == answer.outcome)
+            print_answer("open", asked.name, &answer);
+        else
+            puts("another outcome");
+    }
+    free(channel.at);
+    free(staple.at);
     free_question(&asked);
     return read;
 }
@@ -360,6 +396,8 @@ static int answer(const char *word, char *line)
         answered = answer_sig(file, line);
     else if (strncmp(word, "check:", 6) == 0)
         answered = answer_asked(file, line, judge);
+    else if (strncmp(word, "staple:", 7) == 0)
+        answered = answer_asked(file, line, judge_staple);
     else if (strncmp(word, "follow:", 7) == 0)
         answered = answer_asked(file, line, follow_all);
     fclose(file);

@@ -8,7 +8,7 @@
 //! one, `specs/Ascending.antt` lists whose numbers ascend, and `specs/RoundTrip.antt` the texts of fields: what
 //! is put is read again.
 //!
-//! Its tests: `base_tests`, module `ar_bytes_tests`.
+//! Its tests: `examples/`, all of whose texts it reads and writes.
 #![tactic(auto)]
 
 mod fields;

@@ -1,10 +1,11 @@
 -- A certificate: what was put is read again, and what is read is spelled so.
 use Rattle.std.proofs.Common.{◌≡◌, ℕ, zero, suc, ◌^◌, ◌<◌, ◌≤◌, Bool, true, false, ◌&&◌, leb, eqb, List, [], ◌++◌, length, Option, Some, None, is_some, Ok, refl, sym, ap, subst, ◌∙◌, arith, length-append}
 use Rattle.std.proofs.lemmas.List.{append-nil}
+use Rattle.ar_base.specs.Chaining.{◌>>=◌}
 use Rattle.std.proofs.lemmas.Bool.{and_parts, le-leb, leb-true, and_from}
 use Rattle.std.specs.Prelude.{IfSome}
 use Rattle.std.specs.Int.{w8, w16, w32, w64}
-use Rattle.ar_bytes.specs.Reading.{Cursor, number_at, such_that, within}
+use Rattle.ar_bytes.specs.Reading.{Cursor, Reading, number_at, such_that, within}
 use Rattle.ar_base.specs.Bytes.{AreBytes, IsDigest}
 use Rattle.ar_base.proofs.Shown.{ok_is}
 use Rattle.ar_bytes.specs.RoundTrip.{Passes, ReadsBack, IsSpelledBy, number_text, counted_text}
@@ -87,6 +88,26 @@ terms_again t h at new p =
     let trusted = split all.0 new (trusted_text t.trusted) (wait_text t.wait) all.2 in
     rw (version_again (is_some t.wait) at version.0 version.1, number_again w8 (2 ^ 8) wide8 t.threshold h.threshold version.0 threshold.0 threshold.1, flag_again t.keyed threshold.0 keyed.0 keyed.1, number_again w32 (2 ^ 32) wide32 t.max_age h.max_age keyed.0 max_age.0 max_age.1, number_again w64 (2 ^ 64) wide64 t.until h.until max_age.0 all.0 max_age.2, trusted_again t.trusted (h.few, h.ascending) all.0 trusted.0 trusted.1, wait_again t.wait h.wait trusted.0 new trusted.2) refl
 
+-- what is read behind the rules
+abbrev behind_rules_at : Bool → ℕ → Bool → ℕ → ℕ → Cursor → Reading PolicyTerms
+behind_rules_at waits threshold keyed max_age until at = do
+  trusted ← trusted_at at
+  wait ← wait_at waits trusted.1
+  Ok (record { threshold = threshold; keyed = keyed; max_age = max_age; until = until; trusted = trusted.0; wait = wait.0 }, wait.1)
+
+behind_rules_pass : (waits keyed : Bool) (threshold max_age until : ℕ) (at mid new : Cursor) (t : PolicyTerms) → AreBytes mid.ahead
+    → Passes at (rules_text waits threshold keyed max_age until) mid → threshold < 2 ^ 8 → max_age < 2 ^ 32 → until < 2 ^ 64
+    → behind_rules_at waits threshold keyed max_age until mid ≡ Ok (t, new) → Passes at (terms_text t) new × AreTerms t
+behind_rules_pass waits keyed threshold max_age until at mid new t bytes rules threshold_fits max_age_fits until_fits e =
+    let trusted = next trusted_at trusted_text AreTrusted trusted_pass _ mid (t, new) bytes e in
+    let wait = next (wait_at waits) wait_text (λ wait. IfSome wait IsWait × (is_some wait ≡ waits)) (wait_pass waits) _ trusted.1 (t, new) trusted.4 trusted.5 in
+    let value : PolicyTerms = record { threshold = threshold; keyed = keyed; max_age = max_age; until = until; trusted = trusted.0; wait = wait.0 } in
+    let version : Passes at (rules_text (is_some wait.0) threshold keyed max_age until) mid = subst (λ (b : Bool). Passes at (rules_text b threshold keyed max_age until) mid) (sym wait.3.1) rules in
+    let lists = Passes-then mid trusted.1 wait.1 (trusted_text trusted.0) (wait_text wait.0) trusted.2 wait.2 in
+    let passes = Passes-then at mid wait.1 (rules_text (is_some wait.0) threshold keyed max_age until) (trusted_text trusted.0 ++ wait_text wait.0) version lists in
+    let fits : AreTerms value = record { threshold = threshold_fits; max_age = max_age_fits; until = until_fits; few = trusted.3.0; ascending = trusted.3.1; wait = wait.3.0 } in
+    subst (λ (x : PolicyTerms × Cursor). Passes at (terms_text x.0) x.1 × AreTerms x.0) {x = (value, wait.1)} (ok_is (value, wait.1) (t, new) wait.5) (passes, fits)
+
 terms_pass : IsSpelledBy terms_at terms_text AreTerms
 unfolding terms_at rules_text
 terms_pass at new t bytes e =
@@ -95,16 +116,9 @@ terms_pass at new t bytes e =
     let keyed = next flag_at flag_text (λ _. Unit {0}) flag_pass _ threshold.1 (t, new) threshold.4 threshold.5 in
     let max_age = next (number_at w32) (number_text w32) (λ n. n < 2 ^ 32) (number_pass w32 (2 ^ 32) wide32) _ keyed.1 (t, new) keyed.4 keyed.5 in
     let until = next (number_at w64) (number_text w64) (λ n. n < 2 ^ 64) (number_pass w64 (2 ^ 64) wide64) _ max_age.1 (t, new) max_age.4 max_age.5 in
-    let trusted = next trusted_at trusted_text AreTrusted trusted_pass _ until.1 (t, new) until.4 until.5 in
-    let wait = next (wait_at waits.0) wait_text (λ wait. IfSome wait IsWait × (is_some wait ≡ waits.0)) (wait_pass waits.0) _ trusted.1 (t, new) trusted.4 trusted.5 in
-    let value : PolicyTerms = record { threshold = threshold.0; keyed = keyed.0; max_age = max_age.0; until = until.0; trusted = trusted.0; wait = wait.0 } in
-    let version : Passes at (version_text (is_some wait.0)) waits.1 = subst (λ (b : Bool). Passes at (version_text b) waits.1) (sym wait.3.1) waits.2 in
     let times = Passes-then keyed.1 max_age.1 until.1 (number_text w32 max_age.0) (number_text w64 until.0) max_age.2 until.2 in
-    let rules = Passes-then at waits.1 until.1 (version_text (is_some wait.0)) _ version (Passes-then waits.1 threshold.1 until.1 (number_text w8 threshold.0) _ threshold.2 (Passes-then threshold.1 keyed.1 until.1 (flag_text keyed.0) _ keyed.2 times)) in
-    let lists = Passes-then until.1 trusted.1 wait.1 (trusted_text trusted.0) (wait_text wait.0) trusted.2 wait.2 in
-    let passes = Passes-then at until.1 wait.1 (rules_text (is_some wait.0) threshold.0 keyed.0 max_age.0 until.0) (trusted_text trusted.0 ++ wait_text wait.0) rules lists in
-    let fits : AreTerms value = record { threshold = threshold.3; max_age = max_age.3; until = until.3; few = trusted.3.0; ascending = trusted.3.1; wait = wait.3.0 } in
-    subst (λ (x : PolicyTerms × Cursor). Passes at (terms_text x.0) x.1 × AreTerms x.0) (ok_is (value, wait.1) (t, new) wait.5) (passes, fits)
+    let rules = Passes-then at waits.1 until.1 (version_text waits.0) _ waits.2 (Passes-then waits.1 threshold.1 until.1 (number_text w8 threshold.0) _ threshold.2 (Passes-then threshold.1 keyed.1 until.1 (flag_text keyed.0) _ keyed.2 times)) in
+    behind_rules_pass waits.0 keyed.0 threshold.0 max_age.0 until.0 at until.1 new t until.4 rules threshold.3 max_age.3 until.3 until.5
 
 -- ---- the certificate
 
@@ -136,7 +150,7 @@ certificate_pass at new c bytes e =
     let back = Passes-then subject.1 policy.1 revoked.1 (terms_text policy.0) (flag_text revoked.0) policy.2 revoked.2 in
     let passes = Passes-then at subject.1 revoked.1 (front_text name.0 serial.0 previous.0 subject.0) (terms_text policy.0 ++ flag_text revoked.0) front back in
     let fits : IsCertificate value = record { name = name.3; serial = serial.3; previous = previous.3; subject = subject.3; policy = policy.3 } in
-    subst (λ (x : Certificate × Cursor). Passes at (certificate_text x.0) x.1 × IsCertificate x.0) (ok_is (value, revoked.1) (c, new) revoked.5) (passes, fits)
+    subst (λ (x : Certificate × Cursor). Passes at (certificate_text x.0) x.1 × IsCertificate x.0) {x = (value, revoked.1)} (ok_is (value, revoked.1) (c, new) revoked.5) (passes, fits)
 
 -- ---- the certificate behind its length
 

@@ -140,7 +140,7 @@ change_pass at new r bytes e =
     let behind = subst (λ (t : List ℕ). Passes cert.1 t consent.1) (append_assoc (number_text w8 (length list.0)) (flat_map endorsement_text list.0) (consent_text consent.0.0 consent.0.1)) back in
     let passes = Passes-then at cert.1 consent.1 (counted_text (certificate_text cert.0)) _ cert.2 behind in
     let fits : IsChange value = record { cert = cert.3; endorsements = list.3; handover = consent.3.0; objection = consent.3.1; alone = consent.3.2 } in
-    subst (λ (x : Change × Cursor). Passes at (change_text x.0) x.1 × IsChange x.0) (ok_is (value, consent.1) (r, new) consent.5) (passes, fits)
+    subst (λ (x : Change × Cursor). Passes at (change_text x.0) x.1 × IsChange x.0) {x = (value, consent.1)} (ok_is (value, consent.1) (r, new) consent.5) (passes, fits)
 
 -- ---- whole texts
 

@@ -5,7 +5,7 @@
 //! `specs/FirstKeys.antt` has what the setup says, and the keys that are made of it; `Founding` logs and authorities that
 //! have done nothing yet; and `Founded` each before it is there, and that it has the ring of its own key.
 //!
-//! Its tests: `examples/play`, and `arpki`, module `records`.
+//! Its tests: `examples/play`.
 #![tactic(auto)]
 
 mod directories;

@@ -10,7 +10,7 @@
 //! `Views` how words and a row that are read in place are seen, and `Written` how lines and words are
 //! written. `laws` says that what is written is read, and that it is read from nothing else.
 //!
-//! Its tests: `base_tests`, module `ar_lines_tests`.
+//! Its tests: `examples/check`, and those of the other commands.
 #![tactic(auto)]
 
 pub use lines::{Lines, first_part, first_word, is_text};

@@ -42,4 +42,4 @@ pub use steps::PathSteps;
 pub use take_lists::MOST_CHANGES;
 pub use unsigned::{Blank, Unsigned};
 pub use view::ConfView;
-pub use write_kinds::{endorse_ask_text, submit_text};
+pub use write_kinds::{endorse_ask_text, log_confirmed_text, submit_text};

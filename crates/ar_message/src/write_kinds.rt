@@ -8,17 +8,17 @@ ghost use Rattle.ar_bytes.specs.RoundTrip.{counted_text, number_text};
 ghost use Rattle.ar_cert.specs.Certificate.{certificate_text};
 ghost use Rattle.ar_message.specs.Confirmation.{body_text, form_text, is_present, path_text, signers_text, subject_text};
 ghost use Rattle.ar_message.specs.Lists.{changes_text, statuses_text, votes_text};
-ghost use Rattle.ar_message.specs.declared.message.Message.TheVariants.{EndorseAsk, Submit};
+ghost use Rattle.ar_message.specs.declared.message.Message.TheVariants.{EndorseAsk, LogConfirmed, Submit};
 ghost use Rattle.ar_message.specs.Messages.{fields_text, kind_of, message_text, path_in, shown_in, signed_in};
 ghost use Rattle.ar_statement.specs.Claims.{name_text, party_text, value_text, value_with};
 ghost use Rattle.ar_base.specs.Appending.{Appends};
 ghost use Rattle.lms_tree.specs.PublicKey.{key_text};
 
 use crate::writing::{
-    put_body, put_changes, put_confirming, put_form, put_name, put_roots, put_signature,
-    put_signed, put_statuses, put_subject, put_value, put_votes,
+    put_body, put_changes, put_confirming, put_form, put_name, put_numbers, put_roots,
+    put_signature, put_signed, put_statuses, put_subject, put_value, put_votes,
 };
-use crate::{Body, Changes, Message, Signature, Votes};
+use crate::{Body, Changes, Confirming, Message, Signature, Votes};
 use ar_bytes::{put_bytes, put_u8, put_u16, put_u32, put_u64};
 use ar_cert::{Cert, ChangeParts};
 use ar_names::Name;
@@ -31,6 +31,8 @@ use vote_quorum::Value;
 const ENDORSE_ASK: u8 = 1;
 /// The number of the kind of a change on its way to the logs.
 const SUBMIT: u8 = 3;
+/// The number of the kind of what a log has confirmed.
+const LOG_CONFIRMED: u8 = 10;
 
 fn put_endorse_ask(
     alloc: Global,
@@ -57,8 +59,7 @@ fn put_endorsed(
         ++ (number_text w16 authority
         ++ (certificate.now ++ counted_text signature.now))) out.old out.new result }
 {
-    put_u16(alloc, out, owner)?;
-    put_u16(alloc, out, authority)?;
+    put_numbers(alloc, out, owner, authority)?;
     put_bytes(alloc, out, certificate)?;
     put_signature(alloc, out, signature)
 }
@@ -147,8 +148,7 @@ fn put_confirm_ask(
 {
     put_u16(alloc, out, client)?;
     put_name(alloc, out, name)?;
-    put_u16(alloc, out, first)?;
-    put_u16(alloc, out, second)
+    put_numbers(alloc, out, first, second)
 }
 
 /// What a confirmation says, in front of its signatures.
@@ -176,6 +176,46 @@ fn put_said(
     put_body(alloc, out, body)
 }
 
+/// Three parties, each with its signature.
+fn put_signers(
+    alloc: Global,
+    out: &mut Vec<u8>,
+    log: (u16, &Signature),
+    first: (u16, &Signature),
+    second: (u16, &Signature),
+) -> Result<(), AllocError>
+    ensures { Appends (signers_text (
+      signed_in log.entry.0 log.entry.1.now,
+      signed_in first.entry.0 first.entry.1.now,
+      signed_in second.entry.0 second.entry.1.now,
+    )) out.old out.new result }
+{
+    put_signed(alloc, out, log.0, log.1)?;
+    put_signed(alloc, out, first.0, first.1)?;
+    put_signed(alloc, out, second.0, second.1)
+}
+
+/// A log or an authority: its role and its number.
+fn put_party(alloc: Global, out: &mut Vec<u8>, party: Party) -> Result<(), AllocError>
+    ensures { Appends (party_text party) out.old out.new result }
+{
+    put_u8(alloc, out, party.role.number())?;
+    put_u16(alloc, out, party.number)
+}
+
+/// A generation, and a key.
+fn put_next_key(
+    alloc: Global,
+    out: &mut Vec<u8>,
+    generation: u32,
+    key: &LmsPublic,
+) -> Result<(), AllocError>
+    ensures { Appends (number_text w32 generation ++ key_text key.now) out.old out.new result }
+{
+    put_u32(alloc, out, generation)?;
+    put_bytes(alloc, out, &key.bytes())
+}
+
 fn put_roll_note(
     alloc: Global,
     out: &mut Vec<u8>,
@@ -188,10 +228,8 @@ fn put_roll_note(
         ++ (number_text w32 generation
         ++ (key_text key.now ++ counted_text signature.now))) out.old out.new result }
 {
-    put_u8(alloc, out, party.role.number())?;
-    put_u16(alloc, out, party.number)?;
-    put_u32(alloc, out, generation)?;
-    put_bytes(alloc, out, &key.bytes())?;
+    put_party(alloc, out, party)?;
+    put_next_key(alloc, out, generation, key)?;
     put_signature(alloc, out, signature)
 }
 
@@ -273,9 +311,9 @@ fn put_confirmed_to(alloc: Global, out: &mut Vec<u8>, message: &Message) -> Resu
             second_signature,
         } => {
             put_said(alloc, out, *client, *epoch, name, root, body)?;
-            put_signed(alloc, out, *log, log_signature)?;
-            put_signed(alloc, out, *first, first_signature)?;
-            put_signed(alloc, out, *second, second_signature)
+            let log = (*log, log_signature);
+            let first = (*first, first_signature);
+            put_signers(alloc, out, log, first, (*second, second_signature))
         }
         _ => unreachable!(),
     }
@@ -349,6 +387,17 @@ pub fn submit_text(alloc: Global, change: &ChangeParts) -> Result<Vec<u8>, Alloc
     Ok(text)
 }
 
+/// The text of the message `LogConfirmed` of this part. The only error is want of memory.
+#[tactic(auto, unfolding(crate::specs::Messages::message_text, crate::specs::Messages::fields_text))]
+pub fn log_confirmed_text(alloc: Global, part: &Confirming) -> Result<Vec<u8>, AllocError>
+    ensures { IfOk result (λ text. text.items ≡ message_text (LogConfirmed part.now)) }
+{
+    let mut text = Vec::new(alloc);
+    put_u8(alloc, &mut text, LOG_CONFIRMED)?;
+    put_confirming(alloc, &mut text, part)?;
+    Ok(text)
+}
+
 impl Message {
     ghost use Rattle.std.specs.Prelude.{◌≡◌, OnErr};
     ghost use Rattle.ar_message.specs.Messages.{kind_of, message_text};
@@ -367,7 +416,7 @@ impl Message {
             Message::Decision { .. } => 7,
             Message::SkipNote { .. } => 8,
             Message::ConfirmAsk { .. } => 9,
-            Message::LogConfirmed { .. } => 10,
+            Message::LogConfirmed { .. } => LOG_CONFIRMED,
             Message::HalfConfirmed { .. } => 11,
             Message::Confirmation { .. } => 12,
             Message::RollNote { .. } => 13,

@@ -26,6 +26,19 @@ use vote_quorum::Value;
 
 // ---- fields
 
+/// The numbers of two parties.
+pub(crate) fn put_numbers(
+    alloc: Global,
+    out: &mut Vec<u8>,
+    first: u16,
+    second: u16,
+) -> Result<(), AllocError>
+    ensures { Appends (number_text w16 first ++ number_text w16 second) out.old out.new result }
+{
+    put_u16(alloc, out, first)?;
+    put_u16(alloc, out, second)
+}
+
 /// A base and a root.
 pub(crate) fn put_roots(
     alloc: Global,
@@ -245,14 +258,27 @@ pub(crate) fn put_subject(
     put_bytes(alloc, out, root)
 }
 
+/// A base, and what the table has for the name, with the path.
+fn put_shown(
+    alloc: Global,
+    out: &mut Vec<u8>,
+    base: &[u8; 32],
+    body: &Body,
+) -> Result<(), AllocError>
+    ensures { Appends (base.now
+        ++ (body_text (shown_in body.now) ++ path_text (path_in body.now))) out.old out.new result }
+{
+    put_bytes(alloc, out, base)?;
+    put_body(alloc, out, body)
+}
+
 /// What is confirmed.
 fn put_confirmed(alloc: Global, out: &mut Vec<u8>, part: &Confirming) -> Result<(), AllocError>
     ensures { Appends (confirmed_text part.now) out.old out.new result }
 {
     put_form(alloc, out, &part.body)?;
     put_subject(alloc, out, part.client, part.epoch, &part.name, &part.root)?;
-    put_bytes(alloc, out, &part.base)?;
-    put_body(alloc, out, &part.body)
+    put_shown(alloc, out, &part.base, &part.body)
 }
 
 /// What vouches for it, and who is asked to confirm it too.
@@ -261,8 +287,7 @@ fn put_vouched(alloc: Global, out: &mut Vec<u8>, part: &Confirming) -> Result<()
 {
     put_votes(alloc, out, &part.votes)?;
     put_signed(alloc, out, part.log, &part.signature)?;
-    put_u16(alloc, out, part.first)?;
-    put_u16(alloc, out, part.second)
+    put_numbers(alloc, out, part.first, part.second)
 }
 
 /// What two kinds share.

@@ -10,7 +10,7 @@
 //! codes of refusals, and `Sending` what is printed beside them. `Composing` and `Forging` have the bytes that a script
 //! composes, and what dishonest parties sign.
 //!
-//! Its tests: `examples/play`, and `arpki`, module `records`.
+//! Its tests: `examples/play`, and `arpki`, module `failing_checks`.
 #![tactic(auto)]
 
 mod authorities;

@@ -5,7 +5,7 @@
 //! answers. In `specs/`, `Answers` says what an answer is and what is written of it, `Writing` what it is to write
 //! bytes that may not all be taken, and `Runs` what a run takes of its source and leaves in its sink.
 //!
-//! Its tests: `base_tests`, module `ar_run_tests`.
+//! Its tests: `tools/fail-each-call`.
 #![tactic(auto)]
 
 pub use answer::Answer;

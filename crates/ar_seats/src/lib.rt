@@ -4,7 +4,7 @@
 //! `specs/Shares.antt` says what shares are, `specs/Totals.antt` has the totals, `specs/Numbers.antt` the numbers
 //! that are handed out, and `specs/Prefixes.antt` the beginnings of one list that only grows.
 //!
-//! Its tests: `arpki_crowd`, modules `leaf_book_tests` and `shared_node_tests`.
+//! Its tests: those of the crates above it.
 #![tactic(auto)]
 
 pub use share::Share;

@@ -4,7 +4,7 @@
 //! `specs/Texts.antt` says how a text is read, `specs/Fields.antt` the fields that certificates and messages
 //! have too, and `specs/Ranges.antt` which values the fields of a statement have.
 //!
-//! Its tests: `call_tests`, module `ar_statement_tests`.
+//! Its tests: `examples/audit`, where a text of each kind is read, and what is no text.
 #![tactic(auto)]
 
 mod fault;

@@ -4,15 +4,19 @@ ghost use Rattle.ar_statement.specs.Ranges.{is_readable};
 
 use crate::fields::is_epoch;
 use crate::party::{Party, Role};
+use crate::text::Text;
 use ar_bytes::u32_of;
 use ar_names::NameView;
+use std::fmt;
 use vote_quorum::Value;
 
 /// The most bytes that the text of a statement has.
 pub const TEXT_LEN: usize = 330;
 
 /// What a party signs. Digests have 32 bytes, and epochs are from 1 to 2^63.
-#[derive(Debug, Drop)]
+///
+/// It is shown by its text.
+#[derive(Drop)]
 pub enum Statement<'a> {
     /// The authority vouches for the certificate with this digest.
     Endorse {
@@ -83,6 +87,12 @@ pub enum Statement<'a> {
     Object {
         certificate: [u8; 32],
     },
+}
+
+impl fmt::Debug for Statement<'_> {
+    fn fmt<W: fmt::Write>(&self, f: &mut fmt::Formatter<W>) -> fmt::Result {
+        Text::of(self).fmt(f)
+    }
 }
 
 impl Statement<'_> {

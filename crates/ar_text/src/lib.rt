@@ -2,7 +2,7 @@
 //!
 //! `specs/Parts.antt` says what the text of a part is, and what it is that a call appends a text.
 //!
-//! Its tests: `base_tests`, module `ar_text_tests`.
+//! Its tests: `examples/`, many of whose lines it writes.
 #![tactic(auto)]
 
 pub use appending::append;

@@ -2,6 +2,7 @@ pub mod Answered
 pub mod Deliveries
 pub mod Drafts
 pub mod Due
+pub mod EachLine
 pub mod FirstParties
 pub mod Forgers
 pub mod Learnt

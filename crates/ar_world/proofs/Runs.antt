@@ -6,19 +6,14 @@ use Rattle.ar_lines.specs.Lines.{lines_of}
 use Rattle.ar_lines.specs.declared.refusal.Reason.{Reason}
 use Rattle.ar_lines.specs.declared.refusal.Reason.TheVariants as reason
 use Rattle.ar_statement.specs.declared.party.Party.{Party}
-use Rattle.ar_nodes.specs.log_core.State.{passes, proposes}
-use Rattle.owner_check.specs.Answers.{forgotten, learnt}
 use Rattle.owner_check.specs.declared.answer.Outcome.{Outcome}
 use Rattle.report_text.specs.declared.happening.Happening.{Happening}
-use Rattle.report_text.specs.declared.happening.Happening.TheVariants.{Forgot, Taught}
-use Rattle.report_text.specs.declared.happening.What.TheVariants as whats
 use Rattle.script_text.specs.Rows.{read_of}
 use Rattle.script_text.specs.declared.line.EventLine.{EventLine}
 use Rattle.script_text.specs.declared.line.EventLine.TheVariants as event
 use Rattle.script_text.specs.declared.line.Line.{Line}
 use Rattle.script_text.specs.declared.line.Line.TheVariants as line
 use Rattle.script_text.specs.declared.line.SetupLine.{SetupLine}
-use Rattle.script_text.specs.declared.line.SetupLine.TheVariants as setup
 use Rattle.ar_world.specs.Delivering.{Taker, can_deliver, deliver_line, delivery, next_due, taker_at}
 use Rattle.ar_world.specs.Finding.{Effect, message_at, room}
 use Rattle.ar_world.specs.Founding.{in_order, led_to, may_come}
@@ -29,47 +24,15 @@ use Rattle.ar_world.specs.Run.{Course, Progress, Saying, at_line, delivering, fl
 use Rattle.ar_world.specs.State.{Moved, World, first_world}
 use Rattle.ar_world.specs.Step.{event_effect, leads_to, setup_effect, step}
 use Rattle.ar_world.specs.declared.cause.Cause.TheVariants.{Unread}
-use Rattle.ar_nodes.specs.declared.event.LogEvent.TheVariants as events
 use Rattle.ar_nodes.specs.declared.fault.WorldFault.TheVariants.{Order}
 use Rattle.ar_world.specs.declared.phase.Phase.{Phase}
 use Rattle.ar_world.specs.declared.phase.Phase.TheVariants as phase
 use Rattle.ar_world.proofs.Deliveries.{can-take}
-use Rattle.ar_world.proofs.Lines.{ask-tells, authorities-tells, check-line-tells, deliver-tells, delivery-tells, dishonest-tells, handover-tells, inject-tells, judge-tells, keys-tells, learn-tells, log-order-tells, logs-tells, object-tells, owner-line-tells, quiet, register-tells, retire-tells, revoke-tells, roll-tells, sign-tells, submit-tells, update-tells}
+use Rattle.ar_world.proofs.Lines.{delivery-tells, event-tells, quiet, setup-tells}
 use Rattle.ar_world.proofs.Pools.{entries-alike, tells-both}
 use Rattle.ar_base.proofs.Shown.{if-chained}
 
 -- ---- a step
-
-setup-tells : (w : World) (l : SetupLine) → IfOk (setup_effect w l) (TellsMoved w.pool)
-unfolding setup_effect
-setup-tells w (setup.Secret secret) = quiet w.pool [] refl
-setup-tells w (setup.Keys lms ots) = keys-tells w lms ots
-setup-tells w (setup.Logs n q) = logs-tells w n q
-setup-tells w (setup.Authorities m) = authorities-tells w m
-setup-tells w (setup.Dishonest party) = dishonest-tells w party
-
-event-tells : (says : Outcome) (w : World) (l : EventLine) → IfOk (event_effect says w l) (TellsMoved w.pool)
-unfolding event_effect
-event-tells says w (event.Owner owner) = owner-line-tells w owner
-event-tells says w (event.Teach authority name owner) = check-line-tells w authority owner (learnt name) (Taught authority) refl
-event-tells says w (event.Forget authority name owner) = check-line-tells w authority owner (forgotten name) (Forgot authority) refl
-event-tells says w (event.Retire authority) = retire-tells w authority
-event-tells says w (event.Register owner name policy asks) = register-tells w owner name policy asks
-event-tells says w (event.Update owner draft policy asks) = update-tells w owner draft policy asks
-event-tells says w (event.Revoke owner draft asks) = revoke-tells w owner draft asks
-event-tells says w (event.Handover owner draft) = handover-tells w owner draft
-event-tells says w (event.Object owner draft) = object-tells w owner draft
-event-tells says w (event.Submit draft) = submit-tells w draft
-event-tells says w (event.Propose log) = log-order-tells w log whats.Propose events.Propose proposes
-event-tells says w (event.Pass log) = log-order-tells w log whats.Pass events.Pass passes
-event-tells says w (event.Roll party) = roll-tells w party
-event-tells says w (event.Learn message) = learn-tells w message
-event-tells says w (event.Ask log name first second client) = ask-tells w log name first second client
-event-tells says w (event.Deliver message party) = deliver-tells says w message party
-event-tells says w event.Flush = quiet w.pool [] refl
-event-tells says w (event.Judge message name now age) = judge-tells w message name now age
-event-tells says w (event.Sign party pieces) = sign-tells w party pieces
-event-tells says w (event.Inject to pieces) = inject-tells w to pieces
 
 -- what holds of what a line makes that may come, in the phase to which it leads, holds of the line
 in_order-holds : (P : Moved → Type 0) (w : World) (next : Phase) (made : Effect)

@@ -19,7 +19,7 @@
 //! what the words of a line name, `Kept` what the program keeps beside what its lines speak of, `Printed` what the printed
 //! lines tell of the pool, and `Examples` has small scripts with all that is written of them.
 //!
-//! Its tests: `examples/play`, and `arpki`, module `records`.
+//! Its tests: `examples/play`, `examples/messages.txt` and `examples/premises.txt`.
 #![tactic(auto)]
 
 mod asking;

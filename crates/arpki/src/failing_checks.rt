@@ -1,4 +1,3 @@
-use crate::runs::words_of;
 use ar_io::{QuietSink, QuietSource};
 use arpki_play::arpki_main;
 use log_restart::Disks;
@@ -57,7 +56,8 @@ fn failing_checks(alloc: Global, fails: u64) -> Result<Vec<FailingCheck>, AllocE
 
 // The status of a script that is played so, how many bytes it wrote, and their SHA-256 in hex.
 fn failing_run(alloc: Global, script: &str, fails: u64) -> Result<(u8, u64, String), AllocError> {
-    let words = words_of(alloc, &["play"])?;
+    let mut words = Vec::new(alloc);
+    words.push(String::from_str(alloc, "play")?)?;
     let mut source = QuietSource::new(Vec::from_slice(alloc, script.as_bytes())?);
     let mut sink = QuietSink::new();
     let checks = failing_checks(alloc, fails)?;

@@ -2,25 +2,11 @@
 //! to `arpki_main`, and its exit status.
 //!
 //! What it answers is in the contract of `arpki_main`: read `specs/Program.antt` of the crate `arpki_play`
-//! first. The modules beside this file test it, and what stands below it.
+//! first. Stored examples show the rest; the module beside this file tests what they cannot, a check of owners that fails.
 #![tactic(auto)]
 
 #[cfg(test)]
-mod each_call;
-#[cfg(test)]
-mod evidence;
-#[cfg(test)]
 mod failing_checks;
-#[cfg(test)]
-mod fitted;
-#[cfg(test)]
-mod records;
-#[cfg(test)]
-mod restarts;
-#[cfg(test)]
-mod runs;
-#[cfg(test)]
-mod scripts;
 
 use ar_io::{StdSink, StdSource, words};
 use arpki_play::arpki_main;

@@ -6,7 +6,7 @@ use Rattle.client_rule.specs.declared.judgement.Judgement.{Judgement}
 use Rattle.client_rule.specs.declared.judgement.Judgement.TheVariants as judgement
 use Rattle.lms_tree.specs.PublicKey.{key_text}
 use Rattle.party_keys.specs.Directory.{Directory}
-use Rattle.possession.specs.Connections.{connection_of}
+use Rattle.possession.specs.Connections.{connection_of, stapled_connection_of}
 use Rattle.possession.specs.declared.connection.Connection.{Connection}
 use Rattle.possession.specs.declared.connection.Connection.TheVariants as connection
 use Rattle.arpki_c.specs.declared.answers.CallAnswer.{CallAnswer}
@@ -84,6 +84,12 @@ abbrev pub connection_told : Result Directory KeysFault → CallQuestion → Lis
 connection_told (Err wrong) question challenge response = fault_answer wrong
 connection_told (Ok keys) question challenge response =
     connection_answer (connection_of (asked_by keys question) question.confirmation.now challenge response)
+
+-- of a server, by the confirmation that it shows, the channel that the caller sees, and its staple
+abbrev pub stapled_told : Result Directory KeysFault → CallQuestion → List ℕ → List ℕ → CallAnswer
+stapled_told (Err wrong) question channel staple = fault_answer wrong
+stapled_told (Ok keys) question channel staple =
+    connection_answer (stapled_connection_of (asked_by keys question) question.confirmation.now channel staple)
 
 -- the answer is this one, or that memory ran out
 abbrev pub IsUnlessMemory : CallAnswer → CallAnswer → Type 0

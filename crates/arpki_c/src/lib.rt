@@ -30,7 +30,7 @@ mod tests;
 pub use answers::CallAnswer;
 pub use followed::Followed;
 pub use following::arpki_follow;
-pub use judging::{arpki_connect, arpki_judge};
+pub use judging::{arpki_connect, arpki_judge, arpki_staple};
 pub use keys::{Entry, Keys};
 pub use learning::{CallLesson, arpki_learn};
 pub use questions::CallQuestion;

@@ -2,7 +2,7 @@ ghost use Rattle.std.specs.Prelude.{◌≤◌};
 
 use crate::{
     CallAnswer, CallLesson, CallQuestion, Entry, Followed, Keys, arpki_abi, arpki_connect,
-    arpki_follow, arpki_judge, arpki_learn, arpki_verify,
+    arpki_follow, arpki_judge, arpki_learn, arpki_staple, arpki_verify,
 };
 use std::alloc::Global;
 use std::test::Fail;
@@ -236,6 +236,28 @@ fn connected(alloc: Global, name: &[u8], response: &[u8]) -> CallAnswer {
     answer
 }
 
+// What is made of a server that shows this staple.
+fn stapled(alloc: Global, name: &[u8], staple: &[u8]) -> CallAnswer {
+    let (logs, authorities) = (logs(), authorities());
+    let keys = Keys {
+        logs: &logs,
+        authorities: &authorities,
+        learnt: &[],
+        quorum: 3,
+    };
+    let bytes = confirmation();
+    let mut answer = every(77);
+    arpki_staple(
+        alloc,
+        &keys,
+        &question(name, 9, &bytes),
+        &[1; 32],
+        staple,
+        &mut answer,
+    );
+    answer
+}
+
 // What is told of the confirmation, a pin and links.
 fn pinned(alloc: Global, epoch: u64, pin: &[u8], links: &[u8]) -> Followed {
     let (logs, authorities) = (logs(), authorities());
@@ -370,6 +392,16 @@ fn a_server_has_to_respond(rt: HostRuntime) {
     let other = connected(rt.alloc(), b"a.example", &fitting(0xa7, 3)[4..]);
     assert!(rt; other == alone(5, 5));
     let refused = connected(rt.alloc(), b"b.example", &[]);
+    assert!(rt; refused == alone(2, 2));
+}
+
+#[test]
+fn a_server_shows_no_valid_staple(rt: HostRuntime) {
+    let short = stapled(rt.alloc(), b"a.example", &[]);
+    assert!(rt; short == alone(5, 1));
+    let other = stapled(rt.alloc(), b"a.example", &fitting(0xa7, 3)[4..]);
+    assert!(rt; other == alone(5, 5));
+    let refused = stapled(rt.alloc(), b"b.example", &[]);
     assert!(rt; refused == alone(2, 2));
 }
 

@@ -1,8 +1,7 @@
 use crate::meeting::Meeting;
 use ar_io::{MemSink, QuietSource};
-use crowd_run::{Gate, OpenGate, crowd_main};
+use crowd_run::{Gate, crowd_main};
 use owner_check::empty_books;
-use script_play::play;
 use shared_node::Place;
 use std::alloc::{AllocError, Global};
 use std::sync::Wait;
@@ -76,17 +75,6 @@ fn crowd<R: Threads + Wait + Sync, G: Gate>(
     Ok((status, sink))
 }
 
-// What a script without bursts writes.
-fn played(alloc: Global, script: &str) -> Result<MemSink, AllocError> {
-    let checks = empty_books(alloc, 16)?;
-    let mut sink = MemSink::new(alloc, Vec::new(alloc));
-    sink.reserve(alloc, 65536)?;
-    match play(alloc, checks, script.as_bytes(), &mut sink) {
-        Ok(_) => Ok(sink),
-        Err(_) => Err(AllocError),
-    }
-}
-
 // The place of a delivery in the printed order of a party; none where it does not stand there.
 fn place_in(text: &str, party: &str, delivery: &str) -> Option<u64> {
     for line in text.lines() {
@@ -133,119 +121,5 @@ end
         let place = place_in(text, party, number).map(|place| place.saturating_add(1));
         assert_eq!(rt; place, Some(noted.load(Ordering::SeqCst)));
     }
-    Ok(())
-}
-
-// The deliveries of the burst of twelve, each a message and a party.
-const TWELVE: [&str; 12] = [
-    "deliver 1 L0",
-    "deliver 1 L2",
-    "deliver 2 L2",
-    "deliver 3 L0",
-    "deliver 2 L0",
-    "deliver 3 L2",
-    "deliver 1 L2",
-    "deliver 1 L0",
-    "deliver 3 L0",
-    "deliver 2 L2",
-    "deliver 3 L2",
-    "deliver 2 L0",
-];
-
-// Before it: the epoch's proposal, and the ballots of two logs that took it.
-const BEFORE: &str = "logs 5 4
-authorities 4
-propose L1
-deliver 1 L3
-deliver 1 L4
-";
-
-// The script with the burst of twelve.
-fn with_burst(alloc: Global) -> Result<String, AllocError> {
-    let mut script = String::from_str(alloc, BEFORE)?;
-    script.push_str("burst\n")?;
-    for line in TWELVE {
-        script.push_str(line)?;
-        script.push_str("\n")?;
-    }
-    script.push_str("end\nflush\n")?;
-    Ok(script)
-}
-
-// The same script with a line for each delivery, in the orders that are printed, in place of the burst.
-fn replayed(alloc: Global, text: &str) -> Result<String, AllocError> {
-    let mut script = String::from_str(alloc, BEFORE)?;
-    for line in text.lines() {
-        let Some(order) = line.strip_prefix("order ") else {
-            continue;
-        };
-        for number in order.split(' ').skip(1) {
-            if let Ok(place) = number.parse::<usize>() {
-                if let Some(line) = TWELVE.get(place) {
-                    script.push_str(line)?;
-                    script.push_str("\n")?;
-                }
-            }
-        }
-    }
-    script.push_str("flush\n")?;
-    Ok(script)
-}
-
-// The lines but for those that tell an order.
-fn without_orders(alloc: Global, text: &str) -> Result<String, AllocError> {
-    let mut rest = String::new(alloc);
-    for line in text.lines() {
-        if !line.starts_with("order ") {
-            rest.push_str(line)?;
-            rest.push_str("\n")?;
-        }
-    }
-    Ok(rest)
-}
-
-// Whether the numbers of an order line that are of one worker of three ascend.
-fn ascends(line: &str, worker: u64) -> bool {
-    let mut least = 0;
-    for number in line.split(' ').skip(2) {
-        let Ok(number) = number.parse::<u64>() else {
-            return false;
-        };
-        if number % 3 == worker {
-            if number < least {
-                return false;
-            }
-            least = number;
-        }
-    }
-    true
-}
-
-#[test]
-fn three_workers_bring_twelve_deliveries(rt: HostRuntime) -> Result<(), Fail> {
-    let alloc = rt.alloc();
-    let script = with_burst(alloc)?;
-    let (status, sink) = crowd(&rt, alloc, "3", script.as_str(), &OpenGate)?;
-    assert_eq!(rt; status, 0);
-    let Ok(text) = str::from_utf8(sink.written()) else {
-        panic!(rt; "lines are text")
-    };
-    for line in text.lines().filter(|line| line.starts_with("order ")) {
-        // The order, the party, and six deliveries.
-        assert_eq!(rt; line.split(' ').count(), 8);
-        for worker in 0..3 {
-            assert!(rt; ascends(line, worker));
-        }
-    }
-    assert_eq!(rt;
-        text.lines()
-            .filter(|line| line.starts_with("order "))
-            .count(),
-        2
-    );
-    let same = replayed(alloc, text)?;
-    let sink = played(alloc, same.as_str())?;
-    let rest = without_orders(alloc, text)?;
-    assert_eq!(rt; sink.written(), rest.as_bytes());
     Ok(())
 }

@@ -2,25 +2,17 @@
 //! may be, and a gate that is always open, handed to `crowd_main`, and its exit status. It may start threads, and wait for locks.
 //!
 //! What it answers is in the contract of `crowd_main`: read `specs/Program.antt` of the crate `crowd_run` first.
-//! The modules beside this file test it, and what threads share below it.
+//! The modules beside this file test that its workers work side by side, and the calls of a server and its client (`possession`).
 #![tactic(auto)]
 
 #[cfg(test)]
-mod crowd_run_fault_tests;
-#[cfg(test)]
 mod crowd_run_tests;
 #[cfg(test)]
-mod leaf_book_tests;
-#[cfg(test)]
 mod meeting;
-#[cfg(test)]
-mod node_crowd_tests;
 #[cfg(test)]
 mod possession_tests;
 #[cfg(test)]
 mod serve_run_tests;
-#[cfg(test)]
-mod shared_node_tests;
 
 use ar_io::{StdSink, StdSource, words};
 use crowd_run::{OpenGate, crowd_main};

@@ -1,4 +1,4 @@
-ghost use Rattle.std.specs.Prelude.{◌≡◌, All, IfOk, length};
+ghost use Rattle.std.specs.Prelude.{◌≡◌, IfOk, length};
 ghost use Rattle.ar_seats.specs.Shares.{whole};
 ghost use Rattle.lms_tree.specs.Signature.{lms_signature_len_of};
 
@@ -10,7 +10,6 @@ use possession::{Connection, LeafSeat, Server, connect};
 use sha2::{Digest, Sha256};
 use std::alloc::{AllocError, Global};
 use std::test::Fail;
-use std::thread::map_vec;
 
 // What another program wrote: a confirmation of epoch 5 that a.example has a certificate with the max age 10, whose
 // subject key is that of the seed with the types 5 and 3. It is given up to the signatures.
@@ -197,84 +196,5 @@ fn an_answer_and_a_handover_are_signed_as_by_another_program(rt: HostRuntime) ->
         "f471ea8ab51e3f4ec2a19f609038b3f1b1d0898d2bfac89ac2586bb49fefa8a1"
     );
     assert_eq!(rt; server.close(seat), 2);
-    Ok(())
-}
-
-#[test]
-fn seats_are_split_and_joined(rt: HostRuntime) -> Result<(), Fail> {
-    let (server, mut one, mut answer) = serve(rt.alloc())?;
-    let public = hex::encode(rt.alloc(), server.public().bytes().as_slice())?;
-    assert_eq!(rt;
-        public.as_str(),
-        "0000000500000003b263a61264e4d267048f3c3f6e368626fba20c8a1195c18c17d63fc2378832e0df1738d0fa03ef71c4d260668b93e8a1"
-    );
-    let mut two = server.split(rt.alloc(), &mut one)?;
-    assert_eq!(rt; (one.share(), two.share()), (1 << 31, 1 << 31));
-    assert_eq!(rt;
-        server.answer(&mut two, &[1; 32], &mut answer).ok(),
-        Some(0)
-    );
-    assert_eq!(rt;
-        server.answer(&mut one, &[1; 32], &mut answer).ok(),
-        Some(1)
-    );
-    server.join(&mut one, two);
-    assert_eq!(rt; server.close(one), 2);
-    Ok(())
-}
-
-// Answers challenges until no leaf is left: the leaves of the answers.
-fn answer_all(
-    alloc: Global,
-    server: &Server,
-    len: usize,
-    mut seat: LeafSeat,
-) -> Result<Vec<u32>, AllocError>
-    requires own { seat.book ≡ server.now.book }
-    requires room { len ≡ lms_signature_len_of server.now.key.lms server.now.key.ots }
-{
-    let mut answer = vec![in alloc; 0u8; len]?;
-    let mut leaves = Vec::new(alloc);
-    for turn in 0..64u8 {
-        match server.answer(&mut seat, &[turn; 32], &mut answer) {
-            Ok(leaf) => leaves.push(leaf)?,
-            Err(_) => break,
-        }
-    }
-    Ok(leaves)
-}
-
-// Four seats that are split from one.
-fn four_seats(alloc: Global, server: &Server, seat: &mut LeafSeat) -> Result<Vec<LeafSeat>, Fail>
-    requires { seat.old.book ≡ server.now.book }
-    ensures own { seat.new.book ≡ seat.old.book }
-    ensures seats { IfOk result (λ seats. All (λ given. given.book ≡ server.now.book) seats.items) }
-{
-    let mut seats = Vec::new(alloc);
-    for _ in 0..4 {
-        seats.push(server.split(alloc, seat)?)?;
-    }
-    Ok(seats)
-}
-
-#[test]
-fn four_threads_answer_with_each_leaf_once(rt: HostRuntime) -> Result<(), Fail> {
-    let alloc = rt.alloc();
-    let (server, mut seat, mut answer) = serve(alloc)?;
-    let len = answer.len();
-    let seats = four_seats(alloc, &server, &mut seat)?;
-    let answered = map_vec(&rt, seats, &|seat| answer_all(alloc, &server, len, seat))?;
-    let mut times = [0u8; 32];
-    for leaves in answered {
-        for leaf in leaves? {
-            if let Some(times) = times.get_mut(leaf as usize) {
-                *times = times.saturating_add(1);
-            }
-        }
-    }
-    assert_eq!(rt; times, [1; 32]);
-    let next = server.answer(&mut seat, &[3; 32], &mut answer);
-    assert!(rt; next.is_err(), "no leaf is left");
-    assert!(rt; answer.iter().all(|byte| *byte == 7));
     Ok(())
 }

@@ -2,34 +2,10 @@ use crate::meeting::Meeting;
 use ar_io::{MemSink, QuietSource};
 use crowd_run::{Gate, crowd_main};
 use owner_check::empty_books;
-use shared_node::Place;
 use std::alloc::{AllocError, Global};
 use std::sync::Wait;
-use std::sync::atomic::{AtomicU64, Ordering};
 use std::test::Fail;
 use std::thread::Threads;
-
-// A gate that notes which challenges it was passed for: how many times in all, and the sum of a power of two for each.
-#[derive(Drop)]
-struct Tally {
-    times: AtomicU64,
-    powers: AtomicU64,
-}
-
-impl Gate for Tally {
-    ghost passed = { λ _ _. Unit {0} };
-
-    ghost noted = { λ _ _ _. Unit {0} };
-
-    fn before(&self, number: u64) {
-        self.times.fetch_add(1, Ordering::SeqCst);
-        if number < 64 {
-            self.powers.fetch_add(1 << number, Ordering::SeqCst);
-        }
-    }
-
-    fn after(&self, _number: u64, _place: &Place) {}
-}
 
 // The words `serve` and a number of workers.
 fn words_of(alloc: Global, workers: &str) -> Result<Vec<String>, AllocError> {
@@ -108,30 +84,5 @@ fn serve_meets(rt: HostRuntime) -> Result<(), Fail> {
     expected[0] = 1;
     expected[1] = 1;
     assert_eq!(rt; times_of(text), expected);
-    Ok(())
-}
-
-#[test]
-fn three_workers_answer_40_challenges_by_32_leaves(rt: HostRuntime) -> Result<(), Fail> {
-    let tally = Tally {
-        times: AtomicU64::new(0),
-        powers: AtomicU64::new(0),
-    };
-    let (status, sink) = serve(&rt, rt.alloc(), "3", 40, &tally)?;
-    assert_eq!(rt; status, 0);
-    let Ok(text) = str::from_utf8(sink.written()) else {
-        panic!(rt; "lines are text")
-    };
-    assert_eq!(rt; times_of(text), [1; 32]);
-    assert_eq!(rt; text.lines().count(), 41);
-    assert_eq!(rt;
-        text.lines()
-            .filter(|line| line.ends_with(" exhausted"))
-            .count(),
-        8
-    );
-    // The gate was passed once for each of the challenges 0 to 39.
-    assert_eq!(rt; tally.times.load(Ordering::SeqCst), 40);
-    assert_eq!(rt; tally.powers.load(Ordering::SeqCst), 0xff_ffff_ffff);
     Ok(())
 }

@@ -5,7 +5,7 @@
 //! `play` answers is in `script_play`, what `restart` answers in `run_restart`, what `sig` and `check` answer in `arpki_ask`, and
 //! what the commands answer that `review_named` names in `review`.
 //!
-//! Its tests: those of the program `arpki`, and `examples/`.
+//! Its tests: `examples/`, `tools/fail-each-call`, and those of the program `arpki`.
 #![tactic(auto)]
 
 pub use program::arpki_main;

@@ -7,7 +7,6 @@ use Rattle.ar_message.specs.declared.fault.MessageFault.{MessageFault}
 use Rattle.ar_message.specs.declared.fault.MessageFault.TheVariants as message
 use Rattle.ar_message.specs.declared.message.Confirming.{Confirming}
 use Rattle.ar_message.specs.declared.message.Message.{Message}
-use Rattle.ar_message.specs.declared.message.Message.TheVariants.{EndorseAsk, Endorsed, Submit, Propose, Ballot, StatusNote, Decision, SkipNote, ConfirmAsk, LogConfirmed, HalfConfirmed, Confirmation, RollNote}
 use Rattle.ar_message.specs.declared.unsigned.Unsigned.{Unsigned}
 use Rattle.ar_statement.specs.declared.party.Party.{Party}
 use Rattle.key_roll.specs.Due.{DueParts}
@@ -30,6 +29,7 @@ use Rattle.authority_core.specs.Row.{message_row}
 use Rattle.authority_core.specs.State.{AuthorityAnswer, AuthorityState, StepsBy, if_due}
 use Rattle.authority_core.specs.declared.refusal.AuthorityRefusal.{AuthorityRefusal}
 use Rattle.authority_core.specs.declared.refusal.AuthorityRefusal.TheVariants.{BadPath, CheckFault, FewVotes, NotForAuthority, SameAuthority}
+use Rattle.authority_core.proofs.EachRow.{answer-has}
 
 -- the answer is not that the check failed
 abbrev pub IsNoFault : {A : Type 0} → Result A AuthorityRefusal → Type 0
@@ -94,20 +94,13 @@ note-row s a = by (learned s.keys a)
 
 -- no row of an authority that has retired
 pub retired_row : (s : AuthorityState) (m : Message) (said : Outcome) → IsNoFault (message_row s true m said)
-unfolding message_row
-retired_row s (EndorseAsk owner cert) said = λ e. absurd cc
-retired_row s (LogConfirmed part) said = log-row s part
-retired_row s (HalfConfirmed part first_signature) said = half-row s part first_signature
-retired_row s (RollNote party generation key signature) said = note-row s (record { party = party; generation = generation; key = key; signature = signature })
-retired_row s (Endorsed owner authority certificate signature) said = λ e. absurd cc
-retired_row s (Submit change) said = λ e. absurd cc
-retired_row s (Propose log epoch base root changes signature) said = λ e. absurd cc
-retired_row s (Ballot log epoch base root signature) said = λ e. absurd cc
-retired_row s (StatusNote log epoch value signature) said = λ e. absurd cc
-retired_row s (Decision epoch base root changes votes) said = λ e. absurd cc
-retired_row s (SkipNote epoch statuses) said = λ e. absurd cc
-retired_row s (ConfirmAsk client name first second) said = λ e. absurd cc
-retired_row s (Confirmation client epoch name root body log log_signature first first_signature second second_signature) said = λ e. absurd cc
+retired_row s m said = answer-has (λ n answer. IsNoFault answer) s true said (record {
+  endorses = λ owner cert e. absurd cc;
+  first = log-row s;
+  second = half-row s;
+  notes = note-row s;
+  other = λ n e. absurd cc;
+}) m
 
 -- a call that steps by such an answer does not say so
 pub stepped_no_fault : (result : Result Unsigned AuthorityRefusal) (old new : AuthorityState) (answer : AuthorityAnswer) → StepsBy result old new answer → IsNoFault answer → IsNoFault result

@@ -1,4 +1,6 @@
+pub mod Asked
 pub mod Claiming
+pub mod EachRow
 pub mod Faults
 pub mod Few
 pub mod Growing

@@ -1,7 +1,6 @@
 -- The keys of an authority sign what its rows leave blank, and a row leaves the keys its own.
-use Rattle.std.proofs.Common.{◌≡◌, ℕ, ◌+◌, ◌-◌, ◌≤◌, ◌==◌, List, [], ◌∷◌, ◌++◌, map, length, Bool, true, false, cond, Option, Some, None, Result, Ok, Err, refl, sym, subst, arith}
+use Rattle.std.proofs.Common.{◌≡◌, ℕ, ◌-◌, ◌≤◌, ◌==◌, List, [], ◌∷◌, ◌++◌, length, Bool, true, false, cond, Option, Some, None, Result, Ok, Err, refl, sym, subst, arith}
 use Rattle.std.specs.Prelude.{All, IfOk, option_and_then, slice_get}
-use Rattle.std.specs.Result.{result_and}
 use Rattle.std.specs.Int.{w8, w16, w32}
 use Rattle.std.specs.Option.{ok_or, option_map}
 use Rattle.std.proofs.lemmas.List.{length-append, length-replicate}
@@ -10,7 +9,6 @@ use Rattle.std.proofs.lemmas.Option.{get_or_from_slice_get, slice_get_within}
 use Rattle.ar_base.specs.Places.{place_of}
 use Rattle.ar_base.proofs.Giving.{no-error}
 use Rattle.ar_bytes.specs.RoundTrip.{counted_text, number_text}
-use Rattle.ar_cert.specs.Certificate.{Certificate}
 use Rattle.ar_message.specs.Confirmation.{body_text, confirmation_fields_text, form_text, is_present, path_text, signed_text, subject_text}
 use Rattle.ar_message.specs.Filling.{CanFill, FitsIn, IsBlank, lengths, nothing, zeros}
 use Rattle.ar_message.specs.Messages.{about_in, confirming_text, fields_text, message_text, path_in, shown_in, signed_in}
@@ -18,10 +16,9 @@ use Rattle.ar_message.specs.declared.address.Address.{Address}
 use Rattle.ar_message.specs.declared.address.Address.TheVariants.{Logs, One}
 use Rattle.ar_message.specs.declared.message.Confirming.{Confirming}
 use Rattle.ar_message.specs.declared.message.Message.{Message}
-use Rattle.ar_message.specs.declared.message.Message.TheVariants.{EndorseAsk, Endorsed, Submit, Propose, Ballot, StatusNote, Decision, SkipNote, ConfirmAsk, LogConfirmed, HalfConfirmed, Confirmation, RollNote}
+use Rattle.ar_message.specs.declared.message.Message.TheVariants.{HalfConfirmed}
 use Rattle.ar_message.specs.declared.unsigned.Unsigned.{Unsigned}
-use Rattle.ar_statement.specs.Claims.{Claim, authority_party, client_party, endorse, owner_party, party, party_text, text_of}
-use Rattle.ar_statement.specs.declared.text.SeenText.{SeenText}
+use Rattle.ar_statement.specs.Claims.{Claim, authority_party, client_party, endorse, owner_party, party_text, text_of}
 use Rattle.key_roll.specs.Book.{IsRollBook, RollBook, texts_of}
 use Rattle.key_roll.specs.Due.{DueParts}
 use Rattle.key_roll.specs.Entry.{after_at, after_entry, due_at, entered, has_room, roll_text}
@@ -38,25 +35,22 @@ use Rattle.lms_tree.specs.KeyParts.{KeyParts}
 use Rattle.lms_tree.specs.PublicKey.{key_text}
 use Rattle.lms_tree.specs.declared.public_key.LmsPublic.{LmsPublic}
 use Rattle.owner_check.specs.declared.answer.Outcome.{Outcome}
-use Rattle.owner_check.specs.declared.answer.Outcome.TheVariants.{Failed, No, Yes}
-use Rattle.party_keys.specs.Learning.{Announced, learned}
-use Rattle.party_keys.specs.declared.fault.LearnFault.{LearnFault}
-use Rattle.party_keys.specs.declared.learning.Learned.{Learned}
-use Rattle.authority_core.specs.Calls.{after_endorse, confirming, kept_claim}
-use Rattle.authority_core.specs.ConfirmRows.{confirmation_with, half_claims, half_confirmed_row, log_claims, log_confirmed_row}
-use Rattle.authority_core.specs.Confirming.{confirming_checks, confirming_too, confirming_with, kept_of, parties_of}
-use Rattle.party_keys.specs.Signers.{seen_in}
-use Rattle.authority_core.specs.EndorseRow.{asked_of, endorse_due, endorse_row, endorsed_message, endorsing}
+use Rattle.party_keys.specs.Learning.{Announced}
+use Rattle.authority_core.specs.Calls.{kept_claim}
+use Rattle.authority_core.specs.ConfirmRows.{confirmation_with, half_claims, log_claims}
+use Rattle.authority_core.specs.Confirming.{kept_of}
+use Rattle.authority_core.specs.EndorseRow.{asked_of, endorsed_message}
 use Rattle.authority_core.specs.Keyed.{IsRingOf, SendsBy}
 use Rattle.authority_core.specs.Refusals.{of_book}
-use Rattle.authority_core.specs.RollRows.{learning, roll_by, roll_message, roll_note_by, roll_note_row, roll_row, rolling}
-use Rattle.authority_core.specs.Row.{message_row, row}
-use Rattle.authority_core.specs.State.{AuthorityAnswer, AuthorityState, StepsBy, entering, if_due, most_sent, sends}
+use Rattle.authority_core.specs.RollRows.{learning, roll_by, roll_message, roll_row, rolling}
+use Rattle.authority_core.specs.Row.{row}
+use Rattle.authority_core.specs.State.{AuthorityAnswer, AuthorityState, StepsBy, entering, most_sent, sends}
 use Rattle.authority_core.specs.declared.entries.Approved.{Approved}
-use Rattle.authority_core.specs.declared.entries.Kept.{Kept}
 use Rattle.authority_core.specs.declared.refusal.AuthorityRefusal.{AuthorityRefusal}
 use Rattle.authority_core.specs.declared.refusal.AuthorityRefusal.TheVariants.{Memory}
 use Rattle.authority_core.proofs.Few.{rolling-few}
+use Rattle.party_keys.specs.Signers.{Claimed}
+use Rattle.authority_core.proofs.EachRow.{AnswersWith, confirmed_by, confirmed_out, endorsed_by, endorsed_out, row-gives}
 
 -- ---- the signature's bytes are the last ones of a message
 
@@ -167,98 +161,39 @@ pub record IsSignedBy (s : AuthorityState) (keys : List KeyParts) (later : Autho
   pub stays : IsSameKeys s later
 
 abbrev pub Signs : AuthorityState → List KeyParts → AuthorityAnswer → Type 0
-Signs s keys answer = (later : AuthorityState) (sent : Unsigned) → answer ≡ Ok (later, sent) → IsSignedBy s keys later sent
+Signs s keys answer = AnswersWith (IsSignedBy s keys) answer
 
--- what is due of an answer is due of the keys
-abbrev Owed : AuthorityState → List KeyParts → Result DueParts AuthorityRefusal → Type 0
-Owed s keys e = (due : DueParts) → e ≡ Ok due → Owes keys due s.signature_len
-
-due-signs : (s : AuthorityState) (keys : List KeyParts) (e : Result DueParts AuthorityRefusal) (next : AuthorityState) (to : Address) (bytes : List ℕ) → Owed s keys e → s.signature_len ≤ length bytes → IsSameKeys s next
-    → Signs s keys (if_due e (λ due. (next, sends s.signature_len to bytes due)))
-due-signs s keys (Ok due) next to bytes owes less same later sent is =
-    let pair : (next, sends s.signature_len to bytes due) ≡ (later, sent) = cc in
-    subst (λ (p : AuthorityState × Unsigned). IsSignedBy s keys p.0 p.1) pair (record { fills = can-fill keys s.signature_len to bytes due (owes due refl) less; stays = same })
-due-signs s keys (Err refusal) next to bytes owes less same later sent is = absurd cc
-
--- where checks stand before it
-ordered-signs : (s : AuthorityState) (keys : List KeyParts) (checks : Result (Unit {0}) AuthorityRefusal) (answer : AuthorityAnswer) → Signs s keys answer → Signs s keys (result_and checks answer)
-ordered-signs s keys (Ok u) answer signs = signs
-ordered-signs s keys (Err refusal) answer signs = λ later sent is. absurd cc
-
-entering-same : (s : AuthorityState) (seen : List SeenText) (k : Kept) → IsSameKeys s (record s { past = confirming s.me s.past seen k })
-entering-same s seen k = record { book = entry-same s.past.signed (text_of (kept_claim (authority_party s.me) k)); len = refl }
-
-endorse-signs : (s : AuthorityState) (keys : List KeyParts) (owner : ℕ) (a : Approved) (said : Outcome) → IsRingOf s keys → IsRollBook s.past.signed → Signs s keys (endorsing s owner a said)
-unfolding endorsing
-endorse-signs s keys owner a said is sound =
-    due-signs s keys (endorse_due s.me s.past a said) (record s { past = after_endorse s.me s.past a }) (One (owner_party owner)) (message_text (endorsed_message s owner a.certificate))
-    (by said) (endorsed-fits s owner a.certificate) (record { book = entry-same s.past.signed (text_of (endorse s.me a.certificate)); len = refl })
-  where
-    by : (o : Outcome) → Owed s keys (endorse_due s.me s.past a o)
-    by Failed = λ due e. absurd cc
-    by No = λ due e. absurd cc
-    by Yes = λ due e. entering-owes s keys (endorse s.me a.certificate) due is sound e
-
-asked-signs : (s : AuthorityState) (keys : List KeyParts) (retired : Bool) (owner : ℕ) (cert : Certificate) (said : Outcome) → IsRingOf s keys → IsRollBook s.past.signed
-    → Signs s keys (endorse_row s retired owner cert said)
-asked-signs s keys true owner cert said is sound = λ later sent e. absurd cc
-asked-signs s keys false owner cert said is sound = endorse-signs s keys owner (asked_of cert) said is sound
+endorsed-signs : (s : AuthorityState) (keys : List KeyParts) (owner : ℕ) (a : Approved) (due : DueParts) → IsRingOf s keys → IsRollBook s.past.signed
+    → entering s.past (endorse s.me a.certificate) ≡ Ok due → IsSignedBy s keys (endorsed_by s a) (endorsed_out s owner a due)
+endorsed-signs s keys owner a due is sound e = record {
+  fills = can-fill keys s.signature_len (One (owner_party owner)) (message_text (endorsed_message s owner a.certificate)) due (entering-owes s keys (endorse s.me a.certificate) due is sound e)
+      (endorsed-fits s owner a.certificate);
+  stays = record { book = entry-same s.past.signed (text_of (endorse s.me a.certificate)); len = refl };
+}
 
 -- a confirmation is signed and sent
-confirming-signs : (s : AuthorityState) (keys : List KeyParts) (seen : List SeenText) (k : Kept) (to : Address) (message : List ℕ → Message) → IsRingOf s keys → IsRollBook s.past.signed
-    → s.signature_len ≤ length (message_text (message (zeros s.signature_len))) → Signs s keys (confirming_too s seen k to message)
-unfolding confirming_with
-confirming-signs s keys seen k to message is sound less =
-    due-signs s keys (entering s.past (kept_claim (authority_party s.me) k)) (record s { past = confirming s.me s.past seen k }) to (message_text (message (zeros s.signature_len)))
-    (λ due e. entering-owes s keys (kept_claim (authority_party s.me) k) due is sound e) less (entering-same s seen k)
-
-log-signs : (s : AuthorityState) (keys : List KeyParts) (part : Confirming) → IsRingOf s keys → IsRollBook s.past.signed → Signs s keys (log_confirmed_row s part)
-unfolding log_confirmed_row
-log-signs s keys part is sound =
-    ordered-signs s keys (confirming_checks s part.first (parties_of part part.second) (log_claims part) part) _
-    (confirming-signs s keys (map seen_in (log_claims part)) (kept_of part) (One (authority_party part.second)) (λ signature. HalfConfirmed part signature) is sound (half-fits part s.signature_len))
-
-half-signs : (s : AuthorityState) (keys : List KeyParts) (part : Confirming) (first_signature : List ℕ) → IsRingOf s keys → IsRollBook s.past.signed → Signs s keys (half_confirmed_row s part first_signature)
-unfolding half_confirmed_row
-half-signs s keys part first_signature is sound =
-    ordered-signs s keys (confirming_checks s part.second (parties_of part part.first) (half_claims part first_signature) part) _
-    (confirming-signs s keys (map seen_in (half_claims part first_signature)) (kept_of part) (One (client_party part.client)) (confirmation_with part first_signature) is sound
-    (confirmation-fits part first_signature s.signature_len))
+confirmed-signs : (s : AuthorityState) (keys : List KeyParts) (claims : List Claimed) (part : Confirming) (to : Address) (message : List ℕ → Message) (due : DueParts) → IsRingOf s keys → IsRollBook s.past.signed
+    → entering s.past (kept_claim (authority_party s.me) (kept_of part)) ≡ Ok due → s.signature_len ≤ length (message_text (message (zeros s.signature_len)))
+    → IsSignedBy s keys (confirmed_by s claims part) (confirmed_out s to message due)
+confirmed-signs s keys claims part to message due is sound e less = record {
+  fills = can-fill keys s.signature_len to (message_text (message (zeros s.signature_len))) due (entering-owes s keys (kept_claim (authority_party s.me) (kept_of part)) due is sound e) less;
+  stays = record { book = entry-same s.past.signed (text_of (kept_claim (authority_party s.me) (kept_of part))); len = refl };
+}
 
 -- nothing is sent
-nothing-fills : (keys : List KeyParts) → CanFill keys nothing
-nothing-fills keys = All-nil (IsBlank keys [])
-
-note-signs : (s : AuthorityState) (keys : List KeyParts) (a : Announced) → Signs s keys (roll_note_row s a)
-unfolding roll_note_row
-note-signs s keys a = by (learned s.keys a)
-  where
-    by : (r : Result Learned LearnFault) → Signs s keys (roll_note_by s a r)
-    by (Ok l) = λ later sent e.
-        let pair : (learning s a, nothing) ≡ (later, sent) = cc in
-        subst (λ (p : AuthorityState × Unsigned). IsSignedBy s keys p.0 p.1) pair (record { fills = nothing-fills keys; stays = record { book = record { leaves = refl; newest = refl }; len = refl } })
-    by (Err fault) = λ later sent e. absurd cc
-
-message-signs : (s : AuthorityState) (keys : List KeyParts) (retired : Bool) (m : Message) (said : Outcome) → IsRingOf s keys → IsRollBook s.past.signed → Signs s keys (message_row s retired m said)
-unfolding message_row
-message-signs s keys retired (EndorseAsk owner cert) said is sound = asked-signs s keys retired owner cert said is sound
-message-signs s keys retired (LogConfirmed part) said is sound = log-signs s keys part is sound
-message-signs s keys retired (HalfConfirmed part first_signature) said is sound = half-signs s keys part first_signature is sound
-message-signs s keys retired (RollNote party generation key signature) said is sound =
-    note-signs s keys (record { party = party; generation = generation; key = key; signature = signature })
-message-signs s keys retired (Endorsed owner authority certificate signature) said is sound = λ later sent e. absurd cc
-message-signs s keys retired (Submit change) said is sound = λ later sent e. absurd cc
-message-signs s keys retired (Propose log epoch base root changes signature) said is sound = λ later sent e. absurd cc
-message-signs s keys retired (Ballot log epoch base root signature) said is sound = λ later sent e. absurd cc
-message-signs s keys retired (StatusNote log epoch value signature) said is sound = λ later sent e. absurd cc
-message-signs s keys retired (Decision epoch base root changes votes) said is sound = λ later sent e. absurd cc
-message-signs s keys retired (SkipNote epoch statuses) said is sound = λ later sent e. absurd cc
-message-signs s keys retired (ConfirmAsk client name first second) said is sound = λ later sent e. absurd cc
-message-signs s keys retired (Confirmation client epoch name root body log log_signature first first_signature second second_signature) said is sound = λ later sent e. absurd cc
+learnt-signs : (s : AuthorityState) (keys : List KeyParts) (a : Announced) → IsSignedBy s keys (learning s a) nothing
+learnt-signs s keys a = record { fills = All-nil (IsBlank keys []); stays = record { book = record { leaves = refl; newest = refl }; len = refl } }
 
 pub row-signs : (s : AuthorityState) (keys : List KeyParts) (retired : Bool) (m : Result Message ℕ) (said : Outcome) → IsRingOf s keys → IsRollBook s.past.signed → Signs s keys (row s retired m said)
-row-signs s keys retired (Ok m) said is sound = message-signs s keys retired m said is sound
-row-signs s keys retired (Err place) said is sound = λ later sent e. absurd cc
+row-signs s keys retired m said is sound = row-gives (λ read. IsSignedBy s keys) s retired m said (record {
+  endorses = λ owner cert due stays yes entered. endorsed-signs s keys owner (asked_of cert) due is sound entered;
+  first = λ part due passed entered.
+      confirmed-signs s keys (log_claims part) part (One (authority_party part.second)) (λ signature. HalfConfirmed part signature) due is sound entered (half-fits part s.signature_len);
+  second = λ part signature due passed entered.
+      confirmed-signs s keys (half_claims part signature) part (One (client_party part.client)) (confirmation_with part signature) due is sound entered
+      (confirmation-fits part signature s.signature_len);
+  notes = λ a how learnt. learnt-signs s keys a;
+})
 
 -- ---- a roll
 

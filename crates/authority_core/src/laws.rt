@@ -1,5 +1,5 @@
 //! Laws on the definitions of `specs/`: each is the contract of a function with an empty body.
-ghost use Rattle.std.specs.Prelude.{◌≡◌, ℕ, ◌<◌, ◌≤◌, ◌^◌, Bool, true, false, [], ◌∷◌, ◌++◌, List, Option, All, Contains, Result, Ok, Err, length};
+ghost use Rattle.std.specs.Prelude.{◌≡◌, ◌⊎◌, ℕ, ◌<◌, ◌≤◌, ◌^◌, Bool, true, false, [], ◌∷◌, ◌++◌, List, Option, All, Contains, Result, Ok, Err, length};
 ghost use Rattle.ar_base.specs.Bytes.{AreBytes, IsDigest};
 ghost use Rattle.ar_statement.specs.declared.party.Party.{Party};
 ghost use Rattle.ar_statement.specs.Claims.{authority_party, confirmation_by, endorse, text_of};
@@ -10,6 +10,7 @@ ghost use Rattle.ar_claims.specs.Verified.{SeesClaimed};
 ghost use Rattle.ar_message.specs.Messages.{IsMessage, message_in};
 ghost use Rattle.ar_message.specs.declared.message.Confirming.{Confirming};
 ghost use Rattle.ar_message.specs.declared.message.Message.{Message};
+ghost use Rattle.ar_message.specs.declared.message.Message.TheVariants.{EndorseAsk};
 ghost use Rattle.ar_message.specs.declared.unsigned.Unsigned.{Unsigned};
 ghost use Rattle.ar_message.specs.Filling.{CanFill};
 ghost use Rattle.lms_tree.specs.Key.{public_of};
@@ -170,6 +171,21 @@ pub fn what_is_newly_seen_was_claimed()
     ensures roll { (s : AuthorityState) (next : LmsPublic) (later : AuthorityState)
         (sent : Unsigned)
         → roll_row s next ≡ Ok (later, sent) → later.past.seen ≡ s.past.seen }
+{}
+
+/// Whatever an authority newly notes that its check said yes to is the certificate that the message asks for, with its name, its
+/// subject key and its digest; an authority that has retired notes none, nor does one that rolls.
+pub fn what_is_newly_asked_was_in_the_message()
+    ensures step { (s : AuthorityState) (retired : Bool) (m : Result Message ℕ) (said : Outcome)
+        (later : AuthorityState) (sent : Unsigned) → row s retired m said ≡ Ok (later, sent)
+        → (a : Approved) → Contains later.past.asked a
+        → Contains s.past.asked a ⊎ ((owner : ℕ) × (cert : Certificate)
+        × (m ≡ Ok (EndorseAsk owner cert))
+        × (a ≡ record { name = cert.name; key = key_text cert.subject; certificate = digest_of cert })
+        × (said ≡ Yes) × (retired ≡ false)) }
+    ensures roll { (s : AuthorityState) (next : LmsPublic) (later : AuthorityState)
+        (sent : Unsigned)
+        → roll_row s next ≡ Ok (later, sent) → later.past.asked ≡ s.past.asked }
 {}
 
 /// Whatever an authority does, its record only grows: what it saw, signed, what its check said yes to, and what it keeps

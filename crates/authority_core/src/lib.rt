@@ -9,7 +9,7 @@
 //! `specs/State.antt` says where an authority stands and what is true of that, and `specs/Refusals.antt` what
 //! it refuses where a call below does. `specs/Verifying.antt` says which votes it verified last, under the keys that it knows.
 //!
-//! Its tests: `worked_examples`, module `authority_core_tests`, and `examples/play`.
+//! Its tests: `examples/play`, and `arpki`, module `failing_checks`.
 #![tactic(auto)]
 
 mod authority;

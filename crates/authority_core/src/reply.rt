@@ -31,7 +31,7 @@ impl Model for Prepared {
 }
 
 /// A message whose last bytes are to be a signature of this many bytes, with zero bytes there.
-pub(crate) fn prepare(
+fn prepare_of(
     alloc: Global,
     to: Address,
     message: &Message,
@@ -50,6 +50,23 @@ pub(crate) fn prepare(
         blanks,
         at,
     })
+}
+
+/// Drops a message. The drop is large, so no other function drops one.
+pub(crate) fn drop_message(_message: Message) {}
+
+/// The same as `prepare_of`, of a message that is dropped then.
+pub(crate) fn prepare(
+    alloc: Global,
+    to: Address,
+    message: Message,
+    signature_len: u16,
+) -> Result<Prepared, AllocError>
+    ensures { IfOk result (λ p. p ≡ prepared signature_len to (message_text message)) }
+{
+    let ready = prepare_of(alloc, to, &message, signature_len);
+    drop_message(message);
+    ready
 }
 
 /// The message with the signature that is due. It takes no memory.

@@ -11,6 +11,7 @@ ghost use Rattle.owner_check.specs.declared.answer.Outcome.TheVariants.{Yes};
 
 use crate::record::AuthorityRecord;
 use crate::refusal::AuthorityRefusal;
+use crate::reply::drop_message;
 use crate::verifying::VerifyingDirectory;
 use ar_message::{Message, Unsigned};
 use party_keys::{Announced, Directory};
@@ -134,7 +135,10 @@ impl AuthorityState {
                     },
                 )
             }
-            _ => Err(AuthorityRefusal::NotForAuthority),
+            other => {
+                drop_message(other);
+                Err(AuthorityRefusal::NotForAuthority)
+            }
         }
     }
 }

@@ -64,7 +64,7 @@ impl AuthorityState {
             signature: Signature::zeros(alloc, self.signature_len as usize)?,
         };
         let to = Address::One(Role::Owner.party(owner));
-        prepare(alloc, to, &message, self.signature_len)
+        prepare(alloc, to, message, self.signature_len)
     }
 
     /// The row of a request to endorse, where the authority has not retired. All memory is taken before the check is
@@ -175,7 +175,7 @@ impl AuthorityState {
             part,
             first_signature: Signature::zeros(alloc, self.signature_len as usize)?,
         };
-        prepare(alloc, to, &message, self.signature_len)
+        prepare(alloc, to, message, self.signature_len)
     }
 
     // The message to the client.
@@ -204,7 +204,7 @@ impl AuthorityState {
             second: part.second,
             second_signature: Signature::zeros(alloc, self.signature_len as usize)?,
         };
-        prepare(alloc, to, &message, self.signature_len)
+        prepare(alloc, to, message, self.signature_len)
     }
 
     /// The row of a log's confirmation.
@@ -274,7 +274,7 @@ impl AuthorityState {
             key: *next,
             signature: Signature::zeros(alloc, self.signature_len as usize)?,
         };
-        prepare(alloc, Address::Logs, &message, self.signature_len)
+        prepare(alloc, Address::Logs, message, self.signature_len)
     }
 
     /// The row of the order to roll.

@@ -10,7 +10,7 @@
 //! its deliveries, `Laying` how these stand apart from their world, and `Visiting` what workers brought to them. The gate of
 //! `node_crowd` is passed before each delivery and told its place after that.
 //!
-//! Its tests: `arpki_crowd`, module `crowd_run_tests`.
+//! Its tests: `examples/crowd`, `arpki_crowd`, module `crowd_run_tests`, and `tools/crowd-orders`.
 #![tactic(auto)]
 
 mod burst;

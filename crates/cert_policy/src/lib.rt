@@ -5,7 +5,7 @@
 //! it is that they hold; the answer is the first that fails. `specs/Refusals.antt` has their numbers, and
 //! `specs/Terms.antt` how borrowed facts are seen as data.
 //!
-//! Its tests: `base_tests`, module `cert_policy_tests`, and `call_tests`, module `ar_cert_tests`.
+//! Its tests: `examples/follow`, and `call_tests`, module `ar_cert_tests`.
 #![tactic(auto)]
 
 pub use facts::{Facts, PolicyFacts};

@@ -1,5 +1,6 @@
 ghost use Rattle.std.specs.Prelude.{◌≡◌};
 
+use std::fmt;
 use thiserror::Error;
 
 /// The clause that a certificate fails, by its number from 1 to 9, or why an objection is refused, 10 and
@@ -7,38 +8,27 @@ use thiserror::Error;
 #[derive(Clone, Copy, Debug, PartialEq, Eq, Error)]
 pub enum PolicyRefusal {
     /// 1: the old certificate, or the one that registers, is revoked.
-    #[error("the certificate is revoked")]
     Revoked,
     /// 2: the names differ.
-    #[error("the names differ")]
     Name,
     /// 3: the serial number is not one more than the old one, or not 0 at a registration.
-    #[error("the serial number is not the next")]
     Serial,
     /// 4: the previous digest is not the old certificate's, or not 32 zero bytes at a registration.
-    #[error("the previous digest is not that of the certificate before")]
     Previous,
     /// 5: fewer than three distinct authorities endorse it.
-    #[error("fewer than three authorities endorse it")]
     Endorsers,
     /// 6: fewer distinct authorities that the old policy trusts endorse it than its threshold says.
-    #[error("too few authorities that the policy trusts endorse it")]
     Threshold,
     /// 7: the old policy asks for a handover, and there is none.
-    #[error("the old key does not hand over")]
     Handover,
     /// 8: the new policy is not well formed: its threshold is not 1 to 8, or is more than the number
     /// of authorities that it trusts.
-    #[error("the new policy is not well formed")]
     Policy,
     /// 9: it would be a recovery, and a recovery is pending already.
-    #[error("a recovery is pending already")]
     Pending,
     /// 10: nothing with the digest of the objection is pending.
-    #[error("nothing like this is pending")]
     NotPending,
     /// 11: the objection is not valid under the old key.
-    #[error("the objection is not valid")]
     Objection,
 }
 
@@ -62,5 +52,28 @@ impl PolicyRefusal {
             PolicyRefusal::NotPending => 10,
             PolicyRefusal::Objection => 11,
         }
+    }
+
+    // The clause, for people.
+    fn text(&self) -> &'static str {
+        match self {
+            PolicyRefusal::Revoked => "the certificate is revoked",
+            PolicyRefusal::Name => "the names differ",
+            PolicyRefusal::Serial => "the serial number is not the next",
+            PolicyRefusal::Previous => "the previous digest is not that of the certificate before",
+            PolicyRefusal::Endorsers => "fewer than three authorities endorse it",
+            PolicyRefusal::Threshold => "too few authorities that the policy trusts endorse it",
+            PolicyRefusal::Handover => "the old key does not hand over",
+            PolicyRefusal::Policy => "the new policy is not well formed",
+            PolicyRefusal::Pending => "a recovery is pending already",
+            PolicyRefusal::NotPending => "nothing like this is pending",
+            PolicyRefusal::Objection => "the objection is not valid",
+        }
+    }
+}
+
+impl fmt::Display for PolicyRefusal {
+    fn fmt<W: fmt::Write>(&self, f: &mut fmt::Formatter<W>) -> fmt::Result {
+        f.write_str(self.text())
     }
 }

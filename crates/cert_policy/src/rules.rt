@@ -53,6 +53,20 @@ pub fn update(
     ensures recovery { (result ≡ Ok Recovery)
         ↔ Recovers (cert_terms old.now) (cert_terms new.now) endorsers.now handover pending }
 {
+    manner(old, new, endorsers, handover, pending)
+}
+
+// How it is taken, or else the least clause that fails.
+fn manner(
+    old: &Facts,
+    new: &Facts,
+    endorsers: &[u16],
+    handover: bool,
+    pending: bool,
+) -> Result<Manner, PolicyRefusal>
+    ensures { result ≡ update_answer (cert_terms old.now)
+        (cert_terms new.now) endorsers.now handover pending }
+{
     if old.policy.wait.is_some() && meets_own(old, endorsers, handover).is_err() {
         recovers(old, new, endorsers, pending)?;
         return Ok(Manner::Recovery);

@@ -7,7 +7,7 @@
 //! In `specs/`, `Scripts` says what a script with bursts comes to, by the orders of its bursts, and `Program` what the program writes,
 //! and with which status; `Passing` what it keeps from line to line. The command `serve` is that of `serve_run`.
 //!
-//! Its tests: `arpki_crowd`, module `crowd_run_tests`, `examples/crowd`, and `tools/crowd-orders`.
+//! Its tests: `arpki_crowd`, module `crowd_run_tests`, `examples/crowd`, `tools/crowd-orders`, and `tools/fail-each-call`.
 #![tactic(auto)]
 
 pub mod laws;

@@ -1,5 +1,5 @@
-//! Tests of files that outlive their process: of the disk in memory, of a file of the operating system as a disk, of a log that
-//! restarts from one, whole or damaged, and of any party that does (a sum, `sums`). There is nothing to call.
+//! Tests of a file that outlives its process: of a file of the operating system as a disk, and of the disk in memory beside it. There is
+//! nothing to call. What logs and parties make of their files, stored examples show (`journal`, `party` and `restart`), and tools.
 #![tactic(auto)]
 
 #[cfg(test)]
@@ -10,11 +10,3 @@ mod file_disk_tests;
 mod files;
 #[cfg(test)]
 mod kept_disk_tests;
-#[cfg(test)]
-mod kept_party_tests;
-#[cfg(test)]
-mod log_journal_tests;
-#[cfg(test)]
-mod logs;
-#[cfg(test)]
-mod sums;

@@ -71,7 +71,7 @@ judged_behind (Some old) pending c m e =
       | false ↦ λ plain. by_taken old _ c m ((plain_facts m old (option_map waiting_digest pending) c (none_from c.objection plain)).0 e)
     ] refl
 
-roomy : (kept : ℕ) (answer : Result Manner PolicyRefusal) (m : Manner) → with_room kept answer ≡ Ok m → answer ≡ Ok m
+pub roomy : (kept : ℕ) (answer : Result Manner PolicyRefusal) (m : Manner) → with_room kept answer ≡ Ok m → answer ≡ Ok m
 roomy kept (Err refusal) m e = absurd (cc)
 roomy kept (Ok n) m e =
     elim (takes_a_place n && nat_le most_kept kept) as (λ b. cond {A = Result Manner ChangeRefusal} b (Err refusals.Full) (Ok n) ≡ Ok m → ◌≡◌ {A = Result Manner PolicyRefusal} (Ok n) (Ok m)) [

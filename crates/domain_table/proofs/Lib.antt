@@ -24,3 +24,4 @@ pub mod Copies
 pub mod ByKeys
 pub mod Coming
 pub mod Waiting
+pub mod Objections

@@ -3,7 +3,7 @@
 //! The premises `IsEpochOf` and `IsChange` say that each number and each change has a text, as in the
 //! program each has by its type.
 
-ghost use Rattle.std.specs.Prelude.{◌≡◌, ◌<◌, ◌^◌, ◌+◌, ◌++◌, ◌∷◌, [], ◌↔◌, List, ℕ, All, Some, None, true, false, IsTrue, option_and_then};
+ghost use Rattle.std.specs.Prelude.{◌≡◌, ◌<◌, ◌^◌, ◌+◌, ◌++◌, ◌∷◌, [], ◌↔◌, List, ℕ, All, Contains, Some, None, true, false, IsSome, IsTrue, option_and_then};
 ghost use Rattle.std.specs.FinMap.{get};
 ghost use Rattle.std.specs.Option.{option_map};
 ghost use Rattle.ar_base.specs.Prefixes.{BeginsWith};
@@ -109,4 +109,13 @@ pub fn recoveries_have_waited()
         → Leads (λ epoch table. table ≡ behind epoch) (e + 1) (behind e) (behind (e + 1)))
         → (name : List ℕ) → EachWaited (λ epoch table.
         table ≡ behind epoch) last name (chain_of (behind last) name) }
+{}
+
+/// An objection ends the wait: behind the changes of its epoch nothing waits for its name, unless it began to wait in that
+/// epoch.
+pub fn an_objection_ends_the_wait()
+    ensures { (table after : Table) (epoch : ℕ) (changes : List Change) (objection : Change)
+        → apply table epoch changes ≡ Some after → Contains changes objection
+        → IsSome objection.objection → (p : Pending)
+        → get after.waiting objection.cert.name ≡ Some p → p.since ≡ epoch }
 {}

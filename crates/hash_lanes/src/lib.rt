@@ -10,7 +10,7 @@
 //! of a block or of its schedule. `lanes` has the functions on words, `schedule` makes sixteen words from the sixteen
 //! before them, `rounds` works through them, and `compression` puts these together.
 //!
-//! Its tests: `base_tests`, module `lm_ots_tests`, and `vectors/`.
+//! Its tests: `base_tests`, module `lms_tree_tests`, and `vectors/`.
 #![tactic(auto)]
 
 pub use values::FourValues;

@@ -13,7 +13,7 @@
 //! `specs/Entries.antt` has the finite maps that the tree is over, `specs/Strings.antt` the strings that are
 //! hashed, and `specs/Path.antt` the path of a key.
 //!
-//! Its tests: `base_tests`, module `hash_tree_tests`.
+//! Its tests: `base_tests`, module `tree_proof_tests`, and `examples/play`.
 #![tactic(auto)]
 
 pub use bits::key_bit;

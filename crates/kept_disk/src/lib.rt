@@ -5,7 +5,7 @@
 //! crash at any moment leaves only such files, and `specs/Fuel.antt` how much a disk still does where it tells that.
 //! `specs/Memory.antt` says what contracts see of a disk in memory.
 //!
-//! Its tests: `disk_tests`, module `kept_disk_tests`.
+//! Its tests: `disk_tests`, module `kept_disk_tests`, and `examples/restart`.
 #![tactic(auto)]
 
 pub use ar_io::Failed;

@@ -8,7 +8,7 @@
 //! at any moment leaves the records from before, with the new one or without. `Journal::open` reads a file that a crash may have
 //! left, and has a party take what stands in it (`Replay`), one text behind the other.
 //!
-//! Its tests: `disk_tests`, module `log_journal_tests`, and `tools/crash`.
+//! Its tests: `examples/journal`, `tools/damage-journals`, and `tools/crash`.
 #![tactic(auto)]
 
 pub use fault::{OpenFault, ReplayFault};

@@ -9,7 +9,7 @@
 //! its last reply, `specs/Lives.antt` what it means that something is kept over many runs, and `specs/Parts.antt` what
 //! contracts see of a party with its journal.
 //!
-//! Its tests: `disk_tests`, module `kept_party_tests`, and `examples/party`.
+//! Its tests: `examples/party`, `tools/fail-each-call` and `tools/network`.
 #![tactic(auto)]
 
 pub use done::Done;

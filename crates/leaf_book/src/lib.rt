@@ -8,7 +8,7 @@
 //! A seat can be split for another thread, and joined again. A seat that has the whole share is the
 //! only one: with it the book is closed, and its leaves are counted.
 //!
-//! Its tests: `arpki_crowd`, module `leaf_book_tests`.
+//! Its tests: `examples/serve`, and `tools/crowd-orders`.
 #![tactic(auto)]
 
 pub use ar_seats::SplitFault;

@@ -8,7 +8,7 @@
 //! (`walk`; `Ways` says where a chain leads that is on its way), or, where a tree is made, the same chain of four leaves
 //! (`four_leaves`), which leaves no lane over.
 //!
-//! Its tests: `base_tests`, module `lm_ots_tests`.
+//! Its tests: `base_tests`, module `lms_tree_tests`, `vectors/` and `examples/sig`.
 #![tactic(auto)]
 
 pub use candidate::ots_candidate;

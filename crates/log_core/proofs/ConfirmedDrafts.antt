@@ -1,4 +1,4 @@
--- A confirmation has zero bytes where a signature of the log's own is due.
+-- A confirmation has zero bytes where a signature of the log's own is due, one such place behind the other.
 use Rattle.std.proofs.Common.{◌≡◌, ℕ, ◌+◌, ◌-◌, ◌≤◌, List, [], ◌∷◌, ◌++◌, length, sym, ap, ◌∙◌, subst, arith, append_assoc}
 use Rattle.std.specs.Prelude.{flat_map}
 use Rattle.std.specs.Int.{w8, w16}
@@ -17,8 +17,9 @@ use Rattle.log_sending.specs.Blanks.{IsDraft, StandsAt}
 use Rattle.log_core.specs.Confirming.{ConfirmQuestion, confirmed_draft, confirming_of, newest_vote_text}
 use Rattle.log_sending.specs.Sending.{own_votes, place_for, sent_votes}
 use Rattle.log_core.specs.State.{CoreState}
+use Rattle.log_sending.proofs.Apart.{lie-both, lie-one}
 use Rattle.log_sending.proofs.Blanks.{EndsIn, ends-behind, ends-itself, stands-end}
-use Rattle.log_sending.proofs.ZeroBytes.{votes-stand, within}
+use Rattle.log_sending.proofs.ZeroBytes.{votes-lie, votes-stand, within}
 use Rattle.ar_base.proofs.Lists.{both-lists}
 
 -- what stands behind the votes: the log's number and signature, and the two authorities
@@ -68,21 +69,6 @@ signature-end part =
     (subst (EndsIn tail) (sym (signed-is part))
     (ends-behind (number_text w16 part.log) tail _ (ends-behind (number_text w16 (length part.signature)) tail tail (ends-itself tail))))))
 
-pub confirmed-is_draft : (s : CoreState) (w : Newest) (asked : ConfirmQuestion) → IsDraft s.signature_len (confirmed_draft s w asked)
-confirmed-is_draft s w asked =
-    let part : Confirming = confirming_of s w asked in
-    let len : ℕ = s.signature_len in
-    let whole : List ℕ = message_text (LogConfirmed part) in
-    let zero : length (zeros len) ≡ len = length-replicate len 0 in
-    let behind : length (behind-votes part) ≡ length (zeros len) + 8 = behind-len part in
-    let ends = votes-end part in
-    let all = ap length ends.is ∙ length-append ends.front (flat_map vote_text part.votes ++ behind-votes part) in
-    let rest = length-append (flat_map vote_text part.votes) (behind-votes part) in
-    both-lists (λ p. StandsAt (zeros len) p.at whole)
-    (own_votes len (newest_vote_text s.log w) (length whole - (len + 8)) w.votes) (place_for (length whole - (len + 4)) (confirmation_text s.log w asked.name) ∷ [])
-    (votes-stand len (newest_vote_text s.log w) whole (behind-votes part) (length whole - (len + 8)) w.votes ends (omega (arith, all, rest, behind, zero)))
-    (stands-end len 4 (authorities part) whole (signature-end part) (four part), tt)
-
 -- the votes, and what stands behind them, are within the message
 pub confirmed_within : (s : CoreState) (w : Newest) (asked : ConfirmQuestion)
     → length (flat_map vote_text (sent_votes s.signature_len w.votes)) + (s.signature_len + 8) ≤ length (message_text (LogConfirmed (confirming_of s w asked)))
@@ -93,3 +79,26 @@ confirmed_within s w asked =
     let all = within (entries ++ behind-votes part) (message_text (LogConfirmed part)) (votes-end part) in
     let both = length-append entries (behind-votes part) in
     omega (arith, all, both, behind-len part, zero)
+
+pub confirmed-is_draft : (s : CoreState) (w : Newest) (asked : ConfirmQuestion) → IsDraft s.signature_len (confirmed_draft s w asked)
+confirmed-is_draft s w asked =
+    let part : Confirming = confirming_of s w asked in
+    let len : ℕ = s.signature_len in
+    let whole : List ℕ = message_text (LogConfirmed part) in
+    let many : ℕ = length whole in
+    let zero : length (zeros len) ≡ len = length-replicate len 0 in
+    let behind : length (behind-votes part) ≡ length (zeros len) + 8 = behind-len part in
+    let ends = votes-end part in
+    let all = ap length ends.is ∙ length-append ends.front (flat_map vote_text part.votes ++ behind-votes part) in
+    let rest = length-append (flat_map vote_text part.votes) (behind-votes part) in
+    let fits = confirmed_within s w asked in
+    record {
+      zero_bytes = both-lists (λ p. StandsAt (zeros len) p.at whole)
+          (own_votes len (newest_vote_text s.log w) (many - (len + 8)) w.votes) (place_for (many - (len + 4)) (confirmation_text s.log w asked.name) ∷ [])
+          (votes-stand len (newest_vote_text s.log w) whole (behind-votes part) (many - (len + 8)) w.votes ends (omega (arith, all, rest, behind, zero)))
+          (stands-end len 4 (authorities part) whole (signature-end part) (four part), tt);
+      behind = lie-both len 0 (many - (len + 8)) many
+          (own_votes len (newest_vote_text s.log w) (many - (len + 8)) w.votes) (place_for (many - (len + 4)) (confirmation_text s.log w asked.name) ∷ [])
+          (votes-lie len (newest_vote_text s.log w) (many - (len + 8)) w.votes (omega (arith, fits)))
+          (lie-one len (many - (len + 8)) many (many - (len + 4)) (confirmation_text s.log w asked.name) (omega arith) (omega (arith, fits)));
+    }

@@ -15,7 +15,7 @@ ghost use Rattle.log_sending.specs.declared.refusal.LogRefusal.TheVariants as re
 
 use crate::LogRefusal;
 use crate::log_core::LogCore;
-use ar_message::{Address, Confirming, Message, Signature, Unsigned};
+use ar_message::{Address, Confirming, Signature, Unsigned, log_confirmed_text};
 use ar_names::Name;
 use ar_statement::{Role, Statement};
 use epoch_log::{EpochLog, Newest, confirm_statement, newest_digest};
@@ -118,7 +118,7 @@ impl LogCore {
             (LogConfirmed (confirming_of self.now newest.now asked.now))) }
     {
         let part = self.confirming(alloc, newest, asked)?;
-        Message::LogConfirmed { part }.text(alloc)
+        log_confirmed_text(alloc, &part)
     }
 
     /// Where the log's own signatures are due, in a message of so many bytes.

@@ -1,5 +1,5 @@
 //! Laws on the rows, over the definitions alone: each is the contract of a function with an empty body.
-ghost use Rattle.std.specs.Prelude.{◌≡◌, ◌≤◌, ◌++◌, ◌∷◌, List, ℕ, All, Some, Ok, Err, length, filter, flat_map, not};
+ghost use Rattle.std.specs.Prelude.{◌≡◌, ◌≤◌, ◌++◌, ◌∷◌, List, ℕ, All, AllPairs, Some, Ok, Err, length, filter, flat_map, not};
 ghost use Rattle.key_roll.specs.Entry.{due_of};
 ghost use Rattle.key_roll.specs.Later.{IsServed};
 ghost use Rattle.key_roll.specs.Ring.{AreKeysOf};
@@ -14,7 +14,7 @@ ghost use Rattle.domain_table.specs.Applying.{apply};
 ghost use Rattle.domain_table.specs.Tables.{Table};
 ghost use Rattle.domain_table.specs.Tree.{root_of};
 ghost use Rattle.epoch_log.specs.State.{epoch_of, table_of};
-ghost use Rattle.log_sending.specs.Blanks.{IsZero};
+ghost use Rattle.log_sending.specs.Blanks.{IsZero, LiesBefore};
 ghost use Rattle.log_sending.specs.Checks.{Check};
 ghost use Rattle.log_core.specs.Steps.{given};
 ghost use Rattle.log_core.specs.Kept.{IsKeptCore};
@@ -117,6 +117,12 @@ pub fn each_own_signature_is_zero_bytes()
     ensures { (s : CoreState) (input : Input) (reply : LogStep) → row s input ≡ Ok reply
         → All (IsZero reply.after.signature_len reply.unsigned.sent.messages)
         reply.unsigned.blanks }
+{}
+
+/// No two signatures of the log's own have a byte in common: they stand in different messages, or one behind the other.
+pub fn own_signatures_are_apart()
+    ensures { (s : CoreState) (input : Input) (reply : LogStep) → row s input ≡ Ok reply
+        → AllPairs (LiesBefore reply.after.signature_len) reply.unsigned.blanks }
 {}
 
 /// What a step leaves blank the log's keys can sign: those of each generation up to the newest of its book.

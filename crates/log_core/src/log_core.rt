@@ -147,6 +147,13 @@ impl LogCore {
         self.queue.len()
     }
 
+    /// The log without its queue: where it stands, with its table, and the keys that it knows.
+    pub fn log(&self) -> &EpochLog
+        ensures { result.now ≡ record { state = self.now.log; keys = self.now.keys } }
+    {
+        &self.log
+    }
+
     /// What the log remembers, which is what an honest log does.
     pub fn record(&self) -> &Record
         ensures value { record_of result.now ≡ self.now.log.past }

@@ -1,6 +1,6 @@
 //! The row of Propose: the log votes for another log's proposal.
 
-ghost use Rattle.std.specs.Prelude.{◌≡◌, ◌∷◌, [], All, IfOk, Some};
+ghost use Rattle.std.specs.Prelude.{◌≡◌, ◌∷◌, [], All, IfOk, OnOk, Some};
 ghost use Rattle.ar_base.specs.Gives.{GivesUnless};
 ghost use Rattle.ar_cert.specs.Changes.{IsChange};
 ghost use Rattle.ar_message.specs.Lists.{AreChanges};
@@ -115,23 +115,28 @@ impl LogCore {
         self.may_vote(alloc, value, changes)
     }
 
-    /// The ballot, which goes to the log whose turn it is.
-    fn ballot_ready(&self, alloc: Global, value: &Value) -> Result<Ready<'static>, AllocError>
-        ensures { IfOk result (λ ready.
-            ready ≡ with_draft none_composed (ballot_draft self.now value.now)) }
+    /// Adds the ballot, which goes to the log whose turn it is.
+    fn add_ballot(
+        &self,
+        alloc: Global,
+        drafts: &mut DraftMessages<'static>,
+        value: &Value,
+    ) -> Result<(), AllocError>
+        ensures { OnOk result
+            (drafts.new ≡ with_draft drafts.old (ballot_draft self.now value.now)) }
     {
         self.told();
         let epoch = self.log.epoch();
         let number = self.log.number();
         let turn = turn_of(self.log.directory(), epoch);
+        let signature = Signature::zeros(alloc, self.signature_len)?;
         let ballot = Message::Ballot {
             log: number,
             epoch,
             base: value.base,
             root: value.root,
-            signature: Signature::zeros(alloc, self.signature_len)?,
+            signature,
         };
-        let mut drafts = DraftMessages::new(alloc);
         drafts.add(
             alloc,
             Address::One(Role::LogServer.party(turn)),
@@ -139,7 +144,16 @@ impl LogCore {
             self.signature_len,
             0,
             vote_statement(number, epoch, value),
-        )?;
+        )
+    }
+
+    /// The ballot alone.
+    fn ballot_ready(&self, alloc: Global, value: &Value) -> Result<Ready<'static>, AllocError>
+        ensures { IfOk result (λ ready.
+            ready ≡ with_draft none_composed (ballot_draft self.now value.now)) }
+    {
+        let mut drafts: DraftMessages<'static> = DraftMessages::new(alloc);
+        self.add_ballot(alloc, &mut drafts, value)?;
         drafts.ready(alloc)
     }
 

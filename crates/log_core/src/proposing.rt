@@ -31,36 +31,45 @@ use log_sending::{
 use std::alloc::{AllocError, Global};
 use vote_quorum::Value;
 
-/// A log's proposal, with zero bytes in place of its signature.
-fn proposal_message(
+/// The changes of a proposal, in memory of their own.
+fn copied(alloc: Global, changes: &[Change]) -> Result<Changes, AllocError>
+    requires { AreChanges changes.now }
+    ensures { IfOk result (λ copies. copies ≡ changes.now) }
+{
+    let list = copy_changes(alloc, changes)?;
+    Ok(Changes { list })
+}
+
+/// Adds a log's proposal with these changes and this signature, which goes to all logs.
+fn add_signed(
     alloc: Global,
+    drafts: &mut DraftMessages<'static>,
     log: u16,
     epoch: u64,
     value: &Value,
-    changes: &[Change],
+    changes: Changes,
+    signature: Signature,
     signature_len: usize,
-) -> Result<Message, AllocError>
-    requires changes { AreChanges changes.now }
-    requires len { signature_len < 2 ^ 16 }
-    ensures { IfOk result (λ message.
-        message ≡ Propose log epoch value.now.base value.now.root changes.now
-        (zeros signature_len)) }
+) -> Result<(), AllocError>
+    requires { signature_len < 2 ^ 16 }
+    ensures { OnOk result
+        (drafts.new ≡ with_draft drafts.old
+        (draft_with Logs (Propose log epoch value.now.base value.now.root changes signature)
+        signature_len 0 (text_of (propose log epoch value.now.base value.now.root)))) }
 {
-    let signature = Signature::zeros(alloc, signature_len)?;
-    let changes = Changes {
-        list: copy_changes(alloc, changes)?,
-    };
-    Ok(Message::Propose {
+    let message = Message::Propose {
         log,
         epoch,
         base: value.base,
         root: value.root,
         changes,
         signature,
-    })
+    };
+    let statement = propose_statement(log, epoch, value);
+    drafts.add(alloc, Address::Logs, &message, signature_len, 0, statement)
 }
 
-/// Adds a log's proposal, which goes to all logs.
+/// Adds a log's proposal, with zero bytes in place of its signature.
 fn add_proposal(
     alloc: Global,
     drafts: &mut DraftMessages<'static>,
@@ -78,9 +87,18 @@ fn add_proposal(
         (zeros signature_len))
         signature_len 0 (text_of (propose log epoch value.now.base value.now.root)))) }
 {
-    let message = proposal_message(alloc, log, epoch, value, changes, signature_len)?;
-    let statement = propose_statement(log, epoch, value);
-    drafts.add(alloc, Address::Logs, &message, signature_len, 0, statement)
+    let signature = Signature::zeros(alloc, signature_len)?;
+    let changes = copied(alloc, changes)?;
+    add_signed(
+        alloc,
+        drafts,
+        log,
+        epoch,
+        value,
+        changes,
+        signature,
+        signature_len,
+    )
 }
 
 impl LogCore {

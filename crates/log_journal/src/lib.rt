@@ -7,7 +7,7 @@
 //! After a crash at any moment the file has the inputs that were answered, in order, with at most the one more that was not
 //! (`specs/Lives.antt` says what that means over many runs).
 //!
-//! Its tests: `disk_tests`, module `log_journal_tests`, `arpki_journal`, by its stored lines, and `tools/crash`.
+//! Its tests: `examples/journal`, `tools/damage-journals`, `tools/fail-each-call`, `examples/restart` and `tools/crash`.
 #![tactic(auto)]
 
 pub use input::{Said, input_told, read_text, record_of_input};

@@ -4,7 +4,7 @@
 //! leaves of it, and runs the log through the inputs that were not recovered. `specs/Restarted.antt` says what is told of that,
 //! and what the two disks hold; `specs/Books.antt` how the statements that the log signed are told.
 //!
-//! Its tests: `examples/restart`, and `arpki`, module `restarts`.
+//! Its tests: `examples/restart`.
 #![tactic(auto)]
 
 pub use beginning::Beginning;

@@ -112,7 +112,7 @@ zero-blanks len book all done (draft ∷ rest) number is many each =
     let here : slice_get all number ≡ Some draft = subst (λ n. slice_get all n ≡ Some draft) many (subst (λ l. slice_get l (length done) ≡ Some draft) (sym is) (at-seam done draft rest)) in
     let named : slice_get (map sent_letter all) number ≡ Some (sent_letter draft) = slice_get-map sent_letter all number ∙ ap (λ o. option_map sent_letter o) here in
     both-lists (IsZero len (map sent_letter all)) (flat_map (λ (p : SigningPlace). blanks_by (due_of book p.text) number p) draft.own) (blanks_from book (number + 1) rest)
-    (zero-places len book (map sent_letter all) number draft named draft.own each.0)
+    (zero-places len book (map sent_letter all) number draft named draft.own each.0.zero_bytes)
     (zero-blanks len book all (done ++ draft ∷ []) rest (number + 1) next more each.1)
 
 -- a blank is due for a text that the book holds

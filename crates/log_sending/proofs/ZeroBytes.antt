@@ -1,9 +1,9 @@
--- Each message that a row sends has zero bytes where a signature of the log's own is due.
+-- Each message that a row sends has zero bytes where a signature of the log's own is due, one such place behind the other.
 use Rattle.std.proofs.Common.{◌≡◌, ℕ, ◌+◌, ◌-◌, ◌≤◌, List, [], ◌∷◌, ◌++◌, length, refl, sym, ap, ◌∙◌, subst, arith, true, Option, Some, None}
 use Rattle.std.specs.Prelude.{flat_map, is_none, unwrap_or}
 use Rattle.std.specs.List.{AllByRecursion}
 use Rattle.std.specs.Int.{w8, w16, w32, w64}
-use Rattle.std.proofs.lemmas.List.{append-nil, length-append}
+use Rattle.std.proofs.lemmas.List.{append-nil, length-append, length-replicate}
 use Rattle.ar_bytes.specs.Joined.{optional_text}
 use Rattle.ar_bytes.specs.RoundTrip.{counted_text, number_text}
 use Rattle.ar_cert.specs.Changes.{Change}
@@ -22,10 +22,23 @@ use Rattle.lms_tree.specs.declared.public_key.LmsPublic.{LmsPublic}
 use Rattle.vote_quorum.specs.declared.value.Value.{Value}
 use Rattle.epoch_log.specs.State.{CountedStatus}
 use Rattle.epoch_log.specs.declared.entries.Newest.{Newest}
-use Rattle.log_sending.specs.Blanks.{IsDraft, StandsAt}
+use Rattle.log_sending.specs.Blanks.{IsDraft, LieBetween, StandsAt}
 use Rattle.log_sending.specs.Closings.{decision_draft, decision_of, skip_draft, skip_of}
 use Rattle.log_sending.specs.Sending.{draft_with, own_statuses, own_votes, sent_status, sent_statuses, sent_vote, sent_votes}
+use Rattle.log_sending.proofs.Apart.{lie-later, lie-one, own-lie}
 use Rattle.log_sending.proofs.Blanks.{EndsIn, ends-behind, ends-itself, own-stand, stands-end}
+
+-- what a text ends in is no longer
+pub within : (tail whole : List ℕ) → EndsIn tail whole → length tail ≤ length whole
+within tail whole ends =
+    let all : length whole ≡ length ends.front + length tail = ap length ends.is ∙ length-append ends.front tail in
+    omega (arith, all)
+
+-- and so many zero bytes are no more than a text that ends in them
+zeros-within : (len : ℕ) (whole : List ℕ) → EndsIn (zeros len) whole → len ≤ length whole
+zeros-within len whole ends =
+    let zero : length (zeros len) ≡ len = length-replicate len 0 in
+    omega (arith, zero, within (zeros len) whole ends)
 
 -- zero bytes and nothing behind
 nothing-behind : (len : ℕ) (whole : List ℕ) → EndsIn (zeros len) whole → EndsIn (zeros len ++ []) whole
@@ -62,7 +75,13 @@ roll-ends party generation key tail =
 
 -- a draft of a message that ends in a signature
 ending-draft : (to : Address) (message : Message) (len : ℕ) (text : List ℕ) → EndsIn (zeros len) (message_text message) → IsDraft len (draft_with to message len 0 text)
-ending-draft to message len text ends = (stands-end len 0 [] (message_text message) (nothing-behind len (message_text message) ends) refl, tt)
+ending-draft to message len text ends =
+    let whole : ℕ = length (message_text message) in
+    let fits : len ≤ whole = zeros-within len (message_text message) ends in
+    record {
+      zero_bytes = (stands-end len 0 [] (message_text message) (nothing-behind len (message_text message) ends) refl, tt);
+      behind = lie-one len 0 whole (whole - (len + 0)) text (omega arith) (omega (arith, fits));
+    }
 
 pub propose-draft : (to : Address) (log epoch : ℕ) (base root : List ℕ) (changes : List Change) (len : ℕ) (text : List ℕ)
     → IsDraft len (draft_with to (Propose log epoch base root changes (zeros len)) len 0 text)
@@ -106,6 +125,18 @@ votes-stand len text whole back end votes ends is =
     own-stand (λ (v : ℕ × Option (List ℕ)). is_none v.1) (λ (v : ℕ × Option (List ℕ)). vote_text (sent_vote len v)) len text (vote-ends len) votes whole ends.front back
     (end - length entries) (ends.is ∙ ap (λ l. ends.front ++ (l ++ back)) (votes-flat len votes)) (omega (arith, all, rest, is))
 
+-- they lie one behind the other in front of that part
+pub votes-lie : (len : ℕ) (text : List ℕ) (end : ℕ) (votes : List (ℕ × Option (List ℕ))) → length (flat_map vote_text (sent_votes len votes)) ≤ end
+    → LieBetween len 0 end (own_votes len text end votes)
+votes-lie len text end votes fits =
+    let start : ℕ = end - length (flat_map vote_text (sent_votes len votes)) in
+    let same = ap length (votes-flat len votes) in
+    let upto : start + length (flat_map (λ (v : ℕ × Option (List ℕ)). vote_text (sent_vote len v)) votes) ≡ end = omega (arith, same, fits) in
+    lie-later len 0 start end (own_votes len text end votes) (omega arith)
+    (subst (λ n. LieBetween len start n (own_votes len text end votes)) upto
+    (own-lie (λ (v : ℕ × Option (List ℕ)). is_none v.1) (λ (v : ℕ × Option (List ℕ)). vote_text (sent_vote len v)) len text
+    (λ v own. zeros-within len (vote_text (sent_vote len v)) (vote-ends len v own)) votes start))
+
 statuses-flat : (len : ℕ) (statuses : List CountedStatus) → flat_map status_text (sent_statuses len statuses) ≡ flat_map (λ x. status_text (sent_status len x)) statuses
 statuses-flat len [] = refl
 statuses-flat len (x ∷ statuses) = ap (λ l. status_text (sent_status len x) ++ l) (statuses-flat len statuses)
@@ -131,6 +162,17 @@ statuses-stand len text whole statuses ends =
     own-stand (λ (x : CountedStatus). is_none x.2) (λ (x : CountedStatus). status_text (sent_status len x)) len text (counted-status-ends len) statuses whole ends.front []
     (length whole - length entries) (ends.is ∙ same ∙ ap (λ l. ends.front ++ (l ++ [])) (statuses-flat len statuses)) (omega (arith, all))
 
+statuses-lie : (len : ℕ) (text : List ℕ) (end : ℕ) (statuses : List CountedStatus) → length (flat_map status_text (sent_statuses len statuses)) ≤ end
+    → LieBetween len 0 end (own_statuses len text end statuses)
+statuses-lie len text end statuses fits =
+    let start : ℕ = end - length (flat_map status_text (sent_statuses len statuses)) in
+    let same = ap length (statuses-flat len statuses) in
+    let upto : start + length (flat_map (λ (x : CountedStatus). status_text (sent_status len x)) statuses) ≡ end = omega (arith, same, fits) in
+    lie-later len 0 start end (own_statuses len text end statuses) (omega arith)
+    (subst (λ n. LieBetween len start n (own_statuses len text end statuses)) upto
+    (own-lie (λ (x : CountedStatus). is_none x.2) (λ (x : CountedStatus). status_text (sent_status len x)) len text
+    (λ x own. zeros-within len (status_text (sent_status len x)) (counted-status-ends len x own)) statuses start))
+
 -- ---- a decision, and a skip
 
 decision-ends : (epoch : ℕ) (base root : List ℕ) (changes : List Change) (votes : List Vote) → EndsIn (flat_map vote_text votes) (message_text (Decision epoch base root changes votes))
@@ -140,12 +182,21 @@ decision-ends epoch base root changes votes =
     ends-behind (number_text w8 7) tail _ (ends-behind (number_text w64 epoch) tail _ (ends-behind (value_text (value_with base root)) tail _
     (ends-behind (changes_text changes) tail _ (ends-behind (number_text w8 (length votes)) tail tail (ends-itself tail)))))
 
+-- the votes are within the message that they end
+pub votes_within : (len : ℕ) (w : Newest) (changes : List Change)
+    → length (flat_map vote_text (sent_votes len w.votes)) ≤ length (message_text (decision_of len w changes))
+votes_within len w changes =
+    within (flat_map vote_text (sent_votes len w.votes)) (message_text (decision_of len w changes)) (decision-ends w.epoch w.base w.root changes (sent_votes len w.votes))
+
 pub decision-is_draft : (len : ℕ) (text : List ℕ) (w : Newest) (changes : List Change) → IsDraft len (decision_draft len text w changes)
 decision-is_draft len text w changes =
     let whole : List ℕ = message_text (decision_of len w changes) in
     let entries : List ℕ = flat_map vote_text (sent_votes len w.votes) in
-    votes-stand len text whole [] (length whole) w.votes
-    (subst (λ tail. EndsIn tail whole) (sym (append-nil entries)) (decision-ends w.epoch w.base w.root changes (sent_votes len w.votes))) (omega arith)
+    record {
+      zero_bytes = votes-stand len text whole [] (length whole) w.votes
+          (subst (λ tail. EndsIn tail whole) (sym (append-nil entries)) (decision-ends w.epoch w.base w.root changes (sent_votes len w.votes))) (omega arith);
+      behind = votes-lie len text (length whole) w.votes (votes_within len w changes);
+    }
 
 skip-ends : (epoch : ℕ) (statuses : List LogStatus) → EndsIn (flat_map status_text statuses) (message_text (SkipNote epoch statuses))
 unfolding message_text fields_text
@@ -153,23 +204,16 @@ skip-ends epoch statuses =
     let tail : List ℕ = flat_map status_text statuses in
     ends-behind (number_text w8 8) tail _ (ends-behind (number_text w64 epoch) tail _ (ends-behind (number_text w8 (length statuses)) tail tail (ends-itself tail)))
 
-pub skip-is_draft : (len : ℕ) (text : List ℕ) (epoch : ℕ) (statuses : List CountedStatus) → IsDraft len (skip_draft len text epoch statuses)
-skip-is_draft len text epoch statuses =
-    statuses-stand len text (message_text (skip_of len epoch statuses)) statuses (skip-ends epoch (sent_statuses len statuses))
-
--- what a text ends in is no longer
-pub within : (tail whole : List ℕ) → EndsIn tail whole → length tail ≤ length whole
-within tail whole ends =
-    let all : length whole ≡ length ends.front + length tail = ap length ends.is ∙ length-append ends.front tail in
-    omega (arith, all)
-
--- the votes and the statuses are within the messages that they end
-pub votes_within : (len : ℕ) (w : Newest) (changes : List Change)
-    → length (flat_map vote_text (sent_votes len w.votes)) ≤ length (message_text (decision_of len w changes))
-votes_within len w changes =
-    within (flat_map vote_text (sent_votes len w.votes)) (message_text (decision_of len w changes)) (decision-ends w.epoch w.base w.root changes (sent_votes len w.votes))
-
+-- the statuses are within the message that they end
 pub statuses_within : (len epoch : ℕ) (statuses : List CountedStatus)
     → length (flat_map status_text (sent_statuses len statuses)) ≤ length (message_text (skip_of len epoch statuses))
 statuses_within len epoch statuses =
     within (flat_map status_text (sent_statuses len statuses)) (message_text (skip_of len epoch statuses)) (skip-ends epoch (sent_statuses len statuses))
+
+pub skip-is_draft : (len : ℕ) (text : List ℕ) (epoch : ℕ) (statuses : List CountedStatus) → IsDraft len (skip_draft len text epoch statuses)
+skip-is_draft len text epoch statuses =
+    let whole : List ℕ = message_text (skip_of len epoch statuses) in
+    record {
+      zero_bytes = statuses-stand len text whole statuses (skip-ends epoch (sent_statuses len statuses));
+      behind = statuses-lie len text (length whole) statuses (statuses_within len epoch statuses);
+    }

@@ -6,7 +6,7 @@
 //! contradict each other, `Reports` what is reported, and `Standing` what it is that a party's statements stand in its book;
 //! `laws` has what a report shows.
 //!
-//! Its tests: `examples/audit`, and `arpki`, module `evidence`.
+//! Its tests: `examples/audit`.
 #![tactic(auto)]
 
 pub use auditing::audit;

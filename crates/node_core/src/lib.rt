@@ -8,7 +8,7 @@
 //!
 //! `specs/History.antt` says what a core makes of a history, and which histories are legal.
 //!
-//! Its tests: `arpki_crowd`, module `shared_node_tests`.
+//! Its tests: those of the crates above it.
 #![tactic(auto)]
 
 pub use core_trait::Core;

@@ -9,7 +9,7 @@
 //! `specs/Bringing.antt` says which errands are a worker's, `specs/Stalls.antt` what one stall did, `specs/Working.antt` what a
 //! row and what all rows did, and what is taken of a node that is closed.
 //!
-//! Its tests: `arpki_crowd`, module `node_crowd_tests`.
+//! Its tests: `examples/crowd`, `arpki_crowd`, and `tools/crowd-orders`.
 #![tactic(auto)]
 
 mod booth;

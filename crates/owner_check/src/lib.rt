@@ -11,7 +11,7 @@
 //! `specs/Answers.antt` says what a check answers that tells its book and its failing asks, and what is kept of
 //! answers; `specs/Book.antt` has the book of pairs.
 //!
-//! Its tests: `base_tests`, module `owner_check_tests`.
+//! Its tests: `base_tests`, module `owner_check_tests`, and `examples/play`.
 #![tactic(auto)]
 
 pub use answer::{CheckAnswer, Outcome};

@@ -13,7 +13,7 @@ use Rattle.ar_message.specs.declared.address.Address.TheVariants.{Logs, One}
 use Rattle.ar_message.specs.declared.message.Message.{Message}
 use Rattle.ar_message.specs.declared.message.Message.TheVariants.{EndorseAsk, Endorsed, Submit, RollNote}
 use Rattle.ar_message.specs.declared.sent.Sent.{Sent}
-use Rattle.ar_statement.specs.Claims.{authority_party, endorse, handover, object, text_of}
+use Rattle.ar_statement.specs.Claims.{answer, authority_party, endorse, handover, object, text_of}
 use Rattle.ar_statement.specs.declared.party.Party.{Party}
 use Rattle.lms_tree.specs.KeyParts.{KeyParts}
 use Rattle.party_keys.specs.Directory.{Directory}
@@ -113,11 +113,15 @@ step_row me bytes = do
   message ← with_error Form (message_in bytes)
   message_row me message
 
--- ---- handovers
+-- ---- handovers and answers
 
 -- the owner agrees by its key to the certificate with this digest
 abbrev pub handover_row : Owner → List ℕ → OwnerAnswer (List ℕ)
 handover_row me digest = signed_by_owner me (handover digest)
+
+-- the owner answers a challenge by its key, for the certificate with this digest of a name
+abbrev pub staple_row : Owner → List ℕ → List ℕ → List ℕ → OwnerAnswer (List ℕ)
+staple_row me name certificate challenge = signed_by_owner me (answer name certificate challenge)
 
 -- a draft has this handover from now on
 abbrev pub attach_row : Owner → List ℕ → List ℕ → OwnerAnswer (Unit {0})

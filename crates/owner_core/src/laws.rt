@@ -11,7 +11,7 @@ ghost use Rattle.lms_tree.specs.KeyParts.{KeyParts};
 ghost use Rattle.party_keys.specs.Directory.{Directory};
 ghost use Rattle.sign_book.specs.Book.{IsSignBook};
 ghost use Rattle.owner_core.specs.Drafts.{endorsed, has_endorsed};
-ghost use Rattle.owner_core.specs.Rows.{attach_row, begin_row, first_owner, handover_row, letter, object_row, sent, step_row, submit_row, submission};
+ghost use Rattle.owner_core.specs.Rows.{attach_row, begin_row, first_owner, handover_row, letter, object_row, sent, staple_row, step_row, submit_row, submission};
 ghost use Rattle.owner_core.specs.State.{Owner};
 ghost use Rattle.owner_core.specs.Vouching.{AreEndorsed, IsEndorsed};
 
@@ -25,6 +25,19 @@ pub fn a_handover_is_signed_once()
         → IsSignBook after.book → after.key ≡ me.key
         → handover_row me digest ≡ Ok (bytes, later) → after.book.texts ≡ later.book.texts ++ more
         → handover_row after digest ≡ Ok (bytes, after) }
+{
+    a_statement_keeps_its_leaf()
+}
+
+/// An answer that was signed at a leaf of the book is the same bytes when it is asked for again,
+/// whatever was signed since, and the owner stays as it is.
+pub fn a_staple_is_signed_once()
+    ensures { (me later after : Owner) (more : List (List ℕ))
+        (name digest challenge bytes : List ℕ)
+        → IsSignBook after.book → after.key ≡ me.key
+        → staple_row me name digest challenge ≡ Ok (bytes, later)
+        → after.book.texts ≡ later.book.texts ++ more
+        → staple_row after name digest challenge ≡ Ok (bytes, after) }
 {
     a_statement_keeps_its_leaf()
 }
@@ -69,6 +82,8 @@ pub fn what_is_submitted_is_endorsed()
         → attach_row me digest handover ≡ Ok (tt, later) → AreEndorsed later }
     ensures handover { (me later : Owner) (digest bytes : List ℕ) → AreEndorsed me
         → handover_row me digest ≡ Ok (bytes, later) → AreEndorsed later }
+    ensures staple { (me later : Owner) (name digest challenge bytes : List ℕ) → AreEndorsed me
+        → staple_row me name digest challenge ≡ Ok (bytes, later) → AreEndorsed later }
     ensures object { (me later : Owner) (cert : Certificate) (reply : Sent) → AreEndorsed me
         → object_row me cert ≡ Ok (reply, later) → AreEndorsed later }
     ensures submit { (me : Owner) (digest : List ℕ) (reply : Sent) → AreEndorsed me

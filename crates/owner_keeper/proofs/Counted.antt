@@ -8,7 +8,6 @@ use Rattle.ar_base.proofs.Shown.{bind_ok, if-chained, ok_is}
 use Rattle.ar_cert.specs.Certificate.{Certificate, digest_of}
 use Rattle.ar_message.specs.Messages.{message_in}
 use Rattle.ar_message.specs.declared.message.Message.{Message}
-use Rattle.ar_message.specs.declared.message.Message.TheVariants.{EndorseAsk, Endorsed, Submit as SubmitMessage, Propose, Ballot, StatusNote, Decision, SkipNote, ConfirmAsk, LogConfirmed, HalfConfirmed, Confirmation, RollNote}
 use Rattle.ar_statement.specs.Claims.{Claim, authority_party, endorse, handover as handover_claim, object as object_claim, text_of}
 use Rattle.ar_statement.specs.declared.fault.BookFault.{BookFault}
 use Rattle.ar_statement.specs.declared.party.Role.{Role}
@@ -36,6 +35,7 @@ use Rattle.owner_keeper.specs.declared.refusal.OwnerOrderRefusal.TheVariants as 
 use Rattle.owner_keeper.specs.declared.reply.OwnerReply.{OwnerReply}
 use Rattle.owner_keeper.specs.declared.reply.OwnerReply.TheVariants.{Handed, Sends}
 use Rattle.owner_keeper.proofs.Numbered.{done_by, sent_stays}
+use Rattle.owner_keeper.proofs.EachRow.{message-has}
 
 abbrev count : Owner → ℕ
 count me = length me.directory.authorities
@@ -73,19 +73,7 @@ roll-keeps me a =
     (λ r. count r.1 ≡ count me) (λ new _. learned-count (learned me.directory a) me.directory a)
 
 message-keeps : (me : Owner) (m : Message) → Keeps me (message_row me m)
-message-keeps me (EndorseAsk owner cert) = tt
-message-keeps me (Endorsed owner authority certificate signature) = endorsed-keeps me owner authority certificate signature
-message-keeps me (SubmitMessage change) = tt
-message-keeps me (Propose log epoch base root changes signature) = tt
-message-keeps me (Ballot log epoch base root signature) = tt
-message-keeps me (StatusNote log epoch value signature) = tt
-message-keeps me (Decision epoch base root changes votes) = tt
-message-keeps me (SkipNote epoch statuses) = tt
-message-keeps me (ConfirmAsk client name first second) = tt
-message-keeps me (LogConfirmed part) = tt
-message-keeps me (HalfConfirmed part first_signature) = tt
-message-keeps me (Confirmation client epoch name root body log log_signature first first_signature second second_signature) = tt
-message-keeps me (RollNote party generation key signature) = roll-keeps me (record { party = party; generation = generation; key = key; signature = signature })
+message-keeps me m = message-has (λ row. Keeps me (row me)) (record { endorsed = endorsed-keeps me; roll = roll-keeps me; other = tt }) m
 
 step-keeps : (me : Owner) (bytes : List ℕ) → Keeps me (step_row me bytes)
 step-keeps me bytes = if-chained (with_error Form (message_in bytes)) (message_row me) (λ r. count r.1 ≡ count me) (λ m _. message-keeps me m)

@@ -10,7 +10,6 @@ use Rattle.ar_cert.specs.Certificate.{Certificate, digest_of}
 use Rattle.ar_cert.specs.Changes.{Change}
 use Rattle.ar_message.specs.Messages.{message_in}
 use Rattle.ar_message.specs.declared.message.Message.{Message}
-use Rattle.ar_message.specs.declared.message.Message.TheVariants.{Ballot, ConfirmAsk, Confirmation, Decision, EndorseAsk, Endorsed, HalfConfirmed, LogConfirmed, Propose, RollNote, SkipNote, StatusNote, Submit as SubmitMessage}
 use Rattle.ar_message.specs.declared.sent.Sent.{Sent}
 use Rattle.ar_statement.specs.Claims.{authority_party, endorse, handover, object, text_of}
 use Rattle.ar_statement.specs.declared.fault.BookFault.{BookFault}
@@ -42,6 +41,7 @@ use Rattle.party_keys.specs.Directory.{Directory}
 use Rattle.party_keys.specs.Learning.{Announced, after_learning, learned}
 use Rattle.party_keys.specs.Signatures.{verified}
 use Rattle.sign_book.specs.Entry.{after_at, leaf_of}
+use Rattle.owner_keeper.proofs.EachRow.{message-has}
 
 -- ---- an owner that signs on
 
@@ -97,20 +97,11 @@ roll-on me later a value e =
     made-on me (record me { directory = after_learning me.directory a }) (rows.sent []) value later b.2 (directory-on me (after_learning me.directory a))
 
 message-on : (me later : Owner) (m : Message) (value : Sent) → message_row me m ≡ Ok (value, later) → SignsOn me later
-message-on me later (Endorsed owner authority certificate signature) value e = endorsed-on me later owner authority certificate signature value e
-message-on me later (RollNote party generation key signature) value e =
-    roll-on me later (record { party = party; generation = generation; key = key; signature = signature }) value e
-message-on me later (EndorseAsk owner cert) value e = absurd cc
-message-on me later (SubmitMessage change) value e = absurd cc
-message-on me later (Propose log epoch base root changes signature) value e = absurd cc
-message-on me later (Ballot log epoch base root signature) value e = absurd cc
-message-on me later (StatusNote log epoch report signature) value e = absurd cc
-message-on me later (Decision epoch base root changes votes) value e = absurd cc
-message-on me later (SkipNote epoch statuses) value e = absurd cc
-message-on me later (ConfirmAsk client name first second) value e = absurd cc
-message-on me later (LogConfirmed part) value e = absurd cc
-message-on me later (HalfConfirmed part first_signature) value e = absurd cc
-message-on me later (Confirmation client epoch name root body log log_signature first first_signature second second_signature) value e = absurd cc
+message-on me later m value e = message-has (λ row. row me ≡ Ok (value, later) → SignsOn me later) (record {
+  endorsed = λ owner authority certificate signature is. endorsed-on me later owner authority certificate signature value is;
+  roll = λ a is. roll-on me later a value is;
+  other = λ is. absurd cc;
+}) m e
 
 step-on : (me later : Owner) (bytes : List ℕ) (value : Sent) → step_row me bytes ≡ Ok (value, later) → SignsOn me later
 step-on me later bytes value e =

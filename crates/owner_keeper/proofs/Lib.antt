@@ -1,5 +1,6 @@
 pub mod Acting
 pub mod Counted
+pub mod EachRow
 pub mod Lasting
 pub mod Lengths
 pub mod Numbered

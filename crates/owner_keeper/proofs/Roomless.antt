@@ -6,7 +6,6 @@ use Rattle.ar_base.specs.Gives.{with_error}
 use Rattle.ar_cert.specs.Certificate.{Certificate, digest_of}
 use Rattle.ar_message.specs.Messages.{message_in}
 use Rattle.ar_message.specs.declared.message.Message.{Message}
-use Rattle.ar_message.specs.declared.message.Message.TheVariants.{EndorseAsk, Endorsed, Submit, Propose, Ballot, StatusNote, Decision, SkipNote, ConfirmAsk, LogConfirmed, HalfConfirmed, Confirmation, RollNote}
 use Rattle.ar_message.specs.declared.sent.Sent.{Sent}
 use Rattle.ar_statement.specs.Claims.{Claim, authority_party, endorse, handover, object, text_of}
 use Rattle.ar_statement.specs.declared.fault.BookFault.{BookFault}
@@ -24,6 +23,7 @@ use Rattle.sign_book.specs.Book.{Book}
 use Rattle.sign_book.specs.Entry.{after_at, leaf_at, leaf_of}
 use Rattle.ar_base.specs.Places.{place_of}
 use Rattle.owner_keeper.specs.Keeping.{attached, handing_row, roomless}
+use Rattle.owner_keeper.proofs.EachRow.{message-has}
 
 -- the answer, without the room of the owner's book
 abbrev pub over : {T : Type 0} → OwnerAnswer T → OwnerAnswer T
@@ -49,19 +49,8 @@ roll-over me a =
     (λ new. Ok (sent [], record me { directory = after_learning me.directory a })) (λ new. refl)
 
 message-over : (me : Owner) (m : Message) → message_row (roomless me) m ≡ over (message_row me m)
-message-over me (EndorseAsk owner cert) = refl
-message-over me (Endorsed owner authority certificate signature) = endorsed-over me owner authority certificate signature
-message-over me (Submit change) = refl
-message-over me (Propose log epoch base root changes signature) = refl
-message-over me (Ballot log epoch base root signature) = refl
-message-over me (StatusNote log epoch value signature) = refl
-message-over me (Decision epoch base root changes votes) = refl
-message-over me (SkipNote epoch statuses) = refl
-message-over me (ConfirmAsk client name first second) = refl
-message-over me (LogConfirmed part) = refl
-message-over me (HalfConfirmed part first_signature) = refl
-message-over me (Confirmation client epoch name root body log log_signature first first_signature second second_signature) = refl
-message-over me (RollNote party generation key signature) = roll-over me (record { party = party; generation = generation; key = key; signature = signature })
+message-over me m =
+    message-has (λ row. row (roomless me) ≡ over (row me)) (record { endorsed = endorsed-over me; roll = roll-over me; other = refl }) m
 
 pub step_over : (me : Owner) (bytes : List ℕ) → step_row (roomless me) bytes ≡ over (step_row me bytes)
 step_over me bytes = bound (with_error Form (message_in bytes)) (message_row (roomless me)) (message_row me) (message-over me)

@@ -13,7 +13,7 @@
 //!
 //! The caller `has_signed` of the crate `worked_examples` has the contract that goes with it.
 //!
-//! Its tests: `call_tests`, module `party_keys_tests`.
+//! Its tests: `examples/check`, `examples/audit`, and `examples/play`.
 #![tactic(auto)]
 
 mod directory;

@@ -1,3 +1,4 @@
 pub mod Opened
 pub mod Owned
+pub mod Stapled
 pub mod Texts

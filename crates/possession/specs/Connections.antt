@@ -1,6 +1,10 @@
 -- What a client makes of a server that shows a confirmation, and answers its challenge.
-use Rattle.std.specs.Prelude.{ℕ, ◌≡◌, List}
+use Rattle.std.specs.Prelude.{ℕ, ◌≡◌, List, Option, None, Some}
+use Rattle.std.specs.Result.{result_ok}
+use Rattle.ar_bytes.specs.Reading.{whole}
 use Rattle.ar_cert.specs.Certificate.{Certificate}
+use Rattle.ar_message.specs.Confirmation.{Confirmation, confirmation_at}
+use Rattle.bound_challenge.specs.Challenges.{staple_challenge}
 use Rattle.client_rule.specs.Meaning.{Accepts}
 use Rattle.client_rule.specs.Rule.{judgement as judgement_of, Asked}
 use Rattle.client_rule.specs.declared.judgement.Judgement.{Judgement}
@@ -29,6 +33,21 @@ connected name challenge answer (judgement.Refused k) = connection.Refused k
 abbrev pub connection_of : Asked → List ℕ → List ℕ → List ℕ → Connection
 connection_of asked confirmation challenge answer =
     connected asked.name challenge answer (judgement_of asked confirmation)
+
+-- the epoch of what was read, 0 where that is no confirmation
+abbrev pub epoch_of_read : Option Confirmation → ℕ
+epoch_of_read None = 0
+epoch_of_read (Some c) = c.about.epoch
+
+-- the epoch of the confirmation that has these bytes
+abbrev pub epoch_in : List ℕ → ℕ
+epoch_in confirmation = epoch_of_read (result_ok (whole confirmation_at confirmation))
+
+-- The connection for what a client asks, by the confirmation and the staple that it is shown, and the channel that it sees: the
+-- staple answers the challenge of the confirmation's own epoch and of this channel.
+abbrev pub stapled_connection_of : Asked → List ℕ → List ℕ → List ℕ → Connection
+stapled_connection_of asked confirmation channel staple =
+    connection_of asked confirmation (staple_challenge (epoch_in confirmation) channel) staple
 
 -- The confirmation is accepted, and shows this certificate of the name; and the answer to the challenge has this
 -- verdict under the certificate's subject key.

@@ -1,11 +1,12 @@
 ghost use Rattle.std.specs.Prelude.{◌≡◌};
 ghost use Rattle.possession.specs.Answering.{answer_text};
-ghost use Rattle.possession.specs.Connections.{connection_of};
+ghost use Rattle.possession.specs.Connections.{connection_of, epoch_in, stapled_connection_of};
 
 use ar_cert::CertView;
 use ar_names::NameView;
 use ar_statement::{Statement, Text};
-use client_rule::{Judgement, judge};
+use bound_challenge::staple_challenge;
+use client_rule::{ConfView, Judgement, judge};
 use lms_tree::{Verdict, valid};
 use party_keys::Directory;
 
@@ -87,4 +88,40 @@ pub fn connect<'a>(
         Judgement::Absent { epoch, root } => Connection::Absent { epoch, root },
         Judgement::Refused(check) => Connection::Refused(check),
     }
+}
+
+/// The epoch of a confirmation, 0 where the bytes are none.
+fn epoch_in(confirmation: &[u8]) -> u64
+    ensures { result ≡ epoch_in confirmation.now }
+{
+    match ConfView::read(confirmation) {
+        Some(view) => view.epoch(),
+        None => 0,
+    }
+}
+
+/// Judges a server that shows a confirmation of a name and a staple: what `connect` does, where the answer is to be the one to
+/// the challenge of the confirmation's epoch and of the TLS key of this connection. It takes no memory.
+///
+/// The channel is SHA-256 of the SubjectPublicKeyInfo of the TLS key that the server of this connection has shown, and not one that
+/// the server told. One staple serves all connections to that key in that epoch, so there is no challenge to make: how old it may
+/// be is how old the confirmation may be. A staple for another TLS key, or of another epoch, is `NoPossession`.
+pub fn connect_stapled<'a>(
+    directory: &Directory,
+    name: &[u8],
+    confirmation: &'a [u8],
+    now: u64,
+    age: u64,
+    channel: &[u8; 32],
+    staple: &[u8],
+) -> Connection<'a>
+    ensures { result ≡ stapled_connection_of (record {
+      keys = directory.now;
+      name = name.now;
+      epoch = now;
+      age = age;
+    }) confirmation.now channel.now staple.now }
+{
+    let challenge = staple_challenge(epoch_in(confirmation), channel);
+    connect(directory, name, confirmation, now, age, &challenge, staple)
 }

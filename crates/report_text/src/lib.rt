@@ -4,7 +4,7 @@
 //! of a happening. `laws` says that no two
 //! happenings print one line.
 //!
-//! Its tests: `call_tests`, module `report_text_tests`.
+//! Its tests: `examples/`, and `call_tests`, module `report_text_tests`.
 #![tactic(auto)]
 
 pub use happening::{Code, CodeValue, Happening, Kind, Said, Target, Unlearnt, Values, What};

@@ -8,7 +8,7 @@
 //! In `specs/`, `Asking` says what is asked of the program, and of the log, and `Answers` what is answered, and what a run of the
 //! command takes of its source, writes to its sink and leaves on the two disks. `Ending` has the answer with the disks.
 //!
-//! Its tests: `examples/restart`, and `arpki`, modules `restarts` and `each_call`.
+//! Its tests: `examples/restart`, and `tools/fail-each-call`.
 #![tactic(auto)]
 
 pub use command::Restart;

@@ -22,7 +22,7 @@ use Rattle.owner_check.specs.declared.answer.Outcome.{Outcome}
 use Rattle.script_text.specs.declared.line.EventLine.TheVariants as event
 use Rattle.script_text.specs.declared.line.Line.TheVariants as line
 use Rattle.run_safety.specs.Flushes.{LeavesNothingDue}
-use Rattle.run_safety.proofs.Chains.{need-holds}
+use Rattle.ar_world.proofs.EachLine.{need-holds}
 use Rattle.ar_world.proofs.ar_nodes.Noted.{noted-is}
 use Rattle.ar_world.proofs.Sends.{Sends, delivery-sends, noted, noted-takers}
 use Rattle.ar_world.proofs.Deliveries.{can-take}

@@ -1,7 +1,7 @@
 -- The line `authorities`: all logs and authorities sit in their places, and all begin with one directory.
-use Rattle.std.proofs.Common.{◌≡◌, ◌∙◌, ℕ, zero, suc, ◌+◌, ◌<◌, ◌≤◌, List, [], ◌∷◌, ◌++◌, All, append-nil, refl, sym, ap, subst, arith, Bool, true, false, Some, Ok, Err, is_none, IfOk}
-use Rattle.std.specs.Prelude.{if◌then◌else◌, length, map, slice_get}
-use Rattle.std.specs.List.{filter_map, list_any, range_with_len}
+use Rattle.std.proofs.Common.{◌≡◌, ◌∙◌, ℕ, zero, suc, ◌+◌, ◌<◌, ◌≤◌, List, [], ◌∷◌, ◌++◌, All, append-nil, refl, sym, ap, subst, arith, Bool, true, false, Some, Ok, Err, is_none}
+use Rattle.std.specs.Prelude.{filter, if◌then◌else◌, length, map, slice_get}
+use Rattle.std.specs.List.{list_any, range_with_len}
 use Rattle.std.specs.Result.{result_ok}
 use Rattle.std.proofs.lemmas.List.{length-map}
 use Rattle.std.proofs.lemmas.List.Elements.{All-nil}
@@ -13,7 +13,7 @@ use Rattle.ar_statement.specs.declared.party.Role.{Role}
 use Rattle.ar_statement.specs.declared.party.Role.TheVariants as role
 use Rattle.ar_world.specs.ar_nodes.Finding.{honest_in}
 use Rattle.ar_world.specs.ar_nodes.Finding.{named}
-use Rattle.ar_world.specs.Founding.{authorities_line, peopled}
+use Rattle.ar_world.specs.Founding.{peopled}
 use Rattle.ar_world.specs.ar_founding.Founding.{fresh_log, fresh_logs, genesis_of, new_authorities, founded_authority}
 use Rattle.ar_world.specs.ar_founding.FirstKeys.{key_made, keys_made}
 use Rattle.ar_world.specs.ar_founding.FirstKeys.{Setup, key_for, keys_for}
@@ -24,11 +24,11 @@ use Rattle.lms_tree.specs.declared.public_key.LmsPublic.{LmsPublic}
 use Rattle.party_keys.specs.Directory.{Directory, directory_of, directory_with, first_keys, is_party_count, is_quorum, keys_at, keys_of}
 use Rattle.party_keys.specs.declared.fault.DirectoryFault.{DirectoryFault}
 use Rattle.party_keys.specs.declared.fault.DirectoryFault.TheVariants.{Authorities, Logs, Quorum}
-use Rattle.run_safety.proofs.Quiet.{marked_in, quiet}
+use Rattle.ar_world.proofs.EachLine.{is_marked}
+use Rattle.run_safety.proofs.Quiet.{quiet}
 use Rattle.run_safety.specs.Seats.{AreSeated, IsAuthorityOf, IsLogOf, honest_count}
 use Rattle.ar_world.proofs.ar_nodes.Spots.{honest-below}
 use Rattle.run_safety.proofs.Parts.{Bare, Makes, SeatedIn, Stands, part_of, told_by, told_in}
-use Rattle.ar_base.proofs.Shown.{if-chained, needed}
 
 -- ---- the first directory
 
@@ -105,11 +105,11 @@ made-seated party dishonest count sits f none each = record {
 -- ---- `authorities`
 
 made-quiet : (setup : Setup) (r : Role) (numbers : List ℕ)
-    → filter_map marked_in (map (λ number. key_made (record { role = r; number = number }) (key_for setup r number)) numbers) ≡ []
+    → filter is_marked (map (λ number. key_made (record { role = r; number = number }) (key_for setup r number)) numbers) ≡ []
 made-quiet setup r [] = refl
 made-quiet setup r (number ∷ numbers) = made-quiet setup r numbers
 
-pub keys-quiet : (setup : Setup) (r : Role) (count : ℕ) → filter_map marked_in (keys_made setup r count) ≡ []
+pub keys-quiet : (setup : Setup) (r : Role) (count : ℕ) → filter is_marked (keys_made setup r count) ≡ []
 keys-quiet setup r count = made-quiet setup r (range_with_len 0 count)
 
 -- nothing is held
@@ -164,22 +164,19 @@ none-told : (clients : Directory) (judged : List AcceptedBytes) → judged ≡ [
 none-told clients judged none = ap (map (told_by clients)) none
 
 -- before the line nobody is dishonest, and nothing was accepted
-pub authorities-makes : (w : World) (count : ℕ) → (Stands (part_of w) → Bare (part_of w)) → IfOk (authorities_line w count) (Makes w)
-authorities-makes w count bare =
-    if-chained (named 1 (genesis_of w.setup count)) _ (Makes w) (λ genesis same.
-    let made = needed (genesis_of w.setup count) _ genesis same in
-    record {
-      phase = refl;
-      keeps = record {
-        stands = λ s. record {
-          seated = peopled-seated w count genesis made (bare s);
-          bare = λ early. record { dishonest = (bare s).dishonest; judged = (bare s).judged };
-          counted = s.counted;
-          founded = subst (λ n. n ≤ 16) (sym (genesis-long w.setup count genesis made).0) s.counted;
-        };
-        told = λ s. ap (λ xs. told_in (part_of w) ++ xs) (quiet (keys_made w.setup role.Authority count) (keys-quiet w.setup role.Authority count)).0
-            ∙ ap (λ xs. xs ++ []) (none-told w.clients w.judged (bare s).judged) ∙ sym (none-told genesis w.judged (bare s).judged);
-        named = ap (λ xs. (part_of w).dishonest ++ xs) (quiet (keys_made w.setup role.Authority count) (keys-quiet w.setup role.Authority count)).1
-            ∙ append-nil (part_of w).dishonest;
-      };
-    })
+pub peopled-makes : (w : World) (count : ℕ) (genesis : Directory) → genesis_of w.setup count ≡ Some genesis → (Stands (part_of w) → Bare (part_of w)) → Makes w (peopled w count genesis)
+peopled-makes w count genesis made bare = record {
+  phase = refl;
+  keeps = record {
+    stands = λ s. record {
+      seated = peopled-seated w count genesis made (bare s);
+      bare = λ early. record { dishonest = (bare s).dishonest; judged = (bare s).judged };
+      counted = s.counted;
+      founded = subst (λ n. n ≤ 16) (sym (genesis-long w.setup count genesis made).0) s.counted;
+    };
+    told = λ s. ap (λ xs. told_in (part_of w) ++ xs) (quiet (keys_made w.setup role.Authority count) (keys-quiet w.setup role.Authority count)).0
+        ∙ ap (λ xs. xs ++ []) (none-told w.clients w.judged (bare s).judged) ∙ sym (none-told genesis w.judged (bare s).judged);
+    named = ap (λ xs. (part_of w).dishonest ++ xs) (quiet (keys_made w.setup role.Authority count) (keys-quiet w.setup role.Authority count)).1
+        ∙ append-nil (part_of w).dishonest;
+  };
+}

@@ -1,19 +1,18 @@
 -- The line `authorities`: all begin with one directory, which knows one key of each, and saw nothing.
-use Rattle.std.proofs.Common.{◌≡◌, ◌∙◌, ℕ, zero, suc, ◌+◌, ◌≤◌, List, [], ◌∷◌, length, refl, sym, ap, subst, arith, Option, Some, None, IfOk}
+use Rattle.std.proofs.Common.{◌≡◌, ◌∙◌, ℕ, zero, suc, ◌+◌, ◌≤◌, List, [], ◌∷◌, length, refl, sym, ap, subst, arith, Option, Some, None}
 use Rattle.std.specs.Prelude.{map, slice_get}
 use Rattle.std.specs.Option.{option_map}
 use Rattle.std.proofs.lemmas.Option.{same_Some}
 use Rattle.ar_base.proofs.Prefixes.{begins_itself}
-use Rattle.ar_base.proofs.Shown.{if-chained, needed}
 use Rattle.ar_base.specs.Prefixes.{BeginsWith}
 use Rattle.ar_world.specs.ar_founding.FirstKeys.{key_for, keys_for}
 use Rattle.ar_world.specs.ar_founding.Founding.{fresh_log, genesis_of, founded_authority}
-use Rattle.ar_world.specs.ar_nodes.Finding.{honest_in, named}
+use Rattle.ar_world.specs.ar_nodes.Finding.{honest_in}
 use Rattle.ar_world.specs.ar_nodes.Parties.{AuthorityNode, LogNode}
 use Rattle.ar_statement.specs.declared.party.Party.{Party}
 use Rattle.ar_statement.specs.declared.party.Role.{Role}
 use Rattle.ar_statement.specs.declared.party.Role.TheVariants as role
-use Rattle.ar_world.specs.Founding.{authorities_line, peopled}
+use Rattle.ar_world.specs.Founding.{peopled}
 use Rattle.ar_world.specs.State.{World}
 use Rattle.lms_tree.specs.Key.{public_of}
 use Rattle.lms_tree.specs.KeyParts.{KeyParts}
@@ -53,10 +52,8 @@ some-made : {X : Type 0} (parts : X → PartyParts) (f : ℕ → X) (o : Option 
 some-made parts f None place p made is = absurd cc
 some-made parts f (Some x) place p made is = ap parts (sym (made x refl)) ∙ same_Some (parts x) p is
 
-pub authorities-founds : (w : World) (count : ℕ) → IfOk (authorities_line w count) (λ made. Founds w made.0)
-authorities-founds w count =
-    if-chained (named 1 (genesis_of w.setup count)) _ (λ made. Founds w made.0) (λ genesis same.
-    let made = needed (genesis_of w.setup count) _ genesis same in
+pub peopled-founds : (w : World) (count : ℕ) (genesis : Directory) → genesis_of w.setup count ≡ Some genesis → Founds w (peopled w count genesis).0
+peopled-founds w count genesis made =
     let is = made-of (map public_of (keys_for w.setup role.LogServer w.setup.logs)) (map public_of (keys_for w.setup role.Authority count)) w.setup.quorum genesis made in
     record {
       messages = begins_itself (messages_of w.pool);
@@ -65,24 +62,23 @@ authorities-founds w count =
       judged = refl;
       one = λ party. subst (λ (d : Directory). length (keys_of d party) ≤ 1) is
           (one-each (map public_of (keys_for w.setup role.LogServer w.setup.logs)) (map public_of (keys_for w.setup role.Authority count)) w.setup.quorum party);
-      knows = λ r number p there. ap (λ (x : PartyParts). x.knows) (sym (its genesis r number p there).1) ∙ (its genesis r number p there).2;
-      saw = λ r number p there. ap (λ (x : PartyParts). x.saw) (sym (its genesis r number p there).1) ∙ (its genesis r number p there).3;
-    })
+      knows = λ r number p there. ap (λ (x : PartyParts). x.knows) (sym (its r number p there).1) ∙ (its r number p there).2;
+      saw = λ r number p there. ap (λ (x : PartyParts). x.saw) (sym (its r number p there).1) ∙ (its r number p there).3;
+    }
   where
-    log : Directory → ℕ → LogNode
-    log genesis number = fresh_log genesis number (key_for w.setup role.LogServer number)
+    log : ℕ → LogNode
+    log number = fresh_log genesis number (key_for w.setup role.LogServer number)
 
-    authority : Directory → ℕ → AuthorityNode
-    authority genesis number = founded_authority genesis number (key_for w.setup role.Authority number) (slice_get w.checks number)
+    authority : ℕ → AuthorityNode
+    authority number = founded_authority genesis number (key_for w.setup role.Authority number) (slice_get w.checks number)
 
-    its : (genesis : Directory) (r : Role) (number : ℕ) (p : PartyParts) → parts_in (peopled w count genesis).0 r number ≡ Some p
-        → (x : PartyParts) × (x ≡ p) × (x.knows ≡ genesis) × (x.saw ≡ [])
-    its genesis role.LogServer number p there =
-        (log_parts (log genesis (0 + number)), some-made log_parts (log genesis) (honest_in (peopled w count genesis).0.logs number) (0 + number) p (λ x at. made-there (log genesis) 0 w.setup.logs number x at) there, refl, refl)
-    its genesis role.Authority number p there =
-        (authority_parts (authority genesis (0 + number)), some-made authority_parts (authority genesis) (honest_in (peopled w count genesis).0.authorities number) (0 + number) p (λ x at. made-there (authority genesis) 0 count number x at) there, refl, refl)
-    its genesis role.Owner number p there = absurd cc
-    its genesis role.Client number p there = absurd cc
+    its : (r : Role) (number : ℕ) (p : PartyParts) → parts_in (peopled w count genesis).0 r number ≡ Some p → (x : PartyParts) × (x ≡ p) × (x.knows ≡ genesis) × (x.saw ≡ [])
+    its role.LogServer number p there =
+        (log_parts (log (0 + number)), some-made log_parts log (honest_in (peopled w count genesis).0.logs number) (0 + number) p (λ x at. made-there log 0 w.setup.logs number x at) there, refl, refl)
+    its role.Authority number p there =
+        (authority_parts (authority (0 + number)), some-made authority_parts authority (honest_in (peopled w count genesis).0.authorities number) (0 + number) p (λ x at. made-there authority 0 count number x at) there, refl, refl)
+    its role.Owner number p there = absurd cc
+    its role.Client number p there = absurd cc
 
 -- one key of a party, the first of its own, begins its real ones
 pub first-begins : (known : List LmsPublic) (ring : List KeyParts) → length known ≤ 1 → KnowsFirst known ring → BeginsWith (map public_of ring) known

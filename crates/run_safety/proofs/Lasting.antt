@@ -40,7 +40,8 @@ use Rattle.run_safety.proofs.Parts.{Keeps, Stands, part_of, seated}
 use Rattle.run_safety.proofs.PartySteps.{IsEnd, IsReal, later-party, learns-real, same-party, steps-real}
 use Rattle.run_safety.proofs.RealKeys.{claim-signed}
 use Rattle.run_safety.proofs.Shown.{IsEarly, Seen, bytes-later, founds-seen, moves-seen, shown-later}
-use Rattle.run_safety.proofs.Runs.{early, first-stands, keeps-of-steps, stays-early}
+use Rattle.run_safety.proofs.Lines.{early}
+use Rattle.run_safety.proofs.Runs.{first-stands, keeps-of-steps, stays-early}
 
 -- ---- from one world to a later one
 

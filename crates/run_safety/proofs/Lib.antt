@@ -1,5 +1,4 @@
 pub mod AuthoritySteps
-pub mod Chains
 pub mod Clients
 pub mod Confirmed
 pub mod Flushes

@@ -1,8 +1,7 @@
 -- The steps of honest logs and authorities, and what parties send: each that changes stays who it is.
 use Rattle.std.proofs.Common.{◌≡◌, ◌∙◌, ℕ, ◌+◌, List, [], ◌∷◌, ◌++◌, refl, sym, ap, Option, Some, None, Ok, Err}
 use Rattle.std.proofs.lemmas.List.{length-set}
-use Rattle.std.specs.Prelude.{is_none, length, map, slice_get, slice_set}
-use Rattle.std.specs.List.{filter_map}
+use Rattle.std.specs.Prelude.{filter, is_none, length, map, slice_get, slice_set}
 use Rattle.ar_council.specs.Council.{council_of}
 use Rattle.ar_message.specs.Filling.{filled}
 use Rattle.ar_message.specs.Messages.{message_in}
@@ -38,7 +37,7 @@ use Rattle.report_text.specs.declared.happening.Happening.{Happening}
 use Rattle.report_text.specs.declared.happening.Happening.TheVariants.{Step}
 use Rattle.report_text.specs.declared.happening.What.{What}
 use Rattle.report_text.specs.declared.happening.What.TheVariants as whats
-use Rattle.run_safety.proofs.Quiet.{marked_in}
+use Rattle.ar_world.proofs.EachLine.{is_marked}
 use Rattle.run_safety.specs.Seats.{IsAuthorityOf, IsLogOf, KnowsFirst, honest_count}
 use Rattle.run_safety.proofs.Parts.{Goes, Makes, moves, part_of, still}
 use Rattle.run_safety.proofs.Places.{seated-changed, count-changed}
@@ -46,18 +45,18 @@ use Rattle.run_safety.proofs.Places.{seated-changed, count-changed}
 -- ---- what is printed
 
 -- that messages enter tells of nothing accepted
-pub entries-quiet : (n : ℕ) (xs : List Pooled) → filter_map marked_in (entries_from n xs) ≡ []
+pub entries-quiet : (n : ℕ) (xs : List Pooled) → filter is_marked (entries_from n xs) ≡ []
 entries-quiet n [] = refl
 entries-quiet n (x ∷ xs) = entries-quiet (n + 1) xs
 
 -- nor does a party's step
 does-quiet : (who : Party) (what : What) (log : ℕ) (ended : Option (ℕ × Option (List ℕ))) (n : ℕ) (xs : List Pooled)
-    → filter_map marked_in ((Step who what None ∷ ending_of log ended) ++ entries_from n xs) ≡ []
+    → filter is_marked ((Step who what None ∷ ending_of log ended) ++ entries_from n xs) ≡ []
 does-quiet who what log None n xs = entries-quiet n xs
 does-quiet who what log (Some ended) n xs = entries-quiet n xs
 
 -- whatever it replies
-pub reply-quiet : (pool : List Pooled) (who : Party) (what : What) (reply : Reply) → filter_map marked_in (told_of pool who what reply) ≡ []
+pub reply-quiet : (pool : List Pooled) (who : Party) (what : What) (reply : Reply) → filter is_marked (told_of pool who what reply) ≡ []
 reply-quiet pool who what (Ok sent) = does-quiet who what who.number sent.ended (length pool + 1) (map (pooled_from who) sent.messages)
 reply-quiet pool who what (Err code) = refl
 
@@ -77,7 +76,7 @@ first-stays (x ∷ xs) more first is = is
 
 -- a log that changes stays who it is
 log-put : (w : World) (number : ℕ) (was is : LogNode) (said : List Happening) → log_at w number ≡ Some was
-    → (is.core.log.me ≡ was.core.log.me) × (is.core.log.council ≡ was.core.log.council) → StaysFirst was.keys is.keys → filter_map marked_in said ≡ []
+    → (is.core.log.me ≡ was.core.log.me) × (is.core.log.council ≡ was.core.log.council) → StaysFirst was.keys is.keys → filter is_marked said ≡ []
     → Goes (part_of w) (part_of (with_log w number is)) said
 log-put w number was is said there stays first none =
     moves (part_of w) (slice_set w.logs number (Some is)) w.authorities said (λ s. record {
@@ -93,7 +92,7 @@ log-put w number was is said there stays first none =
 
 -- so does an authority
 pub authority-put : (w : World) (number : ℕ) (was is : AuthorityNode) (said : List Happening) → authority_at w number ≡ Some was
-    → (is.state.me ≡ was.state.me) × (council_of is.state.keys ≡ council_of was.state.keys) → StaysFirst was.keys is.keys → filter_map marked_in said ≡ []
+    → (is.state.me ≡ was.state.me) × (council_of is.state.keys ≡ council_of was.state.keys) → StaysFirst was.keys is.keys → filter is_marked said ≡ []
     → Goes (part_of w) (part_of (with_authority w number is)) said
 authority-put w number was is said there stays first none =
     moves (part_of w) w.logs (slice_set w.authorities number (Some is)) said (λ s. record {

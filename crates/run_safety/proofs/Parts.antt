@@ -1,6 +1,6 @@
 -- Who sits where in a world and what its clients hold, and what is kept of that from one world to a later one.
 use Rattle.std.proofs.Common.{◌≡◌, ◌+◌, ◌≤◌, List, [], ◌++◌, All, append-nil, append_assoc, refl, sym, ap, ◌∙◌, subst, false, Option}
-use Rattle.std.specs.Prelude.{ℕ, length, map, nat_le, slice_get, Some}
+use Rattle.std.specs.Prelude.{filter, ℕ, length, map, nat_le, slice_get, Some}
 use Rattle.std.specs.List.{filter_map}
 use Rattle.std.proofs.lemmas.List.Elements.{filter_map-append}
 use Rattle.ar_council.specs.Council.{council_of}
@@ -17,7 +17,8 @@ use Rattle.ar_statement.specs.Claims.{authority_party, log_party}
 use Rattle.report_text.specs.declared.happening.Happening.{Happening}
 use Rattle.report_text.specs.declared.happening.Said.{Said}
 use Rattle.run_safety.specs.Headline.{accepted_in, dishonest_in}
-use Rattle.run_safety.proofs.Quiet.{marked_in, quiet}
+use Rattle.ar_world.proofs.EachLine.{is_marked}
+use Rattle.run_safety.proofs.Quiet.{quiet}
 use Rattle.run_safety.specs.Seats.{AreSeated, IsAuthorityOf, IsLogOf, IsSeated, honest_count}
 
 -- ---- what is told of a world
@@ -95,7 +96,7 @@ abbrev pub Makes : World → Moved → Type 0
 Makes w made = Goes (part_of w) (part_of made.0) made.1
 
 -- nothing that is told changes, and nothing is printed as accepted or of who is dishonest
-pub still : (p q : Part) (said : List Happening) → q ≡ p → filter_map marked_in said ≡ [] → Goes p q said
+pub still : (p q : Part) (said : List Happening) → q ≡ p → filter is_marked said ≡ [] → Goes p q said
 still p q said same none = record {
   phase = ap (λ (r : Part). r.phase) same;
   keeps = record {
@@ -118,12 +119,12 @@ both p m q said later first second = record {
 }
 
 -- what is printed before tells of nothing accepted
-pub behind : (p q : Part) (front said : List Happening) → filter_map marked_in front ≡ [] → Goes p q said → Goes p q (front ++ said)
+pub behind : (p q : Part) (front said : List Happening) → filter is_marked front ≡ [] → Goes p q said → Goes p q (front ++ said)
 behind p q front said none goes = record { phase = goes.phase; keeps = both p p q front said (still p p front refl none).keeps goes.keeps }
 
 -- Parties change, who are seated there too; who is dishonest, and what clients know and hold, stays.
 pub moves : (p : Part) (logs : List (Option LogNode)) (authorities : List (Option AuthorityNode)) (said : List Happening)
-    → (SeatedIn p → SeatedIn (record p { logs = logs; authorities = authorities })) → filter_map marked_in said ≡ []
+    → (SeatedIn p → SeatedIn (record p { logs = logs; authorities = authorities })) → filter is_marked said ≡ []
     → Goes p (record p { logs = logs; authorities = authorities }) said
 moves p logs authorities said sits none = record {
   phase = refl;
@@ -135,7 +136,7 @@ moves p logs authorities said sits none = record {
 }
 
 -- So many logs are to be made; all else stays.
-pub counts : (p : Part) (count : ℕ) (said : List Happening) → count ≤ 16 → filter_map marked_in said ≡ [] → Goes p (record p { count = count }) said
+pub counts : (p : Part) (count : ℕ) (said : List Happening) → count ≤ 16 → filter is_marked said ≡ [] → Goes p (record p { count = count }) said
 counts p count said few none = record {
   phase = refl;
   keeps = record {

@@ -1,20 +1,14 @@
 -- What is printed of neither who is dishonest nor what is accepted.
-use Rattle.std.proofs.Common.{◌≡◌, List, [], ◌∷◌, refl, Option, Some, None}
+use Rattle.std.proofs.Common.{◌≡◌, List, [], ◌∷◌, refl}
+use Rattle.std.specs.Prelude.{filter}
 use Rattle.std.specs.List.{filter_map}
-use Rattle.std.specs.Option.{option_map}
 use Rattle.report_text.specs.declared.happening.Happening.{Happening}
 use Rattle.report_text.specs.declared.happening.Happening.TheVariants.{Dishonest, Draft, Ended, Entered, Forgot, Judged, Learnt, Made, Order, Retired, SignRefused, Step, Taught}
-use Rattle.report_text.specs.declared.happening.Said.TheVariants.{Absent, Accepted, Refused}
-use Rattle.run_safety.specs.Headline.{accepted_in, dishonest_in, said_accepted}
-
--- what tells of one of the two
-abbrev pub marked_in : Happening → Option Happening
-marked_in (Judged message said) = option_map (λ s. Judged message s) (said_accepted said)
-marked_in (Dishonest who) = Some (Dishonest who)
-marked_in _ = None
+use Rattle.ar_world.proofs.EachLine.{is_marked}
+use Rattle.run_safety.specs.Headline.{accepted_in, dishonest_in}
 
 -- where nothing does, nothing tells of either
-pub quiet : (said : List Happening) → filter_map marked_in said ≡ [] → (filter_map accepted_in said ≡ []) × (filter_map dishonest_in said ≡ [])
+pub quiet : (said : List Happening) → filter is_marked said ≡ [] → (filter_map accepted_in said ≡ []) × (filter_map dishonest_in said ≡ [])
 quiet [] none = (refl, refl)
 quiet (Made party digest ∷ more) none = quiet more none
 quiet (Dishonest party ∷ more) none = absurd cc
@@ -27,7 +21,5 @@ quiet (Ended log epoch root ∷ more) none = quiet more none
 quiet (Learnt message refused ∷ more) none = quiet more none
 quiet (Entered message kind from to length digest ∷ more) none = quiet more none
 quiet (SignRefused party ∷ more) none = quiet more none
-quiet (Judged message (Accepted name serial epoch root certificate) ∷ more) none = absurd cc
-quiet (Judged message (Absent name epoch root) ∷ more) none = absurd cc
-quiet (Judged message (Refused check) ∷ more) none = quiet more none
+quiet (Judged message said ∷ more) none = absurd cc
 quiet (Order party taken ∷ more) none = quiet more none

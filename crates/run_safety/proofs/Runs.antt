@@ -1,80 +1,28 @@
 -- What a step, the deliveries of a `flush` and a whole script keep: who sits where, and what clients hold.
 use Rattle.std.proofs.Common.{◌≡◌, ◌∙◌, ◌≤◌, ℕ, List, [], arith, refl, sym, ap, subst, true, false, IfOk}
-use Rattle.std.specs.Prelude.{length, map, nat_le, nat_lt, ◌==◌}
+use Rattle.std.specs.Prelude.{length, map, nat_le, nat_lt}
 use Rattle.std.specs.List.{filter_map}
 use Rattle.std.proofs.lemmas.Bool.{false_from_ne_true, leb-true, ltb-true}
 use Rattle.std.proofs.lemmas.List.Elements.{All-nil}
 use Rattle.std.proofs.lemmas.Result.{IfOk-weaker}
 use Rattle.ar_safety.specs.Held.{IsAccepting, verdict_on}
-use Rattle.ar_world.specs.Founding.{is_peopled, may_come, place_of}
+use Rattle.ar_world.specs.Founding.{may_come, place_of}
 use Rattle.ar_world.specs.ar_nodes.Parties.{CheckParts}
 use Rattle.ar_world.specs.Records.{held_of}
 use Rattle.ar_world.specs.Run.{Saying, run}
 use Rattle.ar_world.specs.State.{Moved, World, first_world, no_directory}
 use Rattle.ar_world.specs.Step.{event_effect, leads_to, setup_effect, step}
-use Rattle.ar_world.specs.ar_nodes.declared.event.LogEvent.TheVariants as events
 use Rattle.ar_world.specs.declared.phase.Phase.{Phase}
 use Rattle.ar_world.specs.declared.phase.Phase.TheVariants as phase
-use Rattle.ar_world.proofs.FirstParties.{came}
 use Rattle.ar_world.proofs.Runs.{HoldsOfSteps, run-holds, step-holds}
-use Rattle.ar_world.specs.log_core.State.{passes, proposes}
-use Rattle.owner_check.specs.Answers.{forgotten, learnt}
 use Rattle.owner_check.specs.declared.answer.Outcome.{Outcome}
-use Rattle.report_text.specs.declared.happening.Happening.TheVariants.{Forgot, Taught}
-use Rattle.report_text.specs.declared.happening.What.TheVariants as whats
-use Rattle.script_text.specs.declared.line.EventLine.{EventLine}
-use Rattle.script_text.specs.declared.line.EventLine.TheVariants as event
 use Rattle.script_text.specs.declared.line.Line.{Line}
-use Rattle.script_text.specs.declared.line.SetupLine.{SetupLine}
-use Rattle.script_text.specs.declared.line.SetupLine.TheVariants as setup
 use Rattle.run_safety.specs.Headline.{accepted_in, dishonest_in, said_by}
 use Rattle.run_safety.specs.Seats.{IsSeated}
-use Rattle.run_safety.proofs.Founded.{authorities-makes}
-use Rattle.run_safety.proofs.Lines.{ask-makes, check-line-makes, deliver-makes, delivery-makes, dishonest-makes, handover-makes, inject-makes, judge-makes, keys-makes, learn-makes, log-order-makes, logs-makes, object-makes, owner-line-makes, register-makes, retire-makes, revoke-makes, roll-makes, sign-makes, submit-makes, update-makes}
+use Rattle.run_safety.proofs.Lines.{delivery-makes, event-makes, setup-makes}
 use Rattle.run_safety.proofs.Parts.{Keeps, Makes, Stands, both, part_of, seated, still}
 
 -- ---- a step
-
--- before the line `authorities` all is bare
-pub early : (p : Phase) → (place_of p == 3) ≡ true → nat_le 4 (place_of p) ≡ false
-early phase.Beginning h = absurd cc
-early phase.SecretTold h = absurd cc
-early phase.KeysTold h = absurd cc
-early phase.LogsMade h = refl
-early phase.AuthoritiesMade h = absurd cc
-early phase.DishonestTold h = absurd cc
-early phase.Running h = absurd cc
-
-setup-makes : (w : World) (l : SetupLine) → may_come w.phase (leads_to l) ≡ true → IfOk (setup_effect w l) (Makes w)
-unfolding setup_effect
-setup-makes w (setup.Secret secret) comes = still _ _ [] refl refl
-setup-makes w (setup.Keys lms ots) comes = keys-makes w lms ots
-setup-makes w (setup.Logs n q) comes = logs-makes w n q
-setup-makes w (setup.Authorities m) comes = authorities-makes w m (λ s. s.bare (early w.phase comes))
-setup-makes w (setup.Dishonest party) comes = dishonest-makes w party (came w.phase comes)
-
-event-makes : (says : Outcome) (w : World) (l : EventLine) → is_peopled w.phase ≡ true → IfOk (event_effect says w l) (Makes w)
-unfolding event_effect
-event-makes says w (event.Owner owner) late = owner-line-makes w owner
-event-makes says w (event.Teach authority name owner) late = check-line-makes w authority owner (learnt name) (Taught authority) refl
-event-makes says w (event.Forget authority name owner) late = check-line-makes w authority owner (forgotten name) (Forgot authority) refl
-event-makes says w (event.Retire authority) late = retire-makes w authority
-event-makes says w (event.Register owner name policy asks) late = register-makes w owner name policy asks
-event-makes says w (event.Update owner draft policy asks) late = update-makes w owner draft policy asks
-event-makes says w (event.Revoke owner draft asks) late = revoke-makes w owner draft asks
-event-makes says w (event.Handover owner draft) late = handover-makes w owner draft
-event-makes says w (event.Object owner draft) late = object-makes w owner draft
-event-makes says w (event.Submit draft) late = submit-makes w draft
-event-makes says w (event.Propose log) late = log-order-makes w log whats.Propose events.Propose proposes
-event-makes says w (event.Pass log) late = log-order-makes w log whats.Pass events.Pass passes
-event-makes says w (event.Roll party) late = roll-makes w party
-event-makes says w (event.Learn message) late = learn-makes w message
-event-makes says w (event.Ask log name first second client) late = ask-makes w log name first second client
-event-makes says w (event.Deliver message party) late = deliver-makes says w message party
-event-makes says w event.Flush late = still _ _ [] refl refl
-event-makes says w (event.Judge message name now age) late = judge-makes w message name now age late
-event-makes says w (event.Sign party pieces) late = sign-makes w party pieces
-event-makes says w (event.Inject to pieces) late = inject-makes w to pieces
 
 -- what a line comes to keeps all, in its phase too
 abbrev KeptBy : World → Moved → Type 0
@@ -113,7 +61,7 @@ led-keeps w next comes made makes = record {
 step-keeps : (says : Outcome) (w : World) (l : Line) → IfOk (step says w l) (KeptBy w)
 step-keeps says w =
     step-holds (KeptBy w) says w
-    (λ l comes. IfOk-weaker (setup_effect w l) (Makes w) _ (led-keeps w (leads_to l) comes) (setup-makes w l comes))
+    (λ l comes. IfOk-weaker (setup_effect w l) (λ m. may_come w.phase (leads_to l) ≡ true → Makes w m) _ (λ m makes. led-keeps w (leads_to l) comes m (makes comes)) (setup-makes w l))
     (λ l comes. IfOk-weaker (event_effect says w l) (Makes w) _ (led-keeps w phase.Running comes) (event-makes says w l comes))
 
 -- ---- a script

@@ -3,7 +3,7 @@
 //!
 //! `specs/Script.antt` says what the script is.
 //!
-//! Its tests: `base_tests`, module `script_make_tests`.
+//! Its tests: `examples/make`.
 #![tactic(auto)]
 
 pub use making::{last_script_epoch, make};

@@ -10,7 +10,7 @@
 //!
 //! `play` plays a script whole. A `Stage` takes it line by line, for whoever has lines of its own beside those of a world.
 //!
-//! Its tests: those of the program `arpki`, and `examples/`.
+//! Its tests: `examples/`, `tools/fail-each-call`, and those of the program `arpki`.
 #![tactic(auto)]
 
 pub use ar_world::{Cause, LogEvent, World, WorldFault};

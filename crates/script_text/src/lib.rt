@@ -3,7 +3,7 @@
 //! `specs/Rows.antt` is the table of all lines, `Grammar` says how the words of a line are read by a row of it,
 //! and `Forms` what a word of each form means. What the numbers in a line name is for the world to find.
 //!
-//! Its tests: `call_tests`, module `script_text_tests`.
+//! Its tests: `examples/lines.txt` and `examples/play`.
 #![tactic(auto)]
 
 pub use ar_lines::Reason;

@@ -14,7 +14,7 @@
 //! In `specs/`, `Reading` says what is asked, `Serving` what is replied, `Workers` what a worker does, and `Answers` what the
 //! command writes, and with which status.
 //!
-//! Its tests: `arpki_crowd`, module `serve_run_tests`, and `examples/serve`.
+//! Its tests: `arpki_crowd`, module `serve_run_tests`, `examples/serve`, and `tools/crowd-orders`.
 #![tactic(auto)]
 
 pub use program::serve;

@@ -12,7 +12,7 @@
 //!
 //! What a core makes of a history of calls, and which histories are legal, is said by `node_core`.
 //!
-//! Its tests: `arpki_crowd`, module `shared_node_tests`.
+//! Its tests: `examples/crowd`, `arpki_crowd`, and `tools/crowd-orders`.
 #![tactic(auto)]
 
 pub use answer::{Closed, Place, Served};

@@ -1,3 +1,4 @@
 pub mod Book
 pub mod Entry
 pub mod Due
+pub mod Run

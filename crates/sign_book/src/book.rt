@@ -47,7 +47,7 @@ impl Model for SignBook {
 }
 
 impl SignBook {
-    /// The book of a key with this many leaves, none of which serves a statement yet. It takes no
+    /// The book of a key's first leaves, so many, or of all: none serves a statement yet. It takes no
     /// memory.
     pub fn new(alloc: Global, leaves: u32) -> SignBook
         ensures { result ≡ record { texts = []; leaves = leaves; room = 0 } }
@@ -118,6 +118,13 @@ impl SignBook {
         self.texts.push_reserved(text);
         self.room = self.room.saturating_sub(1);
         Ok(Due::new(leaf, text, self.leaves))
+    }
+
+    /// How many leaves the book has, the first ones of its key.
+    pub fn leaves(&self) -> u32
+        ensures { result ≡ self.now.leaves }
+    {
+        self.leaves
     }
 
     /// How many leaves serve no statement yet.

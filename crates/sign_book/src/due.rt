@@ -1,4 +1,4 @@
-ghost use Rattle.std.specs.Prelude.{◌≡◌, ◌<◌, length};
+ghost use Rattle.std.specs.Prelude.{◌≡◌, ◌<◌, ◌≤◌, length};
 ghost use Rattle.lms_tree.specs.Key.{signature_of};
 ghost use Rattle.lms_tree.specs.LmsKind.{leaves_of};
 ghost use Rattle.lms_tree.specs.Signature.{lms_signature_len_of};
@@ -42,10 +42,10 @@ impl Due {
 /// Writes the signature that is due into `out`: that of the statement's text by its leaf (RFC 8554,
 /// section 5.4). It takes no memory.
 ///
-/// The key is the one that the book was made for. A key that another book gives leaves of, or that
-/// has signed before the book was made, could sign two texts by one leaf.
+/// The key is the one that the book was made for, and has as many leaves as the book or more. A key that another
+/// book gives leaves of, or that has signed before the book was made, could sign two texts by one leaf.
 pub fn sign(key: &LmsKey, due: Due, out: &mut [u8])
-    requires leaves { due.leaves ≡ leaves_of key.now.lms }
+    requires leaves { due.leaves ≤ leaves_of key.now.lms }
     requires room { length out.old ≡ lms_signature_len_of key.now.lms key.now.ots }
     ensures { out.new ≡ signature_of key.now due.leaf due.text }
 {

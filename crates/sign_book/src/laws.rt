@@ -1,10 +1,11 @@
 //! Laws on books, over the definitions alone: each is the contract of a function that does nothing.
 
-ghost use Rattle.std.specs.Prelude.{◌≡◌, ◌<◌, ◌↔◌, ℕ, List, [], ◌++◌, length, slice_index_or, Contains, Ok, Err};
+ghost use Rattle.std.specs.Prelude.{◌≡◌, ◌<◌, ◌≤◌, ◌↔◌, ℕ, List, [], ◌++◌, length, slice_index_or, Contains, Some, Ok, Err};
 ghost use Rattle.ar_statement.specs.Claims.{Claim, text_of};
 ghost use Rattle.ar_statement.specs.Ranges.{IsHeld};
 ghost use Rattle.sign_book.specs.Book.{Book, IsSignBook};
 ghost use Rattle.sign_book.specs.Entry.{after_entry, leaf_of};
+ghost use Rattle.sign_book.specs.Run.{DrawnParts, RunParts, after_draw, drawn};
 ghost use Rattle.ar_statement.specs.declared.fault.BookFault.TheVariants.{Spent};
 
 use ar_statement::laws::a_text_is_of_one_statement;
@@ -53,4 +54,11 @@ pub fn entries_keep_a_book_sound()
     ensures { (book : Book) (text : List ℕ) (leaf : ℕ) → IsSignBook book
         → leaf_of book text ≡ Ok leaf
         → IsSignBook (after_entry book text) }
+{}
+
+/// A leaf that is drawn is one of the run's, and none that is drawn later: what is left begins behind it.
+pub fn each_leaf_is_drawn_once()
+    ensures { (run : RunParts) (one : DrawnParts) → drawn run ≡ Some one
+        → (run.next ≤ one.leaf) × (one.leaf < run.end) × (one.leaf < (after_draw run).next)
+        × ((after_draw run).end ≡ run.end) }
 {}

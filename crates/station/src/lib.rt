@@ -10,7 +10,7 @@
 //! of a world. The laws are those two: what a station replies can be signed, whatever was asked before,
 //! and a delivery in a world is a station's step.
 //!
-//! Its tests: `arpki_crowd`, module `crowd_run_tests`, in bursts.
+//! Its tests: `examples/crowd`, `arpki_crowd`, module `crowd_run_tests`, and `tools/crowd-orders`.
 #![tactic(auto)]
 
 mod asking;

@@ -6,7 +6,7 @@
 //! and which value has a quorum, `specs/Statuses.antt` which statuses exclude each root, and `laws` what
 //! follows: two quorums share at least three logs, and an excluded root gets no quorum.
 //!
-//! Its tests: `base_tests`, module `vote_quorum_tests`.
+//! Its tests: `base_tests`, module `vote_quorum_tests`, and `examples/play`.
 #![tactic(auto)]
 
 pub use added::Added;

@@ -2,7 +2,6 @@
 use super::changes::{Tried, change_of, newest};
 use ar_cert::Change;
 use domain_table::{ApplyFault, ChangeRefusal, Table};
-use hash_tree::{have_ascending_keys, root_of};
 use std::alloc::Global;
 use std::test::Fail;
 
@@ -121,14 +120,4 @@ pub(crate) fn seen(
 ) -> Result<(Option<u64>, Option<u64>, [u8; 32]), Fail> {
     let table = ripened(alloc, table, epoch)?;
     Ok((since(&table), serial(&table), table.root()))
-}
-
-/// How many entries are listed, their root, and that of the kept tree.
-pub(crate) fn listed(alloc: Global, table: &Table) -> Result<(usize, [u8; 32], [u8; 32]), Fail> {
-    let entries = table.entries(alloc)?;
-    if have_ascending_keys(&entries) {
-        Ok((entries.len(), root_of(&entries), table.trie().root()))
-    } else {
-        Err("the keys do not ascend".into())
-    }
 }

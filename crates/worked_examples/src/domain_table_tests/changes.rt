@@ -1,18 +1,16 @@
 //! The changes that are tried.
-use super::values::{free, other_seed, owner_key, owner_seed};
+use super::values::{free, owner_key, owner_seed};
 use ar_cert::{Cert, Change};
 use domain_table::Table;
 use lms_tree::LmsKey;
 use std::alloc::Global;
 use std::test::Fail;
 
-/// What is said of a certificate beside the endorsements: by the key before it, or by another one.
+/// What the key before it says of a certificate beside the endorsements.
 #[derive(Clone, Copy)]
 pub(crate) enum Says {
     Nothing,
-    Handover,
     Objection,
-    OthersObjection,
 }
 
 /// A change that is tried at an epoch: to the certificate of a.example that may follow what the table has. The
@@ -101,9 +99,7 @@ fn signed(
 fn said(alloc: Global, says: Says, cert: &[u8]) -> Result<Vec<u8>, Fail> {
     match says {
         Says::Nothing => joined(alloc, &[&[0][..]]),
-        Says::Handover => signed(alloc, 1, 2, &owner_seed(), cert),
         Says::Objection => signed(alloc, 2, 11, &owner_seed(), cert),
-        Says::OthersObjection => signed(alloc, 2, 11, &other_seed(), cert),
     }
 }
 

@@ -1,5 +1,5 @@
 use Rattle.owner_core.proofs.Stepped.{attached, begun, first, objected, signing, stepped, submitted}
-use Rattle.ar_statement.specs.Claims.{handover}
+use Rattle.ar_statement.specs.Claims.{answer, handover}
 use Rattle.owner_core.proofs.laws.what_is_submitted_is_endorsed.Goals as goal
 
 pub returns-clause-new : goal.returns-clause-new
@@ -16,6 +16,9 @@ returns-clause-attach c = λ me later digest handover good e. attached me later 
 
 pub returns-clause-handover : goal.returns-clause-handover
 returns-clause-handover c = λ me later digest bytes good e. signing me later (handover digest) bytes good e
+
+pub returns-clause-staple : goal.returns-clause-staple
+returns-clause-staple c = λ me later name digest challenge bytes good e. signing me later (answer name digest challenge) bytes good e
 
 pub returns-clause-object : goal.returns-clause-object
 returns-clause-object c = λ me later cert reply good e. objected me later cert reply good e
