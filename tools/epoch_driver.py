@@ -9,8 +9,9 @@ from epoch_rules import Council, Endings, Facts, due, waits
 
 # How many messages that came too early, or before a key that they need, wait for it.
 MOST_HELD = 64
-# How many endings, and RollNotes, are handed to one that lacks them, at a time.
-MOST_ENDINGS, MOST_ROLLS = 24, 16
+# How many endings, and RollNotes, are handed to one that lacks them, at a time, and how many of both in an epoch of the clock to those
+# together whom the broker does not name.
+MOST_ENDINGS, MOST_ROLLS, MOST_TO_STRANGERS = 24, 16, 2048
 # Refusals that tell of two next keys of one generation.
 TWO_KEYS = ("L16", "A11", "O8")
 # Refusals for want of a leaf.
@@ -78,6 +79,7 @@ class Driver:
         self.must_roll = False
         self.held = collections.deque(maxlen=MOST_HELD)
         self.heard, self.seen, self.helped = {}, {}, {}  # by party: the newest note and when; when it was heard of; when it was helped
+        self.strangers = None, 0  # an epoch of the clock, and how many lines were handed in it to those whom the broker does not name
         self.refusals, self.guilty, self.disagree = collections.Counter(), {}, {}
         self.last_refusals = collections.deque(maxlen=8)
         self.noted_at, self.told = -1e18, set()
@@ -220,7 +222,12 @@ class Driver:
     def noted(self, sender, line, now):
         """Another driver tells of its party. Where the broker names senders, it speaks for no other."""
         note = messages.read_note(line)
-        if note is None or note.party == self.party or (self.named and note.party[0] != "D" and sender != note.party):
+        if note is None or note.party == self.party:
+            return
+        if note.party[0] in "DC":
+            self.help_stranger(note, now)
+            return
+        if self.named and sender != note.party:
             return
         self.seen[note.party] = now
         self.heard[note.party] = note, now
@@ -230,15 +237,28 @@ class Driver:
         self.noticed(note, now)
         self.tick(now)
 
+    def help_stranger(self, note, now):
+        """Helps an owner's driver, or a site. Anybody may pretend to be one, so they are handed so much in an epoch of the clock."""
+        epoch, lines = self.schedule.epoch_at(now), self.lacking(note)
+        if self.strangers[0] != epoch:
+            self.strangers = epoch, 0
+        if self.strangers[1] + len(lines) <= MOST_TO_STRANGERS:
+            self.strangers = epoch, self.strangers[1] + len(lines)
+            for line in lines:
+                self.link.send(note.party, line)
+
     def noticed(self, note, now):
         """Compares what another driver tells with what this one knows."""
 
-    def help(self, note, now):
-        """Hands RollNotes to one that lacks them."""
+    def lacking(self, note):
+        """The RollNotes that one lacks who tells this."""
         pairs = [(f"{letter}{number}", known) for letter, knows in (("L", note.logs), ("A", note.authorities))
                  for number, known in enumerate(knows)]
-        lines = [line for party, known in pairs if party != note.party for line in self.store.rolls_from(party, known)]
-        for line in lines[:MOST_ROLLS]:
+        return [line for party, known in pairs if party != note.party for line in self.store.rolls_from(party, known)][:MOST_ROLLS]
+
+    def help(self, note, now):
+        """Hands one what it lacks."""
+        for line in self.lacking(note):
             self.link.send(note.party, line)
 
     # ---- alarms
@@ -401,16 +421,19 @@ class LogDriver(Driver):
         return note._replace(epoch=self.epoch, open_for=max(0, round(1000 * (now - self.opened))), proposals=len(self.facts.proposals),
                              stated=self.stated, ended=self.store.digest(self.epoch - 1))
 
+    def lacking(self, note):
+        """The RollNotes, and how epochs ended, that one lacks who tells this."""
+        lines = super().lacking(note)
+        if note.party[0] in "LC" and note.epoch and self.epoch is not None:
+            epochs = range(note.epoch, min(self.epoch, note.epoch + MOST_ENDINGS))
+            lines += [line for line in map(self.store.ending, epochs) if line]
+        return lines
+
     def help(self, note, now):
         super().help(note, now)
         if note.party[0] != "L" or self.epoch is None:
             return
-        if note.epoch and note.epoch < self.epoch:
-            for epoch in range(note.epoch, min(self.epoch, note.epoch + MOST_ENDINGS)):
-                line = self.store.ending(epoch)
-                if line:
-                    self.link.send(note.party, line)
-        elif note.epoch == self.epoch:
+        if note.epoch == self.epoch:
             if note.proposals < len(self.facts.proposals):
                 for message in self.facts.proposals.values():
                     self.link.send(note.party, message.data.hex())

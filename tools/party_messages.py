@@ -11,7 +11,9 @@ NOTE = 0xF0
 # An epoch that no log comes to.
 FAR = 1 << 63
 LETTERS = {1: "L", 2: "A"}
-ROLES = {"L": 1, "A": 2, "D": 3}
+ROLES = {"L": 1, "A": 2, "D": 3, "C": 4}
+# Who tells notes, by the number of the role.
+TELLERS = {role: letter for letter, role in ROLES.items()}
 
 
 class NoMessage(Exception):
@@ -246,6 +248,7 @@ def probe():
 # What a driver says of its party: who it is, whether it asks for what it lacks, the epoch that is open at its log (0 for others),
 # for how many milliseconds it is, how many proposals of it the driver has, whether its log has stated, the digest of how the
 # epoch before ended (32 zero bytes where it does not know), and how many keys it knows to follow the first of each log and authority.
+# A site tells such a note too, as a client: its epoch is the first of which it asks how it ended, 0 for none.
 Note = collections.namedtuple("Note", "party asks epoch open_for proposals stated ended logs authorities")
 
 
@@ -268,7 +271,7 @@ def read_note(line):
     try:
         at = Fields(bytes.fromhex(line))
         kind, flags, role, number = at.number(1), at.number(1), at.number(1), at.number(2)
-        party = {1: "L", 2: "A", 3: "D"}[role] + str(number)
+        party = TELLERS[role] + str(number)
         epoch, open_for, ended = at.number(8), at.number(4), at.take(32)
         logs, authorities = (numbers(at) for _ in range(2))
         at.end()
