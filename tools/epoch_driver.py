@@ -6,6 +6,7 @@ import random
 
 import party_messages as messages
 from epoch_rules import Council, Endings, Facts, due, waits
+from schedule import LEAST_AGE
 
 # How many messages that came too early, or before a key that they need, wait for it.
 MOST_HELD = 64
@@ -124,6 +125,8 @@ class Driver:
             self.refused(sender, line, given, code, now)
         elif words[-1] == "ok":
             self.took(line, given, now)
+        elif words[0] == "draft":
+            self.advise(line, now)
         self.store.keep_leaf(self.keys.at)
         self.settles = now + min(self.schedule.hearing, MOST_SETTLING) if line.startswith("roll ") and not code else now
         self.tick(now)
@@ -169,6 +172,12 @@ class Driver:
             self.hold(self.party, line)
         elif code[0] in TWO_KEYS:
             self.accuse(code[1], "rolled to two keys", [line], now)
+
+    def advise(self, line, now):
+        """Advises against a policy, as an owner's order has it, by which confirmations are soon too old."""
+        words = line.split(" ")
+        if words[0] in ("register", "update") and words[5:] and words[5].isdigit() and int(words[5]) < LEAST_AGE:
+            self.tell(f"an age of {words[5]} is small for a policy: take {LEAST_AGE} or more ({' '.join(words[:3])})", 4)
 
     # ---- what waits
 

@@ -10,8 +10,8 @@ import party_messages as messages
 
 # How often a name is asked for in an epoch of the clock, at most, and the part of an epoch after which a question comes again last.
 MOST_TRIES, LAST_PAUSE = 6, 8
-# By how many epochs of the clock a confirmation is behind that is told of.
-BEHIND = 2
+# By how many epochs more than it asks for a confirmation is behind the clock that is told of.
+BEHIND = 1
 # The most changes in one answer, and how many changes of a name are kept of which it is not known yet whether they lead to its newest
 # certificate.
 MOST_LINKS, MOST_CANDIDATES = 64, 256
@@ -105,8 +105,8 @@ class Name:
 class Site:
     """The names that a site shows."""
 
-    def __init__(self, council, plan, client, keys, judge, shown, store, ways, tell):
-        self.council, self.plan, self.client, self.judge, self.shown = council, plan, client, judge, shown
+    def __init__(self, council, plan, client, each, keys, judge, shown, store, ways, tell):
+        self.council, self.plan, self.client, self.each, self.judge, self.shown = council, plan, client, each, judge, shown
         self.store, self.ways, self.tell = store, ways, tell
         self.names = {name: Name(name, at, of_name) for at, (name, of_name) in enumerate(sorted(keys.items()))}
         self.rolls = collections.defaultdict(list)
@@ -270,7 +270,7 @@ class Site:
                 self.store.keep_link(name.name, link.data)
                 self.join(name, link)
         elif said[1:] and said[1].split(" ")[0] == "link" and said[1].split(" ")[2] == "p":
-            self.tell(f"no client goes along to the newest certificate of {name.name} ({said[1]}): it is a recovery, as its policy has it", 4)
+            self.tell(f"no client goes along to the newest certificate of {name.name} ({said[1]}): it is a recovery", 4)
         else:
             for link in links:
                 del name.candidates[link.data]
@@ -295,7 +295,7 @@ class Site:
             if name.period != clock:
                 name.period, name.tries, name.interval = clock, 0, self.plan.grace / 2
                 name.next_try = max(now, self.plan.begins(clock) + self.plan.grace / 2)
-            if name.epoch < clock and now >= name.next_try and name.tries < MOST_TRIES:
+            if name.epoch + self.each <= clock and now >= name.next_try and name.tries < MOST_TRIES:
                 self.ask(name, clock, now)
             if name.before and now >= self.noted_at + self.plan.length / LAST_PAUSE:
                 self.note(now)
@@ -332,7 +332,7 @@ class Site:
 
     def look(self, name, clock):
         """Tells where the newest confirmation falls behind the clock, and where it does so no more."""
-        is_behind = clock - name.epoch > BEHIND
+        is_behind = clock - name.epoch > BEHIND + self.each
         if is_behind and name.name not in self.told:
             self.told.add(name.name)
             self.tell(f"of {name.name} nothing newer than epoch {name.epoch} came, and the clock's is {clock}: "
