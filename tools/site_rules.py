@@ -92,6 +92,7 @@ class Name:
         self.name, self.at, self.keys = name, at, keys  # `at` is its place among the names; of each TLS key the draft, or None
         self.newest, self.confirmed = None, None  # the newest good confirmation, as bytes and as it is read
         self.before, self.since = None, None  # an older one, from whose certificate nothing leads to the newest yet; the epoch asked for
+        self.failures, self.failed_at = 0, None  # how often what was found did not lead there, and when that was asked for
         self.candidates, self.chain = {}, []
         self.staples, self.next_staple = {}, None  # by TLS key: of which epoch it is shown, and the staple; when it is asked for again
         self.tries, self.next_try, self.interval, self.period = 0, None, None, None
@@ -198,8 +199,8 @@ class Site:
     def accept(self, name, data, read):
         """A newer confirmation of a name. Where its certificate is another, what leads to it is looked for."""
         is_other = name.confirmed is not None and read.digest != name.confirmed.digest
-        if is_other and name.before is None:
-            name.before, name.since = name.newest, name.epoch + 1
+        if is_other and (name.before is None or self.is_given_up(name)):
+            name.before, name.since, name.failures, name.candidates = name.newest, name.epoch + 1, 0, {}
         name.newest, name.confirmed, name.trouble = data, read, None
         self.store.keep_confirmations(name.name, name.newest, name.before)
         self.link(name)
@@ -269,14 +270,20 @@ class Site:
             for link in links:
                 self.store.keep_link(name.name, link.data)
                 self.join(name, link)
-        elif said[1:] and said[1].split(" ")[0] == "link" and said[1].split(" ")[2] == "p":
-            self.tell(f"no client goes along to the newest certificate of {name.name} ({said[1]}): it is a recovery", 4)
-        else:
-            for link in links:
-                del name.candidates[link.data]
+            name.before, name.since, name.candidates = None, None, {}
+            self.store.keep_confirmations(name.name, name.newest, None)
             return
-        name.before, name.since, name.candidates = None, None, {}
-        self.store.keep_confirmations(name.name, name.newest, None)
+        for link in links:
+            del name.candidates[link.data]
+        if name.failed_at != self.noted_at and said[:1] == ["first"]:
+            name.failures, name.failed_at = name.failures + 1, self.noted_at
+            if self.is_given_up(name):
+                self.tell(f"no client goes along to the newest certificate of {name.name} ({said[-1]}): it is a recovery", 4)
+        self.link(name)  # by what else is known
+
+    def is_given_up(self, name):
+        """Whether nothing led to the newest certificate, though each log's driver was asked, as it is with a recovery."""
+        return name.failures >= self.council.logs
 
     def join(self, name, link):
         """Puts a change behind those that are shown, each of which goes on from the one before it."""
@@ -297,7 +304,7 @@ class Site:
                 name.next_try = max(now, self.plan.begins(clock) + self.plan.grace / 2)
             if name.epoch + self.each <= clock and now >= name.next_try and name.tries < MOST_TRIES:
                 self.ask(name, clock, now)
-            if name.before and now >= self.noted_at + self.plan.length / LAST_PAUSE:
+            if name.before and not self.is_given_up(name) and now >= self.noted_at + self.plan.length / LAST_PAUSE:
                 self.note(now)
             self.show_keys(name, now)
             self.look(name, clock)
@@ -321,7 +328,7 @@ class Site:
         if now < self.noted_at + self.plan.grace / 2:
             return
         self.noted_at = now
-        wanted = [name for name in self.names.values() if name.before]
+        wanted = [name for name in self.names.values() if name.before and not self.is_given_up(name)]
         for name in wanted:
             if name.since >= name.epoch + 1:  # all was asked for, and did not lead there
                 name.since = read_confirmation(name.before).epoch + 1
@@ -331,12 +338,12 @@ class Site:
         self.ways.send(f"L{next(self.note_turn) % self.council.logs}", messages.note_of(told).hex())
 
     def look(self, name, clock):
-        """Tells where the newest confirmation falls behind the clock, and where it does so no more."""
+        """Tells where the newest confirmation falls behind the clock, though it was asked for, and where it does so no more."""
         is_behind = clock - name.epoch > BEHIND + self.each
-        if is_behind and name.name not in self.told:
+        if is_behind and name.tries > 2 and name.name not in self.told:
             self.told.add(name.name)
-            self.tell(f"of {name.name} nothing newer than epoch {name.epoch} came, and the clock's is {clock}: "
-                      + (name.trouble or "the last good one is shown"), 3)
+            newest = f"nothing newer than epoch {name.epoch} came" if name.confirmed else "nothing is confirmed"
+            self.tell(f"of {name.name} {newest}, and the clock's is {clock}: {name.trouble or 'no answer comes'}", 3)
         elif not is_behind and name.name in self.told:
             self.told.discard(name.name)
             self.tell(f"of {name.name} epoch {name.epoch} is confirmed", 6)
@@ -366,7 +373,8 @@ class Site:
             if name.trouble:
                 yield f"  {name.trouble}"
             if name.before:
-                yield "  what leads to its newest certificate is looked for"
+                yield "  " + ("no client goes along to its newest certificate: it is a recovery" if self.is_given_up(name)
+                              else "what leads to its newest certificate is looked for")
 
     def metrics(self, now):
         """Each metric with its labels, and its value."""
