@@ -316,6 +316,7 @@ class LogDriver(Driver):
         for epoch, when in self.store.ending_times():
             self.endings.ended(epoch, when)
         self.epoch, self.facts, self.opened, self.unsure = None, None, None, True
+        self.early = collections.Counter()  # by party: how often it proposed before the time
         self.clear()
 
     def connected(self, named):
@@ -363,6 +364,7 @@ class LogDriver(Driver):
             self.stated = True
         if message.kind == messages.PROPOSE and now < self.schedule.begins(self.epoch) - 2 * self.schedule.window:
             early = self.schedule.begins(self.epoch) - now
+            self.early[name] += 1
             self.once(("early", self.epoch), f"{name} proposes epoch {self.epoch} {early:.1f} s before its time", now)
         if self.next_again is None or self.next_again > now + self.schedule.again:
             self.next_again, self.interval = now + self.schedule.again, self.schedule.again
