@@ -28,6 +28,8 @@ ORDINARY = ("L5", "L6")
 # How many epochs are looked back on for how many leaves one takes.
 LOOKED_BACK = 8
 ORDERS = ("propose", "pass", "roll")
+# How many may lie.
+MOST_LIARS = 2
 # The sender of what a driver gives its own party.
 DRIVER = "driver"
 
@@ -331,6 +333,7 @@ class LogDriver(Driver):
         """Forgets what was done in the epoch before."""
         self.voted, self.stated, self.proposed, self.assembled = None, False, False, None
         self.endable, self.listening, self.next_again, self.interval, self.stop = None, None, None, self.schedule.again, None
+        self.claimed = None  # since when others say that they have a proposal, which did not come
 
     def open(self, epoch, now):
         """An epoch is open at the log."""
@@ -531,7 +534,7 @@ class LogDriver(Driver):
     def pass_by(self, now):
         """Passes where the one whose turn it is has been silent for the grace, and no other has its proposal, as far as they are
         reached, and so many are, behind the grace too, that the epoch can be skipped; whether it does."""
-        if self.voted or self.proposed or self.stated or now < self.due() + self.schedule.grace:
+        if self.voted or self.proposed or self.stated or now < self.due() + self.schedule.grace or self.comes(now):
             return False
         if self.listening is None or now >= self.listening + 2 * self.schedule.hearing:
             self.listening = now
@@ -543,6 +546,16 @@ class LogDriver(Driver):
         self.listening = None
         self.order(f"pass {self.party}")
         return True
+
+    def comes(self, now):
+        """Whether a proposal is on its way, as others tell: it may wait behind much else, which notes pass by. If three say that
+        they have one, somebody honest does; fewer are believed for a grace."""
+        have = sum(note.proposals > 0 for note, _ in self.others(self.opened).values())
+        if not have:
+            self.claimed = None
+        elif self.claimed is None:
+            self.claimed = now
+        return have > MOST_LIARS or (have > 0 and now < self.claimed + self.schedule.grace)
 
     def again(self, now):
         """Gives again what was said, where the epoch should have ended, less and less often, and tells where it cannot end."""
@@ -564,16 +577,22 @@ class LogDriver(Driver):
         since = now - max(2 * self.schedule.length, 4 * self.schedule.grace)
         return {self.number} | {int(party[1:]) for party, when in self.seen.items() if party[0] == "L" and when >= since}
 
+    def stated_ones(self):
+        """The logs that stated in the open epoch, as they tell."""
+        others = {int(party[1:]) for party, (note, _) in self.others(self.opened).items() if note.stated}
+        return others | ({self.number} if self.stated else set())
+
     def name_stop(self, now):
         """Names an epoch that cannot end, by what those have said who are reached."""
         reached = self.reached(now)
-        is_stopped = now > self.due() + 2 * self.schedule.grace and not self.facts.can_end(reached)
-        if not is_stopped:
+        if now <= self.due() + 2 * self.schedule.grace or self.facts.can_end(reached, self.stated_ones()):
             self.stop = None
             return
         silent = [f"L{log}" for log in range(self.council.logs) if log not in reached]
         two = [f"L{log}" for log, what, _ in self.facts.conflicts() if what.startswith("proposed")]
         why = f"{two[0]} proposed two things" if two else "too few logs are reached"
+        if not two and len(reached) >= self.council.quorum:
+            why = f"{len(self.facts.voters())} logs voted, and too many passed"
         self.stop = f"epoch {self.epoch} cannot end: {why}; not heard of: {', '.join(silent) or 'none'}"
         self.once(("stop", self.epoch, why), self.stop, now, 2)
 

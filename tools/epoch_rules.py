@@ -103,18 +103,18 @@ class Facts:
             if votes and stated:
                 yield log, "stated another vote than its own", [votes[0], stated[0]]
 
-    def can_end(self, reached):
+    def can_end(self, reached, said):
         """Whether the epoch can end by what these logs have done and may still do: each that has neither voted nor stated votes,
-        or states that it did not, and each voter may state its vote."""
-        voted = self.voters()
-        able = set(reached) | set(voted) | set(self.statuses)
-        undone = {log for log in reached if log not in voted and log not in self.statuses}
+        or states that it did not, and each voter may state its vote. Of some it is said that they stated: one who is to count the
+        statuses sends its own to nobody."""
+        voted, stated = self.voters(), {**dict.fromkeys(said), **{log: value for log, (value, _) in self.statuses.items()}}
+        able = set(reached) | set(voted) | set(stated)
+        undone = {log for log in reached if log not in voted and log not in stated}
         if undone:
             return len(able) >= min(self.council.quorum, self.council.enough)
         if self.ending():
             return True
-        values = [voted.get(log) if log in voted else self.statuses[log][0] for log in able if log in voted or log in self.statuses]
-        return self.council.excludes(values)
+        return self.council.excludes([voted[log] if log in voted else stated[log] for log in able])
 
 
 # ---- when
