@@ -495,6 +495,10 @@ class LogDriver(Driver):
     def due(self):
         return due(self.schedule, self.epoch, self.opened, self.endings.paced(self.epoch))
 
+    def due_to_others(self):
+        """When the proposal is due as others may see it: not before that and the grace does the log pass."""
+        return max(self.due(), due(self.schedule, self.epoch, self.opened, self.endings.may_be_paced(self.epoch)))
+
     def act(self, now):
         if self.unsure:
             self.order(messages.probe().hex())
@@ -534,27 +538,28 @@ class LogDriver(Driver):
             return False
         if not is_late:
             return True
-        fresh = [note for note, other in self.dues(self.opened) if now <= other + window and not note.stated]
+        fresh = [note for note, other in self.dues(self.opened, self.endings.paced(self.epoch))
+                 if now <= other + window and not note.stated]
         if len(fresh) + 1 < self.council.quorum:
             self.ask("logs", now)
             return False
         return True
 
-    def dues(self, since):
+    def dues(self, since, paced):
         """The notes of others of the open epoch, heard since then, and when its proposal was due there."""
-        paced = self.endings.paced(self.epoch)
         return [(note, due(self.schedule, self.epoch, heard - note.open_for / 1000, paced)) for note, heard in self.others(since).values()]
 
     def pass_by(self, now):
         """Passes where the one whose turn it is has been silent for the grace, and no other has its proposal, as far as they are
         reached, and so many are, behind the grace too, that the epoch can be skipped; whether it does."""
-        if self.voted or self.proposed or self.stated or now < self.due() + self.schedule.grace or self.comes(now):
+        if self.voted or self.proposed or self.stated or now < self.due_to_others() + self.schedule.grace or self.comes(now):
             return False
         if self.listening is None or now >= self.listening + 2 * self.schedule.hearing:
             self.listening = now
             self.send_note("logs", True, now)
             return False
-        behind = [note for note, other in self.dues(self.listening) if now >= other + self.schedule.grace]
+        behind = [note for note, other in self.dues(self.listening, self.endings.may_be_paced(self.epoch))
+                  if now >= other + self.schedule.grace]
         if now < self.listening + self.schedule.hearing or len(behind) + 1 < self.council.enough:
             return False
         self.listening = None
@@ -600,7 +605,7 @@ class LogDriver(Driver):
     def name_stop(self, now):
         """Names an epoch that cannot end, by what those have said who are reached."""
         reached = self.reached(now)
-        if now <= self.due() + 2 * self.schedule.grace or self.facts.can_end(reached, self.stated_ones()):
+        if now <= self.due_to_others() + 2 * self.schedule.grace or self.facts.can_end(reached, self.stated_ones()):
             self.stop = None
             return
         silent = [f"L{log}" for log in range(self.council.logs) if log not in reached]

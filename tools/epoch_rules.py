@@ -4,6 +4,8 @@ import collections
 
 import party_messages as messages
 
+# How many epochs logs may be apart in what they see of an outage.
+APART = 2
 # How many proposals of one epoch are kept: more than one show that who made them follows no rule.
 MOST_PROPOSALS = 4
 
@@ -137,11 +139,13 @@ def waits(schedule, epoch, opened):
 
 class Endings:
     """When epochs ended here, as far as it tells whether there was an outage: no epoch ended for as long as each log has a turn.
-    Behind one, each log proposes at the schedule's pace once."""
+    Behind one, each log proposes at the schedule's pace once. Where it lasted nearly so long, others may see one, or its end, that
+    this one does not: so it passes then as if there were one, which is later."""
 
     def __init__(self, schedule, logs):
         self.schedule, self.logs = schedule, logs
-        self.last, self.outage = None, None  # the newest that ended here, and when; the one that ended an outage
+        self.last = None  # the newest that ended here, and when
+        self.outage, self.doubt = None, None  # the epoch that ended an outage; that ended what may be one to others
 
     def ended(self, epoch, when):
         before = self.schedule.begins(epoch)
@@ -149,11 +153,17 @@ class Endings:
             before = max(before, self.last[1])
         if when - before >= self.logs * self.schedule.length:
             self.outage = epoch
+        if when - before >= (self.logs - APART) * self.schedule.length:
+            self.doubt = epoch
         self.last = epoch, when
 
     def paced(self, epoch):
         """Whether a turn waits for the clock's next epoch."""
         return self.outage is not None and self.outage < epoch <= self.outage + self.logs
+
+    def may_be_paced(self, epoch):
+        """Whether another log's turn may wait for the clock's next epoch, as that one sees it."""
+        return self.doubt is not None and self.doubt < epoch <= self.doubt + self.logs + APART
 
     def opened(self, epoch):
         """When the epoch was opened here, where that is known."""
