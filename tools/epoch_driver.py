@@ -448,12 +448,11 @@ class LogDriver(Driver):
         if note.party[0] != "L" or self.epoch is None:
             return
         if note.epoch == self.epoch:
-            hands_out = self.hands_out(now)
-            if hands_out and note.proposals < len(self.facts.proposals):
+            if note.proposals < len(self.facts.proposals):
                 for message in self.facts.proposals.values():
                     self.link.send(note.party, message.data.hex())
             if note.asks:
-                self.give_again_to(note.party, hands_out)
+                self.give_again_to(note.party)
         if note.asks:
             self.link.send(note.party, messages.note_of(self.note(False, now)).hex())
 
@@ -467,23 +466,10 @@ class LogDriver(Driver):
         if note.epoch > self.epoch:
             self.ask(note.party, now)
 
-    def give_again_to(self, to, hands_out):
-        """Gives again what the log itself said in the open epoch; its proposal only where that is handed out."""
+    def give_again_to(self, to):
+        """Gives again what the log itself said in the open epoch."""
         for _, line in self.store.sent(self.epoch):
-            if hands_out or not line.startswith(f"{messages.PROPOSE:02x}"):
-                self.link.send(to, line)
-
-    def hands_out(self, now):
-        """Whether proposals of the open epoch are handed to who lacks them. When others may be about to pass, it is first asked who
-        did: where one did, and not three have the proposal, it is kept back, so that all pass; else all get it, and vote."""
-        if not self.facts.proposals or now <= self.due() + self.schedule.grace / 2:
-            return True
-        fresh = [note for note, _ in self.others(now - 2 * self.schedule.hearing).values()]
-        if len(fresh) + 1 < self.council.enough:
-            self.ask("logs", now)
-            return False
-        have = sum(note.proposals > 0 for note in fresh)
-        return have + 1 > MOST_LIARS or not any(note.stated for note in fresh)
+            self.link.send(to, line)
 
     def others(self, since):
         """The newest notes of other logs, heard since then, which are of the epoch that is open."""
@@ -584,9 +570,8 @@ class LogDriver(Driver):
             return
         self.interval = min(2 * self.interval, max(self.schedule.again, self.schedule.length / 2))
         self.next_again = now + self.interval
-        hands_out = self.hands_out(now)
-        self.give_again_to("logs", hands_out)
-        if hands_out and (len(self.facts.ballots) > 1 or len(self.facts.proposals) > 1):
+        self.give_again_to("logs")
+        if len(self.facts.ballots) > 1 or len(self.facts.proposals) > 1:
             for message in self.facts.proposals.values():
                 self.link.send("logs", message.data.hex())
         self.send_note("logs", True, now)
