@@ -24,7 +24,7 @@ BY_HAND = "/usr/local/lib/arpki"
 LETTERS = {"authority": "A", "owner": "D"}
 NEEDED = ["dpkg-deb", "dpkg-shlibdeps"]
 MAINTAINER = "The Polgjask developers <polgjask@lists.example.net>"
-SUMMARY = "public-key infrastructure in which one or two broken authorities are harmless"
+SUMMARY = "public-key infrastructure that stands two broken authorities or logs"
 DESCRIPTION = """ Polgjask is a public-key infrastructure in which one or two broken authorities
  or logs cannot make a client accept a false certificate. The package has its
  programs arpki, arpki_crowd and arpki_party, which are proved to give the
