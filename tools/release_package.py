@@ -151,11 +151,18 @@ def tools():
     for line in (TOP / "docs/DEPLOY.md").read_text().splitlines():
         of = re.fullmatch(rf" +install -m (0\d+) (?:-D )?-t {BY_HAND} (.+)", line)
         if of:
-            found += [(TOP / word, int(of[1], 8)) for word in of[2].split()]
+            found += [(TOP / path, int(of[1], 8)) for word in of[2].split() for path in expanded(word)]
     missing = [str(path) for path, _ in found if not path.exists()]
     if not found or missing:
         raise release_parts.Missing(f"docs/DEPLOY.md installs no tools to {BY_HAND}, or some that are not there: {' '.join(missing)}")
     return found
+
+
+def expanded(word):
+    """The words that a shell makes of one with braces, as tools/{one,two}.py."""
+    head, brace, rest = word.partition("{")
+    inner, _, tail = rest.partition("}")
+    return [head + part + tail for part in inner.split(",")] if brace else [word]
 
 
 def for_package(text):
