@@ -27,6 +27,13 @@ def told(top, *words):
     return run.stdout.decode(errors="replace").strip()
 
 
+def unknown(top, paths):
+    """Which of the files git does not know, where this is a clone of it."""
+    if git(top, "rev-parse", "--git-dir").returncode:
+        return []
+    return [path for path in paths if git(top, "ls-files", "--error-unmatch", "--", path).returncode]
+
+
 def is_as_in(top, commit):
     """Whether the release that stands in a folder is that of a commit, byte for byte, with nothing beside it."""
     same = git(top, "diff", "--quiet", "--no-ext-diff", "--no-textconv", commit, "--", *PATHS).returncode == 0

@@ -16,7 +16,7 @@ CRATES = [*PROGRAMS, "arpki_c"]
 # Files of this folder that stand in a release or go into it, and where they stand in it ('': nowhere).
 HEADER, MAP = "c-library/include/arpki.h", "c-library/arpki.map"
 FILES = {HEADER: "include/arpki.h", MAP: "", "LICENSE-APACHE": "LICENSE-APACHE", "LICENSE-MIT": "LICENSE-MIT"}
-# What stands there where a module for pages was built; all of it, or none.
+# What stands there where a module for pages was built.
 MODULE = "web/arpki.wasm"
 MODULES = {MODULE: "web/arpki.wasm", "web/arpki_rule.wasm": "web/arpki_rule.wasm", "web/arpki.mjs": "web/arpki.mjs"}
 # What removes symbols, and keeps the section in which the compiler names the logic that the program was proved in.
@@ -37,6 +37,11 @@ def newest_version():
     return found[1]
 
 
+def modules(top):
+    """The files of a module for pages that stand in a folder; none where the module itself does not."""
+    return [path for path in MODULES if (top / path).is_file()] if (top / MODULE).is_file() else []
+
+
 def mode_of(path):
     """The rights of a file of a release."""
     return 0o755 if path.startswith("bin/") else 0o644
@@ -55,7 +60,7 @@ class Provenance:
 
     @classmethod
     def of(cls, kit, version):
-        files = [*FILES, *(MODULES if (TOP / MODULE).exists() else ())]
+        files = [*FILES, *modules(TOP)]
         return cls(version, kit.name, kit.logic, kit.compiler, {crate: kits.sources(crate) for crate in CRATES},
                    {path: file_digest(TOP / path) for path in files})
 
@@ -86,8 +91,8 @@ class Provenance:
         if not parts or LIBRARY in parts:
             own = self.files if not parts else (HEADER, MAP)
             changed += [path for path in own if not (top / path).is_file() or file_digest(top / path) != self.files.get(path)]
-        if not parts and (top / MODULE).exists() != (MODULE in self.files):
-            changed.append(MODULE)
+        if not parts:
+            changed += sorted(set(modules(top)) - set(self.files))
         return changed
 
 
