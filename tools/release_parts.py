@@ -18,7 +18,8 @@ HEADER, MAP = "c-library/include/arpki.h", "c-library/arpki.map"
 FILES = {HEADER: "include/arpki.h", MAP: "", "LICENSE-APACHE": "LICENSE-APACHE", "LICENSE-MIT": "LICENSE-MIT"}
 # What stands there where a module for pages was built.
 MODULE = "web/arpki.wasm"
-MODULES = {MODULE: "web/arpki.wasm", "web/arpki_rule.wasm": "web/arpki_rule.wasm", "web/arpki.mjs": "web/arpki.mjs"}
+MODULES = {MODULE: "web/arpki.wasm", "web/arpki_rule.wasm": "web/arpki_rule.wasm", "web/arpki.mjs": "web/arpki.mjs",
+           "web/made.json": "web/made.json"}
 # What removes symbols, and keeps the section in which the compiler names the logic that the program was proved in.
 STRIP = "--strip-all-gnu"
 LICENSE = "Apache-2.0 OR MIT"
