@@ -62,19 +62,17 @@ def wrong_in_history(said, top):
     """What is wrong with a release of other sources than those that stand here, and what was looked at."""
     if git(top, "rev-parse", "--git-dir").returncode:
         raise NoHistory("its sources changed since, and this is no clone of git, so nothing tells of which commit it is")
-    commit = told(top, "log", "-1", "--format=%H", "--", *PATHS)
-    if not commit:
-        return ["the release is of other sources than these, and no commit has it: make it anew, or remove it"], "no commit has it"
-    text = f"it is that of commit {commit[:12]}, whose sources are those that it names"
-    if not is_as_in(top, commit):
-        return [f"release/ or release.sha256 is not that of commit {commit[:12]}, and its sources changed since: "
-                "take that one back (git checkout), or make the release anew"], "it changed, and its sources did"
-    changed = changed_at(said, top, commit)
-    if changed and told(top, "rev-parse", "--is-shallow-repository") == "true":
+    commits = told(top, "log", "--format=%H", "--", *PATHS).split()
+    same = [commit for commit in commits if is_as_in(top, commit)]
+    if not same:
+        return ["no commit has this release, and its sources changed since: take that of a commit back (git checkout), or make it anew"], "no commit has it"
+    found = [changed_at(said, top, commit) for commit in same]
+    if all(found) and told(top, "rev-parse", "--is-shallow-repository") == "true":
         raise NoHistory("its sources changed since, and the history ends here before the commit that put it there: git fetch --unshallow")
-    if changed:
-        return [f"commit {commit[:12]} put this release there, and its sources are others than those of the release "
-                f"({', '.join(changed)}), so the gate never compared it with a build: make it anew"], "its commit has other sources"
+    if all(found):
+        return [f"commit {same[0][:12]} put this release there, and its sources are others than those of the release "
+                f"({', '.join(found[0])}), so the gate never compared it with a build: make it anew"], "its commit has other sources"
+    text = f"it is that of commit {same[found.index([])][:12]}, whose sources are those that it names"
     if git(top, "rev-parse", "--verify", "--quiet", BASE).returncode:
         return [], text + "; there is no origin/main here, so that the gate passed that commit is taken from its history"
     if not is_as_in(top, BASE):
