@@ -222,7 +222,7 @@ arpki_tls_client *arpki_tls_client_new(const arpki_tls_settings *settings);
 void arpki_tls_client_free(arpki_tls_client *client);
 
 /* Has a context judge servers: it gets the extension, and a certificate callback (SSL_CTX_set_cert_verify_callback), so set none of
- * your own. Call it once for each context, before the first SSL_new. 1: done; 0: it could not be. */
+ * your own. Call it for each context, before the first SSL_new; a second call changes nothing. 1: done; 0: it could not be. */
 int arpki_tls_use(arpki_tls_client *client, SSL_CTX *ctx);
 
 /* Tells which name a connection is to; NULL, where `names_by_sni` is set: the one that is told in its SNI. It sets the SNI and the host that OpenSSL verifies, reads the pin, and takes away a session

@@ -589,6 +589,8 @@ static int verify(X509_STORE_CTX *store, void *arg)
 
 int arpki_tls_use(arpki_tls_client *client, SSL_CTX *ctx)
 {
+    if (SSL_CTX_get_ex_data(ctx, client_index) == client)
+        return 1;
     if (SSL_CTX_get_ex_data(ctx, client_index) != NULL || !SSL_CTX_set_ex_data(ctx, client_index, client)
         || !SSL_CTX_add_custom_ext(ctx, ARPKI_TLS_EXTENSION, SSL_EXT_CLIENT_HELLO | SSL_EXT_TLS1_3_CERTIFICATE, say, said, client,
                                    take, client))

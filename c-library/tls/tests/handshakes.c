@@ -54,7 +54,7 @@ static const struct word {
     WORD(sigalgs), WORD(calm), WORD(fail), WORD(alpn), WORD(clear),
 };
 
-static trust trusted;
+static arpki_tls_directory trusted;
 static const char *root;
 
 /* ---- memory that fails: the objects are linked with --wrap */

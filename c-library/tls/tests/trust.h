@@ -1,14 +1,15 @@
-/* What the programs of this folder read: a directory (docs/FORMATS.md, the lines of `check`), whole files, and a folder of pins. */
+/* What the programs of this folder read: whole files, and a directory. */
 #ifndef TRUST_H
 #define TRUST_H
 
-#include <arpki.h>
+#include "arpki_tls_files.h"
+
 #include <stdio.h>
 #include <stdlib.h>
 #include <string.h>
 
 /* The bytes of a file, in a block of malloc with a zero behind them. NULL: it cannot be read. */
-static uint8_t *read_file(const char *path, size_t *len)
+static inline uint8_t *read_file(const char *path, size_t *len)
 {
     FILE *file = fopen(path, "rb");
     uint8_t *data = NULL;
@@ -25,50 +26,14 @@ static uint8_t *read_file(const char *path, size_t *len)
     return data;
 }
 
-typedef struct trust {
-    arpki_key logs[16], authorities[16];
-    arpki_keys keys;
-} trust;
-
-static int read_hex(const char *text, uint8_t *out, size_t len)
+/* Reads a directory's file. 1: read. */
+static inline int read_directory(const char *path, arpki_tls_directory *directory)
 {
-    for (size_t i = 0; i < len; i++) {
-        unsigned byte;
-        if (sscanf(text + 2 * i, "%2x", &byte) != 1)
-            return 0;
-        out[i] = (uint8_t)byte;
-    }
-    return 1;
-}
-
-/* Reads a directory. 1: read. */
-static int read_directory(const char *path, trust *t)
-{
-    static const arpki_entry none[1];
     size_t len;
-    unsigned count, quorum;
-    char *text = (char *)read_file(path, &len), *line, *rest = NULL;
-    arpki_key *to = NULL;
-    size_t *counted = NULL;
-    memset(t, 0, sizeof *t);
-    t->keys = (arpki_keys){t->logs, 0, t->authorities, 0, none, 0, 0};
-    for (line = text == NULL ? NULL : strtok_r(text, "\n", &rest); line != NULL; line = strtok_r(NULL, "\n", &rest)) {
-        if (sscanf(line, "logs %u %u", &count, &quorum) == 2) {
-            t->keys.quorum = quorum;
-            to = t->logs;
-            counted = &t->keys.logs_len;
-        } else if (sscanf(line, "authorities %u", &count) == 1) {
-            to = t->authorities;
-            counted = &t->keys.authorities_len;
-        } else if (strncmp(line, "key ", 4) == 0 && to != NULL && *counted < 16 && strlen(line) == 116) {
-            if (!read_hex(line + 4, to[(*counted)++].bytes, ARPKI_KEY_SIZE))
-                break;
-        } else {
-            break;
-        }
-    }
+    uint8_t *text = read_file(path, &len);
+    int done = text != NULL && arpki_tls_read_directory((const char *)text, len, directory);
     free(text);
-    return line == NULL && text != NULL;
+    return done;
 }
 
 #endif
