@@ -61,7 +61,8 @@ static int make_folder(char *path)
             mkdir(path, 0700);
             *at = '/';
         }
-    return mkdir(path, 0700) == 0 || errno == EEXIST;
+    struct stat is;
+    return (mkdir(path, 0700) == 0 || errno == EEXIST) && stat(path, &is) == 0 && S_ISDIR(is.st_mode);
 }
 
 /* The library lies beside this program. */
