@@ -122,7 +122,7 @@ static const char *renew(kept_proof *proof, const char *path)
         proof->changed = is.st_mtim;
         proof->told = 0;
     }
-    return arpki_tls_read_proof(proof->bytes, proof->len, &read) ? NULL : "is not of the form";
+    return arpki_tls_read_proof(proof->bytes, proof->len, &read) ? NULL : "has no staple, or is not of the form";
 }
 
 /* Whether a proof is too old by the schedule. */

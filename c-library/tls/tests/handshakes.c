@@ -6,9 +6,9 @@
  * certificate of the second by today's rules. It sends 24 bytes once the handshake is over, without looking at what
  * arpki_tls_finish says, unless the line has `calm=1`: so what the server got tells whether it was refused in the handshake. For each line a line is written:
  *
- *     <verdict> <reason> <outcome> <check> got <bytes of requests> epoch <e> serial <s> resumed <0 or 1> said <hex> shown <bytes>
+ *     <verdict> <reason> <outcome> <check> got <bytes of requests> epoch <e> serial <s> resumed <0 or 1> said <hex> shown <bytes> alert <n>
  *
- * Epochs are seconds from zero on. The status is 1 where a line could not be done. */
+ * The alert is the last one that the server was sent, or 0. Epochs are seconds from zero on. The status is 1 where a line could not be done. */
 #include "arpki_tls.h"
 #include "trust.h"
 
@@ -96,6 +96,15 @@ typedef struct server {
     uint8_t said[ARPKI_TLS_MOST_HELLO];
     size_t said_len, shown;
 } server;
+
+static int alerted;
+
+static void note_alert(const SSL *ssl, int where, int value)
+{
+    (void)ssl;
+    if ((where & SSL_CB_READ_ALERT) == SSL_CB_READ_ALERT && (value >> 8) == 2)
+        alerted = value & 0xff;
+}
 
 static int give(void *arg, const arpki_tls_asked *asked, uint8_t **bytes, size_t *len)
 {
@@ -221,6 +230,7 @@ static SSL_CTX *server_context(const what *w, server *s)
         SSL_CTX_set_psk_find_session_callback(ctx, find_psk);
     if (w->alpn != NULL)
         SSL_CTX_set_alpn_select_cb(ctx, pick_h2, NULL);
+    SSL_CTX_set_info_callback(ctx, note_alert);
     SSL_CTX_set_session_id_context(ctx, (const unsigned char *)"test", 4);
     static const unsigned char keys[80] = {1};
     SSL_CTX_set_tlsext_ticket_keys(ctx, (void *)(uintptr_t)keys, sizeof keys); /* so that another context resumes its sessions */
@@ -460,6 +470,7 @@ static void handshake(const what *w, SSL *client, SSL *served, server *s)
     }
     if (w->early != NULL && w->resume != NULL)
         SSL_write_early_data(client, request, sizeof request, &written);
+    alerted = 0;
     fails_at = w->fail == NULL ? 0 : strtol(w->fail, NULL, 10);
     asked_for = 0;
     go_on(client, served, &got);
@@ -475,7 +486,7 @@ static void handshake(const what *w, SSL *client, SSL *served, server *s)
            (unsigned long long)report.epoch, (unsigned long long)report.serial, report.resumed);
     for (size_t i = 0; i < s->said_len; i++)
         printf("%02x", s->said[i]);
-    printf(" shown %zu\n", s->shown);
+    printf(" shown %zu alert %d\n", s->shown, alerted);
     SSL_shutdown(client);
 }
 
