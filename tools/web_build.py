@@ -9,6 +9,7 @@ import gzip
 import hashlib
 import json
 import pathlib
+import re
 import shutil
 import subprocess
 import sys
@@ -21,12 +22,14 @@ WEB = TOP / "web"
 OUT = WEB / "out"
 MADE = WEB / "made.json"
 # The words of the compiler. Those that begin with -mllvm are the kit's own for x86-64, as far as they speak of no processor.
-# Without -fno-slp-vectorize LLVM 22.1 makes a module that answers wrongly (docs/DECISIONS.md, "In a web page"); -msimd128 is worth a
-# factor of more than two. Whoever changes a word runs `tools/web --test`.
+# Without -fno-slp-vectorize LLVM 22.1 makes a module that answers wrongly (docs/DECISIONS.md, "In a web page"): its vectorizer brings in
+# masks of 32 bytes, which WIDE finds. -msimd128 is worth a factor of more than two. Whoever changes a word runs `tools/web --test`.
 COMPILER = ["--target=wasm64-unknown-unknown", "-O3", "-msimd128", "-mbulk-memory", "-fno-slp-vectorize",
             *(word for name in ("no-trap-after-noreturn", "trap-unreachable", "disable-machine-licm", "disable-postra-machine-licm",
                                 "sink-common-insts=false") for word in ("-mllvm", f"-{name}")),
             "-Wno-override-module"]
+# A mask of more than 16 bytes as a number, in LLVM's text: of such a one LLVM 22.1 may make wrong code.
+WIDE = re.compile(r"bitcast <(?:1[7-9]|[2-9]\d|\d{3,}) x i1>")
 LINKER = ["-mwasm64", "--no-entry", "--export-memory", "--stack-first", "-z", "stack-size=1048576", "--strip-all"]
 HEAP = ["heap_take", "heap_give", "heap_limit", "heap_watch", "heap_watched"]
 # Each module, its crate, and what it shows beside the heap.
@@ -102,10 +105,14 @@ def compile_crate(crate, of, room):
 
 
 def link(name, module, shown, of, room):
-    """Makes a module of WebAssembly of a module of LLVM."""
+    """Makes a module of WebAssembly of a module of LLVM: by all passes on LLVM's code first, which is looked at, and then by the rest."""
     linker = room / "wasm-ld"
     linker.symlink_to(of / "toolchain/bin/clang")
-    make(of / "toolchain/bin/clang", *COMPILER, "-c", "-x", "ir", module, "-o", room / "code.o")
+    make(of / "toolchain/bin/clang", *COMPILER, "-S", "-emit-llvm", "-x", "ir", module, "-o", room / "code.ll")
+    wide = WIDE.search((room / "code.ll").read_text())
+    if wide:
+        sys.exit(f"web: the code of {name} has '{wide[0]}', of which this compiler may make a wrong module: docs/DECISIONS.md, \"In a web page\"")
+    make(of / "toolchain/bin/clang", *COMPILER, "-Xclang", "-disable-llvm-passes", "-c", "-x", "ir", room / "code.ll", "-o", room / "code.o")
     make(of / "toolchain/bin/clang", *COMPILER, "-ffreestanding", "-Wall", "-Wextra", "-c", WEB / "heap.c", "-o", room / "heap.o")
     exports = [f"--export={function}" for function in [*shown, *HEAP]]
     make(linker, *LINKER, *exports, room / "code.o", room / "heap.o", "-o", WEB / name)

@@ -254,7 +254,7 @@ async function copy_link() {
   history.replaceState(null, "", hash);
   try {
     await navigator.clipboard.writeText(location.href);
-    at("linked").textContent = "Copied; it stands in the address too.";
+    at("linked").textContent = location.protocol === "file:" ? "Copied. Who has this file puts what begins with #run behind its address." : "Copied.";
   } catch {
     at("linked").textContent = "The link stands in the address: copy it from there.";
   }
