@@ -1,0 +1,17 @@
+pub mod Chains
+pub mod Changed
+pub mod Ended
+pub mod Gates
+pub mod Journals
+pub mod Loading
+pub mod Mended
+pub mod NotRefused
+pub mod Pieces
+pub mod Readings
+pub mod Recording
+pub mod Rereading
+pub mod Sectors
+pub mod Spelled
+pub mod Splits
+pub mod Stages
+pub mod Witnessed

@@ -1,0 +1,9 @@
+pub mod Appending
+pub mod Damage
+pub mod Journal
+pub mod Loaded
+pub mod Mending
+pub mod Parts
+pub mod Refusals
+pub mod Replays
+pub mod Settled
