@@ -1,0 +1,6 @@
+pub mod Bits
+pub mod Hashing
+pub mod Learning
+pub mod OneFoot
+pub mod Placing
+pub mod Answering

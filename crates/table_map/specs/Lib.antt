@@ -1,0 +1,4 @@
+pub mod Tables
+pub mod Digests
+pub mod Maps
+pub mod Judging
