@@ -1,5 +1,5 @@
 -- What a directory learns moves neither its text nor its digest.
-use Rattle.std.proofs.Common.{◌≡◌, ℕ, zero, suc, ◌<◌, ◌≤◌, List, [], ◌∷◌, ◌++◌, length, refl, ap, ◌∙◌, arith}
+use Rattle.std.proofs.Common.{◌≡◌, ℕ, zero, suc, ◌<◌, ◌≤◌, List, [], ◌∷◌, ◌++◌, length, bytes_eq, cond, true, false, refl, ap, ◌∙◌, arith}
 use Rattle.sha2.specs.Sha256.{sha256}
 use Rattle.ar_base.specs.Prefixes.{BeginsWith}
 use Rattle.ar_council.specs.Council.{Council, council_of}
@@ -7,8 +7,10 @@ use Rattle.ar_council.proofs.Members.{council-all}
 use Rattle.ar_statement.specs.Claims.{authority_party, log_party}
 use Rattle.lms_tree.specs.declared.public_key.LmsPublic.{LmsPublic}
 use Rattle.party_keys.specs.Directory.{Directory, HaveKeys, IsDirectory, keys_at}
-use Rattle.party_keys.specs.Learning.{Announced, after_all}
+use Rattle.party_keys.specs.Learning.{Announced, after_all, after_learning}
 use Rattle.party_keys.proofs.Growing.{all_grows}
+use Rattle.table_map.specs.Recalling.{after_lessons, lessons_under, recalled}
+use Rattle.table_map.specs.declared.recalling.Lesson.{Lesson}
 use Rattle.table_map.specs.Digests.{directory_digest, directory_text, first_text, first_texts, texts_below}
 
 -- keys behind others leave the first where it was
@@ -42,3 +44,22 @@ text-stays keys announced is =
 pub digest-stays : (keys : Directory) (announced : List Announced) → IsDirectory keys → directory_digest (after_all keys announced) ≡ directory_digest keys
 unfolding directory_digest
 digest-stays keys announced is = ap (λ text. sha256 (0x05 ∷ text)) (text-stays keys announced is)
+
+-- ---- what is recalled
+
+lessons-all : (digest : List ℕ) (keys : Directory) (lessons : List Lesson) → after_lessons digest keys lessons ≡ after_all keys (lessons_under digest lessons)
+unfolding after_lessons lessons_under
+lessons-all digest keys [] = refl
+lessons-all digest keys (lesson ∷ lessons) =
+    elim (bytes_eq lesson.under digest) as (λ b. after_lessons digest (cond b (after_learning keys lesson.note.now) keys) lessons ≡ after_all keys (cond b (lesson.note.now ∷ lessons_under digest lessons) (lessons_under digest lessons))) [
+      | true ↦ lessons-all digest (after_learning keys lesson.note.now) lessons
+      | false ↦ lessons-all digest keys lessons
+    ]
+
+-- it is what was learnt under the directory
+pub recalled-all : (keys : Directory) (lessons : List Lesson) → recalled keys lessons ≡ after_all keys (lessons_under (directory_digest keys) lessons)
+unfolding recalled
+recalled-all keys lessons = lessons-all (directory_digest keys) keys lessons
+
+pub recalled-digest : (keys : Directory) (lessons : List Lesson) → IsDirectory keys → directory_digest (recalled keys lessons) ≡ directory_digest keys
+recalled-digest keys lessons is = ap directory_digest (recalled-all keys lessons) ∙ digest-stays keys (lessons_under (directory_digest keys) lessons) is

@@ -11,6 +11,8 @@ ghost use Rattle.party_keys.specs.Learning.{Announced, after_all};
 ghost use Rattle.table_map.specs.Digests.{directory_digest, directory_text};
 ghost use Rattle.table_map.specs.Judging.{judgement_in};
 ghost use Rattle.table_map.specs.Maps.{IsPlaced, TableMap, is_placed, placed_strings};
+ghost use Rattle.table_map.specs.Recalling.{lessons_under, recalled};
+ghost use Rattle.table_map.specs.declared.recalling.Lesson.{Lesson};
 ghost use Rattle.table_map.specs.Tables.{table_key, table_of};
 ghost use Rattle.table_map.specs.declared.judging.MapJudgement.TheVariants.{Judged, OtherRoot, OtherTable};
 
@@ -56,7 +58,8 @@ pub fn a_map_judges_by_the_tables_directory()
 {}
 
 /// What a directory learns moves neither its text nor its digest, so it is that of its table, or of none, as it was: what was
-/// learnt under the directory of one table is no key under that of another.
+/// learnt under the directory of one table is no key under that of another. Of lessons, a directory recalls those that were
+/// learnt under it, and no others.
 pub fn what_is_learnt_moves_no_directory()
     ensures text { (keys : Directory) (announced : List Announced) → IsDirectory keys
         → directory_text (after_all keys announced) ≡ directory_text keys }
@@ -65,4 +68,8 @@ pub fn what_is_learnt_moves_no_directory()
     ensures placed { (m : TableMap) (table : ℕ) (path : List ℕ) (asked : Asked)
         (announced : List Announced) → IsDirectory asked.keys
         → is_placed m table (learnt asked announced).keys path ≡ is_placed m table asked.keys path }
+    ensures recalled { (keys : Directory) (lessons : List Lesson)
+        → recalled keys lessons ≡ after_all keys (lessons_under (directory_digest keys) lessons) }
+    ensures recalled_digest { (keys : Directory) (lessons : List Lesson) → IsDirectory keys
+        → directory_digest (recalled keys lessons) ≡ directory_digest keys }
 {}

@@ -9,11 +9,7 @@ pub const MOST_BITS: u8 = 24;
 
 /// The number of the table of a name, where there are 2 ^ bits tables: the first bits of the key that the name has in a
 /// table. The name may be any bytes.
-#[tactic(
-    auto,
-    unfolding(crate::specs::Tables::table_of),
-    using(crate::proofs::Bits::bits_below)
-)]
+#[tactic(auto, unfolding(crate::specs::Tables::table_of), using(crate::proofs::Bits::bits_below))]
 pub fn table_of(bits: u8, name: &[u8]) -> u32
     requires { bits ≤ 24 }
     ensures value { result ≡ tables.table_of bits name.now }
