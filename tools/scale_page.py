@@ -7,7 +7,7 @@ import math
 import typing
 
 import pages
-from hash_needs import CHAINS
+from hash_needs import CHAINS, ENTRY, NODE, blocks
 from scale_model import (DAYS, Council, Habit, Load, Types, a_year, change_bytes, confirmation_bytes, decision_bytes,
                          generations, leaves_of, likely_tree, messages, needs, roll_bytes, vote_bytes)
 from scale_runs import DOMAINS, ROLES, compared, per_compression, speed
@@ -349,6 +349,44 @@ def shared_out():
     ])
 
 
+MAPS = (10, 14, 18)  # the bits of the maps that the page has
+STEP_BYTES = 32
+SHOWN_HEAD = 4 + 3  # the number of the table, the size of a quorum, and how many logs and authorities there are
+
+
+def map_needs(bits):
+    """The compressions of a client that goes by a directory of a map: the name's key, the directory, its entry, the path."""
+    return blocks(1 + HABITS[HOURLY].name) + blocks(1 + 3 + directory()) + ENTRY + bits * NODE
+
+
+def lasts(time):
+    """A time, in seconds where they are about one."""
+    return f"{time:.2f} seconds" if 0.1 <= time < 1.5 else span(time)
+
+
+def maps():
+    rows = []
+    for bits in MAPS:
+        tables, path, shown = 2 ** bits, STEP_BYTES * bits, SHOWN_HEAD + directory()
+        root = tables * (blocks(1 + 3 + directory()) + ENTRY) + (tables - 1) * NODE
+        spent = seconds({"trees": map_needs(bits)})
+        rows.append([whole(tables), whole(NAMES * tables), whole(path), whole(shown), whole(map_needs(bits)),
+                     f"{100 * spent / verdict(COUNCIL.types):.1f}", lasts(seconds({"trees": root}))])
+    return table(["tables", f"names, {whole(NAMES)} each", "bytes of the path", "and of the directory",
+                  "compressions of a visit more", "of 100 of a verdict", "to make the root, on one processor"], rows)
+
+
+def filled():
+    rows = []
+    for bits in MAPS:
+        rows.append([whole(2 ** bits), whole(2 ** bits), whole(MOST_KEPT * 2 ** bits),
+                     lasts(seconds({"trees": MOST_KEPT * 2 ** bits * blocks(1 + HABITS[HOURLY].name)}))])
+    return (table(["tables", "hashes for one name in a table", f"for {whole(MOST_KEPT)} names in it", "on one processor"], rows)
+            + f"\n\nA table takes {whole(MOST_KEPT)} certificates, so to fill it takes "
+            f"{whole(COUNCIL.endorsers * MOST_KEPT)} endorsements, and {whole(MOST_KEPT / MOST_CHANGES)} epochs of "
+            f"{MOST_CHANGES} changes each, whether they are of one name or of many.")
+
+
 def model():
     """Of each figure the measured and the counted one of the longest run, and the greatest error of all runs."""
     lines, rows = {}, []
@@ -364,7 +402,7 @@ def model():
 
 BLOCKS = {"answer": answer, "assumed": assumed, "leaves": leaves, "keys": key_times, "bytes": byte_sizes, "sent": sent,
           "visits": visits, "rates": rates, "ratios": ratios, "costs": costs, "shares": share_table, "notes": notes,
-          "lasting": lasting, "shared": shared_out, "model": model}
+          "lasting": lasting, "shared": shared_out, "maps": maps, "filled": filled, "model": model}
 
 
 def year_of(names, epochs, asks):

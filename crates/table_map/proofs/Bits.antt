@@ -176,6 +176,13 @@ key-agrees bits name most =
     same-agree bits (table_key bits (table_of bits name)) (name_digest_of name)
     (key-number bits (table_of bits name) (bits_below bits (name_digest_of name)) (omega (arith, most)))
 
+-- of twice as many tables, that of a name is by its next bit
+pub next-bit : (bits : ℕ) (name : List ℕ) → table_of (bits + 1) name ≡ 2 * table_of bits name + bit (name_digest_of name) bits
+unfolding table_of first_bits
+next-bit bits name =
+    let next : bits + 1 ≡ suc bits = omega arith in
+    ap (λ n. first_bits n (name_digest_of name)) next
+
 -- ---- what the program computes
 
 pub no-bits : (bits : ℕ) (key : List ℕ) → bits ≡ 0 → 0 ≡ first_bits bits key

@@ -1,14 +1,14 @@
 //! Laws on the definitions of `specs/`: each is the contract of a function with an empty body.
-ghost use Rattle.std.specs.Prelude.{◌≡◌, ◌≢◌, ◌↔◌, ℕ, ◌<◌, ◌≤◌, ◌^◌, ◌++◌, List, IsTrue};
+ghost use Rattle.std.specs.Prelude.{◌≡◌, ◌≢◌, ◌↔◌, ℕ, ◌+◌, ◌*◌, ◌<◌, ◌≤◌, ◌^◌, ◌++◌, List, IsTrue};
 ghost use Rattle.ar_base.specs.Apart.{none_collide};
 ghost use Rattle.ar_names.specs.Names.{name_digest_of};
 ghost use Rattle.client_rule.specs.Meaning.{learnt};
 ghost use Rattle.client_rule.specs.Rule.{Asked, judgement};
 ghost use Rattle.client_rule.specs.declared.judgement.Judgement.{Judgement};
-ghost use Rattle.hash_tree.specs.Entries.{Agree};
+ghost use Rattle.hash_tree.specs.Entries.{Agree, bit};
 ghost use Rattle.party_keys.specs.Directory.{Directory, IsDirectory};
 ghost use Rattle.party_keys.specs.Learning.{Announced, after_all};
-ghost use Rattle.table_map.specs.Digests.{directory_digest, directory_text};
+ghost use Rattle.table_map.specs.Digests.{AreWide, OneDirectory, directory_digest, directory_text};
 ghost use Rattle.table_map.specs.Judging.{judgement_in};
 ghost use Rattle.table_map.specs.Maps.{IsPlaced, TableMap, is_placed, placed_strings};
 ghost use Rattle.table_map.specs.Recalling.{lessons_under, recalled};
@@ -37,6 +37,21 @@ pub fn under_one_root_a_name_has_one_directory()
         → IsTrue (none_collide (placed_strings one.bits (table_of one.bits name) keys path
         ++ placed_strings other.bits (table_of other.bits name) others way))
         → (one.bits ≡ other.bits) × (directory_text keys ≡ directory_text others) }
+{}
+
+/// Directories with one text are one in what they began with: the size of a quorum, how many logs and authorities there are,
+/// and the first key of each. (Keys are as wide as the program has them.)
+pub fn a_text_is_of_one_directory()
+    ensures { (keys others : Directory) → IsDirectory keys → IsDirectory others
+        → AreWide keys.logs → AreWide keys.authorities
+        → AreWide others.logs → AreWide others.authorities
+        → directory_text keys ≡ directory_text others → OneDirectory keys others }
+{}
+
+/// From 2 ^ bits tables to twice as many, the names of table t go to the tables 2t and 2t + 1, by their next bit.
+pub fn a_map_that_grows_parts_each_table()
+    ensures { (bits : ℕ) (name : List ℕ) → table_of (bits + 1) name
+        ≡ 2 * table_of bits name + bit (name_digest_of name) bits }
 {}
 
 /// Under a map a client's rule judges exactly where the directory was shown as that of the name's table, and the path shows
