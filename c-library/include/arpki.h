@@ -4,8 +4,9 @@
  * A client trusts the keys of logs and authorities (struct arpki_keys). It is given a confirmation: a message in which
  * one log and two authorities say which certificate a name has, or that it has none. arpki_judge tells what the client
  * makes of it. arpki_staple and arpki_connect also tell whether a server has the key of that certificate. arpki_follow also
- * holds it against what the client pinned of the name before. arpki_learn takes the next key of a party that went on to one, and
- * arpki_verify judges one signature (LMS, RFC 8554).
+ * holds it against what the client pinned of the name before. arpki_judge_in judges by the directory of the name's table, of
+ * many tables under one root. arpki_learn takes the next key of a party that went on to one, and arpki_verify judges one
+ * signature (LMS, RFC 8554).
  *
  * What a caller does once: fill in an arpki_keys with the keys that it ships. For each confirmation: fill in an
  * arpki_question, call arpki_judge, and go on with answer.subject where the outcome is ARPKI_ACCEPTED. Set each field of
@@ -76,7 +77,7 @@ enum {
     ARPKI_AUTHORITY = 2
 };
 
-/* The outcomes of arpki_judge, arpki_staple, arpki_connect and arpki_follow. */
+/* The outcomes of arpki_judge, arpki_staple, arpki_connect, arpki_follow and arpki_judge_in. */
 enum {
     /* The certificate is the name's. Of arpki_staple and arpki_connect: and the server has its key. Of arpki_follow: and it is the newest
      * that is pinned, or the links lead to it from there, or the name was not pinned; `keep` says which. */
@@ -115,7 +116,18 @@ enum {
     /* The pin is none of this name. `check` says why (ARPKI_PIN_...). */
     ARPKI_BAD_PIN = 13,
     /* The bytes of the links are not the texts of at most 4,096 changes, one behind the other. */
-    ARPKI_BAD_LINKS = 14
+    ARPKI_BAD_LINKS = 14,
+
+    /* The others are of arpki_judge_in. */
+
+    /* The bytes that are shown are no directory of a table. */
+    ARPKI_NO_DIRECTORY = 15,
+    /* The directory is shown as that of another table than the name's. */
+    ARPKI_OTHER_TABLE = 16,
+    /* The path does not lead from the directory to the root of the map. */
+    ARPKI_OTHER_ROOT = 17,
+    /* A map has at most 24 bits. */
+    ARPKI_NO_MAP = 18
 };
 
 /* What arpki_follow has a caller keep. */
@@ -223,6 +235,25 @@ typedef struct arpki_keys {
     size_t quorum;
 } arpki_keys;
 
+/* The next key of a party of a table of a map: the entry that arpki_learn wrote, and the digest of the directory that learnt
+ * it (arpki_directory). It has no padding, as an arpki_entry has none. */
+typedef struct arpki_map_entry {
+    uint8_t directory[ARPKI_DIGEST_SIZE];
+    arpki_entry entry;
+} arpki_map_entry;
+
+/* What a client of a map trusts: of 2 ^ bits tables the root over their directories. */
+typedef struct arpki_map {
+    /* What was learnt of whatever tables, in the order in which it was learnt. Of a table the entries that have its directory's
+     * digest are taken, as in an arpki_keys, and all others are passed over. */
+    const arpki_map_entry *learnt;
+    size_t learnt_len;
+    /* The root. */
+    uint8_t root[ARPKI_DIGEST_SIZE];
+    /* How many first bits of a name's key are the number of its table; at most 24. */
+    uint8_t bits;
+} arpki_map;
+
 /* What is asked of a confirmation. The bytes are the caller's. */
 typedef struct arpki_question {
     /* The name of the domain: name_len bytes, in lower case and without a zero byte at their end ("a.example" is 9). No
@@ -288,6 +319,28 @@ typedef struct arpki_lesson {
  * outcome: ARPKI_ACCEPTED, ARPKI_ABSENT, ARPKI_REFUSED, ARPKI_NO_MEMORY or ARPKI_BAD_KEYS.
  */
 ARPKI_CHECKED uint32_t arpki_judge(const arpki_keys *keys, const arpki_question *question, arpki_answer *answer);
+
+/* Judges a confirmation of a name as arpki_judge does, by the directory that is shown beside it, where that is the directory
+ * of the name's table in the map. Whoever shows it need not be trusted with it: under one root each name has one directory.
+ *
+ * Reads `map` with its entries; `question` with its name and its confirmation; and shown_len bytes of `shown`: the number of
+ * the table in 4 bytes, the first the most significant; the size of a quorum, how many logs and how many authorities there
+ * are, a byte each; their keys of generation 0, 56 bytes each; and the path, 32 bytes for each bit of the map. Writes
+ * `answer`, and returns its outcome: those of arpki_judge (ARPKI_BAD_KEYS of an entry alone), ARPKI_NO_DIRECTORY,
+ * ARPKI_OTHER_TABLE, ARPKI_OTHER_ROOT or ARPKI_NO_MAP.
+ */
+ARPKI_CHECKED uint32_t arpki_judge_in(const arpki_map *map, const arpki_question *question,
+                                      const uint8_t *shown, size_t shown_len,
+                                      arpki_answer *answer);
+
+/* Tells under which digest the entries of a table are to be kept.
+ *
+ * Reads shown_len bytes of `shown`, as arpki_judge_in does; whether they stand in a map is not looked at. Writes 32 bytes of
+ * `digest`, and returns 0; or ARPKI_NO_DIRECTORY or ARPKI_NO_MEMORY, and then they are zero. To learn a key of the table, call
+ * arpki_learn with keys that lie in `shown`: the logs from byte 7 on, the authorities behind them, the quorum in byte 4, and
+ * with the entries of the table as `learnt`.
+ */
+ARPKI_CHECKED uint32_t arpki_directory(const uint8_t *shown, size_t shown_len, uint8_t digest[ARPKI_DIGEST_SIZE]);
 
 /* Judges a server that claims to serve a name: the confirmation as arpki_judge does, and then the server's response to a
  * challenge, as a signature by the subject key of the certificate that is accepted.

@@ -7,7 +7,8 @@
 //! number that a call returns stands in it too.
 //!
 //! In `specs/`, `Given` says which directory a caller's keys make, `Stored` which book the bytes of a pin make, `Told` what
-//! is told of a confirmation and of a server, `Following` what to who pins names, `Learning` what of a RollNote, and
+//! is told of a confirmation and of a server, `Following` what to who pins names, `Mapped` what to who goes by a map,
+//! `Learning` what of a RollNote, and
 //! `Verifying` which number a signature has. `laws` says that the entries which were written make the directory that
 //! learnt.
 //!
@@ -21,6 +22,7 @@ mod judging;
 mod keys;
 pub mod laws;
 mod learning;
+mod mapping;
 mod pins;
 mod questions;
 mod signatures;
@@ -33,5 +35,6 @@ pub use following::arpki_follow;
 pub use judging::{arpki_connect, arpki_judge, arpki_staple};
 pub use keys::{Entry, Keys};
 pub use learning::{CallLesson, arpki_learn};
+pub use mapping::{CallMap, MapEntry, arpki_directory, arpki_judge_in};
 pub use questions::CallQuestion;
 pub use signatures::{arpki_abi, arpki_verify};
