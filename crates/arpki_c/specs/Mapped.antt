@@ -1,5 +1,5 @@
 -- What a client of a map is told of a confirmation, by the directory that is shown beside it.
-use Rattle.std.specs.Prelude.{ℕ, nat_le, if◌then◌else◌, List, [], ◌∷◌, replicate, Result, Ok, Err}
+use Rattle.std.specs.Prelude.{◌≡◌, ◌⊎◌, ℕ, nat_le, if◌then◌else◌, List, [], ◌∷◌, replicate, Result, Ok, Err}
 use Rattle.std.specs.Str.{bytes_eq}
 use Rattle.ar_base.specs.Chaining.{◌>>=◌}
 use Rattle.party_keys.specs.Directory.{Directory}
@@ -65,3 +65,7 @@ abbrev pub digest_told : Result (ℕ × Directory × List ℕ) ShownFault → Li
 digest_told (Ok shown) = (directory_digest shown.1, 0)
 digest_told (Err shown_fault.NoDirectory) = (replicate 32 0, 15)
 digest_told (Err shown_fault.Memory) = (replicate 32 0, 3)
+
+-- the digest and the outcome are these, or memory ran out
+abbrev pub AreUnlessMemory : List ℕ × ℕ → List ℕ × ℕ → Type 0
+AreUnlessMemory answer told = (answer ≡ (replicate 32 0, 3)) ⊎ (answer ≡ told)

@@ -148,7 +148,11 @@ fn party_of(entry: &Entry) -> Option<Party>
 }
 
 /// Takes an entry as its party's next key.
-pub(crate) fn take(alloc: Global, directory: Directory, entry: &Entry) -> Result<Directory, KeysFault>
+pub(crate) fn take(
+    alloc: Global,
+    directory: Directory,
+    entry: &Entry,
+) -> Result<Directory, KeysFault>
     ensures { GivesUnless Memory (λ directory. directory) result (with_entry directory entry.now) }
 {
     let mut directory = directory;

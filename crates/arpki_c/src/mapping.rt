@@ -1,6 +1,6 @@
-ghost use Rattle.std.specs.Prelude.{◌≡◌, ◌⊎◌, replicate};
+ghost use Rattle.std.specs.Prelude.{◌≡◌};
 ghost use Rattle.ar_base.specs.Gives.{GivesUnless};
-ghost use Rattle.arpki_c.specs.Mapped.{digest_told, map_answer, map_told, shown_fault_answer, told_by, with_own_entries, with_own_entry};
+ghost use Rattle.arpki_c.specs.Mapped.{AreUnlessMemory, digest_told, map_answer, map_told, shown_fault_answer, told_by, with_own_entries, with_own_entry};
 ghost use Rattle.arpki_c.specs.Told.{IsUnlessMemory};
 ghost use Rattle.table_map.specs.Digests.{directory_digest};
 ghost use Rattle.table_map.specs.Shown.{shown_in};
@@ -161,8 +161,7 @@ pub extern "C" fn arpki_judge_in(
 /// none is shown, or that memory ran out.
 #[unsafe(no_mangle)]
 pub extern "C" fn arpki_directory(alloc: Global, shown: &[u8], digest: &mut [u8; 32]) -> u32
-    ensures { ((digest.new, result) ≡ (replicate 32 0, 3))
-        ⊎ ((digest.new, result) ≡ digest_told (shown_in shown.now)) }
+    ensures { AreUnlessMemory (digest.new, result) (digest_told (shown_in shown.now)) }
 {
     match ShownDirectory::read(alloc, shown) {
         Ok(shown) => {

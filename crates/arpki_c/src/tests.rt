@@ -1,8 +1,9 @@
 ghost use Rattle.std.specs.Prelude.{◌≤◌};
 
 use crate::{
-    CallAnswer, CallLesson, CallQuestion, Entry, Followed, Keys, arpki_abi, arpki_connect,
-    arpki_follow, arpki_judge, arpki_learn, arpki_staple, arpki_verify,
+    CallAnswer, CallLesson, CallMap, CallQuestion, Entry, Followed, Keys, MapEntry, arpki_abi,
+    arpki_connect, arpki_directory, arpki_follow, arpki_judge, arpki_judge_in, arpki_learn,
+    arpki_staple, arpki_verify,
 };
 use std::alloc::Global;
 use std::test::Fail;
@@ -485,4 +486,97 @@ fn a_signature_has_a_number(rt: HostRuntime) {
     assert_eq!(rt; arpki_verify(&key, b"abd", &signature[4..]), 5);
     assert_eq!(rt; arpki_verify(&key, b"abc", &signature), 1);
     assert_eq!(rt; arpki_verify(&[0; 56], b"abc", &signature), 6);
+}
+
+// The root of a map of two tables by which the directory is that of table 0, if its one step is 32 bytes of 33: another
+// implementation made it.
+fn map_root() -> [u8; 32] {
+    [
+        0xa7, 0xb0, 0x7a, 0x64, 0x6c, 0x21, 0x2e, 0xd7, 0x97, 0x04, 0xc9, 0xc5, 0x9c, 0x46, 0x18,
+        0x57, 0x85, 0x0d, 0x60, 0xf8, 0x74, 0xfd, 0x3a, 0x35, 0xe5, 0x2c, 0xc4, 0x73, 0xfc, 0x7f,
+        0x0f, 0x43,
+    ]
+}
+
+// And the digest of the directory.
+fn directory_digest() -> [u8; 32] {
+    [
+        0x53, 0x4e, 0xcb, 0x8e, 0xcb, 0x30, 0xf8, 0x35, 0xbd, 0xfc, 0x09, 0xec, 0xab, 0x21, 0xd8,
+        0x20, 0x4e, 0x4e, 0x6f, 0xdb, 0x5f, 0x62, 0x7f, 0x69, 0x50, 0x2c, 0xf1, 0x82, 0x8a, 0xdd,
+        0xfc, 0x04,
+    ]
+}
+
+// The directory as it is shown, as that of a table, by this step.
+fn shown(table: u8, step: u8) -> [u8; 375] {
+    let mut bytes = [step; 375];
+    bytes[..7].copy_from_slice(&[0, 0, 0, table, 3, 3, 3]);
+    let (logs, authorities) = (logs(), authorities());
+    bytes[7..63].copy_from_slice(&logs[0]);
+    bytes[63..119].copy_from_slice(&logs[1]);
+    bytes[119..175].copy_from_slice(&logs[2]);
+    bytes[175..231].copy_from_slice(&authorities[0]);
+    bytes[231..287].copy_from_slice(&authorities[1]);
+    bytes[287..343].copy_from_slice(&authorities[2]);
+    bytes
+}
+
+// An entry of no role, that a directory with this digest would have learnt.
+fn no_entry(directory: [u8; 32]) -> MapEntry {
+    MapEntry {
+        directory,
+        entry: Entry {
+            generation: 0,
+            number: 0,
+            role: 0,
+            key: [0; 56],
+        },
+    }
+}
+
+// What is judged of the confirmation in an epoch, under a map of 2 ^ bits tables, by what is shown.
+fn judged_in(alloc: Global, bits: u8, learnt: &[MapEntry], epoch: u64, shown: &[u8]) -> CallAnswer {
+    let map = CallMap {
+        learnt,
+        root: map_root(),
+        bits,
+    };
+    let bytes = confirmation();
+    let asked = question(b"a.example", epoch, &bytes);
+    let mut answer = every(77);
+    arpki_judge_in(alloc, &map, &asked, shown, &mut answer);
+    answer
+}
+
+#[test]
+fn a_map_has_the_directory(rt: HostRuntime) {
+    let told = judged_in(rt.alloc(), 1, &[], 9, &shown(0, 0x33));
+    assert!(rt; told == accepted());
+    for (bits, table, step, len, epoch, outcome, check) in [
+        (1u8, 0u8, 0x33u8, 375usize, 10u64, 2u32, 9u32),
+        (1, 0, 0x33, 342, 9, 15, 0),
+        (1, 1, 0x33, 375, 9, 16, 0),
+        (1, 0, 0x34, 375, 9, 17, 0),
+        (1, 0, 0x33, 374, 9, 17, 0),
+        (0, 0, 0x33, 375, 9, 17, 0),
+        (25, 0, 0x33, 375, 9, 18, 0),
+    ] {
+        assert!(rt; len <= 375);
+        let told = judged_in(rt.alloc(), bits, &[], epoch, &shown(table, step)[..len]);
+        assert!(rt; told == alone(outcome, check), "{outcome} {check}");
+    }
+}
+
+#[test]
+fn a_directory_has_its_own_entries(rt: HostRuntime) {
+    let bytes = shown(0, 0x33);
+    let mut digest = [77; 32];
+    let told = arpki_directory(rt.alloc(), &bytes, &mut digest);
+    assert!(rt; told == 0 && digest == directory_digest());
+    let own = judged_in(rt.alloc(), 1, &[no_entry(digest)], 9, &bytes);
+    assert!(rt; own == alone(4, 6));
+    let other = judged_in(rt.alloc(), 1, &[no_entry([0; 32])], 9, &bytes);
+    assert!(rt; other == accepted());
+    let none = arpki_directory(rt.alloc(), &[], &mut digest);
+    assert!(rt; none == 15 && digest == [0; 32]);
 }
