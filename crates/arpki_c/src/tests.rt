@@ -5,8 +5,11 @@ use crate::{
     arpki_connect, arpki_directory, arpki_follow, arpki_judge, arpki_judge_in, arpki_learn,
     arpki_staple, arpki_verify,
 };
+use ar_statement::Role;
+use client_rule::RollNote;
 use std::alloc::Global;
 use std::test::Fail;
+use table_map::{Lesson, ShownDirectory, recall};
 
 // A key of the types 5 and 4 whose I is filled with one byte, and which has this root.
 fn filled(fill: u8, root: [u8; 32]) -> [u8; 56] {
@@ -579,4 +582,21 @@ fn a_directory_has_its_own_entries(rt: HostRuntime) {
     assert!(rt; other == accepted());
     let none = arpki_directory(rt.alloc(), &[], &mut digest);
     assert!(rt; none == 15 && digest == [0; 32]);
+}
+
+// Whether the directory that is shown knows the next key of log 0, behind a lesson that was learnt under this digest.
+fn knows_next(alloc: Global, under: [u8; 32]) -> Option<bool> {
+    let bytes = shown(0, 0x33);
+    let shown = ShownDirectory::read(alloc, &bytes).ok()?;
+    let note = RollNote::read(alloc, &note()).ok()??;
+    let lessons = [Lesson { under, note: &note }];
+    let directory = recall(alloc, shown.directory, &lessons).ok()?;
+    let next = directory.key(Role::LogServer.party(0), 1);
+    Some(next.is_some())
+}
+
+#[test]
+fn a_directory_recalls_its_own_lessons(rt: HostRuntime) {
+    assert!(rt; knows_next(rt.alloc(), directory_digest()) == Some(true));
+    assert!(rt; knows_next(rt.alloc(), [0; 32]) == Some(false));
 }
