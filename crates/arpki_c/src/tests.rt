@@ -510,18 +510,22 @@ fn directory_digest() -> [u8; 32] {
     ]
 }
 
+// With the keys of the parties of a role at a place.
+fn with_keys(bytes: [u8; 375], at: usize, keys: &[[u8; 56]; 3]) -> [u8; 375]
+    requires { at ≤ 207 }
+{
+    let mut bytes = bytes;
+    bytes[at..at + 56].copy_from_slice(&keys[0]);
+    bytes[at + 56..at + 112].copy_from_slice(&keys[1]);
+    bytes[at + 112..at + 168].copy_from_slice(&keys[2]);
+    bytes
+}
+
 // The directory as it is shown, as that of a table, by this step.
 fn shown(table: u8, step: u8) -> [u8; 375] {
     let mut bytes = [step; 375];
     bytes[..7].copy_from_slice(&[0, 0, 0, table, 3, 3, 3]);
-    let (logs, authorities) = (logs(), authorities());
-    bytes[7..63].copy_from_slice(&logs[0]);
-    bytes[63..119].copy_from_slice(&logs[1]);
-    bytes[119..175].copy_from_slice(&logs[2]);
-    bytes[175..231].copy_from_slice(&authorities[0]);
-    bytes[231..287].copy_from_slice(&authorities[1]);
-    bytes[287..343].copy_from_slice(&authorities[2]);
-    bytes
+    with_keys(with_keys(bytes, 7, &logs()), 175, &authorities())
 }
 
 // An entry of no role, that a directory with this digest would have learnt.
