@@ -40,6 +40,7 @@ typedef struct what {
     const char *calm;           /* 1: sends where arpki_tls_finish lets it alone */
     const char *fail;           /* which allocation fails */
     const char *alpn;           /* 1: both speak h2 */
+    const char *hello;          /* what a client says that judges nothing, in hex, or `-` for no bytes */
     const char *clear;          /* 1: the SSL is cleared and used again with another name in its SNI */
 } what;
 
@@ -51,7 +52,7 @@ static const struct word {
     WORD(cert), WORD(key), WORD(cert2), WORD(key2), WORD(raw), WORD(place), WORD(proof), WORD(links), WORD(notes), WORD(tls),
     WORD(ctls), WORD(name), WORD(sni), WORD(host), WORD(now), WORD(age), WORD(listed), WORD(pins), WORD(keep), WORD(learnt),
     WORD(say), WORD(elsewhere), WORD(verify), WORD(hrr), WORD(asks), WORD(save), WORD(resume), WORD(early), WORD(psk),
-    WORD(sigalgs), WORD(calm), WORD(fail), WORD(alpn), WORD(clear),
+    WORD(sigalgs), WORD(calm), WORD(fail), WORD(alpn), WORD(hello), WORD(clear),
 };
 
 static arpki_tls_directory trusted;
@@ -356,10 +357,35 @@ static arpki_tls_client *client_of(const what *w, store *s)
     return client;
 }
 
+/* A client that says any bytes, and looks at nothing. */
+static int say_raw(SSL *ssl, unsigned int extension, unsigned int context, const unsigned char **out, size_t *len, X509 *x, size_t place,
+                   int *alert, void *arg)
+{
+    const what *w = arg;
+    unsigned byte;
+    uint8_t *bytes = malloc(strlen(w->hello) + 1);
+    (void)ssl, (void)extension, (void)x, (void)place, (void)alert;
+    if (context != SSL_EXT_CLIENT_HELLO || bytes == NULL) {
+        free(bytes);
+        return 0;
+    }
+    for (*len = 0; sscanf(w->hello + 2 * *len, "%2x", &byte) == 1; (*len)++)
+        bytes[*len] = (uint8_t)byte;
+    *out = bytes;
+    return 1;
+}
+
+static int add_raw(const what *w, SSL_CTX *ctx)
+{
+    return SSL_CTX_add_custom_ext(ctx, ARPKI_TLS_EXTENSION, SSL_EXT_CLIENT_HELLO | SSL_EXT_TLS1_3_CERTIFICATE, say_raw, free_raw,
+                                  (void *)(uintptr_t)w, NULL, NULL);
+}
+
 static SSL_CTX *client_context(const what *w, arpki_tls_client *client)
 {
     SSL_CTX *ctx = SSL_CTX_new(TLS_client_method());
-    if (ctx == NULL || client == NULL || SSL_CTX_load_verify_locations(ctx, root, NULL) != 1 || !arpki_tls_use(client, ctx)) {
+    if (ctx == NULL || client == NULL || SSL_CTX_load_verify_locations(ctx, root, NULL) != 1
+        || !(w->hello == NULL ? arpki_tls_use(client, ctx) : add_raw(w, ctx))) {
         SSL_CTX_free(ctx);
         return NULL;
     }
