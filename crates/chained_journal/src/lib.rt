@@ -14,7 +14,9 @@
 //!
 //! `specs/Refusals.antt` says what a file is that is refused, and `laws` that no byte of a journal can be changed unseen.
 //!
-//! No party keeps such a journal yet, and no test runs it: those that there are stand in files of `kept_journal`.
+//! No party keeps such a journal yet: those that there are stand in files of `kept_journal`.
+//!
+//! Its tests: `disk_tests`, module `chained_journal_tests`.
 #![tactic(auto)]
 
 pub use fault::{BeginFault, OpenFault};
