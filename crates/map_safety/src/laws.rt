@@ -8,6 +8,7 @@ ghost use Rattle.ar_safety.specs.Agreed.{HasNewest, HasNone};
 ghost use Rattle.ar_safety.specs.Succession.{AreInOrder, accepted_by};
 ghost use Rattle.ar_safety.specs.Theorem.{AreHonest, Few, NoCollision, NoForgery, Safe};
 ghost use Rattle.table_map.specs.Digests.{directory_text};
+ghost use Rattle.map_safety.specs.Example.{fresh_map};
 ghost use Rattle.map_safety.specs.World.{IsTable, MapAcceptance, MapRecords, NoMapCollision, confirmed_by, records_in};
 
 /// Whatever happens in other tables of a map: if at most two of the logs and authorities of one table are dishonest, no
@@ -48,4 +49,11 @@ pub fn what_a_client_of_a_map_accepts_is_newest()
         → Safe (records_in r t) → Contains (r.accepted t) one → Contains (r.accepted t) other
         → one.asked.name ≡ other.asked.name
         → AreInOrder (accepted_by (confirmed_by one)) (accepted_by (confirmed_by other)) }
+{}
+
+/// The premises can be met: by a map of one table, whose parties have done nothing yet.
+pub fn a_fresh_table_meets_the_premises()
+    ensures table { IsTable fresh_map 0 × NoMapCollision fresh_map 0 }
+    ensures premises { Few (records_in fresh_map 0) × NoForgery (records_in fresh_map 0)
+        × NoCollision (records_in fresh_map 0) }
 {}
