@@ -3,13 +3,12 @@ use Rattle.std.specs.Prelude.{ℕ, List, if◌then◌else◌, Result, Ok, Err}
 use Rattle.std.specs.Option.{ok_or}
 use Rattle.ar_base.specs.Chaining.{◌>>=◌}
 use Rattle.ar_base.specs.Gives.{with_error}
-use Rattle.ar_founding.specs.FirstKeys.{Setup, key_for, plain_setup}
+use Rattle.ar_founding.specs.FirstKeys.{key_for}
 use Rattle.ar_lines.specs.Readings.{start_of_lines}
 use Rattle.ar_lines.specs.Rows.{no_row_at}
 use Rattle.ar_lines.specs.declared.refusal.Refusal.{Refusal}
 use Rattle.ar_statement.specs.Claims.{party}
 use Rattle.ar_statement.specs.declared.party.Role.{Role}
-use Rattle.ar_statement.specs.declared.party.Role.TheVariants.{Owner}
 use Rattle.arpki_ask.specs.Inquiries.{directory_at}
 use Rattle.arpki_ask.specs.Written.{key_line}
 use Rattle.lms_tree.specs.Key.{public_of}
@@ -35,16 +34,11 @@ directory_taken text = do
   keys ← with_error why.Line (directory_said text)
   if says_later keys then Err why.Rolled else Ok keys
 
--- what a secret's file says, for a party of a role: the keys of owners have types of their own
-abbrev pub setup_for : Role → Setup → Setup
-setup_for Owner said = record plain_setup { secret = said.secret }
-setup_for role said = said
-
 -- the first key of a party, by the text of its secret's file
 abbrev pub key_taken : Role → ℕ → List ℕ → Result KeyParts NotOpened
 key_taken role number text = do
   said ← ok_or (secret_said text) why.NoSecret
-  Ok (key_for (setup_for role said) role number)
+  Ok (key_for said role number)
 
 -- the line of that key in a directory, without its newline
 abbrev pub key_line_taken : Role → ℕ → List ℕ → Result (List ℕ) NotOpened

@@ -36,7 +36,7 @@ kind_named word =
 abbrev pub most_number : PartyKind → ℕ
 most_number Log = 15
 most_number Authority = 15
-most_number Owner = 511
+most_number Owner = 65535
 
 -- the number of such a party that a word spells
 abbrev pub number_named : PartyKind → List ℕ → Result ℕ NotAsked

@@ -59,7 +59,7 @@ pub(crate) enum NotAsked {
     Count,
     #[error("a role is 'log', 'authority' or 'owner'")]
     Role,
-    #[error("a number is 0 to 15 of a log or an authority, and 0 to 511 of an owner")]
+    #[error("a number is 0 to 15 of a log or an authority, and 0 to 65535 of an owner")]
     Number,
 }
 
@@ -80,12 +80,12 @@ fn most_number(kind: PartyKind) -> u64
     ensures { result ≡ most_number kind }
 {
     match kind {
-        PartyKind::Owner => 511,
+        PartyKind::Owner => 65_535,
         PartyKind::Log | PartyKind::Authority => 15,
     }
 }
 
-/// The number of a party: below 16 of a log or an authority, and below 512 of an owner.
+/// The number of a party: below 16 of a log or an authority, and below 65,536 of an owner.
 fn number_named(kind: PartyKind, word: &str) -> Result<u16, NotAsked>
     ensures { result ≡ number_named kind word.now }
 {

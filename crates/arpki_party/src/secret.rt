@@ -2,7 +2,7 @@
 
 ghost use Rattle.std.specs.Prelude.{◌≡◌};
 ghost use Rattle.ar_base.specs.Gives.{GivesOrWants};
-ghost use Rattle.arpki_party.specs.Made.{key_taken, setup_for};
+ghost use Rattle.arpki_party.specs.Made.{key_taken};
 ghost use Rattle.arpki_party.specs.Secrets.{secret_said, setup_of, with_line, with_lines, nothing_said};
 ghost use Rattle.arpki_party.specs.declared.not_opened.NotOpened.TheVariants.{Memory};
 ghost use Rattle.ar_lines.specs.Lines.{parts_of};
@@ -82,20 +82,6 @@ fn setup_in(text: &[u8]) -> Option<Setup>
     setup_of(said_in(text)?)
 }
 
-/// What counts of that for a party of a role: the types of the keys of owners are always 5 and 3.
-fn setup_for(role: Role, setup: Setup) -> Setup
-    ensures { result ≡ setup_for role setup }
-{
-    match role {
-        Role::Owner => {
-            let mut plain = Setup::plain();
-            plain.tell_secret(setup.secret);
-            plain
-        }
-        _ => setup,
-    }
-}
-
 /// The first key of a party, by the text of its secret's file.
 pub(crate) fn key_in(
     alloc: Global,
@@ -105,9 +91,8 @@ pub(crate) fn key_in(
 ) -> Result<LmsKey, NotOpened>
     ensures { GivesOrWants Memory (λ key. key) result (key_taken role number text.now) }
 {
-    let Some(said) = setup_in(text) else {
+    let Some(setup) = setup_in(text) else {
         return Err(NotOpened::NoSecret);
     };
-    let setup = setup_for(role, said);
     Ok(make_key(alloc, &setup, role, number)?)
 }

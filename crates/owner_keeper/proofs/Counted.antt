@@ -8,10 +8,11 @@ use Rattle.ar_base.proofs.Shown.{bind_ok, if-chained, ok_is}
 use Rattle.ar_cert.specs.Certificate.{Certificate, digest_of}
 use Rattle.ar_message.specs.Messages.{message_in}
 use Rattle.ar_message.specs.declared.message.Message.{Message}
-use Rattle.ar_statement.specs.Claims.{Claim, authority_party, endorse, handover as handover_claim, object as object_claim, text_of}
+use Rattle.ar_statement.specs.Claims.{Claim, answer, authority_party, endorse, handover as handover_claim, object as object_claim, text_of}
 use Rattle.ar_statement.specs.declared.fault.BookFault.{BookFault}
 use Rattle.ar_statement.specs.declared.party.Role.{Role}
 use Rattle.ar_statement.specs.declared.party.Role.TheVariants.{LogServer, Authority, Owner as OwnerRole, Client}
+use Rattle.bound_challenge.specs.Challenges.{staple_challenge}
 use Rattle.lms_tree.specs.declared.public_key.LmsPublic.{LmsPublic}
 use Rattle.owner_core.specs.Drafts.{changed_draft, endorsed, handed_over}
 use Rattle.owner_core.specs.Objecting.{objection}
@@ -26,15 +27,16 @@ use Rattle.party_keys.specs.declared.fault.LearnFault.{LearnFault}
 use Rattle.party_keys.specs.declared.learning.Learned.{Learned}
 use Rattle.party_keys.specs.declared.learning.Learned.TheVariants.{New, Again}
 use Rattle.sign_book.specs.Entry.{leaf_of}
-use Rattle.owner_keeper.specs.Keeping.{Does, OwnerStanding, answered, attached, handing_row, known_in, order_row, silent, submitted}
+use Rattle.owner_keeper.specs.Keeping.{Does, OwnerStanding, answered, attached, handing_row, known_in, order_row, restaple_row, silent, stapled_reply, submitted}
+use Rattle.owner_keeper.specs.Stapling.{StapleParts, Stapling, allowing, disallowing, hearing, stapling_by, with_staple}
 use Rattle.owner_keeper.specs.Texts.{most_asks, most_handover}
 use Rattle.owner_keeper.specs.declared.order.OwnerOrder.{OwnerOrder}
-use Rattle.owner_keeper.specs.declared.order.OwnerOrder.TheVariants.{Take, Begin, Know, Handover, Attach, Object, Submit}
+use Rattle.owner_keeper.specs.declared.order.OwnerOrder.TheVariants.{Take, Begin, Know, Handover, Attach, Object, Submit, Allow, Disallow, Staple, Restaple, Leaves}
 use Rattle.owner_keeper.specs.declared.refusal.OwnerOrderRefusal.{OwnerOrderRefusal}
 use Rattle.owner_keeper.specs.declared.refusal.OwnerOrderRefusal.TheVariants as refusals
 use Rattle.owner_keeper.specs.declared.reply.OwnerReply.{OwnerReply}
 use Rattle.owner_keeper.specs.declared.reply.OwnerReply.TheVariants.{Handed, Sends}
-use Rattle.owner_keeper.proofs.Numbered.{done_by, sent_stays}
+use Rattle.owner_keeper.proofs.Done.{allowed_by, done_by, restapled_by, sent_stays, stapled_by}
 use Rattle.owner_keeper.proofs.EachRow.{message-has}
 
 abbrev count : Owner → ℕ
@@ -107,35 +109,50 @@ handing-keeps me digest =
 
 -- ---- orders
 
-done-keeps : {T : Type 0} (me : Owner) (reply : T → OwnerReply) (certs : List Certificate) (row : OwnerAnswer T) (said : OwnerReply) (later : OwnerStanding) → Keeps me row
-    → answered reply certs row ≡ Ok (said, later) → count later.owner ≡ count me
-done-keeps me reply certs row said later keeps e =
-    let done = done_by reply certs row said later e in
+done-keeps : {T : Type 0} (me : Owner) (reply : T → OwnerReply) (certs : List Certificate) (st : Stapling) (row : OwnerAnswer T) (said : OwnerReply) (later : OwnerStanding) → Keeps me row
+    → answered reply certs st row ≡ Ok (said, later) → count later.owner ≡ count me
+done-keeps me reply certs st row said later keeps e =
+    let done = done_by reply certs st row said later e in
     of-row me row done.value later.owner keeps done.row_is
+
+restapled-keeps : (party : OwnerStanding) (s : StapleParts) (reply : OwnerReply) (later : OwnerStanding) → restaple_row party s ≡ Ok (reply, later) → count later.owner ≡ count party.owner
+restapled-keeps party s reply later e =
+    let r = restapled_by party s reply later e in
+    done-keeps party.owner (stapled_reply r.cert s) party.certs (with_staple party.stapling s) (stapling_by party.owner r.cert s) reply later
+    (claim-keeps party.owner (answer r.cert.name (digest_of r.cert) (staple_challenge s.epoch s.channel))) r.row
 
 pub authorities_stay : (party : OwnerStanding) (order : OwnerOrder) (reply : OwnerReply) (later : OwnerStanding) → order_row party order ≡ Ok (reply, later)
     → length later.owner.directory.authorities ≡ length party.owner.directory.authorities
-authorities_stay party (Take bytes) reply later e = done-keeps party.owner Sends party.certs (step_row party.owner bytes) reply later (step-keeps party.owner bytes) e
+authorities_stay party (Take bytes) reply later e = done-keeps party.owner Sends party.certs (hearing party.stapling bytes) (step_row party.owner bytes) reply later (step-keeps party.owner bytes) e
 authorities_stay party (Begin cert asks) reply later e =
-    let b = bind_ok (need (nat_le (length asks) most_asks) refusals.Long) (λ few. answered Sends (party.certs ++ cert ∷ []) (begin_row party.owner cert asks)) (reply, later) e in
-    done-keeps party.owner Sends (party.certs ++ cert ∷ []) (begin_row party.owner cert asks) reply later refl b.2
+    let b = bind_ok (need (nat_le (length asks) most_asks) refusals.Long) (λ few. answered Sends (party.certs ++ cert ∷ []) party.stapling (begin_row party.owner cert asks)) (reply, later) e in
+    done-keeps party.owner Sends (party.certs ++ cert ∷ []) party.stapling (begin_row party.owner cert asks) reply later refl b.2
 authorities_stay party (Know cert) reply later e =
     let at : OwnerStanding = record party { certs = party.certs ++ cert ∷ [] } in
     sym (ap (λ (p : OwnerReply × OwnerStanding). count p.1.owner) (ok_is (silent tt, at) (reply, later) e))
 authorities_stay party (Handover draft) reply later e =
-    let b = bind_ok (known_in party.certs draft) (λ cert. answered (Handed (digest_of cert)) party.certs (handing_row party.owner (digest_of cert))) (reply, later) e in
-    done-keeps party.owner (Handed (digest_of b.0)) party.certs (handing_row party.owner (digest_of b.0)) reply later (handing-keeps party.owner (digest_of b.0)) b.2
+    let b = bind_ok (known_in party.certs draft) (λ cert. answered (Handed (digest_of cert)) party.certs party.stapling (handing_row party.owner (digest_of cert))) (reply, later) e in
+    done-keeps party.owner (Handed (digest_of b.0)) party.certs party.stapling (handing_row party.owner (digest_of b.0)) reply later (handing-keeps party.owner (digest_of b.0)) b.2
 authorities_stay party (Attach draft handover) reply later e =
     let a = bind_ok (need (nat_le (length handover) most_handover) refusals.Long)
-    (λ short. known_in party.certs draft >>= λ cert. answered silent party.certs (attach_row party.owner (digest_of cert) handover)) (reply, later) e in
-    let b = bind_ok (known_in party.certs draft) (λ cert. answered silent party.certs (attach_row party.owner (digest_of cert) handover)) (reply, later) a.2 in
-    done-keeps party.owner silent party.certs (attach_row party.owner (digest_of b.0) handover) reply later (attach-keeps party.owner (digest_of b.0) handover) b.2
+    (λ short. known_in party.certs draft >>= λ cert. answered silent party.certs party.stapling (attach_row party.owner (digest_of cert) handover)) (reply, later) e in
+    let b = bind_ok (known_in party.certs draft) (λ cert. answered silent party.certs party.stapling (attach_row party.owner (digest_of cert) handover)) (reply, later) a.2 in
+    done-keeps party.owner silent party.certs party.stapling (attach_row party.owner (digest_of b.0) handover) reply later (attach-keeps party.owner (digest_of b.0) handover) b.2
 authorities_stay party (Object draft) reply later e =
-    let b = bind_ok (known_in party.certs draft) (λ cert. answered Sends party.certs (object_row party.owner cert)) (reply, later) e in
-    done-keeps party.owner Sends party.certs (object_row party.owner b.0) reply later (object-keeps party.owner b.0) b.2
+    let b = bind_ok (known_in party.certs draft) (λ cert. answered Sends party.certs party.stapling (object_row party.owner cert)) (reply, later) e in
+    done-keeps party.owner Sends party.certs party.stapling (object_row party.owner b.0) reply later (object-keeps party.owner b.0) b.2
 authorities_stay party (Submit draft) reply later e =
     let b = bind_ok (known_in party.certs draft) (λ cert. submitted party (submit_row party.owner (digest_of cert))) (reply, later) e in
     ap (λ (p : OwnerStanding). count p.owner) (sent_stays party (submit_row party.owner (digest_of b.0)) reply later b.2)
+authorities_stay party (Allow permit) reply later e =
+    let at : OwnerStanding = record party { stapling = allowing permit party.stapling } in
+    sym (ap (λ (p : OwnerStanding). count p.owner) (allowed_by party at (known_in party.certs permit.draft) (silent tt) reply later e))
+authorities_stay party (Disallow permit) reply later e =
+    let at : OwnerStanding = record party { stapling = disallowing permit party.stapling } in
+    sym (ap (λ (p : OwnerStanding). count p.owner) (allowed_by party at (known_in party.certs permit.draft) (silent tt) reply later e))
+authorities_stay party (Staple permit confirmation) reply later e = restapled-keeps party _ reply later (stapled_by party permit confirmation reply later e).row
+authorities_stay party (Restaple s) reply later e = restapled-keeps party s reply later e
+authorities_stay party Leaves reply later e = sym (ap (λ (p : OwnerReply × OwnerStanding). count p.1.owner) (ok_is (silent tt, party) (reply, later) e))
 
 -- whatever an order came to
 pub authorities_kept : (party later : OwnerStanding) (order : OwnerOrder) (result : Result OwnerReply OwnerOrderRefusal) → Does party later result (order_row party order)

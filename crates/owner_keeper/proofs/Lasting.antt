@@ -11,8 +11,9 @@ use Rattle.ar_cert.specs.Changes.{Change}
 use Rattle.ar_message.specs.Messages.{message_in}
 use Rattle.ar_message.specs.declared.message.Message.{Message}
 use Rattle.ar_message.specs.declared.sent.Sent.{Sent}
-use Rattle.ar_statement.specs.Claims.{authority_party, endorse, handover, object, text_of}
+use Rattle.ar_statement.specs.Claims.{answer, authority_party, endorse, handover, object, text_of}
 use Rattle.ar_statement.specs.declared.fault.BookFault.{BookFault}
+use Rattle.bound_challenge.specs.Challenges.{staple_challenge}
 use Rattle.kept_journal.specs.Replays.{ReachesBy}
 use Rattle.kept_party.proofs.Kept.{done_kept, replays_keep}
 use Rattle.kept_party.specs.Lives.{Lead, Life}
@@ -28,15 +29,16 @@ use Rattle.owner_core.specs.declared.refusal.OwnerRefusal.{OwnerRefusal}
 use Rattle.owner_core.specs.declared.refusal.OwnerRefusal.TheVariants.{Form}
 use Rattle.owner_keeper.specs.Determined.{one_standing}
 use Rattle.owner_keeper.specs.Keeping as keeping
-use Rattle.owner_keeper.specs.Keeping.{OwnerStanding, answered, attached, handing_row, known_in, order_row, silent, submitted}
+use Rattle.owner_keeper.specs.Keeping.{OwnerStanding, answered, attached, handing_row, known_in, order_row, restaple_row, silent, stapled_reply, submitted}
 use Rattle.owner_keeper.specs.Lasting.{SignsOn}
+use Rattle.owner_keeper.specs.Stapling.{StapleParts, allowing, disallowing, hearing, stapling_by, with_staple}
 use Rattle.owner_keeper.specs.Texts.{most_asks, most_handover}
 use Rattle.owner_keeper.specs.declared.order.OwnerOrder.{OwnerOrder}
-use Rattle.owner_keeper.specs.declared.order.OwnerOrder.TheVariants.{Take, Begin, Know, Handover, Attach, Object, Submit}
+use Rattle.owner_keeper.specs.declared.order.OwnerOrder.TheVariants.{Take, Begin, Know, Handover, Attach, Object, Submit, Allow, Disallow, Staple, Restaple, Leaves}
 use Rattle.owner_keeper.specs.declared.refusal.OwnerOrderRefusal.TheVariants as refusals
 use Rattle.owner_keeper.specs.declared.reply.OwnerReply.{OwnerReply}
 use Rattle.owner_keeper.specs.declared.reply.OwnerReply.TheVariants.{Handed, Sends}
-use Rattle.owner_keeper.proofs.Numbered.{done_by, sent_stays}
+use Rattle.owner_keeper.proofs.Done.{allowed_by, done_by, restapled_by, sent_stays, stapled_by}
 use Rattle.party_keys.specs.Directory.{Directory}
 use Rattle.party_keys.specs.Learning.{Announced, after_learning, learned}
 use Rattle.party_keys.specs.Signatures.{verified}
@@ -136,33 +138,49 @@ object-on me later cert value e =
 begin-on : (me later : Owner) (cert : Certificate) (asks : List ℕ) (value : Sent) → begin_row me cert asks ≡ Ok (value, later) → SignsOn me later
 begin-on me later cert asks value e = made-on me _ _ value later e (drafts-on me _)
 
+restapled-on : (party later : OwnerStanding) (s : StapleParts) (reply : OwnerReply) → restaple_row party s ≡ Ok (reply, later) → SignsOn party.owner later.owner
+restapled-on party later s reply e =
+    let r = restapled_by party s reply later e in
+    let text : List ℕ = text_of (answer r.cert.name (digest_of r.cert) (staple_challenge s.epoch s.channel)) in
+    let d = done_by (stapled_reply r.cert s) party.certs (with_staple party.stapling s) (stapling_by party.owner r.cert s) reply later r.row in
+    signed-on party.owner text (leaf_of party.owner.book text) (d.value, later.owner) d.row_is
+
 pub order_on : (party later : OwnerStanding) (order : OwnerOrder) (reply : OwnerReply) → order_row party order ≡ Ok (reply, later) → SignsOn party.owner later.owner
 order_on party later (Take bytes) reply e =
-    let d = done_by Sends party.certs (step_row party.owner bytes) reply later e in step-on party.owner later.owner bytes d.value d.row_is
+    let d = done_by Sends party.certs (hearing party.stapling bytes) (step_row party.owner bytes) reply later e in step-on party.owner later.owner bytes d.value d.row_is
 order_on party later (Begin cert asks) reply e =
-    let b = bind_ok (need (nat_le (length asks) most_asks) refusals.Long) (λ few. answered Sends (party.certs ++ cert ∷ []) (begin_row party.owner cert asks)) (reply, later) e in
-    let d = done_by Sends (party.certs ++ cert ∷ []) (begin_row party.owner cert asks) reply later b.2 in
+    let b = bind_ok (need (nat_le (length asks) most_asks) refusals.Long) (λ few. answered Sends (party.certs ++ cert ∷ []) party.stapling (begin_row party.owner cert asks)) (reply, later) e in
+    let d = done_by Sends (party.certs ++ cert ∷ []) party.stapling (begin_row party.owner cert asks) reply later b.2 in
     begin-on party.owner later.owner cert asks d.value d.row_is
 order_on party later (Know cert) reply e =
     let at : OwnerStanding = record party { certs = party.certs ++ cert ∷ [] } in
     subst (λ (p : OwnerReply × OwnerStanding). SignsOn party.owner p.1.owner) (ok_is (silent tt, at) (reply, later) e) (signs-itself party.owner)
 order_on party later (Handover draft) reply e =
-    let b = bind_ok (known_in party.certs draft) (λ cert. answered (Handed (digest_of cert)) party.certs (handing_row party.owner (digest_of cert))) (reply, later) e in
-    let d = done_by (Handed (digest_of b.0)) party.certs (handing_row party.owner (digest_of b.0)) reply later b.2 in
+    let b = bind_ok (known_in party.certs draft) (λ cert. answered (Handed (digest_of cert)) party.certs party.stapling (handing_row party.owner (digest_of cert))) (reply, later) e in
+    let d = done_by (Handed (digest_of b.0)) party.certs party.stapling (handing_row party.owner (digest_of b.0)) reply later b.2 in
     handing-on party.owner later.owner (digest_of b.0) d.value d.row_is
 order_on party later (Attach draft bytes) reply e =
     let a = bind_ok (need (nat_le (length bytes) most_handover) refusals.Long)
-    (λ short. known_in party.certs draft >>= λ cert. answered silent party.certs (attach_row party.owner (digest_of cert) bytes)) (reply, later) e in
-    let b = bind_ok (known_in party.certs draft) (λ cert. answered silent party.certs (attach_row party.owner (digest_of cert) bytes)) (reply, later) a.2 in
-    let d = done_by silent party.certs (attach_row party.owner (digest_of b.0) bytes) reply later b.2 in
+    (λ short. known_in party.certs draft >>= λ cert. answered silent party.certs party.stapling (attach_row party.owner (digest_of cert) bytes)) (reply, later) e in
+    let b = bind_ok (known_in party.certs draft) (λ cert. answered silent party.certs party.stapling (attach_row party.owner (digest_of cert) bytes)) (reply, later) a.2 in
+    let d = done_by silent party.certs party.stapling (attach_row party.owner (digest_of b.0) bytes) reply later b.2 in
     attach-on party.owner later.owner (digest_of b.0) bytes d.value d.row_is
 order_on party later (Object draft) reply e =
-    let b = bind_ok (known_in party.certs draft) (λ cert. answered Sends party.certs (object_row party.owner cert)) (reply, later) e in
-    let d = done_by Sends party.certs (object_row party.owner b.0) reply later b.2 in
+    let b = bind_ok (known_in party.certs draft) (λ cert. answered Sends party.certs party.stapling (object_row party.owner cert)) (reply, later) e in
+    let d = done_by Sends party.certs party.stapling (object_row party.owner b.0) reply later b.2 in
     object-on party.owner later.owner b.0 d.value d.row_is
 order_on party later (Submit draft) reply e =
     let b = bind_ok (known_in party.certs draft) (λ cert. submitted party (submit_row party.owner (digest_of cert))) (reply, later) e in
     subst (λ (p : OwnerStanding). SignsOn party.owner p.owner) (sym (sent_stays party (submit_row party.owner (digest_of b.0)) reply later b.2)) (signs-itself party.owner)
+order_on party later (Allow permit) reply e =
+    let at : OwnerStanding = record party { stapling = allowing permit party.stapling } in
+    subst (λ (p : OwnerStanding). SignsOn party.owner p.owner) (allowed_by party at (known_in party.certs permit.draft) (silent tt) reply later e) (signs-itself party.owner)
+order_on party later (Disallow permit) reply e =
+    let at : OwnerStanding = record party { stapling = disallowing permit party.stapling } in
+    subst (λ (p : OwnerStanding). SignsOn party.owner p.owner) (allowed_by party at (known_in party.certs permit.draft) (silent tt) reply later e) (signs-itself party.owner)
+order_on party later (Staple permit confirmation) reply e = restapled-on party later _ reply (stapled_by party permit confirmation reply later e).row
+order_on party later (Restaple s) reply e = restapled-on party later s reply e
+order_on party later Leaves reply e = subst (λ (p : OwnerReply × OwnerStanding). SignsOn party.owner p.1.owner) (ok_is (silent tt, party) (reply, later) e) (signs-itself party.owner)
 
 -- ---- lives
 

@@ -1,9 +1,14 @@
 pub mod Acting
 pub mod Counted
+pub mod Done
 pub mod EachRow
+pub mod Kept
 pub mod Lasting
+pub mod Leaving
 pub mod Lengths
 pub mod Numbered
+pub mod Reasoned
 pub mod Roomless
 pub mod Spelled
+pub mod Stapled
 pub mod Told

@@ -11,39 +11,15 @@ use Rattle.ar_message.specs.declared.sent.Sent.{Sent}
 use Rattle.owner_core.specs.Rows.{OwnerAnswer, attach_row, begin_row, object_row, step_row, submit_row}
 use Rattle.owner_core.specs.State.{Owner}
 use Rattle.owner_core.specs.declared.refusal.OwnerRefusal.{OwnerRefusal}
-use Rattle.owner_keeper.specs.Keeping.{OwnerStanding, answered, draft_in, draft_of, handing_row, known_in, order_row, silent, submitted}
+use Rattle.owner_keeper.specs.Keeping.{OwnerStanding, answered, draft_in, draft_of, handing_row, known_in, order_row, restaple_row, silent, stapled_reply, submitted}
+use Rattle.owner_keeper.specs.Stapling.{StapleParts, allowing, disallowing, hearing, stapling_by, with_staple}
 use Rattle.owner_keeper.specs.Texts.{most_asks, most_handover}
 use Rattle.owner_keeper.specs.declared.order.OwnerOrder.{OwnerOrder}
-use Rattle.owner_keeper.specs.declared.order.OwnerOrder.TheVariants.{Take, Begin, Know, Handover, Attach, Object, Submit}
+use Rattle.owner_keeper.specs.declared.order.OwnerOrder.TheVariants.{Take, Begin, Know, Handover, Attach, Object, Submit, Allow, Disallow, Staple, Restaple, Leaves}
 use Rattle.owner_keeper.specs.declared.refusal.OwnerOrderRefusal.TheVariants as refusals
 use Rattle.owner_keeper.specs.declared.reply.OwnerReply.{OwnerReply}
 use Rattle.owner_keeper.specs.declared.reply.OwnerReply.TheVariants.{Handed, Sends}
-
--- ---- answers of rows
-
--- an order was done by a row, which left the owner so; beside it stand these certificates
-pub record IsDone {T : Type 0} (certs : List Certificate) (row : OwnerAnswer T) (later : OwnerStanding) : Type 0 where
-  pub value : T
-  pub row_is : row ≡ Ok (value, later.owner)
-  pub certs_are : later.certs ≡ certs
-
-pub done_by : {T : Type 0} (reply : T → OwnerReply) (certs : List Certificate) (row : OwnerAnswer T) (said : OwnerReply) (later : OwnerStanding)
-    → answered reply certs row ≡ Ok (said, later) → IsDone certs row later
-done_by {T} reply certs (Ok r) said later e =
-    let at : OwnerStanding = record { owner = r.1; certs = certs } in
-    let same : (reply r.0, at) ≡ (said, later) = ok_is (reply r.0, at) (said, later) e in
-    let owner : r.1 ≡ later.owner = ap (λ (p : OwnerReply × OwnerStanding). p.1.owner) same in
-    record {
-      value = r.0;
-      row_is = ap (λ (me : Owner). Ok (r.0, me)) owner;
-      certs_are = sym (ap (λ (p : OwnerReply × OwnerStanding). p.1.certs) same);
-    }
-done_by reply certs (Err refusal) said later e = absurd cc
-
--- a draft that is sent leaves all as it is
-pub sent_stays : (party : OwnerStanding) (row : Result Sent OwnerRefusal) (said : OwnerReply) (later : OwnerStanding) → submitted party row ≡ Ok (said, later) → later ≡ party
-sent_stays party (Ok sent) said later e = sym (ap (λ (p : OwnerReply × OwnerStanding). p.1) (ok_is (Sends sent, party) (said, later) e))
-sent_stays party (Err refusal) said later e = absurd cc
+use Rattle.owner_keeper.proofs.Done.{allowed_by, done_by, restapled_by, sent_stays, stapled_by}
 
 -- ---- certificates
 
@@ -53,30 +29,47 @@ Behind certs later = (more : List Certificate) × (later ≡ certs ++ more)
 same-behind : (certs later : List Certificate) → later ≡ certs → Behind certs later
 same-behind certs later e = ([], e ∙ sym (append-nil certs))
 
+-- a staple leaves them
+restapled-grow : (party : OwnerStanding) (s : StapleParts) (reply : OwnerReply) (later : OwnerStanding) → restaple_row party s ≡ Ok (reply, later) → Behind party.certs later.certs
+restapled-grow party s reply later e =
+    let r = restapled_by party s reply later e in
+    same-behind party.certs later.certs (done_by (stapled_reply r.cert s) party.certs (with_staple party.stapling s) (stapling_by party.owner r.cert s) reply later r.row).certs_are
+
 -- what was known is known
 pub certs_grow : (party : OwnerStanding) (order : OwnerOrder) (reply : OwnerReply) (later : OwnerStanding) → order_row party order ≡ Ok (reply, later) → Behind party.certs later.certs
 certs_grow party (Take bytes) reply later e =
-    same-behind party.certs later.certs (done_by Sends party.certs (step_row party.owner bytes) reply later e).certs_are
+    same-behind party.certs later.certs (done_by Sends party.certs (hearing party.stapling bytes) (step_row party.owner bytes) reply later e).certs_are
 certs_grow party (Begin cert asks) reply later e =
-    let b = bind_ok (need (nat_le (length asks) most_asks) refusals.Long) (λ few. answered Sends (party.certs ++ cert ∷ []) (begin_row party.owner cert asks)) (reply, later) e in
-    (cert ∷ [], (done_by Sends (party.certs ++ cert ∷ []) (begin_row party.owner cert asks) reply later b.2).certs_are)
+    let b = bind_ok (need (nat_le (length asks) most_asks) refusals.Long) (λ few. answered Sends (party.certs ++ cert ∷ []) party.stapling (begin_row party.owner cert asks)) (reply, later) e in
+    (cert ∷ [], (done_by Sends (party.certs ++ cert ∷ []) party.stapling (begin_row party.owner cert asks) reply later b.2).certs_are)
 certs_grow party (Know cert) reply later e =
     let at : OwnerStanding = record party { certs = party.certs ++ cert ∷ [] } in
     (cert ∷ [], sym (ap (λ (p : OwnerReply × OwnerStanding). p.1.certs) (ok_is (silent tt, at) (reply, later) e)))
 certs_grow party (Handover draft) reply later e =
-    let b = bind_ok (known_in party.certs draft) (λ cert. answered (Handed (digest_of cert)) party.certs (handing_row party.owner (digest_of cert))) (reply, later) e in
-    same-behind party.certs later.certs (done_by (Handed (digest_of b.0)) party.certs (handing_row party.owner (digest_of b.0)) reply later b.2).certs_are
+    let b = bind_ok (known_in party.certs draft) (λ cert. answered (Handed (digest_of cert)) party.certs party.stapling (handing_row party.owner (digest_of cert))) (reply, later) e in
+    same-behind party.certs later.certs (done_by (Handed (digest_of b.0)) party.certs party.stapling (handing_row party.owner (digest_of b.0)) reply later b.2).certs_are
 certs_grow party (Attach draft handover) reply later e =
     let a = bind_ok (need (nat_le (length handover) most_handover) refusals.Long)
-    (λ short. known_in party.certs draft >>= λ cert. answered silent party.certs (attach_row party.owner (digest_of cert) handover)) (reply, later) e in
-    let b = bind_ok (known_in party.certs draft) (λ cert. answered silent party.certs (attach_row party.owner (digest_of cert) handover)) (reply, later) a.2 in
-    same-behind party.certs later.certs (done_by silent party.certs (attach_row party.owner (digest_of b.0) handover) reply later b.2).certs_are
+    (λ short. known_in party.certs draft >>= λ cert. answered silent party.certs party.stapling (attach_row party.owner (digest_of cert) handover)) (reply, later) e in
+    let b = bind_ok (known_in party.certs draft) (λ cert. answered silent party.certs party.stapling (attach_row party.owner (digest_of cert) handover)) (reply, later) a.2 in
+    same-behind party.certs later.certs (done_by silent party.certs party.stapling (attach_row party.owner (digest_of b.0) handover) reply later b.2).certs_are
 certs_grow party (Object draft) reply later e =
-    let b = bind_ok (known_in party.certs draft) (λ cert. answered Sends party.certs (object_row party.owner cert)) (reply, later) e in
-    same-behind party.certs later.certs (done_by Sends party.certs (object_row party.owner b.0) reply later b.2).certs_are
+    let b = bind_ok (known_in party.certs draft) (λ cert. answered Sends party.certs party.stapling (object_row party.owner cert)) (reply, later) e in
+    same-behind party.certs later.certs (done_by Sends party.certs party.stapling (object_row party.owner b.0) reply later b.2).certs_are
 certs_grow party (Submit draft) reply later e =
     let b = bind_ok (known_in party.certs draft) (λ cert. submitted party (submit_row party.owner (digest_of cert))) (reply, later) e in
     same-behind party.certs later.certs (ap (λ (p : OwnerStanding). p.certs) (sent_stays party (submit_row party.owner (digest_of b.0)) reply later b.2))
+certs_grow party (Allow permit) reply later e =
+    let at : OwnerStanding = record party { stapling = allowing permit party.stapling } in
+    same-behind party.certs later.certs (sym (ap (λ (p : OwnerStanding). p.certs) (allowed_by party at (known_in party.certs permit.draft) (silent tt) reply later e)))
+certs_grow party (Disallow permit) reply later e =
+    let at : OwnerStanding = record party { stapling = disallowing permit party.stapling } in
+    same-behind party.certs later.certs (sym (ap (λ (p : OwnerStanding). p.certs) (allowed_by party at (known_in party.certs permit.draft) (silent tt) reply later e)))
+certs_grow party (Staple permit confirmation) reply later e =
+    let d = stapled_by party permit confirmation reply later e in restapled-grow party _ reply later d.row
+certs_grow party (Restaple s) reply later e = restapled-grow party s reply later e
+certs_grow party Leaves reply later e =
+    same-behind party.certs later.certs (sym (ap (λ (p : OwnerReply × OwnerStanding). p.1.certs) (ok_is (silent tt, party) (reply, later) e)))
 
 -- ---- drafts by their numbers
 
@@ -99,8 +92,8 @@ next-number certs later cert is =
 pub begun_number : (party later : OwnerStanding) (cert : Certificate) (asks : List ℕ) (reply : OwnerReply) → order_row party (Begin cert asks) ≡ Ok (reply, later)
     → draft_of later (length party.certs + 1) ≡ Some cert
 begun_number party later cert asks reply e =
-    let b = bind_ok (need (nat_le (length asks) most_asks) refusals.Long) (λ few. answered Sends (party.certs ++ cert ∷ []) (begin_row party.owner cert asks)) (reply, later) e in
-    next-number party.certs later.certs cert (done_by Sends (party.certs ++ cert ∷ []) (begin_row party.owner cert asks) reply later b.2).certs_are
+    let b = bind_ok (need (nat_le (length asks) most_asks) refusals.Long) (λ few. answered Sends (party.certs ++ cert ∷ []) party.stapling (begin_row party.owner cert asks)) (reply, later) e in
+    next-number party.certs later.certs cert (done_by Sends (party.certs ++ cert ∷ []) party.stapling (begin_row party.owner cert asks) reply later b.2).certs_are
 
 pub known_number : (party later : OwnerStanding) (cert : Certificate) (reply : OwnerReply) → order_row party (Know cert) ≡ Ok (reply, later)
     → draft_of later (length party.certs + 1) ≡ Some cert

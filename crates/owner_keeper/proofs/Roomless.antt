@@ -7,12 +7,12 @@ use Rattle.ar_cert.specs.Certificate.{Certificate, digest_of}
 use Rattle.ar_message.specs.Messages.{message_in}
 use Rattle.ar_message.specs.declared.message.Message.{Message}
 use Rattle.ar_message.specs.declared.sent.Sent.{Sent}
-use Rattle.ar_statement.specs.Claims.{Claim, authority_party, endorse, handover, object, text_of}
+use Rattle.ar_statement.specs.Claims.{Claim, answer, authority_party, endorse, handover, object, text_of}
 use Rattle.ar_statement.specs.declared.fault.BookFault.{BookFault}
 use Rattle.lms_tree.specs.Key.{signature_of}
 use Rattle.owner_core.specs.Drafts.{changed_draft, endorsed, handed_over}
 use Rattle.owner_core.specs.Objecting.{objection}
-use Rattle.owner_core.specs.Rows.{OwnerAnswer, attach_row, begin_row, endorsed_row, handover_row, is_own, message_row, object_row, roll_refusal, roll_row, sent, step_row, submission, verified_as, with_drafts}
+use Rattle.owner_core.specs.Rows.{OwnerAnswer, attach_row, begin_row, endorsed_row, handover_row, is_own, message_row, object_row, roll_refusal, roll_row, sent, staple_row, step_row, submission, verified_as, with_drafts}
 use Rattle.owner_core.specs.Signing.{signed_at, signed_by_owner}
 use Rattle.owner_core.specs.State.{Owner}
 use Rattle.owner_core.specs.declared.refusal.OwnerRefusal.{OwnerRefusal}
@@ -77,6 +77,9 @@ claim-over : (me : Owner) (claim : Claim) → signed_by_owner (roomless me) clai
 claim-over me claim =
     ap (signed_at (roomless me) (text_of claim)) (leaf-over me.book (place_of me.book.texts (text_of claim)))
     ∙ signed-over me (text_of claim) (leaf_of me.book (text_of claim))
+
+pub staple_over : (me : Owner) (name certificate challenge : List ℕ) → staple_row (roomless me) name certificate challenge ≡ over (staple_row me name certificate challenge)
+staple_over me name certificate challenge = claim-over me (answer name certificate challenge)
 
 -- what is made of a signature, by the owner behind it
 abbrev objected : Certificate → List ℕ × Owner → OwnerAnswer Sent

@@ -5,22 +5,27 @@ use Rattle.std.specs.List.{AllByRecursion}
 use Rattle.std.specs.Option.{option_map}
 use Rattle.std.specs.Result.{result_ok}
 use Rattle.std.proofs.lemmas.Bool.{eqb-true, le-leb, leb-true}
-use Rattle.ar_base.specs.Bytes.{AreBytes}
+use Rattle.ar_base.specs.Bytes.{AreBytes, IsDigest}
 use Rattle.ar_base.specs.Chaining.{◌>>=◌}
 use Rattle.ar_base.proofs.Shown.{bind_ok, gave, mapped, ok_is}
 use Rattle.ar_bytes.specs.Lists.{list_at}
-use Rattle.ar_bytes.specs.Reading.{Reading, number_at, start_of, whole}
+use Rattle.ar_bytes.specs.Reading.{Cursor, Reading, number_at, start_of, whole}
 use Rattle.ar_bytes.specs.RoundTrip.{IsSpelledBy, Passes, ReadsBack, number_text}
 use Rattle.ar_bytes.proofs.Lists.{counted_list_again, counted_list_pass, list_again, list_pass}
 use Rattle.ar_bytes.proofs.Parts.{whole_again, whole_pass}
 use Rattle.ar_bytes.proofs.Passing.{number_again, number_pass, wide16, wide64}
-use Rattle.ar_bytes.proofs.Steps.{between, next}
+use Rattle.ar_bytes.proofs.Steps.{Passes-then, between, next, split}
 use Rattle.ar_cert.specs.Certificate.{Certificate, IsCertificate, certificate_at, certificate_text}
 use Rattle.ar_cert.proofs.CertificateLaws.{certificate_again, certificate_pass}
 use Rattle.ar_message.specs.Messages.{longest}
-use Rattle.owner_keeper.specs.Texts.{IsWhole, asks_at, asks_text, attached_by, beginning_at, draft_kept, kept_order, kept_text, message_kept, most_asks, most_handover, text_if}
+use Rattle.ar_statement.specs.Fields.{digest_at}
+use Rattle.ar_statement.proofs.FieldLaws.{digest_again, digest_pass}
+use Rattle.possession.specs.Connections.{epoch_in}
+use Rattle.owner_keeper.specs.Stapling.{StapleParts, staple_at}
+use Rattle.owner_keeper.specs.Texts.{IsPermit, IsStapleParts, IsWhole, as_kept, asks_at, asks_text, attached_by, beginning_at, draft_kept, kept_order, kept_text, message_kept, most_asks, most_handover, permit_at, permit_kept, permit_text, staple_kept, staple_read_at, staple_text, text_if}
+use Rattle.owner_keeper.specs.declared.permit.Permit.{Permit}
 use Rattle.owner_keeper.specs.declared.order.OwnerOrder.{OwnerOrder}
-use Rattle.owner_keeper.specs.declared.order.OwnerOrder.TheVariants.{Take, Begin, Know, Handover, Attach, Object, Submit}
+use Rattle.owner_keeper.specs.declared.order.OwnerOrder.TheVariants.{Take, Begin, Know, Handover, Attach, Object, Submit, Allow, Disallow, Staple, Restaple, Leaves}
 
 -- ---- parts
 
@@ -63,6 +68,47 @@ draft-pass : (bytes : List ℕ) (draft : ℕ) → AreBytes bytes → draft_kept 
 draft-pass bytes draft are e =
     whole_pass (number_at w64) (number_text w64) (λ n. n < 2 ^ 64) (number_pass w64 (2 ^ 64) wide64) bytes draft are (gave (whole (number_at w64) bytes) draft e)
 
+-- ---- what is allowed, and staples
+
+permit-again : (permit : Permit) → IsPermit permit → ReadsBack permit_at permit (permit_text permit)
+unfolding permit_at
+permit-again permit is at new p =
+    let s = split at new (number_text w64 permit.draft) permit.channel p in
+    rw (number_again w64 (2 ^ 64) wide64 permit.draft is.0 at s.0 s.1, digest_again permit.channel is.1 s.0 new s.2) refl
+
+permit-pass : IsSpelledBy permit_at permit_text IsPermit
+unfolding permit_at
+permit-pass at new permit bytes e =
+    let draft = next (number_at w64) (number_text w64) (λ n. n < 2 ^ 64) (number_pass w64 (2 ^ 64) wide64) _ at (permit, new) bytes e in
+    let channel = next digest_at (λ d. d) IsDigest digest_pass _ draft.1 (permit, new) draft.4 draft.5 in
+    let value : Permit = record { draft = draft.0; channel = channel.0 } in
+    let passes = Passes-then at draft.1 channel.1 (number_text w64 draft.0) channel.0 draft.2 channel.2 in
+    subst (λ (x : Permit × Cursor). Passes at (permit_text x.0) x.1 × IsPermit x.0) {x = (value, channel.1)} (ok_is (value, channel.1) (permit, new) channel.5) (passes, (draft.3, channel.3))
+
+staple-again : (s : StapleParts) → IsStapleParts s → ReadsBack staple_read_at s (staple_text s)
+unfolding staple_read_at
+staple-again s is at new p =
+    let draft = split at new (number_text w64 s.draft) (number_text w64 s.epoch ++ s.channel) p in
+    let epoch = split draft.0 new (number_text w64 s.epoch) s.channel draft.2 in
+    rw (number_again w64 (2 ^ 64) wide64 s.draft is.0 at draft.0 draft.1, number_again w64 (2 ^ 64) wide64 s.epoch is.1.0 draft.0 epoch.0 epoch.1, digest_again s.channel is.1.1 epoch.0 new epoch.2) refl
+
+staple-pass : IsSpelledBy staple_read_at staple_text IsStapleParts
+unfolding staple_read_at
+staple-pass at new s bytes e =
+    let draft = next (number_at w64) (number_text w64) (λ n. n < 2 ^ 64) (number_pass w64 (2 ^ 64) wide64) _ at (s, new) bytes e in
+    let epoch = next (number_at w64) (number_text w64) (λ n. n < 2 ^ 64) (number_pass w64 (2 ^ 64) wide64) _ draft.1 (s, new) draft.4 draft.5 in
+    let channel = next digest_at (λ d. d) IsDigest digest_pass _ epoch.1 (s, new) epoch.4 epoch.5 in
+    let value : StapleParts = record { draft = draft.0; epoch = epoch.0; channel = channel.0 } in
+    let rest = Passes-then draft.1 epoch.1 channel.1 (number_text w64 epoch.0) channel.0 epoch.2 channel.2 in
+    let passes = Passes-then at draft.1 channel.1 (number_text w64 draft.0) (number_text w64 epoch.0 ++ channel.0) draft.2 rest in
+    subst (λ (x : StapleParts × Cursor). Passes at (staple_text x.0) x.1 × IsStapleParts x.0) {x = (value, channel.1)} (ok_is (value, channel.1) (s, new) channel.5) (passes, (draft.3, (epoch.3, channel.3)))
+
+kept-again : (permit : Permit) → IsPermit permit → permit_kept (permit_text permit) ≡ Some permit
+kept-again permit is = ap result_ok (whole_again permit_at permit (permit_text permit) (permit-again permit is))
+
+stapled-again : (s : StapleParts) → IsStapleParts s → staple_kept (staple_text s) ≡ Some s
+stapled-again s is = ap result_ok (whole_again staple_read_at s (staple_text s) (staple-again s is))
+
 -- ---- an order is read back
 
 attached-again : (draft : ℕ) (handover : List ℕ) → draft < 2 ^ 64 → leb (length handover) most_handover ≡ true
@@ -81,7 +127,7 @@ spelled order x text same says = subst (λ (t : List ℕ). kept_order t ≡ Some
 same-text : (x text : List ℕ) → Some x ≡ Some text → x ≡ text
 same-text x text e = cc
 
-pub says_it : (order : OwnerOrder) (text : List ℕ) → IsWhole order → kept_text order ≡ Some text → kept_order text ≡ Some order
+pub says_it : (order : OwnerOrder) (text : List ℕ) → IsWhole order → kept_text order ≡ Some text → kept_order text ≡ Some (as_kept order)
 says_it (Take bytes) text is e =
     let t = there (leb (length bytes) longest) (1 ∷ bytes) text e in
     spelled (Take bytes) (1 ∷ bytes) text t.1 (ap (λ (b : Bool). cond b (Some (Take bytes)) None) t.0)
@@ -104,6 +150,20 @@ says_it (Object draft) text is e =
     let x = 6 ∷ number_text w64 draft in
     spelled (Object draft) x text (same-text x text e) (ap (option_map Object) (draft-again draft is))
 says_it (Submit draft) text is e = absurd cc
+says_it (Allow permit) text is e =
+    let x = 7 ∷ permit_text permit in
+    spelled (Allow permit) x text (same-text x text e) (ap (option_map Allow) (kept-again permit is))
+says_it (Disallow permit) text is e =
+    let x = 8 ∷ permit_text permit in
+    spelled (Disallow permit) x text (same-text x text e) (ap (option_map Disallow) (kept-again permit is))
+says_it (Staple permit confirmation) text is e =
+    let s = staple_at permit (epoch_in confirmation) in
+    let x = 9 ∷ staple_text s in
+    spelled (Restaple s) x text (same-text x text e) (ap (option_map Restaple) (stapled-again s (is.0.0, (is.1, is.0.1))))
+says_it (Restaple s) text is e =
+    let x = 9 ∷ staple_text s in
+    spelled (Restaple s) x text (same-text x text e) (ap (option_map Restaple) (stapled-again s is))
+says_it Leaves text is e = absurd cc
 
 -- ---- what is read is spelled so
 
@@ -164,6 +224,24 @@ attach-pass bytes order are e = by (number_at w64 (start_of bytes)) refl e
         ap (λ (b : Bool). text_if b (5 ∷ (number_text w64 d.0 ++ d.1.ahead))) p.0 ∙ ap (λ (t : List ℕ). Some (5 ∷ t)) (sym n.0.bytes) in
         subst (Spells (5 ∷ bytes)) p.1 (text, n.1)
 
+allow-pass : (bytes : List ℕ) (order : OwnerOrder) → AreBytes bytes → option_map Allow (permit_kept bytes) ≡ Some order → Spells (7 ∷ bytes) order
+allow-pass bytes order are e =
+    let m = mapped Allow (permit_kept bytes) order e in
+    let w = whole_pass permit_at permit_text IsPermit permit-pass bytes m.0 are (gave (whole permit_at bytes) m.0 m.1) in
+    subst (Spells (7 ∷ bytes)) m.2 (ap (λ (t : List ℕ). Some (7 ∷ t)) (sym w.0), w.1)
+
+disallow-pass : (bytes : List ℕ) (order : OwnerOrder) → AreBytes bytes → option_map Disallow (permit_kept bytes) ≡ Some order → Spells (8 ∷ bytes) order
+disallow-pass bytes order are e =
+    let m = mapped Disallow (permit_kept bytes) order e in
+    let w = whole_pass permit_at permit_text IsPermit permit-pass bytes m.0 are (gave (whole permit_at bytes) m.0 m.1) in
+    subst (Spells (8 ∷ bytes)) m.2 (ap (λ (t : List ℕ). Some (8 ∷ t)) (sym w.0), w.1)
+
+restaple-pass : (bytes : List ℕ) (order : OwnerOrder) → AreBytes bytes → option_map Restaple (staple_kept bytes) ≡ Some order → Spells (9 ∷ bytes) order
+restaple-pass bytes order are e =
+    let m = mapped Restaple (staple_kept bytes) order e in
+    let w = whole_pass staple_read_at staple_text IsStapleParts staple-pass bytes m.0 are (gave (whole staple_read_at bytes) m.0 m.1) in
+    subst (Spells (9 ∷ bytes)) m.2 (ap (λ (t : List ℕ). Some (9 ∷ t)) (sym w.0), w.1)
+
 -- the order of the kind with this number, or of those behind it
 or-else : (kind number : ℕ) (bytes : List ℕ) (order : OwnerOrder) (here other : Option OwnerOrder) → cond (eqb kind number) here other ≡ Some order
     → (here ≡ Some order → Spells (number ∷ bytes) order) → (other ≡ Some order → Spells (kind ∷ bytes) order) → Spells (kind ∷ bytes) order
@@ -182,4 +260,7 @@ only_text (kind ∷ bytes) order are e =
     or-else kind 3 bytes order _ _ e3 (know-pass bytes order behind) (λ e4.
     or-else kind 4 bytes order _ _ e4 (handover-pass bytes order behind) (λ e5.
     or-else kind 5 bytes order _ _ e5 (attach-pass bytes order behind) (λ e6.
-    or-else kind 6 bytes order _ _ e6 (object-pass bytes order behind) (λ e7. absurd cc))))))
+    or-else kind 6 bytes order _ _ e6 (object-pass bytes order behind) (λ e7.
+    or-else kind 7 bytes order _ _ e7 (allow-pass bytes order behind) (λ e8.
+    or-else kind 8 bytes order _ _ e8 (disallow-pass bytes order behind) (λ e9.
+    or-else kind 9 bytes order _ _ e9 (restaple-pass bytes order behind) (λ e10. absurd cc)))))))))

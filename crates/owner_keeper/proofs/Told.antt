@@ -5,7 +5,7 @@ use Rattle.std.specs.Option.{ok_or}
 use Rattle.std.proofs.lemmas.Bool.{leb-false, lt-ltb}
 use Rattle.ar_base.specs.Chaining.{◌>>=◌, need}
 use Rattle.ar_base.specs.Gives.{with_error}
-use Rattle.ar_base.proofs.Shown.{bind_ok, needed}
+use Rattle.ar_base.proofs.Shown.{bind_ok, needed, ok_is}
 use Rattle.ar_bytes.specs.Reading.{whole}
 use Rattle.ar_cert.specs.Certificate.{digest_of}
 use Rattle.ar_message.specs.Messages.{longest, message_at, message_in}
@@ -15,14 +15,15 @@ use Rattle.owner_core.specs.declared.refusal.OwnerRefusal.TheVariants.{Form, Mem
 use Rattle.kept_journal.specs.declared.fault.ReplayFault.{ReplayFault}
 use Rattle.kept_journal.specs.declared.fault.ReplayFault.TheVariants.{Memory as WantsMemory, Stuck}
 use Rattle.owner_keeper.specs.Keeping.{OrderAnswer, OwnerStanding, answered, known_in, order_row, says, silent, submitted, takes, tells}
-use Rattle.owner_keeper.specs.Texts.{IsWhole, kept_order, kept_text, most_asks, most_handover, text_if}
+use Rattle.owner_keeper.specs.Stapling.{hearing}
+use Rattle.owner_keeper.specs.Texts.{IsWhole, as_kept, kept_order, kept_text, most_asks, most_handover, text_if}
 use Rattle.owner_keeper.specs.declared.order.OwnerOrder.{OwnerOrder}
-use Rattle.owner_keeper.specs.declared.order.OwnerOrder.TheVariants.{Take, Begin, Know, Handover, Attach, Object, Submit}
+use Rattle.owner_keeper.specs.declared.order.OwnerOrder.TheVariants.{Take, Begin, Know, Handover, Attach, Object, Submit, Allow, Disallow, Staple, Restaple, Leaves}
 use Rattle.owner_keeper.specs.declared.refusal.OwnerOrderRefusal.{OwnerOrderRefusal}
 use Rattle.owner_keeper.specs.declared.refusal.OwnerOrderRefusal.TheVariants as refusals
 use Rattle.owner_keeper.specs.declared.reply.OwnerReply.{OwnerReply}
 use Rattle.owner_keeper.specs.declared.reply.OwnerReply.TheVariants.{Sends}
-use Rattle.owner_keeper.proofs.Numbered.{sent_stays}
+use Rattle.owner_keeper.proofs.Done.{kept_row, sent_stays}
 use Rattle.owner_keeper.proofs.Spelled.{says_it}
 
 -- a text is not there where what it is of is too long
@@ -42,25 +43,30 @@ pub told_of : (party : OwnerStanding) (order : OwnerOrder) (reply : OwnerReply) 
 told_of party (Take bytes) reply later none e =
     let long = long-message bytes (none-there (nat_le (length bytes) longest) (1 ∷ bytes) none) in
     let row : order_row party (Take bytes) ≡ Err (refusals.Owner (Form longest)) =
-    ap (λ (m : Result Message ℕ). answered Sends party.certs (with_error Form m >>= λ message. message_row party.owner message)) long in
+    ap (λ (m : Result Message ℕ). answered Sends party.certs (hearing party.stapling bytes) (with_error Form m >>= λ message. message_row party.owner message)) long in
     let never : ◌≡◌ {A = OrderAnswer} (Ok (reply, later)) (Err (refusals.Owner (Form longest))) = sym e ∙ row in
     absurd cc
 told_of party (Begin cert asks) reply later none e =
     let long : nat_le (length asks) most_asks ≡ false = none-there (nat_le (length asks) most_asks) _ none in
-    let row : order_row party (Begin cert asks) ≡ Err refusals.Long = ap (λ (b : Bool). need b refusals.Long >>= λ few. answered Sends (party.certs ++ cert ∷ []) (begin_row party.owner cert asks)) long in
+    let row : order_row party (Begin cert asks) ≡ Err refusals.Long = ap (λ (b : Bool). need b refusals.Long >>= λ few. answered Sends (party.certs ++ cert ∷ []) party.stapling (begin_row party.owner cert asks)) long in
     let never : ◌≡◌ {A = OrderAnswer} (Ok (reply, later)) (Err refusals.Long) = sym e ∙ row in
     absurd cc
 told_of party (Know cert) reply later none e = absurd cc
 told_of party (Handover draft) reply later none e = absurd cc
 told_of party (Attach draft handover) reply later none e =
     let long : nat_le (length handover) most_handover ≡ false = none-there (nat_le (length handover) most_handover) _ none in
-    let row : order_row party (Attach draft handover) ≡ Err refusals.Long = ap (λ (b : Bool). need b refusals.Long >>= λ short. known_in party.certs draft >>= λ c. answered silent party.certs (attach_row party.owner (digest_of c) handover)) long in
+    let row : order_row party (Attach draft handover) ≡ Err refusals.Long = ap (λ (b : Bool). need b refusals.Long >>= λ short. known_in party.certs draft >>= λ c. answered silent party.certs party.stapling (attach_row party.owner (digest_of c) handover)) long in
     let never : ◌≡◌ {A = OrderAnswer} (Ok (reply, later)) (Err refusals.Long) = sym e ∙ row in
     absurd cc
 told_of party (Object draft) reply later none e = absurd cc
 told_of party (Submit draft) reply later none e =
     let b = bind_ok (known_in party.certs draft) (λ cert. submitted party (submit_row party.owner (digest_of cert))) (reply, later) e in
     sent_stays party (submit_row party.owner (digest_of b.0)) reply later b.2
+told_of party (Allow permit) reply later none e = absurd cc
+told_of party (Disallow permit) reply later none e = absurd cc
+told_of party (Staple permit confirmation) reply later none e = absurd cc
+told_of party (Restaple s) reply later none e = absurd cc
+told_of party Leaves reply later none e = sym (ap (λ (p : OwnerReply × OwnerStanding). p.1) (ok_is (silent tt, party) (reply, later) e))
 
 -- ---- texts that are not taken
 
@@ -94,7 +100,7 @@ none_said (Some x) fault (inr e) stuck = absurd cc
 pub done_taken : (party later : OwnerStanding) (order : OwnerOrder) (reply : OwnerReply) (text : Option (List ℕ)) → IsWhole order → text ≡ kept_text order
     → order_row party order ≡ Ok (reply, later) → IfSome text (λ t. takes party t reply later × says party order t)
 done_taken party later order reply None whole is row = tt
-done_taken party later order reply (Some t) whole is row = (record { order = order; says = says_it order t whole (sym is); answer = row }, sym is)
+done_taken party later order reply (Some t) whole is row = (record { order = as_kept order; says = says_it order t whole (sym is); answer = kept_row party order reply later row }, sym is)
 
 pub done_told : (party later : OwnerStanding) (order : OwnerOrder) (reply : OwnerReply) (text : Option (List ℕ)) → text ≡ kept_text order
     → order_row party order ≡ Ok (reply, later) → text ≡ None → (later ≡ party) × tells party order reply

@@ -7,6 +7,7 @@ use Rattle.ar_base.specs.Gives.{StepsUnless}
 use Rattle.ar_cert.specs.Certificate.{Certificate, digest_of}
 use Rattle.ar_message.specs.Filling.{nothing}
 use Rattle.ar_message.specs.declared.sent.Sent.{Sent}
+use Rattle.lms_tree.specs.Key.{public_of}
 use Rattle.lms_tree.specs.KeyParts.{KeyParts}
 use Rattle.lms_tree.specs.LmsKind.{leaves_of}
 use Rattle.owner_core.specs.Rows.{OwnerAnswer, attach_row, begin_row, first_owner, handover_row, object_row, step_row, submit_row}
@@ -14,13 +15,16 @@ use Rattle.owner_core.specs.State.{Owner}
 use Rattle.owner_core.specs.declared.refusal.OwnerRefusal.{OwnerRefusal}
 use Rattle.owner_core.specs.declared.refusal.OwnerRefusal.TheVariants.{Memory}
 use Rattle.party_keys.specs.Directory.{Directory}
+use Rattle.party_keys.specs.Learning.{is_key}
+use Rattle.owner_keeper.specs.Stapling.{Stapling, StapleParts, allowing, confirmed_epoch, disallowing, first_stapling, hearing, may_staple, staple_at, stapling_by, with_staple}
 use Rattle.owner_keeper.specs.Texts.{kept_order, kept_text, most_asks, most_handover}
 use Rattle.owner_keeper.specs.declared.order.OwnerOrder.{OwnerOrder}
-use Rattle.owner_keeper.specs.declared.order.OwnerOrder.TheVariants.{Take, Begin, Know, Handover, Attach, Object, Submit}
+use Rattle.owner_keeper.specs.declared.order.OwnerOrder.TheVariants.{Take, Begin, Know, Handover, Attach, Object, Submit, Allow, Disallow, Staple, Restaple, Leaves}
+use Rattle.owner_keeper.specs.declared.permit.Permit.{Permit}
 use Rattle.owner_keeper.specs.declared.refusal.OwnerOrderRefusal.{OwnerOrderRefusal}
 use Rattle.owner_keeper.specs.declared.refusal.OwnerOrderRefusal.TheVariants as refusals
 use Rattle.owner_keeper.specs.declared.reply.OwnerReply.{OwnerReply}
-use Rattle.owner_keeper.specs.declared.reply.OwnerReply.TheVariants.{Handed, Sends}
+use Rattle.owner_keeper.specs.declared.reply.OwnerReply.TheVariants.{Handed, Sends, Stapled}
 
 -- ---- where an owner stands
 
@@ -28,18 +32,19 @@ use Rattle.owner_keeper.specs.declared.reply.OwnerReply.TheVariants.{Handed, Sen
 abbrev pub roomless : Owner → Owner
 roomless me = record me { book = record me.book { room = 0 } }
 
--- where an owner stands, and the certificates that it knows, by the numbers of drafts
+-- where an owner stands, the certificates that it knows, by the numbers of drafts, and what it goes by when it staples
 pub record OwnerStanding : Type 0 where
   pub owner : Owner
   pub certs : List Certificate
+  pub stapling : Stapling
 
 -- that of an owner as a program has it; for how many more statements there is room is left out
-abbrev pub standing_with : Owner → List Certificate → OwnerStanding
-standing_with me certs = record { owner = roomless me; certs = certs }
+abbrev pub standing_with : Owner → List Certificate → Stapling → OwnerStanding
+standing_with me certs st = record { owner = roomless me; certs = certs; stapling = st }
 
 -- that of the owner with this number that has done nothing yet
 abbrev pub new_standing : ℕ → Directory → KeyParts → OwnerStanding
-new_standing number directory key = standing_with (first_owner number directory key (leaves_of key.lms)) []
+new_standing number directory key = standing_with (first_owner number directory key (leaves_of key.lms)) [] (first_stapling directory)
 
 -- the certificate of the draft with this number, of those from 1 on
 abbrev pub draft_in : List Certificate → ℕ → Option Certificate
@@ -64,9 +69,15 @@ Does old new result row = StepsUnless (refusals.Owner Memory) (λ party reply. (
 abbrev pub known_in : List Certificate → ℕ → Result Certificate OwnerOrderRefusal
 known_in certs draft = ok_or (draft_in certs draft) refusals.NoCertificate
 
--- the answer of an owner's row, of one that knows these certificates then
-abbrev pub answered : {T : Type 0} → (T → OwnerReply) → List Certificate → OwnerAnswer T → OrderAnswer
-answered reply certs row = result_map_both (λ r. (reply r.0, record { owner = r.1; certs = certs })) refusals.Owner row
+-- the same, where nothing else is asked of it
+abbrev pub need_known : List Certificate → ℕ → Result (Unit {0}) OwnerOrderRefusal
+need_known certs draft = do
+  cert ← known_in certs draft
+  Ok tt
+
+-- the answer of an owner's row, of one that knows these certificates then, and goes by this when it staples
+abbrev pub answered : {T : Type 0} → (T → OwnerReply) → List Certificate → Stapling → OwnerAnswer T → OrderAnswer
+answered reply certs st row = result_map_both (λ r. (reply r.0, record { owner = r.1; certs = certs; stapling = st })) refusals.Owner row
 
 -- nothing is sent
 abbrev pub silent : Unit {0} → OwnerReply
@@ -87,26 +98,61 @@ handing_row me digest = do
 abbrev pub submitted : OwnerStanding → Result Sent OwnerRefusal → OrderAnswer
 submitted party row = result_map_both (λ sent. (Sends sent, party)) refusals.Owner row
 
+-- the reply with a staple for this certificate
+abbrev pub stapled_reply : Certificate → StapleParts → List ℕ → OwnerReply
+stapled_reply cert s signature = Stapled (digest_of cert) s.epoch s.channel signature
+
+-- A staple for this certificate is signed, where it may be: the certificate has the owner's own key, the TLS key is allowed, and the
+-- staple was signed before, or is of no earlier epoch than all others, with more leaves left than staples leave.
+abbrev pub staple_with : OwnerStanding → Certificate → StapleParts → OrderAnswer
+staple_with party cert s = do
+  own ← need (is_key cert.subject (public_of party.owner.key)) refusals.Foreign
+  may ← may_staple party.stapling party.owner.book s
+  answered (stapled_reply cert s) party.certs (with_staple party.stapling s) (stapling_by party.owner cert s)
+
+-- the same, for the certificate of its draft
+abbrev pub restaple_row : OwnerStanding → StapleParts → OrderAnswer
+restaple_row party s = do
+  cert ← known_in party.certs s.draft
+  staple_with party cert s
+
+-- that of this TLS key, of the epoch of a confirmation, by which the draft's certificate is the newest of its name for a client with
+-- the owner's directory
+abbrev pub staple_row_of : OwnerStanding → Permit → List ℕ → OrderAnswer
+staple_row_of party permit confirmation = do
+  cert ← known_in party.certs permit.draft
+  epoch ← confirmed_epoch party.stapling.keys cert confirmation
+  restaple_row party (staple_at permit epoch)
+
 -- What an order does, by its kind; drafts by their numbers.
 abbrev pub order_row : OwnerStanding → OwnerOrder → OrderAnswer
-order_row party (Take bytes) = answered Sends party.certs (step_row party.owner bytes)
+order_row party (Take bytes) = answered Sends party.certs (hearing party.stapling bytes) (step_row party.owner bytes)
 order_row party (Begin cert asks) = do
   few ← need (nat_le (length asks) most_asks) refusals.Long
-  answered Sends (party.certs ++ cert ∷ []) (begin_row party.owner cert asks)
+  answered Sends (party.certs ++ cert ∷ []) party.stapling (begin_row party.owner cert asks)
 order_row party (Know cert) = Ok (silent tt, record party { certs = party.certs ++ cert ∷ [] })
 order_row party (Handover draft) = do
   cert ← known_in party.certs draft
-  answered (Handed (digest_of cert)) party.certs (handing_row party.owner (digest_of cert))
+  answered (Handed (digest_of cert)) party.certs party.stapling (handing_row party.owner (digest_of cert))
 order_row party (Attach draft handover) = do
   short ← need (nat_le (length handover) most_handover) refusals.Long
   cert ← known_in party.certs draft
-  answered silent party.certs (attach_row party.owner (digest_of cert) handover)
+  answered silent party.certs party.stapling (attach_row party.owner (digest_of cert) handover)
 order_row party (Object draft) = do
   cert ← known_in party.certs draft
-  answered Sends party.certs (object_row party.owner cert)
+  answered Sends party.certs party.stapling (object_row party.owner cert)
 order_row party (Submit draft) = do
   cert ← known_in party.certs draft
   submitted party (submit_row party.owner (digest_of cert))
+order_row party (Allow permit) = do
+  cert ← known_in party.certs permit.draft
+  Ok (silent tt, record party { stapling = allowing permit party.stapling })
+order_row party (Disallow permit) = do
+  cert ← known_in party.certs permit.draft
+  Ok (silent tt, record party { stapling = disallowing permit party.stapling })
+order_row party (Staple permit confirmation) = staple_row_of party permit confirmation
+order_row party (Restaple s) = restaple_row party s
+order_row party Leaves = Ok (silent tt, party)
 
 -- ---- as a party that is kept
 

@@ -3,10 +3,12 @@ ghost use Rattle.std.specs.Option.{option_copied};
 ghost use Rattle.lms_tree.specs.Key.{public_of};
 ghost use Rattle.owner_keeper.specs.Determined.{one_standing};
 ghost use Rattle.owner_keeper.specs.Keeping.{OwnerStanding, draft_of, new_standing, refuses, says, takes, tells};
+ghost use Rattle.owner_keeper.specs.Stapling.{free_of, kept_back};
 ghost use Rattle.owner_keeper.specs.declared.refusal.OwnerOrderRefusal.TheVariants as refusals;
 
 use crate::knowing::Knowing;
 use crate::reading::read_order;
+use crate::stapler::{Stapler, kept_back};
 use crate::text::{order_told, record_of};
 use crate::{OwnerOrder, OwnerOrderRefusal, OwnerReply};
 use ar_cert::Cert;
@@ -59,11 +61,13 @@ impl OwnerKeeper {
         ensures { IfOk result (λ made. made ≡ new_standing number directory key) }
     {
         let authorities = directory.authorities();
+        let stapler = Stapler::new(alloc, directory.copy(alloc)?);
         let owner = Owner::new(alloc, number, directory, key)?;
         Ok(OwnerKeeper {
             knowing: Knowing {
                 owner,
                 certs: Vec::new(alloc),
+                stapler,
             },
             authorities,
         })
@@ -88,6 +92,27 @@ impl OwnerKeeper {
         ensures { result ≡ public_of self.now.owner.key }
     {
         self.knowing.owner.public()
+    }
+
+    /// How many leaves its book has.
+    pub fn leaves(&self) -> u32
+        ensures { result ≡ self.now.owner.book.leaves }
+    {
+        self.knowing.owner.book_leaves()
+    }
+
+    /// How many of them serve no statement yet.
+    pub fn free(&self) -> u32
+        ensures { result ≡ free_of self.now.owner.book }
+    {
+        self.knowing.owner.free()
+    }
+
+    /// How many of those staples leave to handovers and objections.
+    pub fn kept_back(&self) -> u32
+        ensures { result ≡ kept_back self.now.owner.book.leaves }
+    {
+        kept_back(self.knowing.owner.book_leaves())
     }
 
     /// How many certificates it knows: the number of the newest draft.

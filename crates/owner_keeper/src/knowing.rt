@@ -4,14 +4,18 @@ ghost use Rattle.std.specs.Prelude.{◌≡◌, ◌+◌, ◌<◌, ◌≤◌, ◌+
 ghost use Rattle.std.specs.Option.{option_copied, option_map};
 ghost use Rattle.std.specs.Result.{result_map_both};
 ghost use Rattle.ar_cert.specs.Certificate.{digest_of};
+ghost use Rattle.ar_base.specs.Chaining.{need};
+ghost use Rattle.lms_tree.specs.Key.{public_of};
 ghost use Rattle.lms_tree.specs.Signature.{lms_signature_len_of};
 ghost use Rattle.owner_core.specs.Rows.{Answers, attach_row};
-ghost use Rattle.owner_keeper.specs.Keeping.{attached, draft_in, handing_row, silent};
+ghost use Rattle.owner_keeper.specs.Keeping.{attached, draft_in, handing_row, need_known, silent, stapled_reply};
+ghost use Rattle.party_keys.specs.Learning.{is_key};
 ghost use Rattle.owner_keeper.specs.declared.refusal.OwnerOrderRefusal.TheVariants as refusals;
 ghost use Rattle.owner_keeper.specs.declared.reply.OwnerReply.TheVariants as replies;
 
+use crate::stapler::Stapler;
 use crate::text::{MOST_ASKS, MOST_HANDOVER};
-use crate::{OwnerOrder, OwnerOrderRefusal, OwnerReply};
+use crate::{KeptStaple, OwnerOrder, OwnerOrderRefusal, OwnerReply, Permit};
 use ar_base::Items;
 use ar_cert::Cert;
 use ar_message::Sent;
@@ -88,6 +92,26 @@ fn handed_reply(
     }
 }
 
+/// The reply with a staple for this certificate.
+fn stapled_reply(
+    cert: &Cert,
+    staple: &KeptStaple,
+    signature: Result<Items<u8>, OwnerRefusal>,
+) -> Result<OwnerReply, OwnerOrderRefusal>
+    ensures { result
+        ≡ result_map_both (stapled_reply cert.now staple.now) refusals.Owner signature }
+{
+    match signature {
+        Ok(signature) => Ok(OwnerReply::Stapled {
+            digest: cert.digest(),
+            epoch: staple.epoch,
+            channel: staple.channel,
+            signature,
+        }),
+        Err(refusal) => Err(OwnerOrderRefusal::Owner(refusal)),
+    }
+}
+
 /// The reply that sends nothing.
 fn silence(alloc: Global) -> OwnerReply
     ensures { result ≡ silent tt }
@@ -120,6 +144,16 @@ fn cert_of(certs: &[Cert], draft: u64) -> Option<&Cert>
     certs.get(draft as usize - 1)
 }
 
+/// Refuses a number for which there is no certificate.
+fn need_known(certs: &[Cert], draft: u64) -> Result<(), OwnerOrderRefusal>
+    ensures { result ≡ need_known certs.now draft }
+{
+    match cert_of(certs, draft) {
+        Some(_) => Ok(()),
+        None => Err(OwnerOrderRefusal::NoCertificate),
+    }
+}
+
 /// The digest of the draft with this number; `None` where there is none.
 fn digest_at(certs: &[Cert], draft: u64) -> Option<[u8; 32]>
     ensures { result ≡ option_map digest_of (draft_in certs.now draft) }
@@ -130,6 +164,18 @@ fn digest_at(certs: &[Cert], draft: u64) -> Option<[u8; 32]>
     }
 }
 
+/// Refuses a certificate whose subject key is not the owner's.
+fn need_own(owner: &Owner, cert: &Cert) -> Result<(), OwnerOrderRefusal>
+    ensures { result
+        ≡ need (is_key cert.now.subject (public_of owner.now.key)) refusals.Foreign }
+{
+    if cert.subject.bytes() == owner.public().bytes() {
+        Ok(())
+    } else {
+        Err(OwnerOrderRefusal::Foreign)
+    }
+}
+
 // ---- with the certificates that it knows
 
 /// An owner, and the certificates that it knows, by the numbers of drafts from 1.
@@ -137,6 +183,7 @@ fn digest_at(certs: &[Cert], draft: u64) -> Option<[u8; 32]>
 pub(crate) struct Knowing {
     pub(crate) owner: Owner,
     pub(crate) certs: Vec<Cert>,
+    pub(crate) stapler: Stapler,
 }
 
 // Clauses see where it stands, but for the room of its book.
@@ -145,7 +192,7 @@ impl Model for Knowing {
 
     ghost Value = { OwnerStanding };
 
-    ghost view = { λ k. standing_with k.owner k.certs.items };
+    ghost view = { λ k. standing_with k.owner k.certs.items k.stapler };
 }
 
 impl Knowing {
@@ -159,11 +206,18 @@ impl Knowing {
         cert_of(&self.certs, draft)
     }
 
-    /// Takes a message.
+    /// Takes a message. All memory is taken before the first change.
     fn take(&mut self, alloc: Global, bytes: &[u8]) -> Result<OwnerReply, OwnerOrderRefusal>
         ensures { Does self.old self.new result (order_row self.old (orders.Take bytes.now)) }
     {
-        sent_reply(self.owner.step(alloc, bytes))
+        let keys = self.stapler.keys_behind(alloc, bytes)?;
+        match self.owner.step(alloc, bytes) {
+            Ok(sent) => {
+                self.stapler.go_on_with(keys);
+                Ok(OwnerReply::Sends(sent))
+            }
+            Err(refusal) => Err(OwnerOrderRefusal::Owner(refusal)),
+        }
     }
 
     /// Makes a certificate a draft. All memory is taken before the first change.
@@ -250,6 +304,58 @@ impl Knowing {
         sent_reply(self.owner.submit(alloc, &digest))
     }
 
+    /// Allows staples for a TLS key.
+    fn allow(&mut self, alloc: Global, permit: &Permit) -> Result<OwnerReply, OwnerOrderRefusal>
+        ensures { Does self.old self.new result (order_row self.old (orders.Allow permit.now)) }
+    {
+        need_known(&self.certs, permit.draft)?;
+        self.stapler.allow(permit)?;
+        Ok(silence(alloc))
+    }
+
+    /// Allows them no longer.
+    fn disallow(&mut self, alloc: Global, permit: &Permit) -> Result<OwnerReply, OwnerOrderRefusal>
+        ensures { Does self.old self.new result (order_row self.old (orders.Disallow permit.now)) }
+    {
+        need_known(&self.certs, permit.draft)?;
+        self.stapler.disallow(permit);
+        Ok(silence(alloc))
+    }
+
+    /// Signs a staple of an epoch that was confirmed.
+    fn restaple(
+        &mut self,
+        alloc: Global,
+        staple: &KeptStaple,
+    ) -> Result<OwnerReply, OwnerOrderRefusal>
+        ensures { Does self.old self.new result (order_row self.old (orders.Restaple staple.now)) }
+    {
+        let Some(cert) = cert_of(&self.certs, staple.draft) else {
+            return Err(OwnerOrderRefusal::NoCertificate);
+        };
+        need_own(&self.owner, cert)?;
+        self.stapler.may_staple(&self.owner, staple)?;
+        let signature = self.stapler.sign(alloc, &mut self.owner, cert, staple);
+        stapled_reply(cert, staple, signature)
+    }
+
+    /// Signs the staple of the epoch of a confirmation.
+    fn staple(
+        &mut self,
+        alloc: Global,
+        permit: &Permit,
+        confirmation: &[u8],
+    ) -> Result<OwnerReply, OwnerOrderRefusal>
+        ensures { Does self.old self.new result
+            (order_row self.old (orders.Staple permit.now confirmation.now)) }
+    {
+        let Some(cert) = cert_of(&self.certs, permit.draft) else {
+            return Err(OwnerOrderRefusal::NoCertificate);
+        };
+        let epoch = self.stapler.confirmed_epoch(cert, confirmation)?;
+        self.restaple(alloc, &KeptStaple::new(permit, epoch))
+    }
+
     /// Does what it is asked. After a refusal it is as it was.
     pub(crate) fn act(
         &mut self,
@@ -268,6 +374,14 @@ impl Knowing {
             }
             OwnerOrder::Object { draft } => self.object(alloc, *draft),
             OwnerOrder::Submit { draft } => self.submit(alloc, *draft),
+            OwnerOrder::Allow(permit) => self.allow(alloc, permit),
+            OwnerOrder::Disallow(permit) => self.disallow(alloc, permit),
+            OwnerOrder::Staple {
+                permit,
+                confirmation,
+            } => self.staple(alloc, permit, confirmation.as_slice()),
+            OwnerOrder::Restaple(staple) => self.restaple(alloc, staple),
+            OwnerOrder::Leaves => Ok(silence(alloc)),
         }
     }
 }

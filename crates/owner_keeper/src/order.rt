@@ -1,3 +1,4 @@
+use crate::{KeptStaple, Permit};
 use ar_base::Items;
 use ar_cert::Cert;
 
@@ -34,4 +35,18 @@ pub enum OwnerOrder {
     Submit {
         draft: u64,
     },
+    /// To allow staples for a TLS key, and a draft's certificate.
+    Allow(Permit),
+    /// To allow them no longer.
+    Disallow(Permit),
+    /// To sign the staple of the epoch of a confirmation, for a TLS key that is allowed.
+    Staple {
+        permit: Permit,
+        /// The message, by which the draft's certificate is the newest of its name.
+        confirmation: Items<u8>,
+    },
+    /// To sign a staple that the journal has.
+    Restaple(KeptStaple),
+    /// To tell how many leaves are left.
+    Leaves,
 }

@@ -8,10 +8,10 @@ ghost use Rattle.ar_base.specs.Gives.{GivesUnless, with_error};
 ghost use Rattle.ar_bytes.specs.Reading.{number_at, start_of, whole};
 ghost use Rattle.ar_cert.specs.Certificate.{certificate_at};
 ghost use Rattle.kept_journal.specs.declared.fault.ReplayFault.TheVariants.{Memory, Stuck};
-ghost use Rattle.owner_keeper.specs.Texts.{asks_at, attached_by, beginning_at, draft_kept, kept_order, message_kept};
+ghost use Rattle.owner_keeper.specs.Texts.{asks_at, attached_by, beginning_at, draft_kept, kept_order, message_kept, permit_kept, staple_kept};
 ghost use Rattle.owner_keeper.specs.declared.order.OwnerOrder.TheVariants as orders;
 
-use crate::OwnerOrder;
+use crate::{KeptStaple, OwnerOrder, Permit};
 use crate::text::{MOST_ASKS, MOST_HANDOVER};
 use ar_base::Items;
 use ar_bytes::Fields;
@@ -136,6 +136,63 @@ fn read_object(bytes: &[u8]) -> Option<OwnerOrder>
     Some(OwnerOrder::Object { draft })
 }
 
+/// What is allowed, and nothing behind it.
+#[tactic(auto, unfolding(ar_bytes::specs::Reading::whole, crate::specs::Texts::permit_at, ar_statement::specs::Fields::digest_at))]
+fn read_permit(bytes: &[u8]) -> Option<Permit>
+    ensures { result ≡ permit_kept bytes.now }
+{
+    let mut fields = Fields::new(bytes);
+    let draft = fields.u64()?;
+    let channel = *fields.array::<32>()?;
+    if !fields.at_end() {
+        return None;
+    }
+    Some(Permit { draft, channel })
+}
+
+/// A staple, and nothing behind it.
+#[tactic(auto, unfolding(ar_bytes::specs::Reading::whole, crate::specs::Texts::staple_read_at, ar_statement::specs::Fields::digest_at))]
+fn read_staple(bytes: &[u8]) -> Option<KeptStaple>
+    ensures { result ≡ staple_kept bytes.now }
+{
+    let mut fields = Fields::new(bytes);
+    let draft = fields.u64()?;
+    let epoch = fields.u64()?;
+    let channel = *fields.array::<32>()?;
+    if !fields.at_end() {
+        return None;
+    }
+    Some(KeptStaple {
+        draft,
+        epoch,
+        channel,
+    })
+}
+
+/// The order to allow what is allowed.
+fn read_allow(bytes: &[u8]) -> Option<OwnerOrder>
+    ensures { result ≡ option_map orders.Allow (permit_kept bytes.now) }
+{
+    let permit = read_permit(bytes)?;
+    Some(OwnerOrder::Allow(permit))
+}
+
+/// The order to allow it no longer.
+fn read_disallow(bytes: &[u8]) -> Option<OwnerOrder>
+    ensures { result ≡ option_map orders.Disallow (permit_kept bytes.now) }
+{
+    let permit = read_permit(bytes)?;
+    Some(OwnerOrder::Disallow(permit))
+}
+
+/// The order to sign a staple that the journal has.
+fn read_restaple(bytes: &[u8]) -> Option<OwnerOrder>
+    ensures { result ≡ option_map orders.Restaple (staple_kept bytes.now) }
+{
+    let staple = read_staple(bytes)?;
+    Some(OwnerOrder::Restaple(staple))
+}
+
 /// What a text says. `Stuck` comes where it says nothing, and `Memory` may stand in its place.
 pub(crate) fn read_order(alloc: Global, text: &[u8]) -> Result<OwnerOrder, ReplayFault>
     ensures { GivesUnless Memory (λ order. order) result (ok_or (kept_order text.now) Stuck) }
@@ -147,6 +204,9 @@ pub(crate) fn read_order(alloc: Global, text: &[u8]) -> Result<OwnerOrder, Repla
         [4, bytes @ ..] => read_handover(bytes).ok_or(ReplayFault::Stuck),
         [5, bytes @ ..] => read_attach(alloc, bytes),
         [6, bytes @ ..] => read_object(bytes).ok_or(ReplayFault::Stuck),
+        [7, bytes @ ..] => read_allow(bytes).ok_or(ReplayFault::Stuck),
+        [8, bytes @ ..] => read_disallow(bytes).ok_or(ReplayFault::Stuck),
+        [9, bytes @ ..] => read_restaple(bytes).ok_or(ReplayFault::Stuck),
         _ => Err(ReplayFault::Stuck),
     }
 }

@@ -18,6 +18,24 @@ pub enum OwnerOrderRefusal {
     /// A handover that is to be attached has more than 65,535 bytes, or more than 255 authorities are asked at once.
     #[error("the handover or the list of authorities is too long")]
     Long,
+    /// The subject key of the draft to staple is not the owner's.
+    #[error("the certificate has another key")]
+    Foreign,
+    /// A client with the owner's directory refuses the confirmation, by this check of its rule.
+    #[error("the confirmation is refused by check {0}")]
+    Unconfirmed(u8),
+    /// By the confirmation its name has another certificate, or none.
+    #[error("the name has another certificate, or none")]
+    Superseded,
+    /// No order allowed staples for the TLS key.
+    #[error("the TLS key is not allowed")]
+    NotAllowed,
+    /// A staple of a later epoch was signed for the certificate, and this one was not.
+    #[error("a staple of a later epoch was signed")]
+    Older,
+    /// No more leaves are left than staples leave to handovers and objections.
+    #[error("the leaves that are left are kept for handovers and objections")]
+    KeptBack,
 }
 
 impl From<OwnerRefusal> for OwnerOrderRefusal {

@@ -11,4 +11,11 @@ pub enum OwnerReply {
         digest: [u8; 32],
         signature: Items<u8>,
     },
+    /// It staples the certificate with this digest, in this epoch and for the TLS key with this channel, by this signature.
+    Stapled {
+        digest: [u8; 32],
+        epoch: u64,
+        channel: [u8; 32],
+        signature: Items<u8>,
+    },
 }

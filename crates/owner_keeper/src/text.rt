@@ -6,11 +6,12 @@ ghost use Rattle.std.specs.List.{AllByRecursion};
 ghost use Rattle.ar_bytes.specs.Ascending.{numbers_text};
 ghost use Rattle.ar_bytes.specs.RoundTrip.{number_text};
 ghost use Rattle.ar_cert.specs.Certificate.{certificate_text};
-ghost use Rattle.owner_keeper.specs.Texts.{IsWhole, asks_text, kept_text, most_asks, most_handover};
+ghost use Rattle.owner_keeper.specs.Texts.{IsPermit, IsStapleParts, IsWhole, asks_text, kept_text, most_asks, most_handover, permit_text, staple_text};
 ghost use Rattle.owner_keeper.specs.declared.order.OwnerOrder.TheVariants as orders;
 
-use crate::OwnerOrder;
-use ar_bytes::{put_u8, put_u16, put_u64};
+use crate::stapler::epoch_in;
+use crate::{KeptStaple, OwnerOrder, Permit};
+use ar_bytes::{digest_told, put_u8, put_u16, put_u64};
 use ar_cert::Cert;
 use ar_message::LONGEST;
 use kept_party::KeptText;
@@ -106,6 +107,23 @@ fn record_of_attach(
     Ok(Some(record_of_draft(alloc, 5, draft, handover)?))
 }
 
+/// The record of this kind of what is allowed.
+fn record_of_permit(alloc: Global, kind: u8, permit: &Permit) -> Result<KeptText, AllocError>
+    ensures { IfOk result (λ made. made ≡ kind ∷ permit_text permit.now) }
+{
+    record_of_draft(alloc, kind, permit.draft, &permit.channel)
+}
+
+/// The record of a staple.
+fn record_of_staple(alloc: Global, staple: &KeptStaple) -> Result<KeptText, AllocError>
+    ensures { IfOk result (λ made. made ≡ 9 ∷ staple_text staple.now) }
+{
+    let mut body = Vec::new(alloc);
+    put_u64(alloc, &mut body, staple.epoch)?;
+    body.extend_from_slice(&staple.channel)?;
+    record_of_draft(alloc, 9, staple.draft, &body)
+}
+
 /// The record of an order, where it has a text. The only error is want of memory.
 pub(crate) fn record_of(alloc: Global, order: &OwnerOrder) -> Result<Option<KeptText>, AllocError>
     ensures { IfOk result (λ made. made ≡ kept_text order.now) }
@@ -119,7 +137,17 @@ pub(crate) fn record_of(alloc: Global, order: &OwnerOrder) -> Result<Option<Kept
             record_of_attach(alloc, *draft, handover.as_slice())
         }
         OwnerOrder::Object { draft } => Ok(Some(record_of_draft(alloc, 6, *draft, &[])?)),
-        OwnerOrder::Submit { .. } => Ok(None),
+        OwnerOrder::Submit { .. } | OwnerOrder::Leaves => Ok(None),
+        OwnerOrder::Allow(permit) => Ok(Some(record_of_permit(alloc, 7, permit)?)),
+        OwnerOrder::Disallow(permit) => Ok(Some(record_of_permit(alloc, 8, permit)?)),
+        OwnerOrder::Staple {
+            permit,
+            confirmation,
+        } => {
+            let staple = KeptStaple::new(permit, epoch_in(confirmation.as_slice()));
+            Ok(Some(record_of_staple(alloc, &staple)?))
+        }
+        OwnerOrder::Restaple(staple) => Ok(Some(record_of_staple(alloc, staple)?)),
     }
 }
 
@@ -128,6 +156,23 @@ fn numbers_told(numbers: &[u16])
     ensures { AllByRecursion (λ n. n < 2 ^ 16) numbers.now }
 {
     let _numbers = numbers;
+}
+
+/// Tells a proof that what is allowed is so as a program has it. It does nothing.
+fn permit_told(permit: &Permit)
+    ensures { IsPermit permit.now }
+{
+    let _draft = permit.draft;
+    digest_told(&permit.channel);
+}
+
+/// Tells a proof that a staple is one that a program has. It does nothing.
+fn staple_told(staple: &KeptStaple)
+    ensures { IsStapleParts staple.now }
+{
+    let _draft = staple.draft;
+    let _epoch = staple.epoch;
+    digest_told(&staple.channel);
 }
 
 /// Tells a proof that an order is one that a program has. It does nothing.
@@ -147,5 +192,15 @@ pub(crate) fn order_told(order: &OwnerOrder)
         | OwnerOrder::Submit { draft } => {
             let _draft = *draft;
         }
+        OwnerOrder::Allow(permit) | OwnerOrder::Disallow(permit) => permit_told(permit),
+        OwnerOrder::Staple {
+            permit,
+            confirmation,
+        } => {
+            permit_told(permit);
+            let _epoch = epoch_in(confirmation.as_slice());
+        }
+        OwnerOrder::Restaple(staple) => staple_told(staple),
+        OwnerOrder::Leaves => {}
     }
 }

@@ -86,5 +86,5 @@ authority_takes number line bytes h some =
 
 pub owner_takes : (party : OwnerStanding) (line bytes : List ℕ) → bytes_of_hex line ≡ Some bytes → bytes ≢ [] → owner_asked party line ≡ Ok (Some (owner_orders.Take bytes))
 owner_takes party line bytes h some =
-    rw (heard_hex line bytes h some, one_word_of_hex line bytes h, other_word line bytes (codes "draft") h refl, other_word line bytes (codes "attach") h refl)
+    rw (heard_hex line bytes h some, one_word_of_hex line bytes h, other_word line bytes (codes "draft") h refl, other_word line bytes (codes "attach") h refl, other_word line bytes (codes "allow") h refl, other_word line bytes (codes "disallow") h refl, other_word line bytes (codes "staple") h refl, other_word line bytes (codes "leaves") h refl)
     (either (is_text line) (Ok (Some (owner_orders.Take bytes))))

@@ -56,6 +56,29 @@ sent_lines sent = flat_map letter_line sent.messages
 abbrev pub handed_line : List ℕ → List ℕ → List ℕ
 handed_line digest signature = codes "handed " ++ (encode_lower digest ++ (codes " " ++ (encode_lower signature ++ codes "\n")))
 
+-- `stapled <digest> <epoch> <64 hex> <hex>`: the certificate, the epoch, the TLS key and the staple
+abbrev pub stapled_line : List ℕ → ℕ → List ℕ → List ℕ → List ℕ
+stapled_line digest epoch channel signature =
+    codes "stapled " ++ (encode_lower digest ++ (codes " " ++ (decimal epoch ++ (codes " " ++ (encode_lower channel ++ (codes " " ++ (encode_lower signature ++ codes "\n")))))))
+
+-- `<D> leaves <free> of <all> kept <kept>`
+abbrev pub leaves_line : Party → ℕ → ℕ → ℕ → List ℕ
+leaves_line who free leaves kept =
+    party_word who ++ (codes " leaves " ++ (decimal free ++ (codes " of " ++ (decimal leaves ++ (codes " kept " ++ (decimal kept ++ codes "\n"))))))
+
+-- the front of a line that tells a step of a draft: `<D> <word> <draft>`
+abbrev pub draft_step : Party → List ℕ → ℕ → List ℕ
+draft_step who word draft = party_word who ++ (codes " " ++ (word ++ (codes " " ++ decimal draft)))
+
+-- the number of a check, behind a space, where there is one
+abbrev pub check_text : Option ℕ → List ℕ
+check_text None = []
+check_text (Some check) = codes " " ++ decimal check
+
+-- the end of a line that tells that an owner refused, by the number of the refusal
+abbrev pub refused_so : ℕ → Option ℕ → List ℕ
+refused_so number check = codes " refused O" ++ (decimal number ++ (check_text check ++ codes "\n"))
+
 -- the end of an epoch at a log, where one ended
 abbrev pub ended_line : ℕ → Option (ℕ × Option (List ℕ)) → List ℕ
 ended_line number None = []

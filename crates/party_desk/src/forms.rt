@@ -6,7 +6,7 @@ ghost use Rattle.std.specs.Result.{result_map_both};
 ghost use Rattle.ar_lines.specs.Forms.{bytes_of_hex, name_of};
 ghost use Rattle.ar_lines.specs.Views.{words_behind};
 ghost use Rattle.script_text.specs.Grammar.{one_word, three_words, two_words};
-ghost use Rattle.script_text.specs.Rows.{authority_of};
+ghost use Rattle.script_text.specs.Rows.{authority_of, owner_of};
 ghost use Rattle.party_desk.specs.Owners.{spelled_certificate, spelled_handover};
 
 use ar_base::Items;
@@ -92,6 +92,19 @@ pub(crate) fn authority_of(word: &[u8]) -> Option<u16>
 {
     let party = party_of(word)?;
     if party.role.number() == Role::Authority.number() {
+        Some(party.number)
+    } else {
+        None
+    }
+}
+
+/// The number of the owner that a word names.
+#[tactic(auto, unfolding(script_text::specs::Forms::number_with))]
+pub(crate) fn owner_of(word: &[u8]) -> Option<u16>
+    ensures { result ≡ owner_of word.now }
+{
+    let party = party_of(word)?;
+    if party.role.number() == Role::Owner.number() {
         Some(party.number)
     } else {
         None

@@ -6,7 +6,7 @@ ghost use Rattle.ar_lines.specs.Views.{words_behind};
 ghost use Rattle.owner_keeper.specs.Keeping.{draft_of};
 ghost use Rattle.owner_keeper.specs.declared.order.OwnerOrder.TheVariants as orders;
 ghost use Rattle.party_desk.specs.Asking.{ReadsAs, wanted_by, heard_in, of_form};
-ghost use Rattle.party_desk.specs.Owners.{attach_fields, attach_order, draft_fields, draft_line, draft_order, owner_asked, order_for_owner, owner_refused, owner_sent, owner_told, owner_what, row_refused};
+ghost use Rattle.party_desk.specs.Owners.{attach_fields, attach_order, by_staple_words, draft_fields, draft_line, draft_order, order_for_owner, owner_asked, owner_done, owner_refused, owner_sent, owner_told, owner_what, row_refused};
 ghost use Rattle.party_desk.specs.Telling.{Puts};
 ghost use Rattle.script_text.specs.declared.line.EventLine.TheVariants as events;
 
@@ -15,8 +15,11 @@ use crate::drafting::{registering, revoking, updating};
 use crate::forms::{one_word, spelled_certificate, spelled_handover, two_words};
 use crate::naming::{draft_named, draft_word, names_owner, need_room, who};
 use crate::reading::{Heard, hear};
+use crate::staple_desk::{allowing, asking_leaves, disallowing, put_draft_told, put_leaves_told, put_not_stapled, put_unasked, stapling};
 use crate::unread::{Cause, Unread};
-use crate::writing::{put_handed, put_line, put_line_refused, put_messages, put_step};
+use crate::writing::{
+    put_handed, put_line, put_line_refused, put_messages, put_stapled, put_step,
+};
 use ar_base::Items;
 use ar_cert::Cert;
 use ar_lines::{Reason, first_word, is_text, number_of};
@@ -160,15 +163,52 @@ fn attaching(
     Ok(OwnerOrder::Attach { draft, handover })
 }
 
+/// What a line asks of an owner whose first word is none but one of staples, or of a script.
+fn other_order(
+    owner: &OwnerKeeper,
+    alloc: Global,
+    line: &[u8],
+    word: &[u8],
+    behind: Option<&[u8]>,
+) -> Result<Option<OwnerOrder>, Unread>
+    ensures { ReadsAs (λ order. order) result
+        (by_staple_words owner.now word.now (words_behind (option_copied behind.entry))
+        (wanted_by orders.Take (order_for_owner owner.now) (heard_in line.now))) }
+{
+    if word == b"allow".as_slice() {
+        let order = allowing(owner, behind)?;
+        return Ok(Some(order));
+    }
+    if word == b"disallow".as_slice() {
+        let order = disallowing(owner, behind)?;
+        return Ok(Some(order));
+    }
+    if word == b"staple".as_slice() {
+        let order = stapling(owner, alloc, behind)?;
+        return Ok(Some(order));
+    }
+    if word == b"leaves".as_slice() {
+        let order = asking_leaves(owner, behind)?;
+        return Ok(Some(order));
+    }
+    plain_order(owner, alloc, line)
+}
+
 // ---- what is written
 
-/// What an owner does for an order in the line with this number; `None` where it makes a draft.
+/// What an owner does for an order in the line with this number; `None` where it makes a draft, or where no script has the order.
 fn what_of(number: u64, order: &OwnerOrder) -> Option<What>
     ensures { result ≡ owner_what number order.now }
 {
     match order {
         OwnerOrder::Take(_) => Some(What::Take(number)),
-        OwnerOrder::Begin { .. } | OwnerOrder::Know { .. } => None,
+        OwnerOrder::Begin { .. }
+        | OwnerOrder::Know { .. }
+        | OwnerOrder::Allow(_)
+        | OwnerOrder::Disallow(_)
+        | OwnerOrder::Staple { .. }
+        | OwnerOrder::Restaple(_)
+        | OwnerOrder::Leaves => None,
         OwnerOrder::Handover { draft } | OwnerOrder::Attach { draft, .. } => {
             Some(What::Handover(*draft))
         }
@@ -189,6 +229,21 @@ fn put_draft(alloc: Global, out: &mut Vec<u8>, owner: &OwnerKeeper) -> Result<()
             put_line(alloc, out, &Happening::Draft { draft, digest })
         }
         None => Ok(()),
+    }
+}
+
+/// Puts what is told of a step that it did behind the others.
+fn put_done(
+    owner: &OwnerKeeper,
+    alloc: Global,
+    done: Option<What>,
+    out: &mut Vec<u8>,
+) -> Result<(), AllocError>
+    ensures { Puts (owner_done owner.now done) out.old out.new result }
+{
+    match done {
+        Some(done) => put_step(alloc, out, who(owner), done, None),
+        None => put_draft(alloc, out, owner),
     }
 }
 
@@ -231,7 +286,7 @@ impl LineParty for OwnerKeeper {
             let order = attaching(self, alloc, behind)?;
             return Ok(Some(order));
         }
-        plain_order(self, alloc, line)
+        other_order(self, alloc, line, word, behind)
     }
 
     fn put_sent(
@@ -245,6 +300,12 @@ impl LineParty for OwnerKeeper {
             OwnerReply::Handed { digest, signature } => {
                 put_handed(alloc, out, digest, signature.as_slice())
             }
+            OwnerReply::Stapled {
+                digest,
+                epoch,
+                channel,
+                signature,
+            } => put_stapled(alloc, out, digest, *epoch, channel, signature.as_slice()),
         }
     }
 
@@ -256,9 +317,30 @@ impl LineParty for OwnerKeeper {
         _reply: &OwnerReply,
         out: &mut Vec<u8>,
     ) -> Result<(), AllocError> {
-        match what_of(number, order) {
-            Some(what) => put_step(alloc, out, who(self), what, None),
-            None => put_draft(alloc, out, self),
+        let done = what_of(number, order);
+        match order {
+            OwnerOrder::Handover { .. } | OwnerOrder::Object { .. } => {
+                put_unasked(self, alloc, out)?;
+                put_done(self, alloc, done, out)
+            }
+            OwnerOrder::Allow(permit) => put_draft_told(self, alloc, b"allow", permit.draft, out),
+            OwnerOrder::Disallow(permit) => {
+                put_draft_told(self, alloc, b"disallow", permit.draft, out)
+            }
+            OwnerOrder::Staple { permit, .. } => {
+                put_unasked(self, alloc, out)?;
+                put_draft_told(self, alloc, b"staple", permit.draft, out)
+            }
+            OwnerOrder::Restaple(staple) => {
+                put_unasked(self, alloc, out)?;
+                put_draft_told(self, alloc, b"staple", staple.draft(), out)
+            }
+            OwnerOrder::Leaves => put_leaves_told(self, alloc, out),
+            OwnerOrder::Take(_)
+            | OwnerOrder::Begin { .. }
+            | OwnerOrder::Know { .. }
+            | OwnerOrder::Attach { .. }
+            | OwnerOrder::Submit { .. } => put_done(self, alloc, done, out),
         }
     }
 
@@ -284,6 +366,14 @@ impl LineParty for OwnerKeeper {
                 let cause = Cause::Form(Reason::Field(2));
                 put_line_refused(alloc, out, number, cause)
             }
+            OwnerOrderRefusal::Foreign => put_not_stapled(self, alloc, order, 9, None, out),
+            OwnerOrderRefusal::Unconfirmed(check) => {
+                put_not_stapled(self, alloc, order, 10, Some(*check), out)
+            }
+            OwnerOrderRefusal::Superseded => put_not_stapled(self, alloc, order, 11, None, out),
+            OwnerOrderRefusal::NotAllowed => put_not_stapled(self, alloc, order, 12, None, out),
+            OwnerOrderRefusal::Older => put_not_stapled(self, alloc, order, 13, None, out),
+            OwnerOrderRefusal::KeptBack => put_not_stapled(self, alloc, order, 14, None, out),
         }
     }
 }

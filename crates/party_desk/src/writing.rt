@@ -6,7 +6,7 @@ ghost use Rattle.std.specs.List.{flat_map};
 ghost use Rattle.ar_lines.specs.Refusals.{reason_text};
 ghost use Rattle.hex.specs.Hex.{encode_lower};
 ghost use Rattle.report_text.specs.Lines.{line_of};
-ghost use Rattle.party_desk.specs.Telling.{Puts, address_text, unread_text, ended_line, handed_line, letter_line, unread_line, sent_lines, step_told};
+ghost use Rattle.party_desk.specs.Telling.{Puts, address_text, check_text, draft_step, ended_line, handed_line, leaves_line, letter_line, refused_so, sent_lines, stapled_line, step_told, unread_line, unread_text};
 
 use crate::unread::Cause;
 use ar_lines::{Reason, letter_of};
@@ -17,7 +17,7 @@ use report_text::{Code, Happening, What, print};
 use std::alloc::{AllocError, Global};
 
 /// Puts some bytes behind the others.
-fn put(alloc: Global, out: &mut Vec<u8>, bytes: &[u8]) -> Result<(), AllocError>
+pub(crate) fn put(alloc: Global, out: &mut Vec<u8>, bytes: &[u8]) -> Result<(), AllocError>
     ensures { Puts bytes.now out.old out.new result }
 {
     append(alloc, out, &[Part::Bytes(bytes)])
@@ -105,6 +105,33 @@ pub(crate) fn put_handed(
     put_hex(alloc, out, signature)
 }
 
+/// Puts the hex of a digest behind the others.
+fn put_digest(alloc: Global, out: &mut Vec<u8>, digest: &[u8; 32]) -> Result<(), AllocError>
+    ensures { Puts (encode_lower digest.now) out.old out.new result }
+{
+    append(alloc, out, &[Part::Digest(digest)])
+}
+
+/// Puts the line of a staple behind the others: `stapled <digest> <epoch> <64 hex> <hex>`.
+pub(crate) fn put_stapled(
+    alloc: Global,
+    out: &mut Vec<u8>,
+    digest: &[u8; 32],
+    epoch: u64,
+    channel: &[u8; 32],
+    signature: &[u8],
+) -> Result<(), AllocError>
+    ensures { Puts (stapled_line digest.now epoch channel.now signature.now)
+        out.old out.new result }
+{
+    put(alloc, out, b"stapled ")?;
+    put_digest(alloc, out, digest)?;
+    put_numbered(alloc, out, b" ", epoch)?;
+    put(alloc, out, b" ")?;
+    put_digest(alloc, out, channel)?;
+    put_hex(alloc, out, signature)
+}
+
 // ---- what is told of a step
 
 /// Puts the line of a step behind the others: `None` where it succeeds.
@@ -138,6 +165,63 @@ pub(crate) fn put_ended(
         Some((epoch, root)) => put_line(alloc, out, &Happening::Ended { log, epoch, root }),
         None => Ok(()),
     }
+}
+
+/// Puts the front of the line of a step of a draft behind the others: `<D> <word> <draft>`.
+pub(crate) fn put_draft_step(
+    alloc: Global,
+    out: &mut Vec<u8>,
+    party: Party,
+    word: &[u8],
+    draft: u64,
+) -> Result<(), AllocError>
+    ensures { Puts (draft_step party word.now draft) out.old out.new result }
+{
+    put_address(alloc, out, Address::One(party))?;
+    append(alloc, out, &[Part::Bytes(b" "), Part::Bytes(word)])?;
+    put_numbered(alloc, out, b" ", draft)
+}
+
+/// Puts the line of the leaves that are left behind the others: `<D> leaves <free> of <all> kept <kept>`.
+pub(crate) fn put_leaves(
+    alloc: Global,
+    out: &mut Vec<u8>,
+    party: Party,
+    free: u64,
+    leaves: u64,
+    kept: u64,
+) -> Result<(), AllocError>
+    ensures { Puts (leaves_line party free leaves kept) out.old out.new result }
+{
+    put_address(alloc, out, Address::One(party))?;
+    put_numbered(alloc, out, b" leaves ", free)?;
+    put_numbered(alloc, out, b" of ", leaves)?;
+    put_numbered(alloc, out, b" kept ", kept)?;
+    put(alloc, out, b"\n")
+}
+
+/// Puts the number of a check behind the others, where there is one.
+fn put_check(alloc: Global, out: &mut Vec<u8>, check: Option<u8>) -> Result<(), AllocError>
+    ensures { Puts (check_text check) out.old out.new result }
+{
+    match check {
+        Some(check) => put_numbered(alloc, out, b" ", u64::from(check)),
+        None => Ok(()),
+    }
+}
+
+/// Puts the end of the line of a step that an owner refused behind the others: ` refused O<number>`, and the number of a check.
+pub(crate) fn put_refused_so(
+    alloc: Global,
+    out: &mut Vec<u8>,
+    number: u8,
+    check: Option<u8>,
+) -> Result<(), AllocError>
+    ensures { Puts (refused_so number check) out.old out.new result }
+{
+    put_numbered(alloc, out, b" refused O", u64::from(number))?;
+    put_check(alloc, out, check)?;
+    put(alloc, out, b"\n")
 }
 
 // ---- lines that are refused

@@ -19,5 +19,5 @@ returns c =
     let items : c.in_ok-copied.copied.items ≡ c.args.handover.now = search rules in
     let ok = subst (λ (h : List ℕ). IfOk c.attach.result (λ u. attach_row c.self.inside.owner c.in-Some.digest h ≡ Ok (tt, c.attach.new.self))) items c.attach.ensures.ok in
     let err = subst (λ (h : List ℕ). IfErr c.attach.result (λ e. (c.attach.new.self ≡ c.self.inside.owner) × (attach_row c.self.inside.owner c.in-Some.digest h ≡ Err e))) items c.attach.ensures.err in
-    attached_or c.args.self.now c.self.inside.owner c.attach.new.self c.self.inside.certs.items c.args.draft c.in-Some.digest c.args.handover.now c.attach.result c.silent_reply.result c.self.view_is found
+    attached_or c.args.self.now c.self.inside.owner c.attach.new.self c.self.inside.certs.items c.self.inside.stapler c.args.draft c.in-Some.digest c.args.handover.now c.attach.result c.silent_reply.result c.self.view_is found
     few ok err c.silent_reply.ensures

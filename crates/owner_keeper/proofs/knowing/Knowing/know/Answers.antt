@@ -5,4 +5,4 @@ use Rattle.owner_keeper.proofs.knowing.Knowing.know.Goals as goal
 pub returns : goal.returns
 returns c =
     let items : c.push.new.self.items ≡ c.self.inside.certs.items ++ c.args.cert.now ∷ [] = search rules in
-    knew c.args.self.now c.self.inside.owner c.self.inside.certs.items c.push.new.self.items c.args.cert.now c.silence.result c.self.view_is items c.silence.ensures
+    knew c.args.self.now c.self.inside.owner c.self.inside.certs.items c.push.new.self.items c.self.inside.stapler c.args.cert.now c.silence.result c.self.view_is items c.silence.ensures

@@ -8,5 +8,5 @@ use Rattle.owner_keeper.proofs.knowing.Knowing.submit.Goals as goal
 pub returns : goal.returns
 returns c =
     let found : Some c.in-Some.digest ≡ option_map digest_of (draft_in c.self.inside.certs.items c.args.draft) = search rules in
-    submitted_so c.args.self.now c.self.inside.owner c.self.inside.certs.items c.args.draft c.in-Some.digest c.submit.result c.sent_reply.result c.self.view_is found c.submit.ensures
+    submitted_so c.args.self.now c.self.inside.owner c.self.inside.certs.items c.self.inside.stapler c.args.draft c.in-Some.digest c.submit.result c.sent_reply.result c.self.view_is found c.submit.ensures
     c.sent_reply.ensures
