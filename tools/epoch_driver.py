@@ -53,6 +53,10 @@ class Keys:
             self.used += leaf + 1 - self.at[1] if self.at and self.at[0] == generation else 1
             self.at = generation, leaf + 1
 
+    def told(self, free, leaves):
+        """An owner told how many leaves of how many are free."""
+        self.leaves, self.at = leaves, (0, leaves - 1 - free)
+
     def rolled(self, generation):
         """The party left a generation."""
         if self.at is None or self.at[0] <= generation:
@@ -116,6 +120,8 @@ class Driver:
                 self.said(words[1], words[2], now)
             elif words[0] == "handed":
                 self.keys.signed(0, int(words[2][:8], 16))
+            elif words[1:2] == ["leaves"] and words[3:4] == ["of"]:
+                self.keys.told(int(words[2]), int(words[4]))
             elif words[1:2] == ["ended"]:
                 self.ended(int(words[2]), given, wrote, now)
         words = wrote[-1].split(" ") if wrote else [""]

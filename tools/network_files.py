@@ -30,7 +30,7 @@ class Council:
             raise Wrong(f"{path} is no directory: {why}") from why
 
     def leaves(self, party):
-        """How many leaves a key of the party has; an owner's has 32."""
+        """How many leaves a key of the party has; an owner's, which stands in no directory, is taken to have 32 until it tells."""
         keys = self.keys.get(party[0])
         if keys is None:
             return LEAVES[5]
