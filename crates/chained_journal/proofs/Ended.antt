@@ -1,6 +1,6 @@
 -- Where a file's records end, and what it is then.
-use Rattle.std.proofs.Common.{◌≡◌, ◌≢◌, ◌⊎◌, inl, inr, ⊎_elim, ℕ, ◌+◌, ◌-◌, ◌<◌, ◌≤◌, ◌^◌, min, List, [], ◌++◌, length, take, drop, refl, sym, ◌∙◌, ap, subst, arith, append_assoc, length-append, length-take, take-append-drop, Bool}
-use Rattle.std.proofs.lemmas.List.{append-nil, drop_all, drop_at, take_all}
+use Rattle.std.proofs.Common.{◌≡◌, ◌≢◌, ◌⊎◌, inl, inr, ⊎_elim, ℕ, ◌+◌, ◌<◌, ◌≤◌, ◌^◌, List, [], ◌++◌, length, take, drop, refl, sym, ◌∙◌, ap, subst, arith, append_assoc, length-append, length-take, take-append-drop, Bool}
+use Rattle.std.proofs.lemmas.List.{drop_at}
 use Rattle.kept_disk.specs.Disk.{Cut, Only}
 use Rattle.chained_journal.specs.Journal.{AreShort, IsAsBefore, IsUnsure, Stands, chained, header_len, journal, open_gate, records, recovered, shut_gate, start}
 use Rattle.chained_journal.specs.Loaded.{IsLoaded, IsRead}
@@ -15,14 +15,7 @@ use Rattle.chained_journal.specs.declared.title.Witness.{Witness}
 use Rattle.chained_journal.proofs.Pieces.{cut_behind, length-staged, to-gate}
 use Rattle.chained_journal.proofs.Rereading.{journal-length, journal_recovered, stands_recovered}
 
--- ---- a read of all
-
-pub read_all : (file old new : List ℕ) (n : ℕ) → length old ≡ length file → n ≡ min (length old) (length file - 0)
-    → new ≡ take n (drop 0 file) ++ drop n old → new ≡ file
-read_all file old new n size count is =
-    let all : n ≡ length file = omega (arith, size, count) in
-    is ∙ ap (λ (l : List ℕ). l ++ drop n old) (take_all n file (omega (arith, all)))
-    ∙ ap (λ (l : List ℕ). file ++ l) (drop_all n old (omega (arith, all, size))) ∙ append-nil file
+-- ---- behind a read
 
 -- what a crash leaves behind the read is what one before might have left
 pub as_before : (title : Title) (may_leave : List ℕ → Type 0) (seen file c : List ℕ) → file ≡ seen → may_leave seen
@@ -40,11 +33,6 @@ header_refused takes title witness first file e (inl is) = subst (λ (f : OpenFa
 header_refused takes title witness first file e (inr (inl is)) = subst (λ (f : OpenFault). Refusal takes title witness first file f) (sym is.0) (inl (refl, is.1))
 header_refused takes title witness first file e (inr (inr (inl is))) = subst (λ (f : OpenFault). Refusal takes title witness first file f) (sym is.0) is.1
 header_refused takes title witness first file e (inr (inr (inr is))) = subst (λ (f : OpenFault). Refusal takes title witness first file f) (sym is.0) is.1
-
--- want of memory says nothing of a file
-pub memory_refused : {P : Type 0} → (takes : P → List ℕ → Bool → P → Type 0) (title : Title) (witness : Witness) (first : P) (file : List ℕ) (e : OpenFault) → e ≡ faults.Memory
-    → Refusal takes title witness first file e
-memory_refused takes title witness first file e is = subst (λ (f : OpenFault). Refusal takes title witness first file f) (sym is) tt
 
 -- ---- behind the records
 

@@ -1,24 +1,18 @@
 -- A party takes the texts of a file, one behind the other.
-use Rattle.std.proofs.Common.{◌≡◌, ◌≢◌, ◌⊎◌, ⊎_elim, ℕ, zero, suc, ◌+◌, ◌<◌, ◌≤◌, List, [], ◌∷◌, ◌++◌, length, take, refl, sym, ◌∙◌, ap, subst, arith, length-append, Bool, true}
+use Rattle.std.proofs.Common.{◌≡◌, ◌⊎◌, ⊎_elim, ℕ, ◌+◌, ◌<◌, ◌≤◌, List, [], ◌∷◌, ◌++◌, length, take, refl, sym, ◌∙◌, ap, subst, arith, length-append, Bool, true}
 use Rattle.std.proofs.lemmas.Bool.{cases_lt}
 use Rattle.std.proofs.lemmas.List.{append-nil, take_all, take-append-le}
-use Rattle.chained_journal.specs.Journal.{AreShort, HasNoRecord, IsShort, chained, header_len, journal, link, open_gate, opens, record_len, record_text, records, start}
-use Rattle.chained_journal.specs.Loaded.{IsLoaded, IsOfRecords}
-use Rattle.chained_journal.specs.Refusals.{IsBroken, IsNotTaken, Refusal}
+use Rattle.chained_journal.specs.Journal.{AreShort, IsShort, chained, header_len, journal, link, open_gate, opens, record_len, record_text, records, start}
+use Rattle.chained_journal.specs.Loaded.{IsOfRecords}
+use Rattle.chained_journal.specs.Refusals.{IsNotTaken, Refusal}
 use Rattle.chained_journal.specs.Replays.{ReachesBefore, has_more}
-use Rattle.chained_journal.specs.declared.standing.Standing.{Standing}
 use Rattle.chained_journal.specs.declared.fault.OpenFault.{OpenFault}
 use Rattle.chained_journal.specs.declared.fault.OpenFault.TheVariants as faults
 use Rattle.chained_journal.specs.declared.title.Title.{Title}
 use Rattle.chained_journal.specs.declared.title.Witness.{Witness}
-use Rattle.chained_journal.proofs.Gates.{not_opens}
 use Rattle.chained_journal.proofs.Journals.{chained-push, records-push, short-push}
-use Rattle.chained_journal.proofs.Rereading.{fewer, journal-length}
+use Rattle.chained_journal.proofs.Rereading.{fewer}
 use Rattle.chained_journal.proofs.Splits.{length-record}
-
-take-none : (n : ℕ) → take {A = List ℕ} n [] ≡ []
-take-none zero = refl
-take-none (suc n) = refl
 
 pub length-push : (chain : List ℕ) (texts : List (List ℕ)) (text : List ℕ) → length (records chain (texts ++ text ∷ [])) ≡ length (records chain texts) + (8 + record_len (length text))
 length-push chain texts text =
@@ -52,20 +46,6 @@ module _ {P : Type 0} (takes : P → List ℕ → Bool → P → Type 0) where
     pub replays : ReachesBefore takes (opens rest) first texts party
 
   module _ (title : Title) (witnessed : ℕ) (file : List ℕ) (first : P) where
-    pub begins_reading : (rest chain at_witness : List ℕ) → file ≡ title.header ++ rest → 8 ≤ length rest → chain ≡ start title → at_witness ≡ chain
-        → IsReading title witnessed file first first rest 40 0 chain at_witness
-    begins_reading rest chain at_witness is some starts begins = record {
-      texts = [];
-      short = tt;
-      is = is;
-      some = some;
-      end_is = refl;
-      count_is = refl;
-      chain_is = starts;
-      at_is = begins ∙ starts ∙ ap (chained (start title)) (sym (take-none witnessed));
-      replays = refl;
-    }
-
     -- the chain of as many as were witnessed, with one text more
     later-at : (texts : List (List ℕ)) (text : List ℕ) (count : ℕ) (chain at_witness new : List ℕ) → count ≡ length texts → chain ≡ chained (start title) texts
         → at_witness ≡ chained (start title) (take witnessed texts) → (count < witnessed → new ≡ link chain text) → (witnessed ≤ count → new ≡ at_witness)
@@ -102,45 +82,6 @@ module _ {P : Type 0} (takes : P → List ℕ → Bool → P → Type 0) where
 
     pub few_read : (party : P) (rest : List ℕ) (end count : ℕ) (chain at_witness : List ℕ) → IsReading title witnessed file first party rest end count chain at_witness → count + 40 ≤ end
     few_read party rest end count chain at_witness so_far = omega (arith, so_far.count_is, so_far.end_is, fewer (start title) so_far.texts)
-
-    -- how many bytes there are
-    pub within_file : (party : P) (rest : List ℕ) (end count : ℕ) (chain at_witness : List ℕ) → length title.header ≡ header_len
-        → IsReading title witnessed file first party rest end count chain at_witness → end + length rest ≡ length file
-    within_file party rest end count chain at_witness sized so_far =
-        omega (arith, so_far.end_is, ap length so_far.is, journal-length title so_far.texts rest sized)
-
-    pub length_rest : (rest ahead chain text behind : List ℕ) → rest ≡ open_gate ++ ahead → ahead ≡ record_text chain text ++ behind
-        → length rest ≡ 8 + record_len (length text) + length behind
-    length_rest rest ahead chain text behind rest-is ahead-is =
-        omega (arith, ap length rest-is, length-append open_gate ahead, ap length ahead-is, length-append (record_text chain text) behind, length-record chain text)
-
-    pub ends_reading : (party : P) (rest : List ℕ) (end count : ℕ) (chain at_witness : List ℕ) → IsReading title witnessed file first party rest end count chain at_witness
-        → ((behind : List ℕ) → rest ≢ open_gate ++ behind) → (standing : Standing) → standing.end ≡ end → standing.count ≡ count → standing.chain ≡ chain
-        → IsLoaded takes first party title witnessed file standing at_witness
-    ends_reading party rest end count chain at_witness so_far not_open standing end-is count-is chain-is = record {
-      texts = so_far.texts;
-      rest = rest;
-      short = so_far.short;
-      is = so_far.is;
-      some = so_far.some;
-      not_open = not_open;
-      end_is = end-is ∙ so_far.end_is;
-      count_is = count-is ∙ so_far.count_is;
-      chain_is = chain-is ∙ so_far.chain_is;
-      at_is = so_far.at_is;
-      replays = subst (λ (b : Bool). ReachesBefore takes b first so_far.texts party) (not_opens rest not_open) so_far.replays;
-    }
-
-    pub is_broken : (party : P) (rest ahead : List ℕ) (end count : ℕ) (chain at_witness : List ℕ) → IsReading title witnessed file first party rest end count chain at_witness
-        → rest ≡ open_gate ++ ahead → HasNoRecord chain ahead → IsBroken title file end
-    is_broken party rest ahead end count chain at_witness so_far rest-is none = record {
-      texts = so_far.texts;
-      behind = ahead;
-      short = so_far.short;
-      is = so_far.is ∙ ap (λ (l : List ℕ). journal title so_far.texts l) rest-is;
-      place_is = so_far.end_is;
-      none = subst (λ (c : List ℕ). HasNoRecord c ahead) so_far.chain_is none;
-    }
 
     pub is_not_taken : (party : P) (rest ahead text behind : List ℕ) (end count : ℕ) (chain at_witness : List ℕ)
         → IsReading title witnessed file first party rest end count chain at_witness → rest ≡ open_gate ++ ahead → ahead ≡ record_text chain text ++ behind → 8 ≤ length behind

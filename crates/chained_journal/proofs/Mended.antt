@@ -91,9 +91,6 @@ header_unmended title file e (inr (inl is)) = subst (RefusesMend title file) (sy
 header_unmended title file e (inr (inr (inl is))) = subst (RefusesMend title file) (sym is.0) is.1
 header_unmended title file e (inr (inr (inr is))) = subst (RefusesMend title file) (sym is.0) is.1
 
-pub memory_unmended : (title : Title) (file : List ℕ) (e : OpenFault) → e ≡ faults.Memory → RefusesMend title file e
-memory_unmended title file e is = subst (RefusesMend title file) (sym is) tt
-
 -- ---- a whole end
 
 pub not_whole_end : (chain bytes text found behind : List ℕ) → IsShort found → bytes ≡ record_text chain found ++ behind → IsShort text

@@ -1,6 +1,6 @@
 //! A journal is begun in a file in which nothing was.
 
-ghost use Rattle.std.specs.Prelude.{◌≡◌, ◌≢◌, ◌≤◌, ◌++◌, ◌⊎◌, ℕ, List, length, OnOk, OnErr, IsErrOf};
+ghost use Rattle.std.specs.Prelude.{◌≡◌, ◌≤◌, ◌++◌, ◌⊎◌, ℕ, List, length, OnOk, OnErr, IsErrOf};
 ghost use Rattle.ar_base.specs.Faults.{HasRisen};
 ghost use Rattle.kept_disk.specs.Disk.{Only};
 ghost use Rattle.kept_disk.specs.Moments.{LeavesOnly};

@@ -1,6 +1,6 @@
 //! Laws on chained journals, over the definitions alone: each is the contract of a function that does nothing.
 
-ghost use Rattle.std.specs.Prelude.{◌≡◌, ◌≢◌, ◌<◌, ◌*◌, ◌^◌, ◌++◌, ◌∷◌, ◌⊎◌, ◌==◌, [], ℕ, false, List, length};
+ghost use Rattle.std.specs.Prelude.{◌≡◌, ◌<◌, ◌*◌, ◌^◌, ◌++◌, ◌∷◌, ◌⊎◌, ◌==◌, [], ℕ, false, List, length};
 ghost use Rattle.std.specs.List.{list_all};
 ghost use Rattle.ar_base.specs.Prefixes.{BeginsWith};
 ghost use Rattle.chained_journal.specs.Appending.{staged_text};

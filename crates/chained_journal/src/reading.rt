@@ -1,6 +1,6 @@
 //! The records of a file.
 
-ghost use Rattle.std.specs.Prelude.{◌≡◌, ◌≢◌, ◌⊎◌, ◌↔◌, ◌≤◌, ◌+◌, ◌<◌, ◌^◌, ◌++◌, false, ℕ, List, Bool, length, take, drop, IfOk, IfSome, IfErr, IsNone, IsTrue, OnOk};
+ghost use Rattle.std.specs.Prelude.{◌≡◌, ◌⊎◌, ◌↔◌, ◌≤◌, ◌+◌, ◌<◌, ◌^◌, ◌++◌, false, length, take, drop, IfOk, IfSome, IfErr, IsNone, IsTrue, OnOk};
 ghost use Rattle.std.specs.Int.{w32, from_be_bytes};
 ghost use Rattle.ar_bytes.specs.RoundTrip.{number_text};
 ghost use Rattle.chained_journal.specs.Journal.{HasNoRecord, complement, filling, link, record_len, record_text, wanting};
