@@ -16,10 +16,10 @@ CRATES = [*PROGRAMS, "arpki_c"]
 # Files of this folder that stand in a release or go into it, and where they stand in it ('': nowhere).
 HEADER, MAP = "c-library/include/arpki.h", "c-library/arpki.map"
 FILES = {HEADER: "include/arpki.h", MAP: "", "LICENSE-APACHE": "LICENSE-APACHE", "LICENSE-MIT": "LICENSE-MIT"}
-# What stands there where a module for pages was built.
-MODULE = "web/arpki.wasm"
-MODULES = {MODULE: "web/arpki.wasm", "web/arpki_rule.wasm": "web/arpki_rule.wasm", "web/arpki.mjs": "web/arpki.mjs",
-           "web/made.json": "web/made.json"}
+# The modules for pages, and what goes with them; web/made.json says of which sources they are (tools/web_build.py).
+MODULES = ["web/arpki.wasm", "web/arpki_rule.wasm"]
+MADE = "web/made.json"
+BESIDE = ["web/arpki.mjs", MADE]
 # What removes symbols, and keeps the section in which the compiler names the logic that the program was proved in.
 STRIP = "--strip-all-gnu"
 LICENSE = "Apache-2.0 OR MIT"
@@ -38,9 +38,18 @@ def newest_version():
     return found[1]
 
 
-def modules(top):
-    """The files of a module for pages that stand in a folder; none where the module itself does not."""
-    return [path for path in MODULES if (top / path).is_file()] if (top / MODULE).is_file() else []
+def modules():
+    """The modules for pages that stand here and were made of these sources, with what goes with them; and those that stand here and were
+    made of others."""
+    standing = [path for path in MODULES if (TOP / path).is_file()]
+    if not standing or not all((TOP / path).is_file() for path in BESIDE):
+        return [], standing
+    import web_build  # of the tree that has modules
+    made = json.loads((TOP / MADE).read_text())
+    told = {path: made.get(path.rpartition("/")[2], {}) for path in standing}
+    good = [path for path, of in told.items()
+            if of and of["module"] == file_digest(TOP / path) and of["sources"] == web_build.sources_of(of["crate"])]
+    return [*good, *(BESIDE if good else ())], [path for path in standing if path not in good]
 
 
 def mode_of(path):
@@ -60,8 +69,8 @@ class Provenance:
         self.sources, self.files = sources, files
 
     @classmethod
-    def of(cls, kit, version):
-        files = [*FILES, *modules(TOP)]
+    def of(cls, kit, version, pages):
+        files = [*FILES, *pages]
         return cls(version, kit.name, kit.logic, kit.compiler, {crate: kits.sources(crate) for crate in CRATES},
                    {path: file_digest(TOP / path) for path in files})
 
@@ -79,7 +88,7 @@ class Provenance:
         lines = [f"release {self.version}", f"kit {self.kit}", f"logic {self.logic}", f"compiler {self.compiler}",
                  f"words of programs: rt ci, which calls rattle build --backend llvm (x86-64-v2, -O3), and rattle-link; llvm-strip {STRIP}",
                  "words of library: rattle build --crate-type staticlib --backend llvm (x86-64-v2, -O3); llvm-ar; ld.lld " + " ".join(kits.SHARED)]
-        if MODULE in self.files:
+        if self.pages():
             lines.append("words of module: tools/web, beside which the gate compares no build")
         lines += [f"sources {crate} {digest}" for crate, digest in self.sources.items()]
         lines += [f"file {path} {digest}" for path, digest in self.files.items()]
@@ -92,16 +101,18 @@ class Provenance:
         if not parts or LIBRARY in parts:
             own = self.files if not parts else (HEADER, MAP)
             changed += [path for path in own if not (top / path).is_file() or file_digest(top / path) != self.files.get(path)]
-        if not parts:
-            changed += sorted(set(modules(top)) - set(self.files))
         return changed
+
+    def pages(self):
+        """The files of modules for pages that the release has."""
+        return [path for path in (*MODULES, *BESIDE) if path in self.files]
 
 
 # ---- what is made
 
 
-def made(kit, version, room, parts=()):
-    """{path: bytes} of a release but its sums; with parts, of these alone."""
+def made(kit, version, room, pages, parts=()):
+    """{path: bytes} of a release but its sums, with these files of modules for pages; with parts, of these alone."""
     files = {}
     for name in PROGRAMS:
         if not parts or name in parts:
@@ -117,14 +128,14 @@ def made(kit, version, room, parts=()):
             raise Missing(f"{path} cannot go into a release: {error}") from error
     if parts:
         return files
-    said = Provenance.of(kit, version)
-    for path, place in {**FILES, **MODULES}.items():
-        if place and path in said.files:
+    said = Provenance.of(kit, version, pages)
+    for path, place in {**FILES, **{page: page for page in pages}}.items():
+        if place:
             files[place] = (TOP / path).read_bytes()
     files["lib/pkgconfig/arpki.pc"] = pkg_config(version).encode()
     files["PROVENANCE"] = said.text().encode()
-    files["README.md"] = readme(version, MODULE in said.files).encode()
-    files["arpki.cdx.json"] = inventory(kit, said, files).encode()
+    files["README.md"] = readme(version, bool(pages)).encode()
+    files["arpki.cdx.json"] = inventory(kit, said, files, pages).encode()
     for path, data in files.items():
         for folder in (str(TOP), str(kit.folder)):
             if folder.encode() in data:
@@ -170,7 +181,7 @@ The repository's docs/RELEASE.md says how to make these files from the sources, 
 """
 
 
-def inventory(kit, said, files):
+def inventory(kit, said, files, pages):
     """The list of what is inside, in the form of CycloneDX: the files, the crates of the repository, the libraries of the kit."""
     reached = {crate: kits.crates_of(crate) for crate in CRATES}
     named = {crate: kits.named_by(crate) for crate in dict.fromkeys(sum(reached.values(), []))}
@@ -182,7 +193,7 @@ def inventory(kit, said, files):
                    "properties": [{"name": "sources", "value": said.sources[crate]}, {"name": "needs", "value": needs(files[path])}]}
                   for path, crate in binaries.items()]
     components += [{"type": "library", "bom-ref": path, "name": path.rpartition("/")[2], "version": said.version, "licenses": [{"expression": LICENSE}],
-                    "hashes": [{"alg": "SHA-256", "content": hashlib.sha256(files[path]).hexdigest()}]} for path in MODULES.values() if path in files]
+                    "hashes": [{"alg": "SHA-256", "content": hashlib.sha256(files[path]).hexdigest()}]} for path in pages if path != MADE]
     components += [{"type": "library", "bom-ref": f"crate/{crate}", "name": crate, "version": said.version, "licenses": [{"expression": LICENSE}]}
                    for crate in sorted(named)]
     components += [{"type": "library", "bom-ref": f"kit/{library}", "group": kit.name, "name": library, "version": kit.name} for library in of_kit]
