@@ -1,11 +1,10 @@
 -- The directory of a party that is made has its first key, and no other of it.
-use Rattle.std.proofs.Common.{◌≡◌, ℕ, Bool, true, false, if◌then◌else◌, ◌||◌, List, [], ◌∷◌, ◌++◌, length, map, Option, Some, Result, Ok, Err, refl, sym, ap, ◌∙◌, subst, arith}
+use Rattle.std.proofs.Common.{◌≡◌, ℕ, Bool, true, false, if◌then◌else◌, ◌||◌, List, [], ◌∷◌, length, map, Option, Some, Result, Ok, Err, refl, sym, ap, ◌∙◌, arith}
 use Rattle.std.proofs.lemmas.Bool.{lt-ltb}
 use Rattle.std.proofs.lemmas.Slice.Eq.{bytes_eq-Decides}
 use Rattle.std.specs.List.{list_any}
 use Rattle.std.specs.Prelude.{slice_get}
 use Rattle.std.specs.Str.{bytes_eq}
-use Rattle.ar_base.proofs.Giving.{no-error}
 use Rattle.ar_base.proofs.Shown.{bind_ok}
 use Rattle.ar_base.specs.Gives.{with_error}
 use Rattle.ar_base.specs.Prefixes.{BeginsWith}
@@ -14,7 +13,6 @@ use Rattle.ar_statement.specs.Ranges.{is_witness}
 use Rattle.ar_statement.specs.declared.party.Role.{Role}
 use Rattle.ar_statement.specs.declared.party.Role.TheVariants.{LogServer, Authority, Owner, Client}
 use Rattle.lms_tree.specs.Key.{public_of}
-use Rattle.lms_tree.specs.KeyParts.{KeyParts}
 use Rattle.lms_tree.proofs.KeyLemmas.{key_of_text-key_text}
 use Rattle.lms_tree.specs.PublicKey.{HasWidths, key_of_text, key_text}
 use Rattle.lms_tree.specs.declared.public_key.LmsPublic.{LmsPublic}
@@ -23,7 +21,6 @@ use Rattle.arpki_party.proofs.LaterKeys.{any_at}
 use Rattle.arpki_party.specs.FirstKeys.{begins_with, has_later, may_have, says_later}
 use Rattle.arpki_party.specs.Made.{directory_said, directory_taken, key_taken, parts_taken}
 use Rattle.arpki_party.specs.Marks.{mark_of}
-use Rattle.arpki_party.specs.declared.not_opened.NotOpened.{NotOpened}
 use Rattle.arpki_party.specs.declared.not_opened.NotOpened.TheVariants as why
 use Rattle.arpki_party.specs.declared.opening.Parts.{Parts}
 

@@ -1,5 +1,5 @@
 -- What an order did that was done: which row answered so, and what holds where a staple was signed.
-use Rattle.std.proofs.Common.{◌≡◌, ◌∙◌, ℕ, Bool, true, false, cond, List, Result, Ok, Err, refl, sym, ap, subst}
+use Rattle.std.proofs.Common.{◌≡◌, ℕ, Bool, true, false, cond, List, Result, Ok, Err, refl, sym, ap, subst}
 use Rattle.std.specs.Str.{bytes_eq}
 use Rattle.ar_base.specs.Chaining.{◌>>=◌, need}
 use Rattle.ar_base.proofs.Shown.{bind_ok, ok_is}

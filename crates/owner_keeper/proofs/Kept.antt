@@ -1,9 +1,8 @@
 -- What an owner keeps whatever it is asked.
-use Rattle.std.proofs.Common.{◌≡◌, ◌∙◌, ℕ, Bool, true, false, cond, List, [], ◌∷◌, ◌++◌, length, Option, None, Some, Result, Ok, Err, refl, sym, ap, subst, arith}
+use Rattle.std.proofs.Common.{◌≡◌, ◌∙◌, ℕ, Bool, true, false, cond, List, [], ◌∷◌, ◌++◌, length, Some, Result, Ok, Err, refl, sym, ap, subst, arith}
 use Rattle.std.specs.Prelude.{nat_le}
 use Rattle.std.proofs.lemmas.List.{append-nil}
 use Rattle.std.specs.List.{AllByRecursion, list_any}
-use Rattle.std.specs.Option.{ok_or}
 use Rattle.ar_base.specs.Chaining.{◌>>=◌, need}
 use Rattle.ar_base.specs.Places.{HasNoneTwice}
 use Rattle.ar_base.specs.Prefixes.{BeginsWith}
@@ -28,7 +27,7 @@ use Rattle.owner_keeper.specs.Keeping as keeping
 use Rattle.owner_keeper.specs.Keeping.{OwnerStanding, answered, draft_in, draft_of, handing_row, known_in, new_standing, order_row, restaple_row, silent, stapled_reply, submitted}
 use Rattle.owner_keeper.specs.Lasting.{SignsOn}
 use Rattle.owner_keeper.specs.Reasons.{HasLeaf, IsKept, IsServed, staple_claim}
-use Rattle.owner_keeper.specs.Stapling.{StapleParts, Stapling, allowing, disallowing, hearing, is_staple, is_stapled, stapling_by, with_staple}
+use Rattle.owner_keeper.specs.Stapling.{StapleParts, Stapling, allowing, disallowing, hearing, is_staple, stapling_by, with_staple}
 use Rattle.owner_keeper.specs.Texts.{most_asks, most_handover}
 use Rattle.owner_keeper.specs.declared.order.OwnerOrder.{OwnerOrder}
 use Rattle.owner_keeper.specs.declared.order.OwnerOrder.TheVariants.{Take, Begin, Know, Handover, Attach, Object, Submit, Allow, Disallow, Staple, Restaple, Leaves}
@@ -136,7 +135,7 @@ by-left party later order reply e left is =
       leaves = still-leaves party later (order_on party later order reply e) is.leaves;
       keys = left.keys is.keys;
       served = subst (λ (staples : List StapleParts). AllByRecursion (IsServed later) staples) (sym left.staples)
-      (all-on (IsServed party) (IsServed later) party.stapling.staples (served-on party later order reply e sound) is.served);
+          (all-on (IsServed party) (IsServed later) party.stapling.staples (served-on party later order reply e sound) is.served);
     }
 
 by-staple : (party later : OwnerStanding) (s : StapleParts) (reply : OwnerReply) → restaple_row party s ≡ Ok (reply, later) → IsKept party → IsKept later
@@ -153,9 +152,9 @@ by-staple party later s reply e is =
       book = sound;
       leaves = still-leaves party later (order_on party later (Restaple s) reply e) is.leaves;
       keys = ap (λ (st : Stapling). st.keys) d.stapling_is ∙ is.keys
-      ∙ sym (of_answer (λ x. x.1.directory ≡ party.owner.directory) (signed_by_owner party.owner claim) (d.value, later.owner) (claim_keys party.owner claim) d.row_is);
+          ∙ sym (of_answer (λ x. x.1.directory ≡ party.owner.directory) (signed_by_owner party.owner claim) (d.value, later.owner) (claim_keys party.owner claim) d.row_is);
       served = subst (λ (st : Stapling). AllByRecursion (IsServed later) st.staples) (sym d.stapling_is)
-      (all_with (IsServed later) party.stapling s before (r.cert, there, leaf.1.1.1.1));
+          (all_with (IsServed later) party.stapling s before (r.cert, there, leaf.1.1.1.1));
     }
 
 -- by a message

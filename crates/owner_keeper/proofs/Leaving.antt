@@ -1,5 +1,5 @@
 -- What the rows of an owner leave of its book and of its directory.
-use Rattle.std.proofs.Common.{◌≡◌, ◌∙◌, ℕ, List, [], Option, None, Some, Result, Ok, Err, refl, sym, ap, subst}
+use Rattle.std.proofs.Common.{◌≡◌, ◌∙◌, ℕ, List, [], Result, Ok, Err, refl, sym, ap, subst}
 use Rattle.std.specs.Prelude.{IfOk}
 use Rattle.ar_base.specs.Chaining.{◌>>=◌}
 use Rattle.ar_base.specs.Gives.{with_error}
@@ -19,7 +19,6 @@ use Rattle.owner_core.specs.Objecting.{objection}
 use Rattle.owner_core.specs.Rows.{OwnerAnswer, attach_row, begin_row, endorsed_row, handover_row, is_own, message_row, object_row, roll_refusal, roll_row, sent, step_row, submission, verified_as, with_drafts}
 use Rattle.owner_core.specs.Signing.{signed_at, signed_by_owner}
 use Rattle.owner_core.specs.State.{Owner}
-use Rattle.owner_core.specs.declared.refusal.OwnerRefusal.{OwnerRefusal}
 use Rattle.owner_core.specs.declared.refusal.OwnerRefusal.TheVariants.{Form}
 use Rattle.party_keys.specs.Directory.{Directory}
 use Rattle.party_keys.specs.Learning.{Announced, after_learning, learned}

@@ -1,5 +1,5 @@
 -- What an order leaves of the certificates and of the directory.
-use Rattle.std.proofs.Common.{◌≡◌, ℕ, ◌+◌, ◌-◌, List, [], ◌∷◌, ◌++◌, length, Bool, true, false, cond, eqb, None, Some, Result, Ok, Err, refl, sym, ap, ◌∙◌, arith}
+use Rattle.std.proofs.Common.{◌≡◌, ℕ, ◌+◌, ◌-◌, List, [], ◌∷◌, ◌++◌, length, Bool, true, false, cond, eqb, None, Some, Ok, refl, sym, ap, ◌∙◌, arith}
 use Rattle.std.specs.Prelude.{nat_le, slice_get}
 use Rattle.std.proofs.lemmas.Bool.{eqb-true}
 use Rattle.std.proofs.lemmas.List.{append-nil}
@@ -7,10 +7,7 @@ use Rattle.ar_base.specs.Chaining.{◌>>=◌, need}
 use Rattle.ar_base.proofs.Lists.{get-more}
 use Rattle.ar_base.proofs.Shown.{bind_ok, ok_is}
 use Rattle.ar_cert.specs.Certificate.{Certificate, digest_of}
-use Rattle.ar_message.specs.declared.sent.Sent.{Sent}
-use Rattle.owner_core.specs.Rows.{OwnerAnswer, attach_row, begin_row, object_row, step_row, submit_row}
-use Rattle.owner_core.specs.State.{Owner}
-use Rattle.owner_core.specs.declared.refusal.OwnerRefusal.{OwnerRefusal}
+use Rattle.owner_core.specs.Rows.{attach_row, begin_row, object_row, step_row, submit_row}
 use Rattle.owner_keeper.specs.Keeping.{OwnerStanding, answered, draft_in, draft_of, handing_row, known_in, order_row, restaple_row, silent, stapled_reply, submitted}
 use Rattle.owner_keeper.specs.Stapling.{StapleParts, allowing, disallowing, hearing, stapling_by, with_staple}
 use Rattle.owner_keeper.specs.Texts.{most_asks, most_handover}

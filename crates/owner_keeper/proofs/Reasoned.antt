@@ -1,5 +1,5 @@
 -- Why an owner signs a staple, what that leaves, and what it opens.
-use Rattle.std.proofs.Common.{◌≡◌, ◌∙◌, ◌⊎◌, ◌↔◌, ◌<◌, ◌≤◌, ◌+◌, ◌-◌, ℕ, eqb, Bool, true, false, cond, List, [], ◌∷◌, ◌++◌, length, length-append, Option, None, Some, Result, Ok, Err, refl, sym, ap, subst, inl, inr, arith}
+use Rattle.std.proofs.Common.{◌≡◌, ◌∙◌, ◌⊎◌, ◌<◌, ◌≤◌, ◌+◌, ◌-◌, ℕ, eqb, Bool, true, false, cond, List, [], ◌∷◌, ◌++◌, length, length-append, Option, None, Some, Result, Ok, Err, refl, sym, ap, subst, inl, inr, arith}
 use Rattle.std.specs.Prelude.{filter, nat_lt, not, ◌&&◌, ◌||◌}
 use Rattle.std.specs.List.{AllByRecursion, list_any}
 use Rattle.std.specs.Result.{result_ok}
@@ -23,7 +23,7 @@ use Rattle.client_rule.specs.declared.judgement.Judgement.{Judgement}
 use Rattle.client_rule.specs.declared.judgement.Judgement.TheVariants.{Absent, Accepted, Refused}
 use Rattle.lms_tree.proofs.KeyLemmas.{one-text-one-key}
 use Rattle.lms_tree.proofs.SigningLemmas.{length-node_at, verdict_of-signature_of}
-use Rattle.lms_tree.specs.Key.{id_of, node_at, public_of, signature_of}
+use Rattle.lms_tree.specs.Key.{id_of, public_of}
 use Rattle.lms_tree.specs.KeyParts.{KeyParts}
 use Rattle.lms_tree.specs.LmsKind.{height_of, leaves_of}
 use Rattle.lms_tree.specs.PublicKey.{HasWidths, key_text}
@@ -42,11 +42,10 @@ use Rattle.sign_book.specs.Entry.{after_at, after_entry, leaf_of}
 use Rattle.sign_book.proofs.Entries.{given, kept, still, within-leaves}
 use Rattle.owner_keeper.specs.Keeping.{OwnerStanding, draft_in, draft_of, known_in, order_row, silent, stapled_reply}
 use Rattle.owner_keeper.specs.Lasting.{SignsOn}
-use Rattle.owner_keeper.specs.Reasons.{HasLeaf, HasReasons, IsKept, IsServed, staple_claim}
+use Rattle.owner_keeper.specs.Reasons.{HasReasons, IsKept, IsServed, staple_claim}
 use Rattle.owner_keeper.specs.Stapling.{StapleParts, Stapling, asked_for, confirmed_as, disallowing, free_of, has_newer, is_allowed, is_permit, is_staple, is_stapled, kept_back, may_sign, may_staple, permit_of, staple_at, stapling_by, with_staple}
 use Rattle.owner_keeper.specs.declared.order.OwnerOrder.TheVariants.{Disallow, Staple}
 use Rattle.owner_keeper.specs.declared.permit.Permit.{Permit}
-use Rattle.owner_keeper.specs.declared.refusal.OwnerOrderRefusal.{OwnerOrderRefusal}
 use Rattle.owner_keeper.specs.declared.refusal.OwnerOrderRefusal.TheVariants as refusals
 use Rattle.owner_keeper.specs.declared.reply.OwnerReply.{OwnerReply}
 use Rattle.owner_keeper.specs.declared.reply.OwnerReply.TheVariants.{Stapled}
@@ -112,7 +111,7 @@ reasoned party later permit confirmation reply e =
       cert = d.cert;
       known = needed (draft_in party.certs permit.draft) refusals.NoCertificate d.cert d.known;
       own = (bytes_eq-Decides (key_text d.cert.subject) (key_text (public_of party.owner.key))).0
-      (subst (λ (cert : Certificate). bytes_eq (key_text cert.subject) (key_text (public_of party.owner.key)) ≡ true) (sym same) r.own);
+          (subst (λ (cert : Certificate). bytes_eq (key_text cert.subject) (key_text (public_of party.owner.key)) ≡ true) (sym same) r.own);
       allowed = may.0;
       found = c.found;
       epoch = c.epoch;
@@ -121,7 +120,7 @@ reasoned party later permit confirmation reply e =
       again_or_new = subst (λ (n : ℕ). AgainOrNew party.stapling party.owner.book (staple_at permit n)) at may.1;
       signature = made.value;
       reply_is = sym made.said_is ∙ ap (λ (cert : Certificate). Stapled (digest_of cert) (epoch_in confirmation) permit.channel made.value) (sym same)
-      ∙ ap (λ (n : ℕ). Stapled (digest_of d.cert) n permit.channel made.value) at;
+          ∙ ap (λ (n : ℕ). Stapled (digest_of d.cert) n permit.channel made.value) at;
     }
 
 -- ---- what a staple leaves

@@ -1,5 +1,5 @@
 -- What an owner's calls did that hear a note, allow a TLS key or sign a staple, as what their orders do.
-use Rattle.std.proofs.Common.{◌≡◌, ◌⊎◌, ◌≢◌, ◌∙◌, ℕ, List, Option, None, Some, Result, Ok, Err, refl, sym, ap, subst, inl, inr, ⊎_elim}
+use Rattle.std.proofs.Common.{◌≡◌, ◌⊎◌, ◌≢◌, ◌∙◌, ℕ, List, Option, Some, Result, Ok, Err, sym, ap, subst, inl, inr, ⊎_elim}
 use Rattle.std.specs.Option.{ok_or}
 use Rattle.std.specs.Prelude.{OnErr, OnOk}
 use Rattle.std.specs.Result.{result_map_both}

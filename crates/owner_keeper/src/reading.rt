@@ -11,8 +11,8 @@ ghost use Rattle.kept_journal.specs.declared.fault.ReplayFault.TheVariants.{Memo
 ghost use Rattle.owner_keeper.specs.Texts.{asks_at, attached_by, beginning_at, draft_kept, kept_order, message_kept, permit_kept, staple_kept};
 ghost use Rattle.owner_keeper.specs.declared.order.OwnerOrder.TheVariants as orders;
 
-use crate::{KeptStaple, OwnerOrder, Permit};
 use crate::text::{MOST_ASKS, MOST_HANDOVER};
+use crate::{KeptStaple, OwnerOrder, Permit};
 use ar_base::Items;
 use ar_bytes::Fields;
 use ar_cert::{Cert, CertFault};

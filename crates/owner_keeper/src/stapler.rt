@@ -57,9 +57,7 @@ fn is_stapled(staples: &[KeptStaple], staple: &KeptStaple) -> bool
 fn has_newer(staples: &[KeptStaple], staple: &KeptStaple) -> bool
     ensures { result ≡ has_newer staples.now staple.now }
 {
-    staples
-        .iter()
-        .any(|one| one.draft == staple.draft && staple.epoch < one.epoch)
+    staples.iter().any(|one| one.draft == staple.draft && staple.epoch < one.epoch)
 }
 
 /// Puts a staple behind the others, unless it is there. There is room for it.

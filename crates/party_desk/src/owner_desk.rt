@@ -15,11 +15,12 @@ use crate::drafting::{registering, revoking, updating};
 use crate::forms::{one_word, spelled_certificate, spelled_handover, two_words};
 use crate::naming::{draft_named, draft_word, names_owner, need_room, who};
 use crate::reading::{Heard, hear};
-use crate::staple_desk::{allowing, asking_leaves, disallowing, put_draft_told, put_leaves_told, put_not_stapled, put_unasked, stapling};
-use crate::unread::{Cause, Unread};
-use crate::writing::{
-    put_handed, put_line, put_line_refused, put_messages, put_stapled, put_step,
+use crate::staple_desk::{
+    allowing, asking_leaves, disallowing, put_draft_told, put_leaves_told, put_not_stapled,
+    put_unasked, stapling,
 };
+use crate::unread::{Cause, Unread};
+use crate::writing::{put_handed, put_line, put_line_refused, put_messages, put_stapled, put_step};
 use ar_base::Items;
 use ar_cert::Cert;
 use ar_lines::{Reason, first_word, is_text, number_of};

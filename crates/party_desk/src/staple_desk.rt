@@ -127,7 +127,14 @@ pub(crate) fn put_leaves_told(
 {
     let free = u64::from(owner.free());
     let leaves = u64::from(owner.leaves());
-    put_leaves(alloc, out, who(owner), free, leaves, u64::from(owner.kept_back()))
+    put_leaves(
+        alloc,
+        out,
+        who(owner),
+        free,
+        leaves,
+        u64::from(owner.kept_back()),
+    )
 }
 
 /// Whether so many leaves are left as are told without being asked.

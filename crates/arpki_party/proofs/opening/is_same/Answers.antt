@@ -1,4 +1,4 @@
-use Rattle.std.proofs.Common.{rules, ◌≡◌, ◌∙◌, sym, true}
+use Rattle.std.proofs.Common.{rules, ◌≡◌, ◌∙◌, sym}
 use Rattle.std.specs.Str.{bytes_eq}
 use Rattle.lms_tree.specs.PublicKey.{key_text}
 use Rattle.arpki_party.proofs.FirstOwn.{same_key}
