@@ -41,6 +41,8 @@ RESTART, MOST_WAITING = 1.0, 256
 RENEWED, SPARE = 3, 64
 # How much a network may send a name in an epoch.
 LIMITS = party_door.Limits(2000, 1 << 25, 0, 0)
+# How many tokens of an authority are answered, and seconds for which the program of TXT records may run.
+MOST_TOKENS, HOOK_TIME = 4, 120
 # How many lines of what was told are kept for who comes to look.
 TOLD = 200
 LEAVES = {5: 1 << 5, 6: 1 << 10, 7: 1 << 15}
@@ -295,6 +297,7 @@ class Keeper:
         self.keys = [bytes.fromhex(line.split(" ")[1]) for line in self.council.keys["A"]]
         self.program, self.arpki = self.state["program"], self.state["arpki"]
         self.judge, self.door = Judge(self.arpki, self.council.lines), party_door.Door("owner", LIMITS, self.plan, None, self.dropped)
+        self.stopped = False
         self.followers, self.lines_told = [], collections.deque(maxlen=TOLD)
         self.outs = {}
         for letter in "DC":
@@ -313,6 +316,7 @@ class Keeper:
                 self.rolls[note.log].append(line)
         self.pauses, self.confirmed, self.asked_at, self.asked_turn = {}, self.state.fields.get("confirmed", 0), -1e18, 0
         self.noted_at, self.note_turn, self.submitted_in, self.decided, self.allowing, self.waits_told = -1e18, 0, None, {}, set(), None
+        self.counted_in = None  # the epoch and the key of which the leaves were asked last
         self.site = Site(self)
         self.site.listen()
         if self.state["begin"] and not self.next and not self.current:
@@ -426,7 +430,7 @@ class Keeper:
         until = self.epoch() + self.state["valid"]
         words = f"{policy['threshold']} {policy['kind']} {policy['age']} {until} {policy['trusted']}"
         self.state["next"] = {"kind": kind, "state": BEGUN, "key": key, "policy": words, "until": until, "draft": None, "digest": None,
-                              "certificate": None, "endorsed": [], "tokens": {}, "since": self.epoch(), "allowed": []}
+                              "certificate": None, "endorsed": [], "tokens": {}, "put": [], "since": self.epoch(), "allowed": []}
         self.state.save()
         self.ordered = None
         return None
@@ -523,24 +527,25 @@ class Keeper:
     def ask(self):
         step, digest = self.next, bytes.fromhex(self.next["digest"])
         for authority in self.state["asks"]:
-            token = step["tokens"].get(str(authority), {})
+            held = step["tokens"].get(str(authority), {})
             if authority in step["endorsed"]:
                 continue
-            if token.get("state") == notes.REFUSED and time.time() < token["at"] + ASK_ANEW:
+            if held.get("state") == notes.REFUSED and time.time() < held["at"] + ASK_ANEW:
                 continue
-            if token.get("state") == notes.REFUSED:
+            if held.get("state") == notes.REFUSED:
                 del step["tokens"][str(authority)]
-                token = {}
-            if not token.get("token") or token.get("state") == notes.ENDORSED:
+                held = {}
+            if not held.get("tokens") or held.get("state") in (notes.ENDORSED, notes.PERSON):
                 if self.due(("ask", authority, digest)):
                     certificate = bytes.fromhex(step["certificate"])
                     data = bytes([notes.ENDORSE_ASK]) + messages.u16(self.number) + messages.counted(certificate)
                     self.sends(f"send A{authority} {data.hex()}")
-            elif token.get("state") != notes.PERSON and self.due(("ready", authority, token["token"])):
-                self.put_up(authority, token["token"])
-                note = notes.Note(notes.READY, self.number, authority, digest, bytes.fromhex(token["token"]), notes.METHODS[self.state["method"]])
-                self.sends(f"send A{authority} {notes.note_of(note)}")
-        refused = [one for one, token in step["tokens"].items() if token.get("state") == notes.REFUSED]
+                continue
+            for token in held["tokens"]:
+                if self.due(("ready", authority, token)) and self.put_up(authority, token):
+                    note = notes.Note(notes.READY, self.number, authority, digest, bytes.fromhex(token), notes.METHODS[self.state["method"]])
+                    self.sends(f"send A{authority} {notes.note_of(note)}")
+        refused = [one for one, held in step["tokens"].items() if held.get("state") == notes.REFUSED]
         waiting = [one for one in self.state["asks"] if one not in step["endorsed"] and str(one) not in refused]
         if len(step["endorsed"]) >= LEAST_ENDORSED and not waiting:
             self.told(f"{len(step['endorsed'])} authorities endorsed it")
@@ -554,49 +559,59 @@ class Keeper:
             return
         if note.authority not in self.state["asks"]:
             return
-        token = step["tokens"].setdefault(str(note.authority), {})
-        if note.form == notes.TOKEN and token.get("token") != note.token.hex():
-            token.update(token=note.token.hex(), state=notes.WAITS, reason="")
+        held = step["tokens"].setdefault(str(note.authority), {"tokens": []})
+        if note.form == notes.TOKEN and note.token.hex() not in held["tokens"]:
+            held.update(tokens=[*held["tokens"], note.token.hex()][-MOST_TOKENS:], state=notes.WAITS, reason="")
             self.state.save()
             self.told(f"A{note.authority} gave a token")
-            self.pauses.pop(("ready", note.authority, note.token.hex()), None)
-        elif note.form == notes.STATE and (token.get("state"), token.get("reason")) != (note.state, note.reason):
-            token.update(state=note.state, reason=note.reason, at=time.time())
+        elif note.form == notes.STATE and (held.get("state"), held.get("reason")) != (note.state, note.reason):
+            held.update(state=note.state, reason=note.reason, at=time.time())
             self.state.save()
             text = {notes.WAITS: "looked, and does not see it", notes.PERSON: "has seen it; a person there has to say yes",
                     notes.ENDORSED: "has seen it, and endorses", notes.REFUSED: "refuses"}[note.state]
             self.told(f"A{note.authority} {text}{f': {note.reason}' if note.reason else ''}", 6 if note.state in (notes.ENDORSED, notes.PERSON) else 4)
 
     def put_up(self, authority, token):
-        """Puts up the digest for an authority's token: of this name's own draft, whatever draft the token was given for."""
-        value = notes.proof(bytes.fromhex(token), self.keys[authority], self.name, bytes.fromhex(self.next["digest"]))
-        held = self.next["tokens"][str(authority)]
-        if held.get("put") == value and self.state["method"] == "dns":
-            return
-        if self.state["method"] == "web":
-            place = pathlib.Path(self.state["web"]) / notes.PATH.strip("/")
+        """Puts up the digest for an authority's token: of this name's own draft, whatever draft the token was given for. Where two
+        authorities gave one token, as one that hands on another's does, the file has a line for each. Whether it is up."""
+        of = lambda one: notes.proof(bytes.fromhex(token), self.keys[int(one)], self.name, bytes.fromhex(self.next["digest"]))
+        if self.state["method"] == "dns":
+            return of(authority) in self.next["put"] or self.hook("put", of(authority))
+        place = pathlib.Path(self.state["web"]) / notes.PATH.strip("/")
+        try:
             place.mkdir(parents=True, exist_ok=True)
-            (place / token).write_text(value + "\n")
+            (place / token).write_text("".join(f"{of(one)}\n" for one, held in sorted(self.next["tokens"].items()) if token in held["tokens"]))
             (place / token).chmod(0o644)
-        else:
-            run = subprocess.run([self.state["hook"], "put", f"{notes.LABEL}.{self.name}", value], stdin=subprocess.DEVNULL, capture_output=True,
-                                 timeout=120, check=False)
-            if run.returncode:
-                self.told(f"{self.state['hook']} put ends with status {run.returncode}: {run.stderr.decode(errors='replace').strip()[:200]}", 3)
-                return
-        held["put"] = value
-        self.state.save()
+        except OSError as why:
+            self.told(f"nothing can be put up: {why}", 3)
+            return False
+        if token not in self.next["put"]:
+            self.next["put"].append(token)
+            self.state.save()
+        return True
+
+    def hook(self, word, value):
+        """Has the operator's program put up a TXT record, or take it away; whether it did."""
+        try:
+            run = subprocess.run([self.state["hook"], word, f"{notes.LABEL}.{self.name}", value], stdin=subprocess.DEVNULL, capture_output=True,
+                                 timeout=HOOK_TIME, check=False)
+            why = f"ends with status {run.returncode}: {run.stderr.decode(errors='replace').strip()[:200]}" if run.returncode else ""
+        except (OSError, subprocess.TimeoutExpired) as failed:
+            why = f"cannot be run: {failed}"
+        if why:
+            self.told(f"{self.state['hook']} {word} {why}", 3)
+        elif word == "put":
+            self.next["put"].append(value)
+            self.state.save()
+        return not why
 
     def take_down(self):
         """Takes away what was put up."""
-        for token in self.next["tokens"].values():
-            if not token.get("put"):
-                continue
+        for what in self.next["put"]:
             if self.state["method"] == "web":
-                (pathlib.Path(self.state["web"]) / notes.PATH.strip("/") / token["token"]).unlink(missing_ok=True)
+                (pathlib.Path(self.state["web"]) / notes.PATH.strip("/") / what).unlink(missing_ok=True)
             else:
-                subprocess.run([self.state["hook"], "take", f"{notes.LABEL}.{self.name}", token["put"]], stdin=subprocess.DEVNULL,
-                               capture_output=True, timeout=120, check=False)
+                self.hook("take", what)
 
     def endorsed(self, line, wrote):
         """An owner took an endorsement, or refused it."""
@@ -800,8 +815,6 @@ class Keeper:
             return
         owner = self.owner(current["key"])
         if owner.free is None:
-            if self.due(("leaves", current["digest"])):
-                owner.order(f"leaves D{self.number}")
             return
         needed = self.state["valid"] * max(1, len(self.state["allowed"])) + SPARE
         kind = RENEW if owner.free[0] >= min(needed, owner.free[1] - SPARE // 4) else NEXT
@@ -818,6 +831,9 @@ class Keeper:
         current = self.current
         if current and current["key"] and current["draft"] and current["key"] not in self.state["lost"]:
             self.allow(self.owner(current["key"]), current)
+            if self.counted_in != (self.epoch(), current["key"]):
+                self.counted_in = self.epoch(), current["key"]
+                self.owner(current["key"]).order(f"leaves D{self.number}")
         self.ask_confirmation()
         if self.plan.epoch_at(self.noted_at) != self.epoch() and self.now() > self.plan.begins(self.epoch()) + self.plan.grace:
             self.note()
@@ -852,6 +868,9 @@ class Keeper:
             self.next["tokens"] = {at: token for at, token in self.next["tokens"].items() if token.get("state") != notes.REFUSED}
             self.state.save()
             self.pauses.clear()
+            return "ok"
+        if word == "stop":
+            self.stopped = True
             return "ok"
         if word == "status":
             return "\n".join(self.page())

@@ -20,7 +20,7 @@ import name_notes as notes
 A, CNAME, TXT, AAAA, OPT = 1, 5, 16, 28, 41
 NO_ERROR, NO_NAME = 0, 3
 # The most bytes of an answer by HTTP, with its head, and of what stands in it; the most redirects, addresses and records.
-MOST_BYTES, MOST_BODY, MOST_REDIRECTS, MOST_ADDRESSES, MOST_RECORDS = 8192, 128, 3, 4, 64
+MOST_BYTES, MOST_BODY, MOST_REDIRECTS, MOST_ADDRESSES, MOST_RECORDS = 8192, 1100, 3, 4, 64
 # Seconds until a question to a resolver is sent again, the bytes of UDP that it may answer with, and how often it is sent.
 AGAIN, DATAGRAM, TIMES = 2.0, 1232, 3
 REDIRECTS = (301, 302, 303, 307, 308)
@@ -313,7 +313,7 @@ class Visit:
         return url.scheme, (url.path or "/") + (f"?{url.query}" if url.query else "")
 
     def file(self, path):
-        """What the file has that the web server has there."""
+        """The words of the file that the web server has there."""
         scheme = "http"
         for _ in range(1 + MOST_REDIRECTS):
             status, fields, body = self.get(scheme, path)
@@ -328,7 +328,7 @@ class Visit:
             raise Fails("status", f"the web server says {status}")
         if len(body) > MOST_BODY:
             raise Fails("long", f"what stands there has {len(body)} bytes")
-        return body.decode("ascii", "replace").strip()
+        return body.decode("ascii", "replace").split()
 
 
 # ---- a look
@@ -348,7 +348,7 @@ def look(question):
         else:
             visit = Visit(question, resolver, deadline)
             told["addresses"] = visit.addresses
-            told["values"] = [visit.file(notes.PATH + question["token"])]
+            told["values"] = visit.file(notes.PATH + question["token"])
     except Fails as why:
         told["reason"], told["seen"] = why.reason, why.seen
     except TimeoutError:

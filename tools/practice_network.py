@@ -28,8 +28,8 @@ LOGS, QUORUM, AUTHORITIES = 3, 3, 4
 ROLES = {"L": "log", "A": "authority"}
 # Seconds that a message takes at most, until what ended is started again, and between two looks at what joined or ended.
 SLOWEST, RESTART, LOOK = 0.02, 0.5, 0.2
-# The address and port of the DNS server, the port of the web servers, and that of their TLS. The first name's is the first address.
-DNS, WEB, TLS, FIRST = ("127.0.0.53", 5353), 8480, 8443, 2
+# The address and port of the DNS server, the port of the web servers, that of their TLS, and the address before the first.
+DNS, WEB, TLS, FIRST = ("127.0.0.53", 5353), 8480, 8443, 1
 RULES = """# How this authority's door looks at names (docs/DOOR.md, "The rules of a door").
 vantage 127.0.0.1 {dns}
 vantage 127.0.1.1 {dns}
@@ -43,24 +43,23 @@ web {web}
 tls {tls}
 """
 NGINX = """daemon off;
-pid {folder}/{name}.pid;
-error_log {folder}/{name}.log;
+pid {folder}/{label}.pid;
+error_log {folder}/{label}.log;
 worker_processes 1;
 {user}
 events {{ worker_connections 64; }}
 http {{
     access_log off;
-    client_body_temp_path {folder}/{name}.tmp/body; proxy_temp_path {folder}/{name}.tmp/proxy; fastcgi_temp_path {folder}/{name}.tmp/f;
-    uwsgi_temp_path {folder}/{name}.tmp/u; scgi_temp_path {folder}/{name}.tmp/s;
+    client_body_temp_path {folder}/{label}.tmp/body; proxy_temp_path {folder}/{label}.tmp/proxy; fastcgi_temp_path {folder}/{label}.tmp/f;
+    uwsgi_temp_path {folder}/{label}.tmp/u; scgi_temp_path {folder}/{label}.tmp/s;
     server {{
         listen {address}:{web};
         listen {address}:{tls} ssl;
         server_name {name};
-        ssl_certificate {folder}/{name}.pem; ssl_certificate_key {folder}/{name}.key;
-        location /.well-known/arpki-token/ {{ root {www}; default_type text/plain; }}
+        ssl_certificate {folder}/{label}.pem; ssl_certificate_key {folder}/{label}.key;
+        location /.well-known/arpki-token/ {{ {tokens} default_type text/plain; }}
         location /.well-known/arpki/ {{ proxy_pass http://unix:{socket}:; }}
         location / {{ return 200 "This is {name}.\\n"; default_type text/plain; }}
-        {extra}
     }}
 }}
 """
@@ -227,8 +226,8 @@ class Network:
             place.mkdir(parents=True)
         folder.chmod(0o755)
         self.selector, self.late, self.count, self.looked, self.chance = selectors.DefaultSelector(), [], 0, 0.0, random.Random(seed)
-        self.programs, self.joined, self.lost, self.gates, self.doors, self.seen = [], {}, {}, {}, {}, []
-        self.watchers = []
+        self.programs, self.joined, self.gates, self.doors = [], {}, {}, {}
+        self.watchers, self.servers = [], 0
         self.zone_file = self.etc / "zone"
         self.zone_file.write_text("")
         self.zone = Zone(self.zone_file)
@@ -289,38 +288,42 @@ class Network:
 
     # ---- names
 
-    def add_name(self, name, extra="", address=None):
-        """A name in the DNS, and nginx for it, which shows the folder www/<name>, and the socket run/<name>.socket below
-        /.well-known/arpki/; its address."""
-        address = address or f"127.0.0.{FIRST + sum(1 for line in self.zone_file.read_text().split() if line == 'A')}"
-        www = self.www / name
-        if not www.exists():
-            (www / ".well-known/arpki-token").mkdir(parents=True)
-        self.put_record(name, "A", address)
-        self.tls_key(name)
-        (self.web / f"{name}.tmp").mkdir(exist_ok=True)
+    def add_name(self, name, tokens=None, label=None, in_zone=True):
+        """nginx for a name, by a label where it is not the name's first one, on an address of its own, and that address in the DNS. It
+        shows the folder www/<name>, where `tokens` says nothing else, and the socket run/<name>.socket below /.well-known/arpki/; its
+        address and its process."""
+        label, www = label or name, self.www / name
+        self.servers += 1
+        address = f"127.0.0.{FIRST + self.servers}"
+        (www / ".well-known/arpki-token").mkdir(parents=True, exist_ok=True)
+        if in_zone:
+            self.put_record(name, "A", address)
+        self.tls_key(name, label)
+        (self.web / f"{label}.tmp").mkdir(exist_ok=True)
         user = "user www-data;" if os.getuid() == 0 else ""
-        conf = self.web / f"{name}.conf"
-        conf.write_text(NGINX.format(folder=self.web, name=name, address=address, web=WEB, tls=TLS, www=www, user=user, extra=extra,
-                                     socket=self.run / f"{name}.socket"))
-        if not shutil.which("nginx", path=f"{os.environ['PATH']}:/usr/sbin"):
+        conf = self.web / f"{label}.conf"
+        conf.write_text(NGINX.format(folder=self.web, name=name, label=label, address=address, web=WEB, tls=TLS, user=user,
+                                     tokens=tokens or f"root {www};", socket=self.run / f"{name}.socket"))
+        nginx = shutil.which("nginx", path=f"{os.environ['PATH']}:/usr/sbin")
+        if not nginx:
             raise Wrong("there is no nginx: install Debian's package nginx-light")
-        server = Program(self, [shutil.which("nginx", path=f"{os.environ['PATH']}:/usr/sbin"), "-c", conf], self.web / f"{name}.out")
+        server = Program(self, [nginx, "-c", conf], self.web / f"{label}.out")
         server.look()
         return address, server
 
-    def tls_key(self, name):
+    def tls_key(self, name, label):
         """Makes a TLS key for a name, with a certificate that it signs itself."""
         subprocess.run(["openssl", "req", "-x509", "-newkey", "ec", "-pkeyopt", "ec_paramgen_curve:P-256", "-nodes", "-days", "30", "-subj",
-                        f"/CN={name}", "-keyout", self.web / f"{name}.key", "-out", self.web / f"{name}.pem"], check=True,
+                        f"/CN={name}", "-keyout", self.web / f"{label}.key", "-out", self.web / f"{label}.pem"], check=True,
                        capture_output=True)
 
     def put_record(self, name, kind, value):
         with self.zone_file.open("a") as zone:
             zone.write(f"{name} {kind} {value}\n")
 
-    def take_records(self, name, kind=None):
-        lines = [line for line in self.zone_file.read_text().split("\n") if line.split()[:1 if kind is None else 2] != [name, kind][:1 if kind is None else 2]]
+    def take_records(self, name, kind):
+        """Takes the records of a kind of a name away."""
+        lines = [line for line in self.zone_file.read_text().split("\n") if line.split()[:2] != [name, kind]]
         other = self.zone_file.with_suffix(".new")
         other.write_text("\n".join(lines))
         other.replace(self.zone_file)
