@@ -43,6 +43,8 @@ RENEWED, SPARE = 3, 64
 LIMITS = party_door.Limits(2000, 1 << 25, 0, 0)
 # How many tokens of an authority are answered, and seconds for which the program of TXT records may run.
 MOST_TOKENS, HOOK_TIME = 4, 120
+# What is told where too few authorities are left.
+TOO_FEW = "too few authorities are left that may endorse it"
 # How many lines of what was told are kept for who comes to look.
 TOLD = 200
 LEAVES = {5: 1 << 5, 6: 1 << 10, 7: 1 << 15}
@@ -546,6 +548,8 @@ class Keeper:
                     note = notes.Note(notes.READY, self.number, authority, digest, bytes.fromhex(token), notes.METHODS[self.state["method"]])
                     self.sends(f"send A{authority} {notes.note_of(note)}")
         refused = [one for one, held in step["tokens"].items() if held.get("state") == notes.REFUSED]
+        if len(self.state["asks"]) - len(refused) < LEAST_ENDORSED and self.once(("few", len(refused))):
+            self.told(f"{TOO_FEW}: mend what they say, and tools/name again {self.name}", 3)
         waiting = [one for one in self.state["asks"] if one not in step["endorsed"] and str(one) not in refused]
         if len(step["endorsed"]) >= LEAST_ENDORSED and not waiting:
             self.told(f"{len(step['endorsed'])} authorities endorsed it")
