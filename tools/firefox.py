@@ -129,6 +129,7 @@ class Firefox(web_test.Firefox):
         data = self.chrome("""const [done] = Array.from(arguments).slice(-1);
             const width = window.innerWidth, height = window.innerHeight;
             (async () => {
+              document.documentElement.removeAttribute("remotecontrol");
               const bitmap = await window.browsingContext.currentWindowGlobal.drawSnapshot(new DOMRect(0, 0, width, height), 1, "white");
               const canvas = document.createElementNS("http://www.w3.org/1999/xhtml", "canvas");
               canvas.width = bitmap.width; canvas.height = bitmap.height;
@@ -151,3 +152,30 @@ class Firefox(web_test.Firefox):
         except subprocess.TimeoutExpired:
             self.process.kill()
             self.process.wait()
+
+
+class Driven(Firefox):
+    """Firefox, with questions to the extension from a page of its own."""
+
+    def asks(self, question):
+        self.visit_own("options.html")
+        self.wait(lambda: self.script("return document.querySelector('main').children.length > 0"))
+        return self.later("const done = arguments[1]; browser.runtime.sendMessage(arguments[0]).then(value => done({ value }), fault => done({ fault: String(fault) }))",
+                          question)["value"]
+
+    def visit_own(self, page):
+        self.ask("WebDriver:Navigate", url=self.home + page)
+
+    def tab(self):
+        """The number that extensions know the tab in front by."""
+        return self.chrome("""const { ExtensionParent } = ChromeUtils.importESModule("resource://gre/modules/ExtensionParent.sys.mjs");
+            return ExtensionParent.apiManager.global.tabTracker.getId(gBrowser.selectedTab);""")
+
+    def is_secure(self):
+        return self.chrome("return Boolean(gBrowser.selectedBrowser.securityUI.state & Ci.nsIWebProgressListener.STATE_IS_SECURE)")
+
+    def badge(self):
+        """What stands at the extension's button."""
+        return self.chrome("""const { ExtensionParent } = ChromeUtils.importESModule("resource://gre/modules/ExtensionParent.sys.mjs");
+            const api = ExtensionParent.apiManager.global.browserActionFor(WebExtensionPolicy.getByID(arguments[0]).extension);
+            return api.action.getContextData(gBrowser.selectedTab).badgeText""", EXTENSION)

@@ -12,7 +12,7 @@ if (accepted)
       row("vouched by", accepted.by.join(", ")), row("remembered since", time_of(accepted.since))]), list_of(accepted));
 for (const refusal of refused.slice(0, 8))
   main.append(element("h1", [element("span", refusal.host, { class: "name" }), ` was refused (${refusal.type.replace("_", " ")})`], { class: "bad" }),
-    element("p", `${said_of(refusal).title}: ${refusal.why}.`));
+    element("p", `${said_of(refusal).title}: ${said_of(refusal).why}.`));
 if (!accepted && refused.length === 0)
   main.append(element("h1", "Nothing was checked here"), element("p", "This site shows no proof of its name, and is not known to have one. It is opened as without this extension."));
 main.dataset.outcome = accepted ? "accepted" : refused.length ? "refused" : "nothing";

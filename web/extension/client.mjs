@@ -126,9 +126,9 @@ export class Client {
     const by = read.signers.map(signer => signer.party);
     if (answer.outcome !== "accepted") {
       if (answer.outcome === "absent" && this.pins.has(name)) answer = { ...answer, outcome: "gone" };
-      return this.verdict({ ...answer, by, at: read.epoch });
+      return this.verdict({ ...answer, by, of: read.epoch });
     }
-    return this.verdict({ ...await this.follow(name, question, read, ask), by, at: read.epoch });
+    return this.verdict({ ...await this.follow(name, question, read, ask), by, of: read.epoch });
   }
 
   verdict(answer) {

@@ -48,10 +48,16 @@ const REFUSED = {
 };
 const OTHER = ["The proof does not hold", ATTACK, AGAIN];
 
-/** Of a refusal: what is wrong, what it means, what can be done. */
+/* Why, where the rule's own sentence is of a signature or of a link. */
+const WHY = {
+  "no possession": ({ why }) => `what it shows was not signed by the domain for this TLS key (of the signature: ${why})`,
+  "bad update": ({ why }) => `a change of its certificate is not what the domain's own policy asks for (${why})`,
+};
+
+/** Of a refusal: what is wrong, and why in a sentence, what it means, what can be done. */
 export function said_of(verdict) {
   const [title, means, help] = verdict.outcome === "refused" ? REFUSED[verdict.check] ?? OTHER : REASONS[verdict.outcome] ?? OTHER;
-  return { title, means, help };
+  return { title, means, help, why: WHY[verdict.outcome]?.(verdict) ?? verdict.why ?? verdict.outcome };
 }
 
 /** Of each check, the staple and the pin: whether it "holds", "fails", or was "not made". */
