@@ -271,7 +271,7 @@ class Lines {
         : ["refused", `the clients' directory does not take it: ${this.words.unlearnt[words[3]] || ""}`];
     }
     if (words[0] === "line")
-      return ["refused", `the script is refused here, ${words[2]}: ${this.words.reasons[words[2]] || ""}; what stands above happened before`];
+      return ["refused", `line ${words[1].slice(0, -1)} of the script is refused, ${words[2]}: ${this.words.reasons[words[2]] || ""}; what stands above happened before`];
     if (words[2] === "refused") return ["refused", `the client refuses it, by check ${words[3]}: ${this.words.checks[words[3]] || ""}`];
     if (words[2] === "absent") return ["absent", `the client learns that ${words[3]} has no certificate in the table of epoch ${words[5]}`];
     return ["accepted", `the client accepts it: ${words[3]} has this certificate, in the table of epoch ${words[7]}`];

@@ -62,7 +62,7 @@ const is_supported = () => typeof WebAssembly === "object" && WebAssembly.valida
 
 /* ---- playing a script */
 
-const play = { busy: false, timer: 0, turn: 0, title: "", wrong: 0 };
+const play = { busy: false, timer: 0, turn: 0, run: null, links: [], own: [], wrong: 0 };
 const script_lines = text => text.replace(/\n$/, "").split("\n");
 /* The height of a line of the editor, and what stands above the first. */
 const LINE = 20, ABOVE = 6;
@@ -83,20 +83,39 @@ function scrolled() {
   at("stripe").style.top = `${ABOVE + LINE * (play.wrong - 1) - top}px`;
 }
 
-/* Shows the line of the script that is wrong, and puts the cursor there. */
-function go_to_mistake() {
-  const script = at("script"), before = script.value.split("\n").slice(0, play.wrong - 1).join("\n").length + (play.wrong > 1 ? 1 : 0);
-  script.focus();
-  script.setSelectionRange(before, before);
-  script.scrollTop = Math.max(0, LINE * (play.wrong - 4));
+/* Puts the cursor at this place of the script, where it is seen. */
+function put_cursor(place) {
+  at("script").focus({ preventScroll: true });
+  at("script").setSelectionRange(place, place);
+  show_cursor();
 }
 
-/* The script was edited: it is played again when the keys rest. */
+/* Scrolls the script, and the page, so that the line of the cursor is seen, where the script has the keys. */
+function show_cursor() {
+  const script = at("script");
+  if (document.activeElement !== script) return;
+  const line = script.value.slice(0, script.selectionStart).split("\n").length - 1, top = ABOVE + LINE * line;
+  const most = top - LINE, least = top + 3 * LINE - script.clientHeight;
+  if (script.scrollTop > most) script.scrollTop = most;
+  else if (script.scrollTop < least) script.scrollTop = least;
+  const seen = script.getBoundingClientRect().top + top - script.scrollTop;
+  if (seen < LINE) scrollBy(0, seen - 4 * LINE);
+  else if (seen > innerHeight - 2 * LINE) scrollBy(0, seen - innerHeight + 4 * LINE);
+}
+
+/* Puts the cursor at the line of the script that is wrong. */
+const go_to_mistake = () => put_cursor(at("script").value.split("\n").slice(0, play.wrong - 1).join("\n").length + (play.wrong > 1 ? 1 : 0));
+
+/* Shows a line of the run, by its place, and has it chosen there. */
+function go_to_run(place) {
+  at("run").scrollIntoView();
+  at("view").contentWindow.postMessage({ go: place }, "*");
+}
+
+/* The script was edited: it is kept, and played again when the keys rest. */
 function edited() {
   show_numbers(0);
-  const found = inside.gallery.find(one => one.name === at("gallery").value);
-  if (found) play.title = at("script").value === found.script ? found.title : `${found.title}, changed`;
-  at("title").textContent = play.title || OWN;
+  keep(at("script").value);
   clearTimeout(play.timer);
   play.timer = setTimeout(play_script, 500);
 }
@@ -150,17 +169,48 @@ function show_run(text, told) {
   const time = told.took < 1000 ? `${Math.round(told.took)} ms` : `${(told.took / 1000).toFixed(1)} s`;
   at("state").textContent = `${lines.length} line${lines.length === 1 ? "" : "s"} of the run, in ${time}.`;
   at("mistake").hidden = !refused;
-  if (refused) at("mistake").firstElementChild.textContent = mistake_text(text, +refused[1], refused[2]);
+  if (refused) show_mistake(mistake_text(text, +refused[1], refused[2], lines), lines.length - 1);
   show_numbers(refused ? +refused[1] : 0);
   show_verdicts(lines);
   show_view(text, lines);
+  show_cursor();
 }
 
-function mistake_text(text, number, reason) {
+/* Tells of a mistake, with buttons that lead to its line of the script and to the end of the run. */
+function show_mistake(text, place) {
+  at("mistake").firstElementChild.textContent = text;
+  at("there").textContent = "Show it in the script";
+  at("end").textContent = run_line(place);
+  at("end").onclick = () => go_to_run(place);
+}
+
+/* What is wrong with a line of the script, and what may stand there. */
+function mistake_text(text, number, reason, lines) {
   if (number === 0) return "The script is too long.";
-  const [kind, place] = reason.split(" "), line = script_lines(text)[number - 1] || "";
-  const word = place === undefined ? "" : ` (the word “${(line.split(" ")[place] || "").slice(0, 40)}”)`;
-  return `Line ${number}, ${reason}: ${inside.tables.reasons[kind] || "it is refused"}${word}. What stands above it was played.`;
+  const [kind, place] = reason.split(" "), words = (script_lines(text)[number - 1] || "").split(" ");
+  const word = place === undefined && kind !== "word" ? "" : ` (the word “${(words[place || 0] || "").slice(0, 40)}”)`;
+  const said = `Script line ${number}, ${reason}: ${inside.tables.reasons[kind] || "it is refused"}${word}.`;
+  return [said, allowed(kind, words[0], lines), "What stands above it was played."].filter(one => one).join(" ");
+}
+
+/* What may stand where a line of the script is refused. */
+function allowed(kind, head, lines) {
+  const [form, what] = inside.forms[head] || [];
+  if (kind === "word") return `A line begins with one of ${Object.keys(inside.forms).sort().join(", ")}.`;
+  if (kind === "words" || kind === "field") return form ? `Its form is ${form}${what ? ` (${what})` : ""}.` : "";
+  if (kind === "order") return "The setup comes first, each of its lines at most once: secret, keys, logs, authorities, and then dishonest.";
+  return kind === "none" ? `There are ${present(lines)}.` : "";
+}
+
+/* What a script may name by now: parties, drafts and messages. */
+function present(lines) {
+  const all = form => lines.map(line => form.exec(line)).filter(found => found).map(found => found[1]);
+  const dishonest = all(/^dishonest (\w+)$/), told = [["no logs", "L"], ["no authorities", "A"], ["no owners", "D"]].map(([none, letter]) => {
+    const found = all(/^party (\w+) /).filter(party => party[0] === letter);
+    return found.length > 3 ? `${found[0]} to ${found.at(-1)}` : found.join(", ") || none;
+  });
+  const counted = (what, form) => { const found = all(form); return found.length ? `${what} 1 to ${found.at(-1)}` : `no ${what}`; };
+  return [...told, dishonest.length ? `dishonest ${dishonest.join(", ")}` : "none dishonest", counted("drafts", /^draft (\d+) /), counted("messages", /^message (\d+) /)].join("; ");
 }
 
 /* The most verdicts that are shown above the run. */
@@ -169,58 +219,108 @@ const MANY = 8;
 /* Each verdict of a client, as a line that leads to its place in the run. */
 function show_verdicts(lines) {
   const found = lines.map((line, place) => [line, place]).filter(([line]) => line.startsWith("judge "));
-  at("verdicts").replaceChildren(...found.slice(-MANY).map(([line, place]) => verdict(line.split(" "), place)));
+  at("verdicts").replaceChildren(...found.slice(-MANY).map(([line, place]) => verdict(line.split(" "), place, lines)));
   if (!found.length) at("verdicts").append(element("li", { class: "none" }, "No client judges anything in this run."));
 }
 
-function verdict(words, place) {
+function verdict(words, place, lines) {
   const kind = words[2], sign = { accepted: "✓", absent: "∅", refused: "✗" }[kind];
-  const text = { accepted: () => `The client accepts: ${words[3]} has the certificate ${words.at(-1).slice(0, 8)}.. with the serial number ${words[5]}, in epoch ${words[7]}.`,
+  const text = { accepted: () => `The client accepts ${owner_of(words.at(-1), lines)} certificate for ${words[3]}: ${words.at(-1).slice(0, 8)}.., serial number ${words[5]}, epoch ${words[7]}.`,
     absent: () => `The client learns that ${words[3]} has no certificate, in epoch ${words[5]}.`,
     refused: () => `The client refuses, by check ${words[3]}: ${inside.tables.checks[words[3]]}.` }[kind]();
-  const there = element("button", { type: "button", "aria-label": `Show line ${place + 1} of the run` }, `line ${place + 1}`);
-  there.addEventListener("click", () => at("view").contentWindow.postMessage({ go: place }, "*"));
+  const there = element("button", { type: "button", "aria-label": `Show line ${place + 1} of the run` }, run_line(place));
+  there.addEventListener("click", () => go_to_run(place));
   return element("li", { class: kind }, element("b", { "aria-hidden": "true" }, sign), element("span", {}, text), there);
+}
+
+/* How a line of the run is called, in contrast to one of the script. */
+const run_line = place => `run line ${place + 1}`;
+
+/* Whose certificate it is, as far as the run tells: the owner that asked for endorsements of it. */
+function owner_of(digest, lines) {
+  const draft = lines.findIndex(line => line.startsWith("draft ") && line.endsWith(` ${digest}`));
+  const asked = draft < 0 ? null : /^message \d+ \w+ from (D\d+) /.exec(lines[draft + 1] || "");
+  return asked ? `${asked[1]}'s` : "a";
 }
 
 /* The run in the page of tools/view-run, which is a page of its own inside this one. */
 function show_view(text, lines) {
   for (const what of ["lines", "chosen"]) delete at("view").dataset[what];
   const data = JSON.stringify({ lines, script: text, fields: {}, words: inside.tables }).replace(/</g, "\\u003c");
-  const title = (play.title || OWN).replace(/&/g, "&amp;").replace(/</g, "&lt;");
+  const title = title_of(play.run).replace(/&/g, "&amp;").replace(/</g, "&lt;");
   at("view").srcdoc = inside.view.replaceAll("{{title}}", () => title).replace("{{data}}", () => data);
 }
 
 /* ---- the gallery, and links */
 
-const OWN = "A run of your own";
+/* What a run of one's own begins with. */
+const START = { name: "start", group: "Your own", title: "Begin your own", script: inside.start,
+  what: "A short run with two attacks, and comments that say what its lines do. Change it: your run is kept in the list, under “Your own”." };
+
+/* All runs of the list: those that stay as they are, and those of one's own, each of which began as one of these (`from`). */
+const runs = () => [START, ...play.links, ...play.own, ...inside.gallery];
+const run_named = name => runs().find(one => one.name === name) || inside.gallery[0];
 
 function fill_gallery() {
   const groups = new Map();
-  for (const one of inside.gallery) {
+  for (const one of runs()) {
     if (!groups.has(one.group)) groups.set(one.group, element("optgroup", { label: one.group }));
     groups.get(one.group).append(element("option", { value: one.name }, one.title));
   }
-  groups.set("", element("optgroup", { label: "Yours" }, element("option", { value: "" }, OWN)));
-  at("gallery").append(...groups.values());
-  const wide = matchMedia("(min-width: 1001px)"), lay = () => wide.matches ? at("gallery").setAttribute("size", inside.gallery.length + groups.size + 1)
-    : at("gallery").removeAttribute("size");
-  wide.addEventListener("change", lay);
-  lay();
+  at("gallery").replaceChildren(...groups.values());
+  const count = inside.gallery.length + groups.size + 1;
+  WIDE.matches ? at("gallery").setAttribute("size", count) : at("gallery").removeAttribute("size");
+  if (play.run) at("gallery").value = play.run.name;
 }
 
-/* Shows a run of the gallery, and plays it; with no name a script of one's own, which begins as the one that is given. */
-function choose(name, own, what) {
-  const found = inside.gallery.find(one => one.name === name);
-  at("gallery").value = found ? name : "";
-  at("about").textContent = found ? found.what : what || "Change a line, and it is played again. What the lines do stands below the script.";
-  at("again").disabled = !found;
-  play.title = found ? found.title : "";
-  at("title").textContent = play.title || OWN;
-  at("script").value = found ? found.script : own ?? inside.gallery[0].script;
+/* Where the list stands beside the script, open. */
+const WIDE = matchMedia("(min-width: 1001px)");
+
+/* Shows a run, and plays it. */
+function choose(name) {
+  play.run = run_named(name);
+  at("script").value = play.run.script;
   at("script").scrollTop = 0;
   show_numbers(0);
+  show_words();
   return play_script();
+}
+
+/* Begins a run of one's own, with the cursor where it goes on. */
+function begin_own() {
+  const played = choose("start");
+  put_cursor(START.script.length);
+  return played;
+}
+
+/* How a run is called: one's own says as which it began. */
+const title_of = run => !run.from || run.from === START ? run.title : `${run.title}, from “${run.from.title}”`;
+
+/* What stands around the script: which run it is, and whether it was changed. */
+function show_words() {
+  const { run } = play;
+  at("gallery").value = run.name;
+  at("title").textContent = title_of(run);
+  at("about").textContent = run.what;
+  at("again").disabled = at("script").value === (run.from || run).script;
+}
+
+/* Keeps a script that was changed: a run of the gallery stays as it is, and one of one's own begins. One that is as it was
+   is none. */
+function keep(text) {
+  const { run } = play, was = run.from || run;
+  if (text === was.script) {
+    play.own = play.own.filter(one => one !== run);
+    play.run = was;
+  } else if (run.from) {
+    run.script = text;
+  } else {
+    const number = 1 + play.own.reduce((most, one) => Math.max(most, one.number), 0), title = number === 1 ? "Your own run" : `Your own run ${number}`;
+    play.run = { name: `own ${number}`, number, group: START.group, title, script: text, from: was, what: was.what };
+    play.own.push(play.run);
+  }
+  if (play.run !== run) fill_gallery();
+  show_words();
 }
 
 const to_text = bytes => btoa(Array.from(bytes, byte => String.fromCharCode(byte)).join("")).replace(/\+/g, "-").replace(/\//g, "_").replace(/=+$/, "");
@@ -266,7 +366,11 @@ async function open_link() {
     const text = await script_of(location.hash);
     if (text === null) return false;
     show_tab("play");
-    await choose("", text, "This script came with the link. Change a line, and it is played again.");
+    let run = runs().find(one => one.script === text);
+    if (!run) play.links.push(run = { name: `link ${play.links.length + 1}`, group: START.group, script: text, what: "This script came with a link. Change a line, and it is played again.",
+      title: `The run of the link${play.links.length ? ` ${play.links.length + 1}` : ""}` });
+    fill_gallery();
+    await choose(run.name);
   } catch (fault) {
     trouble(`The link carries no script: ${fault.message}.`);
     return false;
@@ -401,6 +505,7 @@ function show_answer(line) {
   at("answer").textContent = { accepted: `Accepted: the certificate is ${name}'s.`, absent: `Absent: ${name} has no certificate in this table.`,
     refused: `Refused, by check ${number}: ${inside.tables.checks[number]}.` }[outcome] || line;
   at("checks").replaceChildren(...CHECKS.map((what, place) => check_row(what, place + 1, failed, outcome)));
+  at("whole").disabled = !judge.changed.size && judge.now === BigInt(field(judge.lines, "now"));
 }
 
 function check_row(what, number, failed, outcome) {
@@ -454,7 +559,11 @@ function listen() {
     other.focus();
   });
   at("gallery").addEventListener("change", () => choose(at("gallery").value));
-  at("again").addEventListener("click", () => choose(at("gallery").value));
+  at("again").addEventListener("click", () => choose((play.run.from || play.run).name));
+  at("begin").addEventListener("click", begin_own);
+  at("back").addEventListener("click", () => { at("title").scrollIntoView(); at("script").focus({ preventScroll: true }); });
+  WIDE.addEventListener("change", fill_gallery);
+  new ResizeObserver(show_cursor).observe(at("editor"));
   at("start").addEventListener("click", play_script);
   at("stop").addEventListener("click", stop);
   at("link").addEventListener("click", copy_link);
