@@ -19,7 +19,7 @@ MOST_LINKS, MOST_CANDIDATES = 64, 256
 MOST_ROLLS = 64
 # The checks of a client that fail where it does not know a party's newest key.
 UNKNOWN_KEY = ("4", "5", "6")
-PROOF, LINKS, ROLLS = "proof", "links", "rolls"
+PROOF, LINKS, ROLLS, DIRECTORY = "proof", "links", "rolls", "directory"
 
 # A confirmation: of which name, epoch and certificate (its digest, or None), and which keys signed it.
 Confirmed = collections.namedtuple("Confirmed", "name epoch digest signers")

@@ -6,6 +6,7 @@ confirmation.
 """
 import collections
 import hashlib
+import pathlib
 
 MOST_BITS = 24
 KEY, STEP = 56, 32
@@ -34,6 +35,19 @@ def table_of(bits, name):
 def table_key(bits, table):
     """The key of a table in the tree over the directories."""
     return (table << 256 - bits).to_bytes(32, "big")
+
+
+def map_in(file):
+    """The number of bits and the root of a file of a map."""
+    words = pathlib.Path(file).read_text().split()
+    try:
+        word, bits, root = words
+        bits, root = int(bits), bytes.fromhex(root)
+    except ValueError as error:
+        raise NoMap(f"{file} is not one line `map <bits> <root>`") from error
+    if word != "map" or not 0 <= bits <= MOST_BITS or len(root) != 32:
+        raise NoMap(f"{file} is not one line `map <bits> <root>`, with 0 to {MOST_BITS} bits and a root of 32 bytes")
+    return bits, root
 
 
 class Directory(collections.namedtuple("Directory", "quorum logs authorities")):
